@@ -1,12 +1,13 @@
-/* A cache: serves the data of a file to routers, and takes it up again when it changes (RFC 8210).
+/* A cache: serves the data of a file to routers, and reloads it when it changes (RFC 8210).
  *
  * usage: cache FILE [--listen ADDRESS:PORT].. [--max-clients N] [--refuse]
  *
- * It listens at [::]:3323 if no address is named, and serves 1024 routers at once if not said
- * otherwise.
+ * ADDRESS may be a host name: the cache listens at each of its addresses, or at all of the
+ * machine's if it is empty. It listens at [::]:3323 by default, and serves at most 1024 routers at
+ * once by default.
  *
- * The file has a sequence that only announces, in any order, with or without a cache response
- * before it. Put another in its place by renaming: one that can't be taken is named, and the data
+ * The file is a recording of one answer or several, or a list, in any order: the data that it leaves
+ * are served. Put another in its place by renaming: one that can't be taken is named, and the data
  * before it stay. Beside it, as FILE.kept, the cache keeps what it has, for routers that ask after
  * it was started again. With --refuse a serial query whose changes can't be told is answered by a
  * report of code 0. On standard error is where it listens, which data it took, and why a file or a
@@ -32,25 +33,25 @@
 #include <unistd.h>
 #include "rtr_cache.h"
 
-/* Times in milliseconds: between two looks at the file, after an accept that failed, and to read
- * what a router still sends after the last bytes were sent. */
+/* Times in milliseconds: between two checks of the file, after a failed accept, and to read what a
+ * router still sends after the last bytes were sent to it. */
 enum { LOOK = 250, REST = 100, LINGER = 200 };
 
-/* How many connections above the limit are told so at once, and how long a file may be. */
+/* The most connections above the limit that get a report at once, and the longest file. */
 enum { MOST_REFUSED = 64, LISTENERS = 16, EVENTS = 64, BUFFER = 1 << 17, MAPPED = 1 << 16 };
 static const off_t most_bytes = 1 << 28;
 
-/* A connection, in a list of them all. */
+/* A connection, in the list of all. */
 struct connection {
     struct connection *next, **place;
     int socket;
-    bool closing, sending; /* whether it ends, and whether it waits until it may send */
-    int64_t until;         /* when something is to be done with it */
+    bool closing, sending; /* whether it is closing, and whether it waits until it can send */
+    int64_t until;         /* its deadline */
     char name[80];
     struct rtr_served served;
 };
 
-/* What shows that a file is another than before. */
+/* The state of a file, to see whether it changed. */
 struct stamp {
     dev_t device;
     ino_t inode;
@@ -60,13 +61,13 @@ struct stamp {
 
 static struct rtr_server server;
 static struct connection *connections;
-static size_t taken; /* connections, those above the limit too */
-static int64_t due = INT64_MAX; /* when something is to be done with one of them */
+static size_t taken; /* connections, including those above the limit */
+static int64_t due = INT64_MAX; /* the first of their deadlines */
 static char *addresses[LISTENERS];
 static int poller, listeners[LISTENERS], listening, named;
 static volatile sig_atomic_t ended;
 
-/* Times by a clock that doesn't go back, and since 1970. */
+/* The time by a monotonic clock, and since 1970. */
 static int64_t time_of(clockid_t clock)
 {
     struct timespec time;
@@ -79,7 +80,7 @@ static int64_t now(void)
     return time_of(CLOCK_MONOTONIC);
 }
 
-/* Writes a line on standard error, with the time before it. */
+/* Logs a line on standard error, with the time before it. */
 static void say(const char *format, ...)
 {
     char line[5000], date[32];
@@ -95,13 +96,13 @@ static void say(const char *format, ...)
 
 /* ---- connections */
 
-/* The address and port of a socket or of its peer. */
-static void name_of(int one, bool peer, char *name, size_t size)
+/* Writes the address and port of a socket or of its peer. */
+static void name_of(int fd, bool peer, char *name, size_t size)
 {
     char host[64], port[8];
     struct sockaddr_storage address;
     socklen_t length = sizeof address;
-    int failed = (peer ? getpeername : getsockname)(one, (struct sockaddr *)&address, &length);
+    int failed = (peer ? getpeername : getsockname)(fd, (struct sockaddr *)&address, &length);
     if (failed || getnameinfo((struct sockaddr *)&address, length, host, sizeof host, port,
                               sizeof port, NI_NUMERICHOST | NI_NUMERICSERV))
         snprintf(name, size, "unknown");
@@ -109,7 +110,7 @@ static void name_of(int one, bool peer, char *name, size_t size)
         snprintf(name, size, strchr(host, ':') ? "[%s]:%s" : "%s:%s", host, port);
 }
 
-/* Waits for what a connection reads, or also until it may send. */
+/* Has epoll wait until a connection can be read, or written if `sending`. */
 static void wait_for(struct connection *c, int how, bool sending)
 {
     struct epoll_event event = {.events = sending ? EPOLLOUT : EPOLLIN, .data.ptr = c};
@@ -117,7 +118,7 @@ static void wait_for(struct connection *c, int how, bool sending)
     c->sending = sending;
 }
 
-/* Says when something is to be done with a connection, if nothing comes before. */
+/* Sets the deadline of a connection, if nothing happens before. */
 static void wait_until(struct connection *c, int64_t until)
 {
     c->until = until;
@@ -135,23 +136,23 @@ static void forget(struct connection *c)
     free(c);
 }
 
-/* Sends parts: of a file what the system takes from it, else a copy. */
-static ssize_t send_parts(int one, const struct rtr_part *parts, int count)
+/* Sends parts: one in a file by sendfile, without a copy, else by sendmsg. */
+static ssize_t send_parts(int fd, const struct rtr_part *parts, int count)
 {
     struct iovec pieces[2];
-    off_t place = parts[0].place;
+    off_t offset = parts[0].place;
     if (parts[0].file >= 0)
-        return sendfile(one, parts[0].file, &place, parts[0].length);
+        return sendfile(fd, parts[0].file, &offset, parts[0].length);
     bool more = count > 1 && parts[1].file >= 0;
     if (more)
         count = 1;
     for (int i = 0; i < count; i++)
         pieces[i] = (struct iovec){(void *)(uintptr_t)parts[i].at, parts[i].length};
     struct msghdr message = {.msg_iov = pieces, .msg_iovlen = (size_t)count};
-    return sendmsg(one, &message, MSG_NOSIGNAL | (more ? MSG_MORE : 0));
+    return sendmsg(fd, &message, MSG_NOSIGNAL | (more ? MSG_MORE : 0));
 }
 
-/* Sends what can be sent; false where the connection broke. */
+/* Sends as much as possible; returns false if the connection broke. */
 static bool send_some(struct connection *c)
 {
     struct rtr_part parts[2];
@@ -170,7 +171,7 @@ static bool send_some(struct connection *c)
     return true;
 }
 
-/* Reads what came. Answers whether something did, or the router closed. */
+/* Reads what came. Returns whether anything did, or the router closed. */
 static bool read_some(struct connection *c)
 {
     size_t length;
@@ -186,7 +187,7 @@ static bool read_some(struct connection *c)
 }
 
 /* Sends the last bytes of a connection, and then reads until the router closes, or for a moment:
- * bytes of it that weren't read would have the last ones lost. */
+ * with bytes unread, the system would reset the connection and the last bytes would be lost. */
 static void go_on_closing(struct connection *c)
 {
     uint8_t lost[4096];
@@ -215,7 +216,7 @@ static void begin_closing(struct connection *c)
     go_on_closing(c);
 }
 
-/* Does all that there is to do for a connection now. */
+/* Does everything that is due for a connection. */
 static void go_on(struct connection *c)
 {
     struct rtr_part parts[2];
@@ -241,20 +242,20 @@ static void act(struct connection *c)
         go_on(c);
 }
 
-/* Takes a connection. */
-static void take(int one)
+/* Accepts a connection. */
+static void take(int fd)
 {
     int bytes = BUFFER;
     bool refused = taken - server.connections >= MOST_REFUSED;
     struct connection *c = refused ? NULL : calloc(1, sizeof *c);
     if (!c) {
-        close(one);
+        close(fd);
         return;
     }
     taken += 1;
-    setsockopt(one, SOL_SOCKET, SO_SNDBUF, &bytes, sizeof bytes);
-    c->socket = one;
-    name_of(one, true, c->name, sizeof c->name);
+    setsockopt(fd, SOL_SOCKET, SO_SNDBUF, &bytes, sizeof bytes);
+    c->socket = fd;
+    name_of(fd, true, c->name, sizeof c->name);
     c->next = connections;
     c->place = &connections;
     if (c->next)
@@ -265,16 +266,16 @@ static void take(int one)
     go_on(c);
 }
 
-/* Takes the connections that wait; when none are taken for a while, answers false. */
+/* Accepts the waiting connections; returns false if accepting has to pause. */
 static bool take_all(int listener)
 {
-    int one;
-    while ((one = accept4(listener, NULL, NULL, SOCK_NONBLOCK | SOCK_CLOEXEC)) >= 0)
-        take(one);
+    int fd;
+    while ((fd = accept4(listener, NULL, NULL, SOCK_NONBLOCK | SOCK_CLOEXEC)) >= 0)
+        take(fd);
     return errno == EAGAIN || errno == EINTR || errno == ECONNABORTED;
 }
 
-/* Does what is due of all connections, or all of them where there are new data. */
+/* Serves the connections whose deadline has passed, or all of them if there are new data. */
 static void act_all(bool all)
 {
     int64_t time = now();
@@ -290,12 +291,12 @@ static void act_all(bool all)
 
 /* ---- the file */
 
-/* A file that is looked at, with the descriptor that is kept for it. */
+/* The file of data, with a descriptor that is kept in reserve for it. */
 struct watched {
     const char *path;
-    char kept[4096], beside[4096]; /* the file of editions, and where it is written first */
+    char kept[4096], beside[4096]; /* the file of saved data, and the temporary file for it */
     struct stamp seen;
-    char failed[200]; /* why the system couldn't give it */
+    char failed[200]; /* why it couldn't be read */
     int spare;
     bool unsaved;
 };
@@ -315,7 +316,7 @@ static struct stamp stamp_of(const char *path)
     return stamp;
 }
 
-/* Reads a file into memory that is to be freed; null where that fails, with the reason in errno. */
+/* Reads a file into memory that the caller frees; null if that fails, with the reason in errno. */
 static uint8_t *read_file(const char *path, size_t *length)
 {
     struct stat now;
@@ -337,12 +338,18 @@ static uint8_t *read_file(const char *path, size_t *length)
     return bytes;
 }
 
-/* Says which data the server has now, or why it doesn't take others. */
+/* Logs which data the server has now, or why it refuses new ones. */
 static void say_update(const char *path, enum rtr_update update)
 {
-    if (update == RTR_UPDATE_TAKEN)
-        say("%s: session %u serial %" PRIu32 ": %zu payloads", path, server.present.session,
-            server.present.serial, server.payloads);
+    if (update == RTR_UPDATE_TAKEN) {
+        say("%s: session %u serial %" PRIu32 ": %zu payload%s", path, server.present.session,
+            server.present.serial, server.payloads, server.payloads == 1 ? "" : "s");
+        if (server.has_cut)
+            say("%s: left out: an answer without an end of data", path);
+        if (!server.present.serial)
+            say("%s: serial number 0: a router that lost its first answer may ask with it, and keep "
+                "a part of the data", path);
+    }
     else if (update == RTR_UPDATE_REFUSED)
         say("%s: %s, at byte %zu", path, rtr_update_text(&server, update), server.offset);
     else if (update == RTR_UPDATE_SERIAL)
@@ -357,7 +364,7 @@ static bool write_to(void *file, const void *bytes, size_t length)
     return fwrite(bytes, 1, length, file) == length;
 }
 
-/* Keeps what the server has, in another file that then gets the name. */
+/* Saves the server's data in a temporary file, which is then renamed. */
 static void save(struct watched *w)
 {
     FILE *file = fopen(w->beside, "wbe");
@@ -369,7 +376,7 @@ static void save(struct watched *w)
     w->unsaved = false;
 }
 
-/* Takes what the cache before this one kept. */
+/* Loads what the cache saved before its restart. */
 static void restore(struct watched *w)
 {
     size_t length;
@@ -382,7 +389,7 @@ static void restore(struct watched *w)
     free(bytes);
 }
 
-/* Says that the system can't give the file, if it hasn't yet. */
+/* Logs that the file can't be read, once for each reason. */
 static void fail(struct watched *w, const char *reason)
 {
     if (strcmp(w->failed, reason))
@@ -390,7 +397,7 @@ static void fail(struct watched *w, const char *reason)
     snprintf(w->failed, sizeof w->failed, "%s", reason);
 }
 
-/* Takes the file, if it is another than before or couldn't be had then. */
+/* Takes the file if it changed, or couldn't be read before. */
 static void look(struct watched *w)
 {
     size_t length;
@@ -423,41 +430,82 @@ static void look(struct watched *w)
 
 /* ---- the program */
 
-/* Listens at each address of a host and a port; false, if it can't. */
-static bool listen_at(char *word)
+/* Looks up the addresses of HOST:PORT; returns null, with the reason on standard error, if there
+ * are none. */
+static struct addrinfo *look_up(const char *word)
 {
-    char name[80], *colon = strrchr(word, ':');
     struct addrinfo hints = {.ai_socktype = SOCK_STREAM, .ai_flags = AI_PASSIVE}, *found = NULL;
+    const char *colon = strrchr(word, ':');
     if (!colon) {
         say("%s: no port", word);
-        return false;
+        return NULL;
     }
     bool bracketed = word[0] == '[' && colon > word && colon[-1] == ']';
     char *host = strndup(word + bracketed, (size_t)(colon - word) - 2 * bracketed);
-    int yes = 1, no = 0, error = host ? getaddrinfo(*host ? host : NULL, colon + 1, &hints, &found)
-                                      : EAI_MEMORY;
+    int error = host ? getaddrinfo(*host ? host : NULL, colon + 1, &hints, &found) : EAI_MEMORY;
     free(host);
-    if (error) {
+    if (error)
         say("%s: %s", word, gai_strerror(error));
+    return error ? NULL : found;
+}
+
+/* Returns a socket that listens at an address, for IPv6 only if other sockets have IPv4; negative
+ * on failure. */
+static int open_listener(const struct addrinfo *address, int only_v6)
+{
+    int type = SOCK_STREAM | SOCK_CLOEXEC | SOCK_NONBLOCK;
+    int yes = 1, listener = socket(address->ai_family, type, 0);
+    setsockopt(listener, SOL_SOCKET, SO_REUSEADDR, &yes, sizeof yes);
+    if (address->ai_family == AF_INET6)
+        setsockopt(listener, IPPROTO_IPV6, IPV6_V6ONLY, &only_v6, sizeof only_v6);
+    if (listener < 0 || (!bind(listener, address->ai_addr, address->ai_addrlen)
+                         && !listen(listener, SOMAXCONN)))
+        return listener;
+    int error = errno;
+    close(listener);
+    errno = error;
+    return -1;
+}
+
+/* Listens at an address of HOST:PORT, and logs that; returns false, with the reason logged, if it
+ * can't. */
+static bool listen_on(const char *word, const struct addrinfo *address, bool several)
+{
+    char name[80];
+    if (listening == LISTENERS) {
+        errno = E2BIG;
+        say("%s: more than %d addresses", word, LISTENERS);
         return false;
     }
-    int one = socket(found->ai_family, SOCK_STREAM | SOCK_CLOEXEC | SOCK_NONBLOCK, 0);
-    setsockopt(one, SOL_SOCKET, SO_REUSEADDR, &yes, sizeof yes);
-    if (found->ai_family == AF_INET6)
-        setsockopt(one, IPPROTO_IPV6, IPV6_V6ONLY, &no, sizeof no);
-    bool listens = !bind(one, found->ai_addr, found->ai_addrlen) && !listen(one, SOMAXCONN);
-    freeaddrinfo(found);
-    if (!listens) {
-        say("%s: %s", word, strerror(errno));
+    int listener = open_listener(address, several);
+    if (listener < 0) {
+        int error = errno;
+        say("%s: %s", word, strerror(error));
+        errno = error;
         return false;
     }
-    name_of(one, false, name, sizeof name);
+    name_of(listener, false, name, sizeof name);
     say("listening on %s", name);
-    listeners[listening++] = one;
+    listeners[listening++] = listener;
     return true;
 }
 
-/* Has the listeners looked at, or not for a moment after one failed. */
+/* Listens at every address of HOST:PORT that the machine has; returns false if there is none, or it
+ * is in use. */
+static bool listen_at(const char *word)
+{
+    struct addrinfo *found = look_up(word);
+    bool several = found && found->ai_next, good = true;
+    int before = listening;
+    for (struct addrinfo *address = found; good && address; address = address->ai_next)
+        good = listen_on(word, address, several)
+               || (several && (errno == EAFNOSUPPORT || errno == EADDRNOTAVAIL));
+    if (found)
+        freeaddrinfo(found);
+    return good && listening > before;
+}
+
+/* Has epoll watch the listeners, or not for a moment after accept failed. */
 static void look_at_listeners(bool looked_at)
 {
     for (int i = 0; i < listening; i++) {
@@ -466,9 +514,9 @@ static void look_at_listeners(bool looked_at)
     }
 }
 
-static bool is_listener(const void *one)
+static bool is_listener(const void *data)
 {
-    return (const int *)one >= listeners && (const int *)one < listeners + listening;
+    return (const int *)data >= listeners && (const int *)data < listeners + listening;
 }
 
 static void end(int number)
@@ -477,8 +525,8 @@ static void end(int number)
     ended = 1;
 }
 
-/* Waits for what comes, at most so long, and does what is to be done; false where a listener
- * failed. Only here a signal ends the program. */
+/* Waits for events, at most this long, and handles them; returns false if a listener failed. Only
+ * here a signal ends the program. */
 static bool serve(int64_t until, const sigset_t *signals)
 {
     bool good = true;
@@ -496,7 +544,7 @@ static bool serve(int64_t until, const sigset_t *signals)
     return good;
 }
 
-/* Serves until a signal comes. */
+/* Serves until a signal arrives. */
 static void run(struct watched *w, const sigset_t *signals)
 {
     int64_t next = now(), again = INT64_MAX;
@@ -518,7 +566,7 @@ static void run(struct watched *w, const sigset_t *signals)
         save(w);
 }
 
-/* Reads how many there may be: a number above none. */
+/* Parses a limit: a number above 0. */
 static bool read_count(const char *word, size_t *number)
 {
     char *end;
@@ -526,7 +574,7 @@ static bool read_count(const char *word, size_t *number)
     return word[0] >= '1' && word[0] <= '9' && !*end;
 }
 
-/* Reads the words of the command line; false where they aren't understood. */
+/* Parses the command line; returns false if it is wrong. */
 static bool read_words(int count, char **words, struct watched *w)
 {
     for (int i = 1; i < count; i++) {
@@ -566,7 +614,7 @@ int main(int count, char **words)
     signal(SIGPIPE, SIG_IGN);
     signal(SIGINT, end);
     signal(SIGTERM, end);
-    mallopt(M_MMAP_THRESHOLD, MAPPED); /* so that the memory of data is given back */
+    mallopt(M_MMAP_THRESHOLD, MAPPED); /* so that freed memory of data returns to the system */
     poller = epoll_create1(EPOLL_CLOEXEC);
     restore(&w);
     for (int i = 0; i < named; i++)

@@ -1,23 +1,23 @@
-/* Plays scenes of a cache and its router (tests/transcripts) by the cache without sockets, with a
- * made clock, and prints what it does otherwise than they say.
+/* Plays scenes of a cache and its router (tests/transcripts) with the cache without sockets and a
+ * simulated clock, and prints where it differs from them.
  *
  * usage: cache_scenes < SCENES
- *        cache_scenes --joined     as an end that a router is joined with (tests/joined) */
+ *        cache_scenes --joined as one end of a connection to a router (tests/joined) */
 #include "scenes.h"
 #include "rtr_cache.h"
 
 static struct rtr_server server;
 static struct rtr_served served;
 static bool connected, broken, closing;
-static uint64_t room;     /* how many bytes the router takes, until it is to take others */
+static uint64_t room;     /* how many bytes the router reads, until a step changes that */
 static uint8_t came[1 << 17];
-static size_t came_length, read_length; /* of what came, and of that what was read */
-static bool came_last;                  /* nothing comes any more */
-static size_t back_count; /* that of the server, where it forgets some */
+static size_t came_length, read_length; /* of what came, and of what was read */
+static bool came_last;                  /* the router has closed */
+static size_t back_count; /* that of the server, to see when it drops some */
 static int64_t date;      /* when the scene began, in milliseconds since 1970 */
 
-/* Has what the connection has to send be sent, as far as the router takes it; it gets nowhere where
- * the connection broke. Whether there was something. */
+/* Sends what the connection has to send, as far as the router reads it; drops it if the connection
+ * broke. Returns whether there was anything. */
 static bool sends(void)
 {
     static uint8_t bytes[1 << 17];
@@ -38,8 +38,7 @@ static bool sends(void)
     return length > 0;
 }
 
-/* Has the connection read some of what came, in as many reads as there is room for. Whether it did
- * so. */
+/* Lets the connection read some of what came, in as many reads as fit. Returns whether it read. */
 static bool reads(void)
 {
     size_t most, left = came_length - read_length;
@@ -58,7 +57,7 @@ static bool reads(void)
     return true;
 }
 
-/* Has the connection go on until it waits. */
+/* Runs the connection until it waits. */
 static void settle(void)
 {
     struct rtr_part parts[2];
@@ -74,13 +73,13 @@ static void settle(void)
     }
 }
 
-/* When the connection acts by itself, if there is one. */
+/* Returns when the connection acts by itself, if there is one. */
 static int64_t wakes(void)
 {
     return connected ? served.wakes : INT64_MAX;
 }
 
-/* The clock comes to this time. */
+/* Advances the clock to this time. */
 static void pass(int64_t time)
 {
     while (wakes() <= time) {
@@ -102,7 +101,7 @@ static void connects(bool beyond)
     room = UINT64_MAX;
 }
 
-/* These bytes come. */
+/* Receives these bytes. */
 static void comes(const char *hex)
 {
     if (came_length == read_length)
@@ -110,7 +109,7 @@ static void comes(const char *hex)
     came_length += from_hex(came + came_length, sizeof came - came_length, hex);
 }
 
-/* These are the newest data. */
+/* Gives the server these data. */
 static void has(const char *hex)
 {
     static uint8_t bytes[1 << 17];
@@ -142,18 +141,18 @@ static void restores(const char *path)
     free((void *)kept.bytes);
 }
 
-/* The server can't tell the changes since this serial number any more, nor since those before. */
+/* Drops the changes since this serial number and those before. */
 static void forgets(uint32_t serial)
 {
-    size_t place = 0;
-    while (place < server.back_count && server.kept[place] != serial)
-        place++;
-    CHECK(place < server.back_count);
+    size_t index = 0;
+    while (index < server.back_count && server.kept[index] != serial)
+        index++;
+    CHECK(index < server.back_count);
     back_count = back_count ? back_count : server.back_count;
-    server.back_count = place;
+    server.back_count = index;
 }
 
-/* A step that the router or the data take. False if it isn't one. */
+/* Carries out a step of the router or the data. Returns false if it isn't such a step. */
 static bool given(int64_t time, const char *step)
 {
     static const char *const starts[] = {"router> ", "data {", "forgets ", "router connects",
@@ -211,7 +210,7 @@ static void set(const char *key, uint64_t number)
         CHECK(!strcmp(key, "usual"));
 }
 
-/* The scene is over. */
+/* Ends the scene. */
 static void ends(void)
 {
     compare();
@@ -221,7 +220,7 @@ static void ends(void)
     rtr_server_free(&server);
 }
 
-/* A new scene, of a cache without data. */
+/* Begins a scene, of a cache without data. */
 static void begins(const char *of)
 {
     ends();

@@ -3,8 +3,8 @@
 
 usage: cache_test.py PROGRAM [TEST..]
 
-The program is `cache.c` with `rtr_cache.c`. Without names all tests are run. What is expected is
-computed here. Quiet but for a line if all is well.
+The program is `cache.c` with `rtr_cache.c`. Without names all tests are run. Expected values are
+computed here. Prints one line if all is well.
 """
 import contextlib
 import os
@@ -20,7 +20,7 @@ import time
 
 PROGRAM = sys.argv[1] if len(sys.argv) > 1 else sys.exit(__doc__)
 SESSION = 4660
-PATIENCE = 120  # seconds for something that has to come
+PATIENCE = 120  # seconds to wait for what has to come
 TIMINGS = (3600, 600, 7200)
 DATE = r"\d{4}-\d\d-\d\dT\d\d:\d\d:\d\dZ "
 
@@ -36,8 +36,8 @@ def prefix(asn, announce=1, version=1):
     return unit(version, 4, 0, bytes([announce, 8, 24, 0, 10, 0, 0, 0]) + struct.pack(">I", asn))
 
 
-def end(serial, session=SESSION, version=1):
-    timings = struct.pack(">3I", *TIMINGS) if version else b""
+def end(serial, session=SESSION, version=1, timings=TIMINGS):
+    timings = struct.pack(">3I", *timings) if version else b""
     return unit(version, 7, session, struct.pack(">I", serial) + timings)
 
 
@@ -60,10 +60,10 @@ def notify(serial):
 RESET_QUERY, RESET = unit(1, 2, 0), unit(1, 8, 0)
 
 
-# ---- a cache, and routers beside it
+# ---- a cache, and its routers
 
 class Cache:
-    """The program over a file in a folder of its own, which it leaves there."""
+    """The program with a file in a temporary folder."""
 
     def __init__(self, folder, words=(), files=None):
         self.path, self.log = os.path.join(folder, "data"), os.path.join(folder, "log")
@@ -83,7 +83,7 @@ class Cache:
         assert self.process.wait(PATIENCE) == 0
 
     def lines(self, text):
-        """How many lines match this, with the time before it."""
+        """Returns how many lines match this, with the time before it."""
         with open(self.log, encoding="utf-8") as log:
             return len(re.findall(f"^{DATE}{text}$", log.read(), re.MULTILINE))
 
@@ -99,12 +99,20 @@ class Cache:
             time.sleep(0.02)
         raise AssertionError(text)
 
+    def counts(self, text, count):
+        """Waits until at least this many lines match this."""
+        ends = time.monotonic() + PATIENCE
+        while self.lines(text) < count:
+            assert time.monotonic() < ends, (text, self.lines(text))
+            time.sleep(0.02)
+
     def takes(self, serial, count, session=SESSION):
         """Waits until it has taken data."""
-        self.says(rf"{re.escape(self.path)}: session {session} serial {serial}: {count} payloads")
+        payloads = "1 payload" if count == 1 else f"{count} payloads"
+        self.says(rf"{re.escape(self.path)}: session {session} serial {serial}: {payloads}")
 
     def memory(self):
-        """The memory that it has, in bytes."""
+        """Returns its memory in bytes."""
         with open(f"/proc/{self.process.pid}/statm", encoding="ascii") as file:
             return int(file.read().split()[1]) * resource.getpagesize()
 
@@ -119,7 +127,7 @@ def started(content, **settings):
 
 
 def put(path, content):
-    """Puts a file in the place of another."""
+    """Replaces a file."""
     with open(path + ".other", "wb") as file:
         file.write(content)
     os.replace(path + ".other", path)
@@ -142,12 +150,12 @@ class Router:
         self.socket.close()
 
     def asks(self, query, wanted):
-        """Sends a query, and gets exactly this."""
+        """Sends a query, and expects exactly this answer."""
         self.socket.sendall(query)
         self.gets(wanted)
 
     def gets(self, wanted):
-        """Gets exactly this."""
+        """Expects exactly this."""
         got = b""
         while len(got) < len(wanted):
             piece = self.socket.recv(len(wanted) - len(got))
@@ -156,14 +164,14 @@ class Router:
         assert got == wanted, (got[:100].hex(), wanted[:100].hex())
 
     def gets_report(self, version, code):
-        """Gets a report of this code, and then the end."""
+        """Expects a report of this code, and then the end."""
         head = self.socket.recv(8, socket.MSG_WAITALL)
         assert head[:4] == struct.pack(">BBH", version, 10, code), head.hex()
         self.socket.recv(struct.unpack(">I", head[4:])[0] - 8, socket.MSG_WAITALL)
         self.ends()
 
     def ends(self):
-        """Is ended by the cache."""
+        """Expects the cache to close the connection."""
         with contextlib.suppress(ConnectionResetError):
             while self.socket.recv(1 << 16):
                 pass
@@ -181,6 +189,40 @@ def test_arguments():
         done = subprocess.run([PROGRAM, "a", "--listen", where], capture_output=True,
                               timeout=PATIENCE, check=False)
         assert done.returncode == 1 and where.encode() in done.stderr, where
+
+
+def has_ipv6():
+    """Reports whether this machine has an IPv6 loopback address."""
+    try:
+        with socket.socket(socket.AF_INET6) as trial:
+            trial.bind(("::1", 0))
+    except OSError:
+        return False
+    return True
+
+
+def test_addresses():
+    """A name with two addresses: the cache listens at both, and fails if one of them is in use."""
+    if not has_ipv6():
+        print("!!! cache in C: no IPv6 here: SKIPPED test_addresses")
+        return
+    with started(data(1, [1]), words=["--listen", ":0"]) as cache:
+        cache.takes(1, 1)
+        for address, name in (("127.0.0.1", r"0\.0\.0\.0"), ("::1", r"\[::\]")):
+            port = int(cache.says(rf"listening on {name}:(\d+)")[1])
+            with socket.create_connection((address, port), PATIENCE) as router:
+                router.sendall(RESET_QUERY)
+                wanted = response(data(1, [1]))
+                assert router.recv(len(wanted), socket.MSG_WAITALL) == wanted, address
+    with socket.socket(socket.AF_INET6) as taken:
+        taken.setsockopt(socket.IPPROTO_IPV6, socket.IPV6_V6ONLY, 1)
+        taken.bind(("::", 0))
+        taken.listen()
+        where = f":{taken.getsockname()[1]}"
+        done = subprocess.run([PROGRAM, "a", "--listen", where], capture_output=True,
+                              timeout=PATIENCE, check=False)
+        assert done.returncode == 1, done
+        assert re.search(rb": Address already in use\n$", done.stderr), done.stderr
 
 
 def test_answers():
@@ -234,8 +276,8 @@ def test_max_clients():
 
 
 def test_many_bytes():
-    """Data that are sent from a file in memory, of more than a huge page; those who ask get them
-    while newer ones come."""
+    """Data that are sent from a file in memory, of more than a huge page; routers that ask get them
+    while newer data come."""
     count = 130_000
     one, two = data(1, range(count)), data(2, range(1, count + 1))
     with started(one) as cache, Router(cache, 4096) as slow, Router(cache) as router:
@@ -253,7 +295,8 @@ def test_many_bytes():
 
 
 def test_file():
-    """A file that isn't there, is torn, has no later serial number, or only looks as before."""
+    """A file that is missing, is torn, has no later serial number, or has the same size and time as
+    before."""
     with tempfile.TemporaryDirectory() as folder, Cache(folder) as cache:
         cache.says(".*: No such file or directory")
         with Router(cache) as router:
@@ -266,7 +309,7 @@ def test_file():
         put(cache.path, data(1, [2]))
         cache.says(".*: serial 1 of other data isn't after serial 1")
         put(cache.path, prefix(1) + prefix(2, 0) + end(2))
-        cache.says(".*: not in canonical form, at byte 20")
+        cache.says(".*: withdrawal of an unknown record, at byte 20")
         put(cache.path, data(2, [1])[:-1] + b"\1")
         cache.takes(2, 1)
         put(cache.path, data(2, [1]))
@@ -280,8 +323,45 @@ def test_file():
         assert cache.lines(".*: No such file or directory") == 1
 
 
+def test_cut_answer():
+    """Of a recording an answer is left out that the next one cuts off, and a line says so."""
+    left_out = ".*: left out: an answer without an end of data"
+    with started(response(prefix(1)) + response(data(1, [2]))) as cache:
+        cache.takes(1, 1)
+        cache.says(left_out)
+        with Router(cache) as router:
+            router.asks(RESET_QUERY, response(data(1, [2])))
+        put(cache.path, data(2, [1, 2]))
+        cache.takes(2, 2)
+        assert cache.lines(left_out) == 1
+
+
+def test_serial_zero():
+    """Data of serial number 0 are served, with a warning; no others have one."""
+    warning = r".*: serial number 0: a router that lost its first answer may ask with it, and .*"
+    with started(data(0, [1, 2])) as cache:
+        cache.takes(0, 2)
+        cache.says(warning)
+        put(cache.path, data(1, [1]))
+        cache.takes(1, 1)
+        assert cache.lines(warning) == 1
+
+
+def test_timings():
+    """Timings that RFC 8210 section 6 doesn't allow a cache are refused by name."""
+    with started(data(1, [1, 2])) as cache:
+        cache.takes(1, 2)
+        for timings, text in [((0, 600, 7200), "the refresh time has to be 1 to 86400 seconds"),
+                              ((60, 600, 600),
+                               "the expire time has to be longer than the retry time")]:
+            put(cache.path, prefix(1) + end(2, timings=timings))
+            cache.says(rf"{re.escape(cache.path)}: {text}")
+        with Router(cache) as router:
+            router.asks(RESET_QUERY, response(data(1, [1, 2])))
+
+
 def test_restart():
-    """A cache that is started again tells the changes from before; not where its file is torn."""
+    """A restarted cache sends the changes from before, unless its file is torn."""
     with tempfile.TemporaryDirectory() as folder:
         path = os.path.join(folder, "data")
         put(path, data(1, [1]))
@@ -303,7 +383,8 @@ def test_restart():
 
 
 def test_descriptors():
-    """With no descriptor left the file is still read, and routers are taken once there is one."""
+    """With no descriptor left the file is still read, and routers are accepted once there is
+    one."""
     with started(data(1, [1]), files=40) as cache:
         cache.takes(1, 1)
         routers = [Router(cache) for _ in range(60)]
@@ -319,7 +400,7 @@ def test_descriptors():
 
 
 def test_memory():
-    """Routers that take nothing hold no data but those of the last editions."""
+    """Routers that don't read keep no data in memory but the latest ones."""
     count, table = 100_000, 100_000 * 20
     with started(data(1, range(count))) as cache, contextlib.ExitStack() as stack:
         cache.takes(1, count)
@@ -330,9 +411,9 @@ def test_memory():
                 router.socket.recv(8)
             put(cache.path, data(serial, range(serial, serial + count)))
             cache.takes(serial, count)
+        # On a busy machine a router may reach the write limit first, and is then too slow.
+        cache.counts(r"127\.0\.0\.1:\d+: the router is too (far behind|slow)", 3 * 13)
         assert cache.memory() < 6_000_000 + 3 * table, cache.memory()
-        ended = cache.lines(r"127\.0\.0\.1:\d+: the router is too far behind")
-        assert ended == 3 * 13, ended
 
 
 def main():

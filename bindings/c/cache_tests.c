@@ -1,28 +1,28 @@
-/* Tests of the calls for a cache's end of a connection: what units are answered by, in bytes (RFC
- * 8210 sections 5 to 8), with each unit cut off anywhere too, and when a cache acts by itself.
+/* Tests of the calls for a cache's end of a connection: the answers to units, in bytes (RFC 8210
+ * sections 5 to 8), also to truncated units, and when a cache acts by itself.
  *
  * usage: cache_tests */
 #include "testing.h"
 
-/* The most bytes of a unit here. */
+/* The longest unit here. */
 #define LONGEST 64
 
-/* The serial numbers from which changes can be told, to the present one, 5. */
+/* The serial numbers from which changes can be sent, up to the present one, 5. */
 static const uint32_t KEPT[] = {4, 3};
 
 static const struct rtr_present PRESENT = {.serial = 5, .session = 7, .has = true};
 static const struct rtr_present NOTHING;
 
-/* What comes, and what it is answered by: with a unit, or with a report, of this version. */
+/* An input, and its answer: a unit or a report, of this version. */
 struct row {
     const char *input;  /* in hexadecimal */
     uint8_t kind, reason, status;
     uint32_t serial;    /* of the answer */
-    const char *unit;   /* that it begins with, in hexadecimal; or null */
-    const char *text;   /* of the report; or null */
+    const char *unit;   /* the first unit of the answer, in hexadecimal; or null */
+    const char *text;   /* the report's text; or null */
     uint8_t version;
     uint16_t code;
-    size_t enclosed;    /* so many bytes of the input */
+    size_t enclosed;    /* the bytes of the input that the report encloses */
 };
 
 #define RESET_QUERY "0102000000000008"
@@ -85,7 +85,7 @@ static const struct row later_rows[] = {
      SAYS_NOTHING},
 };
 
-/* Where the cache refuses what it can't tell. */
+/* If the cache refuses queries whose changes it doesn't have. */
 static const struct row refusing_rows[] = {
     {SINCE("7", "4"), RTR_SERVE_CHANGES, 0, 0, GIVES(4, RESPONSE)},
     {SINCE("7", "2"), RTR_SERVE_END, RTR_REASON_UNKNOWN, 0,
@@ -101,7 +101,7 @@ static const struct row empty_rows[] = {
     {SINCE("0", "0"), RTR_SERVE_NO_DATA, 0, 0, REPORTS(1, 2, 12, "the cache has no data yet")},
 };
 
-/* The bytes that hexadecimal digits say, and how many they are. */
+/* Decodes hexadecimal digits, and returns the number of bytes. */
 static size_t bytes_of(const char *digits, uint8_t *bytes)
 {
     size_t length = strlen(digits) / 2;
@@ -114,7 +114,7 @@ static size_t bytes_of(const char *digits, uint8_t *bytes)
     return length;
 }
 
-/* A cache that was connected to at the time 0 and, where it was asked, got a query of version 1. */
+/* A cache whose connection was made at time 0 and, if `asked`, got a query of version 1. */
 static struct rtr_cache new_cache(bool refuses, bool asked, const struct rtr_present *present)
 {
     struct rtr_cache cache;
@@ -133,7 +133,7 @@ static struct rtr_cache new_cache(bool refuses, bool asked, const struct rtr_pre
     return cache;
 }
 
-/* Tells a cache of an input that lies between inaccessible pages, as everything does. */
+/* Gives a cache an input that lies between guard pages, as everything does. */
 static struct rtr_serving *read_input(const struct place *place, struct rtr_cache *cache,
                                       const struct rtr_present *present, const uint8_t *input,
                                       size_t length, bool ended)
@@ -146,7 +146,7 @@ static struct rtr_serving *read_input(const struct place *place, struct rtr_cach
     return serving;
 }
 
-/* The unit that an answer begins with has these bytes, and is written only where it has room. */
+/* The first unit of an answer has these bytes, and is written only if it fits. */
 static void check_unit(const struct place *place, const struct rtr_serving *serving,
                        const char *digits)
 {
@@ -163,8 +163,8 @@ static void check_unit(const struct place *place, const struct rtr_serving *serv
     CHECK(rtr_cache_unit(serving, NULL, 0) == 0);
 }
 
-/* The report that an answer owes: of this version and code, about these bytes, with this text (RFC
- * 8210 section 5.11); or none, without a text. */
+/* The answer owes a report of this version and code, about these bytes, with this text (RFC 8210
+ * section 5.11); or none, without a text. */
 static void check_report(const struct place *place, const struct rtr_serving *serving,
                          const uint8_t *input, size_t length, uint8_t version, uint16_t code,
                          size_t enclosed, const char *text)
@@ -188,7 +188,7 @@ static void check_report(const struct place *place, const struct rtr_serving *se
     CHECK(!rtr_cache_report(serving, input, length, output, size - 1, written) && *written == 0);
 }
 
-/* Each way in which a unit may be cut off: more of it is awaited, or the close is a fault. */
+/* Each truncation of a unit: the cache waits for the rest, or the close is a fault. */
 static void check_cuts(const struct place *place, const struct rtr_cache *cache,
                        const struct rtr_present *present, const uint8_t *input, size_t length)
 {
@@ -301,7 +301,7 @@ static void check_ends(const struct place *place)
     }
 }
 
-/* The text of each reason is the one that the archive writes into a report. */
+/* The header's text of each reason is the one that the archive writes into a report. */
 static void check_reasons(const struct place *place)
 {
     for (uint8_t reason = RTR_REASON_LOST; reason <= RTR_REASON_UNKNOWN; reason++) {

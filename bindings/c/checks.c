@@ -1,14 +1,14 @@
-/* Prints what the units on standard input break of the protocol's rules, as rtr_list --check. */
+/* Prints which of the protocol's rules the units on standard input break, as rtr_list --check. */
 #include <stdio.h>
 #include <string.h>
 #include "rtr.h"
 
-/* The names that are announced, each after its length. With many of them a hash set finds one
- * sooner. */
+/* The names that are announced, each after its length. For many names use a hash set, which is
+ * faster. */
 static uint8_t set[1 << 20];
 static size_t used;
 
-/* Where the name stands, or where the set ends. */
+/* Returns the offset of the name, or the end of the set. */
 static size_t place_of(const uint8_t *name, size_t length)
 {
     for (size_t at = 0, size; at < used; at += sizeof size + size) {
@@ -56,16 +56,16 @@ int main(void)
             fprintf(stderr, "offset %zu: %s\n", at, rtr_status_text(status));
             return 1;
         }
-        size_t place = place_of(name, named.length);
-        rtr_check_unit(&check, input + at, length - at, place < used, &checked);
+        size_t offset = place_of(name, named.length);
+        rtr_check_unit(&check, input + at, length - at, offset < used, &checked);
         for (size_t i = 0; i < sizeof checked.findings / sizeof checked.findings[0]; i++)
             say(&checked.findings[i], at);
         if (named.begins)
             used = 0;
-        if (named.announces && place == used)
+        if (named.announces && offset == used)
             put(name, named.length);
-        else if (!named.announces && place < used)
-            take_out(place, named.length);
+        else if (!named.announces && offset < used)
+            take_out(offset, named.length);
     }
     rtr_check_end(&check, &missing);
     say(&missing, at);

@@ -1,6 +1,6 @@
 #!/usr/bin/env python3
-"""Plays the rows of tests/programs/listings --findings by the program checks.c, and compares what it
-prints of each.
+"""Runs the program checks.c on the rows of tests/programs/listings --findings, and compares its
+output.
 
 usage: checks_test.py FILE COMMAND..
 """

@@ -1,13 +1,15 @@
 /* A router's end: asks a cache for its data, and prints what changes as it comes (RFC 8210).
  *
- * usage: client (HOST:PORT | --prefer HOST:PORT .. | --fd N) [--version 0|1|2] [--once] [--json]
+ * usage: client (HOST:PORT | (--prefer HOST:PORT).. | --fd N)
+ *               [--version 0|1|2] [--once] [--json]
  *
- * With --prefer, up to 16 times, it has the data of the first of these caches that has some
+ * With --prefer, up to 16 times, it uses the data of the first of these caches that answers
  * (section 10; docs/SESSIONS.md says when it asks which). With --fd the descriptor N is a socket
- * that is connected to the cache, as socat gives one; the client ends with it, with status 1. The
- * lines are those of rtr_diff, with --json those of rtr_diff --json. On standard error is what data
- * there are at each end of data, and what fails. It ends with status 0 after a signal, or with
- * --once after all data came; with 1 where they don't, or writing fails; else with 2. */
+ * that is connected to the cache, as socat passes it; when that closes, the client exits with
+ * status 1. The lines are those of rtr_diff, with --json those of rtr_diff --json. On standard
+ * error it reports the data at each end of data, and failures. It exits with status 0 after a
+ * signal, or with --once after all data came; with 1 if they don't come, or writing fails; with 2
+ * for wrong arguments. */
 #define _POSIX_C_SOURCE 200809L
 #include <errno.h>
 #include <inttypes.h>
@@ -22,18 +24,21 @@
 #include <unistd.h>
 #include "rtr_client.h"
 
-enum { MOST = sizeof(((struct rtr_group *)0)->has), NONE = -1 };
+enum { MOST = RTR_MOST_MEMBERS, NONE = -1 };
 
 /* A cache, and the client that asks it. */
 static struct member {
     struct rtr_client client;
     char *host, *port;
     int socket;
-    struct addrinfo *all, *tried; /* its addresses, while the one that is tried doesn't answer */
-    bool runs;
+    struct addrinfo *all, *tried; /* its addresses, and the one that is being tried */
+    int64_t tried_until;
+    bool runs, kept; /* `kept`: it ran before */
+    bool dropped;    /* its data were dropped, and the failure of the same event is still to come */
+    bool failed;     /* it failed, or sent no data that count */
 } members[MOST];
 
-/* Whose data are shown, or NONE, and the data as they were shown. */
+/* The member whose data are shown, or NONE, and the data as shown. */
 static int source = NONE;
 static uint8_t *shown;
 static size_t shown_length;
@@ -41,11 +46,11 @@ static struct rtr_unit shown_end;
 static struct rtr_group group;
 static bool once, json;
 
-/* A connection that is there already, the only one, until it is taken. */
+/* The connection of --fd, the only one, until it is used. */
 static int given = NONE;
 static bool single;
 
-/* The time in milliseconds. */
+/* Returns the time in milliseconds. */
 static int64_t now(void)
 {
     struct timespec time;
@@ -53,23 +58,23 @@ static int64_t now(void)
     return (int64_t)time.tv_sec * 1000 + time.tv_nsec / 1000000;
 }
 
-/* Prints the change that these bytes begin with; how many of them it has. */
+/* Prints the change at the start of these bytes, and returns its length. */
 static size_t print_change(const uint8_t *bytes, size_t length)
 {
-    static uint8_t text[1 << 18]; /* more than any change has */
-    struct rtr_line told;
+    static uint8_t text[1 << 18]; /* longer than any change's line */
+    struct rtr_line line;
     if (json)
-        rtr_change_json(bytes, length, text, sizeof text, &told);
+        rtr_change_json(bytes, length, text, sizeof text, &line);
     else
-        rtr_change_line(bytes, length, text, sizeof text, &told);
-    if (told.length > 0) {
-        fwrite(text, 1, told.length, stdout);
+        rtr_change_line(bytes, length, text, sizeof text, &line);
+    if (line.length > 0) {
+        fwrite(text, 1, line.length, stdout);
         putchar('\n');
     }
-    return told.size;
+    return line.size;
 }
 
-/* Prints the changes that the client has. The program ends where that fails. */
+/* Prints the client's changes. Exits if that fails. */
 static void print_changes(const struct rtr_client *c)
 {
     for (size_t at = 0, size = 1; size > 0; at += size)
@@ -80,7 +85,7 @@ static void print_changes(const struct rtr_client *c)
     }
 }
 
-/* The milliseconds until then, as poll takes them. */
+/* Returns the milliseconds until a time, as poll takes them. */
 static int left(int64_t until)
 {
     int64_t time = until - now();
@@ -99,11 +104,16 @@ static void close_socket(struct member *m)
     m->all = m->tried = NULL;
 }
 
-/* Tries the next address, or says that none answers, for this reason. */
+/* Tries the next address, for its share of the time that is left for all of them, or reports that
+ * none answers, for this reason. */
 static void try_next(struct member *m, const char *reason)
 {
     for (; m->tried; m->tried = m->tried->ai_next) {
         int type = SOCK_STREAM | SOCK_CLOEXEC | SOCK_NONBLOCK;
+        int64_t count = 0, time = now();
+        for (struct addrinfo *one = m->tried; one; one = one->ai_next)
+            count++;
+        m->tried_until = time + (m->client.wakes - time) / count;
         m->socket = socket(m->tried->ai_family, type, 0);
         if (m->socket != NONE && (connect(m->socket, m->tried->ai_addr, m->tried->ai_addrlen) == 0
                                   || errno == EINPROGRESS))
@@ -125,7 +135,7 @@ static void dial(struct member *m)
     try_next(m, unknown ? gai_strerror(unknown) : "no address");
 }
 
-/* Takes the connection that is there already. */
+/* Uses the connection of --fd. */
 static void take(struct member *m)
 {
     int type;
@@ -140,7 +150,7 @@ static void take(struct member *m)
         rtr_client_connected(&m->client);
 }
 
-/* Looks whether the address that is tried answered. */
+/* The address that is being tried has answered, or its time is over. */
 static void look(struct member *m, bool answered)
 {
     int error = answered ? 0 : ETIMEDOUT;
@@ -150,7 +160,7 @@ static void look(struct member *m, bool answered)
     if (error) {
         close(m->socket);
         m->socket = NONE;
-        m->tried = answered ? m->tried->ai_next : NULL;
+        m->tried = m->tried->ai_next;
         try_next(m, strerror(error));
     } else {
         freeaddrinfo(m->all);
@@ -159,7 +169,7 @@ static void look(struct member *m, bool answered)
     }
 }
 
-/* Sends some of what there is to send; false where the connection broke. */
+/* Sends some of the unsent bytes; returns false if the connection broke. */
 static bool send_some(struct member *m)
 {
     size_t length;
@@ -172,7 +182,7 @@ static bool send_some(struct member *m)
     return count >= 0 || errno == EAGAIN || errno == EINTR;
 }
 
-/* Reads some of what came. */
+/* Reads some of the bytes that came. */
 static void receive_some(struct member *m)
 {
     size_t length;
@@ -184,8 +194,8 @@ static void receive_some(struct member *m)
         rtr_client_lost(&m->client, count < 0 ? strerror(errno) : NULL);
 }
 
-/* Closes the connection so that what is sent still arrives: bytes of the peer that weren't read
- * would have it reset. They are read for a fifth of a second. */
+/* Closes the connection so that the bytes sent last still arrive: unread bytes of the peer would
+ * reset it, so they are read for a fifth of a second. */
 static void hang_up(struct member *m)
 {
     size_t length;
@@ -207,7 +217,7 @@ static void hang_up(struct member *m)
     close_socket(m);
 }
 
-/* Sends and reads what can be, when it can; or waits until a client wakes. */
+/* Waits for sockets or until a client wakes, then sends and reads what is possible. */
 static void wait_for_all(void)
 {
     struct pollfd ready[MOST];
@@ -219,28 +229,37 @@ static void wait_for_all(void)
         ready[i].events = members[i].tried ? POLLOUT : length ? POLLIN | POLLOUT : POLLIN;
         if (members[i].client.wakes < wakes)
             wakes = members[i].client.wakes;
+        if (members[i].tried && members[i].tried_until < wakes)
+            wakes = members[i].tried_until;
     }
+    if (rtr_group_wakes(&group) < (uint64_t)wakes)
+        wakes = (int64_t)rtr_group_wakes(&group);
     if (poll(ready, group.runs, left(wakes)) < 0)
         return;
     for (size_t i = 0; i < group.runs; i++) {
         struct member *m = &members[i];
         bool may = ready[i].fd != NONE && ready[i].revents;
-        if (m->tried && (may || m->client.wakes <= now()))
+        if (m->tried && (may || m->tried_until <= now()))
             look(m, may);
         else if (may && (!(ready[i].revents & POLLOUT) || send_some(m)))
             receive_some(m);
     }
 }
 
-/* ---- what is shown, and who is asked */
+/* ---- the data shown, and the caches asked */
 
 static void start(size_t number, uint8_t version)
 {
     struct member *m = &members[number];
-    rtr_client_init(&m->client, version);
-    m->client.settings.chance = (uint16_t)(now() ^ getpid());
+    if (m->kept) {
+        rtr_client_again(&m->client);
+    } else {
+        rtr_client_init(&m->client, version);
+        m->client.settings.chance = (uint16_t)(now() ^ getpid());
+    }
     m->socket = NONE;
-    m->runs = true;
+    m->runs = m->kept = true;
+    m->dropped = false;
 }
 
 static void stop(struct member *m)
@@ -252,8 +271,9 @@ static void stop(struct member *m)
     m->runs = false;
 }
 
-/* Prints what leads from the data that are shown to those of a member, shown from then on: its own
- * changes, where it is the source, or none is and it had no data either. */
+/* Prints the changes from the data shown to those of a member, which are shown from then on. These
+ * are the member's own changes if it is the source, or if there is none and it had no data
+ * either. */
 static void show(size_t number)
 {
     struct rtr_client *c = &members[number].client;
@@ -264,8 +284,8 @@ static void show(size_t number)
         _exit(1);
     }
     print_changes(c);
-    fprintf(stderr, "session %u serial %" PRIu32 " version %u: %zu payloads\n",
-            c->end.session, c->end.serial, c->end.version, c->payloads);
+    fprintf(stderr, "session %u serial %" PRIu32 " version %u: %zu payload%s\n",
+            c->end.session, c->end.serial, c->end.version, c->payloads, c->payloads == 1 ? "" : "s");
     free(shown);
     shown = memcpy(copy, c->data, c->data_length);
     shown_length = c->data_length;
@@ -273,7 +293,7 @@ static void show(size_t number)
     source = (int)number;
 }
 
-/* Does what the group answers to what happened to a member. */
+/* Carries out the group's answer to an event of a member. */
 static void obey(const struct rtr_group_answer *answer, size_t number)
 {
     uint8_t version = members[0].client.settings.highest;
@@ -291,8 +311,38 @@ static void obey(const struct rtr_group_answer *answer, size_t number)
         start(answer->start, version);
 }
 
-/* Does what a client wants done, and tells the group of it. Whether that is all: with --once all
- * was asked, or the only connection is gone. */
+/* Tells the group what happened to a client, if that is an event of the group; a failure that comes
+ * with the loss of data isn't. */
+static void tell(size_t number, enum rtr_client_event event, struct rtr_group_answer *answer)
+{
+    struct member *m = &members[number];
+    uint64_t time = (uint64_t)now();
+    if (event == RTR_CLIENT_DATA)
+        rtr_group_shows(&group, time, number, m->client.payloads, answer);
+    if (event == RTR_CLIENT_DROPPED)
+        rtr_group_drops(&group, time, number, answer);
+    if ((event == RTR_CLIENT_NO_DATA || event == RTR_CLIENT_FAILED) && !m->dropped)
+        rtr_group_fails(&group, time, number, answer);
+    bool empty = event == RTR_CLIENT_DATA && !group.has[number];
+    if (empty)
+        fprintf(stderr, "%s:%s: the cache has no payloads\n", m->host, m->port);
+    if (event >= RTR_CLIENT_DATA) {
+        m->dropped = event == RTR_CLIENT_DROPPED;
+        m->failed = event != RTR_CLIENT_DATA || empty;
+    }
+}
+
+/* Reports whether all caches failed, so that none is left for --once. */
+static bool all_failed(void)
+{
+    for (size_t i = 0; i < group.count; i++)
+        if (!members[i].failed)
+            return false;
+    return true;
+}
+
+/* Carries out an event of a client, and tells the group of it. Returns whether the program is done:
+ * with --once all caches were asked, or the only connection was closed. */
 static bool act(size_t number, enum rtr_client_event event)
 {
     struct member *m = &members[number];
@@ -301,27 +351,31 @@ static bool act(size_t number, enum rtr_client_event event)
         take(m);
     else if (event == RTR_CLIENT_CONNECT)
         dial(m);
-    if (event == RTR_CLIENT_DATA)
-        rtr_group_shows(&group, number, &answer);
-    if (event == RTR_CLIENT_DROPPED)
-        rtr_group_drops(&group, number, &answer);
-    if (event == RTR_CLIENT_NO_DATA || event == RTR_CLIENT_FAILED) {
+    if (event == RTR_CLIENT_NO_DATA || event == RTR_CLIENT_FAILED)
         fprintf(stderr, "%s:%s: %s\n", m->host, m->port, m->client.text);
-        rtr_group_fails(&group, number, &answer);
-    }
+    tell(number, event, &answer);
     obey(&answer, number);
-    bool failed = event > RTR_CLIENT_DATA && number + 1 == group.count;
-    bool last = (once && (source != NONE || failed)) || (single && event == RTR_CLIENT_FAILED);
+    bool last = (once && (source != NONE || all_failed()))
+        || (single && event == RTR_CLIENT_FAILED);
     if (last || event == RTR_CLIENT_CLOSE)
         hang_up(m);
     return last;
 }
 
-/* Follows the caches, or asks once, or has one connection; then the status to end with. */
+/* Tells the group that time has passed. */
+static void tick(void)
+{
+    struct rtr_group_answer answer;
+    rtr_group_tick(&group, (uint64_t)now(), &answer);
+    obey(&answer, 0);
+}
+
+/* Follows the caches, or asks once, or uses one connection; returns the exit status. */
 static int follow(void)
 {
     for (;;) {
         bool waits = true;
+        tick();
         for (size_t i = 0; i < group.runs; i++) {
             enum rtr_client_event event = rtr_client_next(&members[i].client, now());
             waits = waits && event == RTR_CLIENT_WAIT;
@@ -335,7 +389,7 @@ static int follow(void)
 
 /* ---- arguments */
 
-/* Splits where a cache is: a host, or an IPv6 address in brackets, a colon and a port. */
+/* Splits a cache's address: a host, or an IPv6 address in brackets, a colon and a port. */
 static bool split(char *word, char **host, char **port)
 {
     char *colon = strrchr(word, ':');
@@ -348,7 +402,7 @@ static bool split(char *word, char **host, char **port)
     return true;
 }
 
-/* Reads the number of a descriptor. */
+/* Parses the number of a descriptor. */
 static bool descriptor(const char *word)
 {
     size_t length = strspn(word, "0123456789");
@@ -356,7 +410,7 @@ static bool descriptor(const char *word)
     return given >= 0;
 }
 
-/* Reads the words; how many caches they name, or 0 where they are wrong. */
+/* Parses the arguments, and returns how many caches they name, or 0 if they are wrong. */
 static size_t read_words(int words_count, char **words, const char **version)
 {
     size_t count = 0;
@@ -385,7 +439,7 @@ static size_t read_words(int words_count, char **words, const char **version)
     return understood && strlen(*version) == 1 && strchr("012", **version) ? count : 0;
 }
 
-/* A signal ends a client that goes on. */
+/* A signal ends the client. */
 static void end(int number)
 {
     (void)number;
@@ -397,11 +451,17 @@ int main(int words_count, char **words)
     const char *version = "1";
     size_t count = read_words(words_count, words, &version);
     if (!count) {
-        fprintf(stderr, "usage: client (HOST:PORT | --prefer HOST:PORT .. | --fd N)\n"
+        fprintf(stderr, "usage: client (HOST:PORT | (--prefer HOST:PORT).. | --fd N)\n"
                         "              [--version 0|1|2] [--once] [--json]\n");
         return 2;
     }
-    rtr_group_init(&group, count);
+    struct rtr_group_settings settings;
+    rtr_group_usual(&settings);
+#ifdef PATIENCE
+    settings.patience = PATIENCE;
+#endif
+    settings.empty_is_data = count == 1; /* there is no other cache to ask */
+    rtr_group_init(&group, &settings, count, (uint64_t)now());
     start(0, (uint8_t)(version[0] - '0'));
     signal(SIGINT, once ? SIG_DFL : end);
     signal(SIGTERM, once ? SIG_DFL : end);

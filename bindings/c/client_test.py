@@ -4,9 +4,9 @@
 usage: client_test.py PROGRAM [TEST..]
 
 The program is `client.c` with `rtr_client.c`, compiled with -DRTR_CLIENT_MOST_BYTES=100000, and for
-test_hostile and test_stops with -DRTR_CLIENT_RESPONSE_LIMIT=3000, so that what never ends ends
-soon. Without names all tests are run. What is expected is computed here. Quiet but for a line if all is
-well.
+test_hostile and test_stops with -DRTR_CLIENT_RESPONSE_LIMIT=3000, so that endless answers end soon;
+for test_preference_silent with -DPATIENCE=1000, so that the silence isn't a failure first. Without
+names all tests are run. Expected values are computed here. Prints one line if all is well.
 """
 import ipaddress
 import json
@@ -21,7 +21,7 @@ from concurrent.futures import ThreadPoolExecutor
 
 PROGRAM = sys.argv[1] if len(sys.argv) > 1 else sys.exit(__doc__)
 SESSION = 4660
-PATIENCE = 300  # seconds for something that has to come
+PATIENCE = 300  # seconds to wait for what has to come
 CORRUPT, NO_DATA, NO_VERSION, NO_TYPE, UNKNOWN, DUPLICATE, OTHER_VERSION = 0, 2, 4, 5, 6, 7, 8
 
 
@@ -72,7 +72,7 @@ def report(version, code):
 
 
 def received(peer):
-    """The next unit that comes, or nothing where the client has closed."""
+    """Returns the next unit, or nothing if the client has closed."""
     got = b""
     while len(got) < 8 or len(got) < struct.unpack(">I", got[4:8])[0]:
         try:
@@ -90,10 +90,10 @@ def expect(peer, wanted):
     assert got == wanted, (got.hex(), wanted.hex())
 
 
-# ---- a cache that is played, and the client beside it
+# ---- a simulated cache, and its client
 
 class Run:
-    """What a client said to a cache that plays this script, or to several, by preference."""
+    """Runs a client with a cache that plays this script, or with several, by preference."""
 
     def __init__(self, script, words=("--once", "--version", "2"), host="127.0.0.1", caches=1):
         family = socket.AF_INET6 if ":" in host else socket.AF_INET
@@ -153,7 +153,7 @@ def answers(data, version=2):
     return script
 
 
-# Payloads in their order, with their lines.
+# Payloads in order, with their lines.
 PAYLOADS = [
     (prefix("10.0.0.0/8", 24, 65551), "IPv4 prefix 10.0.0.0/8-24 AS65551"),
     (prefix("192.0.2.0/24", 26, 0), "IPv4 prefix 192.0.2.0/24-26 AS0"),
@@ -189,11 +189,11 @@ def test_data():
         assert run.said == [f"session {SESSION} serial 5 version 2: {len(PAYLOADS)} payloads"]
     backwards = sequence([one for one, _ in reversed(PAYLOADS)])
     assert Run(answers(backwards)).lines == plus
-    # What is announced and withdrawn isn't there.
+    # A payload that is announced and withdrawn isn't in the data.
     gone = prefix("10.0.0.0/8", 24, 65551, announce=0)
     run = Run(answers(sequence([PAYLOADS[0][0], gone, PAYLOADS[1][0]])))
     assert run.lines == plus[1:2]
-    # In version 1, which is that of a client that isn't told another.
+    # In version 1, the default of a client without --version.
     old = response(1) + prefix("10.0.0.0/8", 24, 65551, version=1) + end(7, 1)
     run = Run(answers(old, 1), ("--once",))
     assert (run.status, run.lines) == (0, plus[:1])
@@ -219,7 +219,7 @@ def test_json():
 
 
 def test_versions():
-    """RFC 8210 section 7: by reports, by reports of a lower version, and without a word."""
+    """RFC 8210 section 7: by reports, by reports of a lower version, and by closing."""
     data = response(0) + prefix("10.0.0.0/8", 24, 65551, version=0) + end(1, 0)
 
     def falls(lower):
@@ -244,7 +244,7 @@ def test_versions():
 
 
 def refused(bytes_sent, text, code):
-    """The client names the fault, and answers by a report with this code, or by none."""
+    """The client names the fault, and sends a report with this code, or none."""
     got = []
 
     def script(run):
@@ -302,7 +302,7 @@ def test_refusals():
 
 
 def stops(length, how):
-    """A cache that closes, resets or stalls after so many bytes gives no data."""
+    """A cache that closes, resets or stalls after this many bytes gives no data."""
     def script(run):
         peer = run.asked(reset_query(0))
         peer.sendall(data[:length])
@@ -330,7 +330,7 @@ def test_stops():
 
 
 def test_hostile():
-    """One byte now and then, and units without an end."""
+    """One byte now and then, and endless units."""
     def send(peer, what):
         try:
             for _ in range(20000):
@@ -383,7 +383,7 @@ def test_following():
         expect(peer, reset_query(2))
         peer.sendall(sequence([first[0], second[0]], 3) + notify(4))
         expect(peer, serial_query(2, 3))
-        peer.sendall(sequence([first[0], gone], 4))  # it is there already
+        peer.sendall(sequence([first[0], gone], 4))  # it is present already
         assert received(peer)[1:4] == b"\x0a\0\7"
         peer.close()
         peer = run.asked(reset_query(2))
@@ -405,7 +405,7 @@ def test_following():
 
 
 def given(words, play):
-    """What a client on a connection that is there prints, and its status; this plays the cache."""
+    """Returns what a client with --fd prints, and its status; this simulates the cache."""
     ours, theirs = socket.socketpair()
     with ours, theirs:
         ours.settimeout(PATIENCE)
@@ -421,7 +421,7 @@ def given(words, play):
 
 
 def test_descriptor():
-    """A connection that is there already is the only one: the client ends with it."""
+    """The connection of --fd is the only one: the client exits when it closes."""
     plus = ["+ " + line for _, line in PAYLOADS]
     told = f"session {SESSION} serial 5 version 2: {len(PAYLOADS)} payloads"
 
@@ -479,8 +479,8 @@ def test_socat():
 
 
 def test_preference():
-    """The first of two caches that has data: a change of the cache is one change of data, and the
-    data of the better one stay while they live."""
+    """The first of two caches that answers: changing the cache is one change of data, and old data
+    of the preferred cache are replaced by the other's as soon as it has a whole answer."""
     (one, one_line), (two, two_line), (three, three_line) = PAYLOADS[:3]
 
     def script(run):
@@ -491,22 +491,19 @@ def test_preference():
         best.sendall(notify(7))
         expect(best, reset_query(2))
         best.sendall(sequence([two, three], 7))
-        assert received(other) == b""  # it is left, since the better one has data
+        assert received(other) == b""  # it is dropped, since the preferred one has data
         other.close()
         best.close()
-        other = run.asked(reset_query(2), 1)  # it is asked again, and those data stay
+        other = run.asked(reset_query(2), 1)  # it is asked again, and its data are shown
         other.sendall(sequence([one], 2) + notify(3))
         expect(other, serial_query(2, 2))
-        other.sendall(sequence([], 3))
+        other.sendall(sequence([two], 3) + notify(4))
+        expect(other, serial_query(2, 3))  # the client has those data
         best = run.asked(serial_query(2, 7))
-        best.sendall(response(session=8))  # so its data go
+        best.sendall(response(session=8))  # so its data go, which changes nothing
         assert received(best)[1:4] == b"\x0a\0\0"
         best.close()
         best = run.asked(reset_query(2))
-        other.sendall(notify(4))
-        expect(other, serial_query(2, 3))
-        other.sendall(sequence([two], 4) + notify(5))
-        expect(other, serial_query(2, 4))  # the client has those data
         best.sendall(sequence([one], 9))
         assert received(other) == b""
         best.sendall(notify(10))
@@ -527,8 +524,53 @@ def test_preference():
                       "0: unit of another session"], run.said
 
 
+def test_preference_silent():
+    """A silent cache is passed over after the patience, before it fails."""
+    one, line = PAYLOADS[0]
+
+    def script(run):
+        with run.asked(reset_query(2)), run.asked(reset_query(2), 1) as other:
+            other.sendall(sequence([one], 1))
+            received(other)
+
+    run = Run(script, caches=2)
+    assert (run.status, run.lines) == (0, ["+ " + line]), run.said
+    assert len(run.said) == 1 and run.time >= 1, (run.said, run.time)  # the state of the data
+
+
+def test_preference_empty():
+    """An empty answer is a failure if there is another cache, and data if there is none."""
+    one, line = PAYLOADS[0]
+
+    def empty(run, cache):
+        peer = run.asked(reset_query(2), cache)
+        peer.sendall(sequence([], 1))
+        return peer
+
+    def other_has_some(run):
+        with empty(run, 0), run.asked(reset_query(2), 1) as other:
+            other.sendall(sequence([one], 1))
+            received(other)
+
+    def none_has(run):
+        with empty(run, 0), empty(run, 1) as other:
+            received(other)
+
+    def alone(run):
+        with empty(run, 0) as peer:
+            received(peer)
+
+    run = Run(other_has_some, caches=2)
+    assert (run.status, run.lines) == (0, ["+ " + line]), run.said
+    run = Run(none_has, caches=2)
+    assert (run.status, run.lines) == (1, []), run.said
+    assert run.said == [f"{cache}: the cache has no payloads" for cache in range(2)], run.said
+    run = Run(alone)
+    assert (run.status, run.lines) == (0, []), run.said
+
+
 def test_preference_once():
-    """All data of the first that has some; where none has, status 1."""
+    """All data of the first cache that has some; if none has, status 1."""
     first = PAYLOADS[0]
 
     kept = []  # connections that stay
@@ -565,10 +607,11 @@ def test_arguments():
     for words in bad:
         done = subprocess.run([PROGRAM, *words], capture_output=True, timeout=PATIENCE)
         assert done.returncode == 2 and done.stderr.startswith(b"usage: client "), words
-    with socket.create_server(("127.0.0.1", 0)) as listener:
-        port = listener.getsockname()[1]
-    done = subprocess.run([PROGRAM, f"127.0.0.1:{port}", "--once"], capture_output=True,
-                          timeout=PATIENCE)
+    with socket.socket() as bound:  # it doesn't listen, and holds the port
+        bound.bind(("127.0.0.1", 0))
+        port = bound.getsockname()[1]
+        done = subprocess.run([PROGRAM, f"127.0.0.1:{port}", "--once"], capture_output=True,
+                              timeout=PATIENCE)
     assert done.returncode == 1 and b"refused" in done.stderr
 
 
@@ -579,4 +622,5 @@ def main():
     print(f"client in C: {len(names)} tests")
 
 
-main()
+if __name__ == "__main__":
+    main()

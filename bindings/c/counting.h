@@ -1,4 +1,4 @@
-/* Memory that is counted and denied, and units that tests make: link it with
+/* Counts allocations and lets them fail, and builds units for tests: link it with
  * -Wl,--wrap=malloc,--wrap=realloc,--wrap=free. */
 #ifndef COUNTING_H
 #define COUNTING_H
@@ -17,7 +17,7 @@ void *__wrap_malloc(size_t size);
 void *__wrap_realloc(void *memory, size_t size);
 void __wrap_free(void *memory);
 
-static size_t held, most_held, allocations, denied; /* denied: the number of one that is, or 0 */
+static size_t held, most_held, allocations, denied; /* denied: which allocation fails, or 0 */
 
 void *__wrap_malloc(size_t size)
 {
@@ -93,7 +93,7 @@ static inline void add_aspa(struct text *to, uint8_t flags, uint32_t customer, u
         add_number(to, provider);
 }
 
-/* A router key of AS 7 with so many bytes of key info. */
+/* A router key of AS 7 with this many bytes of key info. */
 static inline void add_key(struct text *to, uint8_t version, uint8_t flags, uint32_t info)
 {
     static const uint8_t zero[1 << 16];

@@ -1,12 +1,12 @@
-/* Calls each function on data over the cases of a file that `tests/libraries/deltas.py` wrote,
- * between inaccessible pages (testing.h).
+/* Calls each function on data with the cases of a file that `tests/libraries/deltas.py` wrote,
+ * between guard pages (testing.h).
  *
  * usage: data_tests CASES */
 #include "testing.h"
 
 enum call { DELTA = 0, APPLY = 1, ORDER = 2, IN_ORDER = 3 };
 
-/* One case: a call, and what is expected of it. The numbers are little-endian. */
+/* One case: a call and its expected result. Numbers are little-endian. */
 struct data_case {
     uint8_t call, status, side, detail;
     size_t offset, first_length, second_length, output_length, places;
@@ -52,8 +52,8 @@ static uint8_t called(const struct place *place, const struct data_case *one,
     }
 }
 
-/* With this much room the call answers this status, and writes that many bytes. Where it isn't for
- * want of room that it writes none, it leaves all of the output as it was. */
+/* With an output of this size the call returns this status, and writes that many bytes. If it
+ * writes none for another reason than RTR_NO_ROOM, the whole output is unchanged. */
 static void check_room(const struct place *place, const struct data_case *one,
                        const uint8_t *first, const uint8_t *second, size_t room, uint8_t status)
 {
@@ -73,8 +73,8 @@ static void check_room(const struct place *place, const struct data_case *one,
     CHECK(memcmp(second, one->second, one->second_length) == 0);
 }
 
-/* With room that always suffices, with as much as is needed, and with each room that is less; of
- * long outputs with some of these. What is refused is so without any room, too. */
+/* With an output that always suffices, with one of the exact size, and with each smaller size, or
+ * some of these if it is long. What is refused is refused without any output, too. */
 static void check_case(const struct place *place, const struct data_case *one)
 {
     const uint8_t *first = copied(place, place->input, one->first, one->first_length);

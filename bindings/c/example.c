@@ -1,6 +1,6 @@
-/* Reads a sequence from standard input, prints each unit, and checks what its form means.
+/* Reads a sequence from standard input, prints each unit, and checks that its form means the same.
  *
- * At the top of the repository, once bindings/build has made the archive:
+ * Compile it at the top of the repository, after bindings/build has made the archive:
  *
  *     cc -Ibindings/c -o example bindings/c/example.c prebuilt/x86_64/librtr_wire.a */
 #include <inttypes.h>
@@ -41,7 +41,7 @@ static void print_unit(const uint8_t *at, const struct rtr_unit *unit)
     }
 }
 
-/* Prints the units of a sequence, and answers the status of the last. */
+/* Prints the units of a sequence, and returns the status of the last. */
 static uint8_t print_units(const uint8_t *input, size_t length)
 {
     struct rtr_unit unit;

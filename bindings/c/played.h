@@ -1,4 +1,4 @@
-/* A client without sockets (rtr_client.h) with a clock, a cache and memory that are played. */
+/* A client without sockets (rtr_client.h), with a simulated clock, cache and memory. */
 #ifndef PLAYED_H
 #define PLAYED_H
 
@@ -7,13 +7,13 @@
 
 enum { NONE = -1 };
 
-/* ---- a client that is played with */
+/* ---- a client under test */
 
 static struct rtr_client c;
 static int64_t now = 1000000;
 static bool connected;
 
-/* The next event, of which the invariants hold. */
+/* Returns the next event, after checking its invariants. */
 static inline enum rtr_client_event event(void)
 {
     struct rtr_data_answer answer;
@@ -33,14 +33,14 @@ static inline enum rtr_client_event event(void)
     CHECK(c.data || (c.data_length == 0 && c.payloads == 0));
     CHECK((c.changes == NULL) == (c.changes_length == 0));
     if (one == RTR_CLIENT_WAIT || one == RTR_CLIENT_CONNECT)
-        CHECK(!c.changes && c.status == RTR_OK); /* those of an event before are no longer there */
+        CHECK(!c.changes && c.status == RTR_OK); /* those of an earlier event are gone */
     CHECK(strlen(c.text) < sizeof c.text);
     return one;
 }
 
 #define EXPECT(one) CHECK(event() == RTR_CLIENT_##one)
 
-/* What it has to send, which is then sent: these bytes. */
+/* Checks that the client sends exactly these bytes. */
 static inline void sends(const struct text *wanted)
 {
     size_t length;
@@ -63,7 +63,8 @@ static inline void sends_serial_query(uint8_t version, uint32_t serial)
     sends(&wanted);
 }
 
-/* It owes a report of this code, or none; the report is about so many bytes, unless that is 0. */
+/* Checks that the client owes a report of this code, or none; it encloses this many bytes, unless
+ * that is 0. */
 static inline void owes(int code, size_t about)
 {
     size_t length;
@@ -75,33 +76,43 @@ static inline void owes(int code, size_t about)
     CHECK(rtr_next(output, length, &unit) == RTR_OK && unit.size == length);
     CHECK(unit.kind == RTR_ERROR_REPORT && unit.code == code);
     CHECK(about == 0 || unit.part_length == about);
-    /* Without the place. */
+    /* Without the offset. */
     CHECK(unit.text_length > 0 && unit.text_length <= strlen(c.text));
     CHECK(memcmp(output + unit.text_start, c.text, unit.text_length) == 0);
 }
 
-/* These bytes come. */
+/* The client receives these bytes, in pieces where there is no room for all. */
 static inline void comes(const uint8_t *bytes, size_t length)
 {
-    size_t most;
-    uint8_t *room = rtr_client_room(&c, &most);
-    CHECK(length <= most);
-    memcpy(room, bytes, length);
-    rtr_client_received(&c, length);
+    for (size_t most, piece; length > 0; bytes += piece, length -= piece) {
+        uint8_t *room = rtr_client_room(&c, &most);
+        piece = length < most ? length : most;
+        memcpy(room, bytes, piece);
+        CHECK(rtr_client_received(&c, piece));
+        if (piece < length)
+            EXPECT(WAIT);
+    }
+}
+
+/* A client without data connects, and asks for all. */
+static inline void asks(void)
+{
+    connected = false;
+    EXPECT(CONNECT);
+    CHECK(c.wakes == now + 30000);
+    CHECK(rtr_client_connected(&c));
+    EXPECT(WAIT);
+    sends_reset_query(c.settings.highest);
 }
 
 static inline void begins(uint8_t version)
 {
     rtr_client_init(&c, version);
-    connected = false;
-    EXPECT(CONNECT);
-    CHECK(c.wakes == now + 30000);
-    rtr_client_connected(&c);
-    EXPECT(WAIT);
-    sends_reset_query(version);
+    asks();
 }
 
-/* A client that has the prefixes of AS 1 to 3 at serial number 5, and asked for changes. */
+/* Begins a client that has the prefixes of AS 1 to 3 at serial number 5, and has asked for
+ * changes. */
 static inline void has_data(uint8_t version)
 {
     begins(version);
@@ -121,7 +132,7 @@ static inline void ends(void)
     CHECK(held == 0);
 }
 
-/* It connects again after so many milliseconds. */
+/* Checks that it reconnects after this many milliseconds. */
 static inline void connects_after(int64_t time)
 {
     EXPECT(WAIT);

@@ -11,16 +11,16 @@
  *
  * Preconditions of every call:
  *   - a slice is passed as a pointer and a length: that many bytes can be read there, or written if
- *     it is an output. With length 0 any pointer will do, a null pointer too. No other pointer is
+ *     it is an output. With length 0 any pointer is allowed, null included. No other pointer is
  *     null;
- *   - an output, and what the last pointer points at, overlap nothing else that is passed. What is
- *     only read may overlap;
+ *   - an output, and what the last pointer points at, overlap no other argument. Inputs may overlap
+ *     each other;
  *   - until the call returns, no other thread writes to anything that was passed, nor reads an
  *     output or what the last pointer points at.
  * Outputs and what the last pointer points at needn't be initialized.
  *
- * If these hold, no call crashes, reads or writes a byte outside of what was passed, or keeps a
- * pointer or any state. Several threads may call at once. No call allocates or waits for anything.
+ * If these hold, no call crashes, accesses a byte outside of its arguments, or keeps a pointer or
+ * any state. Several threads may call at once. No call allocates memory or blocks.
  *
  * ASPA units are read in one layout: the flags in byte 2, of which the lowest bit announces; byte
  * 3, whose value is ignored; the length in bytes 4 to 7; the customer AS in bytes 8 to 11; the
@@ -35,31 +35,33 @@
 #include <stddef.h>
 #include <stdint.h>
 
+#include "rtr_abi.h"
+
 /* The version of this header and of the archive built with it, as in CHANGELOG.md. */
-#define RTR_WIRE_VERSION "0.2.0"
+#define RTR_WIRE_VERSION "0.3.0"
 
 /* The same as a number: 10000 times the first number, 100 times the second, and the third. */
-#define RTR_WIRE_VERSION_NUMBER 200
+#define RTR_WIRE_VERSION_NUMBER 300
 
 /* Numbers of the protocol, which are compared with the proved code. Sizes are in bytes. */
-#define RTR_HIGHEST_VERSION 2         /* versions are 0 to this one */
-#define RTR_HEADER_SIZE 8             /* of a header alone, as a reset query is */
-#define RTR_SERIAL_SIZE 12            /* of a serial notify or a serial query */
-#define RTR_IPV4_SIZE 20              /* of an IPv4 prefix */
-#define RTR_IPV6_SIZE 32              /* of an IPv6 prefix */
-#define RTR_KEY_SIZE 32               /* of a router key, without its key info */
-#define RTR_ASPA_SIZE 12              /* of an ASPA, without its providers */
-#define RTR_REPORT_SIZE 16            /* of an error report, without its unit and its text */
-#define RTR_SHORTEST_END 12           /* the end of data of version 0 */
-#define RTR_LONGEST_END 24            /* that of versions 1 and 2 */
-#define RTR_SHORTEST_PAYLOAD 12       /* an ASPA without providers */
-#define RTR_LONGEST_UNIT 65535        /* a unit that is read or written */
-#define RTR_MOST_KEY_INFO 65503       /* of a router key */
-#define RTR_MOST_PROVIDER_BYTES 65520 /* of an ASPA */
-#define RTR_MOST_REPORT_PARTS 65519   /* of a report: its unit and its text together */
+#define RTR_HIGHEST_VERSION 2         /* the highest protocol version; the lowest is 0 */
+#define RTR_HEADER_SIZE 8             /* the size of a header, which is a whole reset query */
+#define RTR_SERIAL_SIZE 12            /* the size of a serial notify or a serial query */
+#define RTR_IPV4_SIZE 20              /* the size of an IPv4 prefix */
+#define RTR_IPV6_SIZE 32              /* the size of an IPv6 prefix */
+#define RTR_KEY_SIZE 32               /* the size of a router key without its key info */
+#define RTR_ASPA_SIZE 12              /* the size of an ASPA without its providers */
+#define RTR_REPORT_SIZE 16            /* the size of an error report without unit and text */
+#define RTR_SHORTEST_END 12           /* the size of an end of data in version 0 */
+#define RTR_LONGEST_END 24            /* the size of an end of data in versions 1 and 2 */
+#define RTR_SHORTEST_PAYLOAD 12       /* the shortest payload unit: an ASPA without providers */
+#define RTR_LONGEST_UNIT 65535        /* the size of the longest unit that is read or written */
+#define RTR_MOST_KEY_INFO 65503       /* the most bytes of key info in a router key */
+#define RTR_MOST_PROVIDER_BYTES 65520 /* the most bytes of providers in an ASPA */
+#define RTR_MOST_REPORT_PARTS 65519   /* the most bytes of a report's unit and text together */
 
-/* The times of an end of data in seconds (RFC 8210 section 6): the usual ones, which version 0
- * stands for, and the least and most that a router takes. */
+/* The times of an end of data in seconds (RFC 8210 section 6): the defaults, which version 0
+ * implies, and the least and most that a router accepts. */
 #define RTR_USUAL_REFRESH 3600
 #define RTR_LEAST_REFRESH 1
 #define RTR_MOST_REFRESH 86400
@@ -70,48 +72,59 @@
 #define RTR_LEAST_EXPIRE 600
 #define RTR_MOST_EXPIRE 172800
 
-/* Room for what calls write, which tests try. */
-#define RTR_TEXT_ROOM 64     /* rtr_text and rtr_name, and a 0 behind the text */
-#define RTR_NAME_ROOM 65528  /* rtr_check_name */
-#define RTR_LINE_ROOM 160    /* rtr_line of most units: not of long keys, ASPAs and reports */
-#define RTR_FINDING_ROOM 128 /* rtr_finding_line */
+/* The most members of a group. */
+#define RTR_MOST_MEMBERS 16
+
+/* Buffer sizes that suffice for what calls write; tests check them. */
+#define RTR_TEXT_ROOM 64     /* for rtr_text and rtr_name, with a 0 after the text */
+#define RTR_NAME_ROOM 65528  /* for rtr_check_name */
+#define RTR_LINE_ROOM 160    /* for rtr_line of most units: not of long keys, ASPAs and reports */
+#define RTR_FINDING_ROOM 128 /* for rtr_finding_line */
 
 #ifdef __cplusplus
 extern "C" {
 #endif
 
-/* How a call ended; each call below names the statuses that it can answer. The faults of a unit
- * are 1 to 7, and are checked in the order of docs/PROTOCOL.md. */
+/* The result of a call; each call below lists the statuses that it returns. The faults of a unit
+ * are 1 to 7, checked in the order of docs/PROTOCOL.md. */
 enum rtr_status {
     RTR_OK = 0,              /* the call succeeded */
     RTR_SHORT = 1,           /* the input ends inside a unit, or before one */
     RTR_UNIT_TYPE = 2,       /* `detail` is a type that is not allowed here */
     RTR_UNIT_VERSION = 3,    /* `detail` is a version that is not allowed here */
     RTR_TOO_LONG = 4,        /* a router key, an ASPA or a report of more than 65535 bytes */
-    RTR_UNIT_LENGTH = 5,     /* a length that doesn't suit the type */
-    RTR_EMPTY_PROVIDERS = 6, /* an ASPA that is announced without providers */
-    RTR_PREFIX = 7,          /* `detail`, an rtr_prefix_rule, is broken by a prefix */
-    RTR_TOO_MANY = 8,        /* `limit` units were taken, and no end of data was among them */
-    RTR_NO_ROOM = 9,         /* the output is too short for what comes next */
+    RTR_UNIT_LENGTH = 5,     /* the length is wrong for the type */
+    RTR_EMPTY_PROVIDERS = 6, /* an ASPA is announced without providers */
+    RTR_PREFIX = 7,          /* a prefix breaks the rule `detail`, an rtr_prefix_rule */
+    RTR_TOO_MANY = 8,        /* `limit` units were read, none of them an end of data */
+    RTR_NO_ROOM = 9,         /* the output is too short for the next unit or text */
     RTR_NO_FORM = 10,        /* rtr_write_unit: no such action, family or part */
-                             /* 11 was "out of memory", which no call answers any more */
-    RTR_NOT_CANONICAL = 12,  /* a unit or an end of data that may not stand there in data or changes
-                                in canonical form */
-    RTR_OTHER_SESSION = 13,  /* the second input is of another session than the first */
-    RTR_DUPLICATE = 14,      /* a payload other than an ASPA is announced that is there already */
-    RTR_UNKNOWN = 15,        /* a payload is withdrawn that isn't there */
-    RTR_UNDECIDED = 16,      /* rtr_order: an ASPA is announced and then withdrawn, so that what the
-                                changes come to depends on the data */
-    RTR_NO_INDEX = 17        /* the index has fewer places than there are units */
+                             /* 11 was "out of memory", which no call returns any more */
+    RTR_NOT_CANONICAL = 12,  /* a unit or an end of data breaks the canonical form of data or
+                                changes */
+    RTR_OTHER_SESSION = 13,  /* the second input is of another session than the first, or an end of
+                                data of another session than its answer */
+    RTR_DUPLICATE = 14,      /* a payload other than an ASPA is announced that is already present */
+    RTR_UNKNOWN = 15,        /* a payload is withdrawn that isn't present */
+    RTR_UNDECIDED = 16,      /* rtr_order: an ASPA is announced and then withdrawn, so the net
+                                change depends on the data */
+    RTR_NO_INDEX = 17,       /* the index has fewer entries than there are units */
+    RTR_TOO_MANY_MEMBERS = 18, /* a group would have more than RTR_MOST_MEMBERS members */
+    RTR_OTHER_VERSION = 19,  /* a recorded unit has version `detail`, and the units before
+                                it in its answer, or the data that it changes, have another */
+    RTR_OLD_SERIAL = 20,     /* the serial number of a recorded answer comes before that of the data
+                                that it changes */
+    RTR_RESET_INSIDE = 21,   /* a recording has a cache reset inside an answer */
+    RTR_REPORT_INSIDE = 22   /* a recording has an error report inside an answer */
 };
 
 enum rtr_prefix_rule {
     RTR_LENGTH_OVER = 1,     /* the prefix length is above 32 for IPv4 or 128 for IPv6 */
-    RTR_MAX_LENGTH_OVER = 2, /* the max length is above that */
+    RTR_MAX_LENGTH_OVER = 2, /* the max length is above 32 for IPv4 or 128 for IPv6 */
     RTR_MAX_LENGTH_UNDER = 3 /* the max length is below the prefix length */
 };
 
-/* The kinds of units, by their type. */
+/* The kinds of units, numbered by PDU type. */
 enum rtr_kind {
     RTR_SERIAL_NOTIFY = 0,  /* RFC 8210 section 5.2 */
     RTR_SERIAL_QUERY = 1,   /* RFC 8210 section 5.3 */
@@ -128,7 +141,7 @@ enum rtr_kind {
 
 /* The codes of error reports (RFC 8210 section 12); those above 8 are the Rust crate rpki's. */
 enum rtr_code {
-    RTR_CODE_CORRUPT_DATA = 0,        /* what came can't be read, or contradicts itself */
+    RTR_CODE_CORRUPT_DATA = 0,        /* the data can't be parsed, or contradict themselves */
     RTR_CODE_INTERNAL_ERROR = 1,      /* the peer failed for a reason of its own */
     RTR_CODE_NO_DATA_AVAILABLE = 2,   /* the cache has no data yet */
     RTR_CODE_INVALID_REQUEST = 3,     /* the request makes no sense to the cache */
@@ -136,7 +149,7 @@ enum rtr_code {
     RTR_CODE_UNSUPPORTED_PDU_TYPE = 5,
     RTR_CODE_WITHDRAWAL_OF_UNKNOWN_RECORD = 6,
     RTR_CODE_DUPLICATE_ANNOUNCEMENT_RECEIVED = 7,
-    RTR_CODE_UNEXPECTED_PROTOCOL_VERSION = 8, /* another one than was agreed on */
+    RTR_CODE_UNEXPECTED_PROTOCOL_VERSION = 8, /* not the negotiated version */
     RTR_CODE_ASPA_PROVIDER_LIST_ERROR = 9,    /* an ASPA may not have these providers */
     RTR_CODE_TRANSPORT_ERROR = 10,            /* the connection failed */
     RTR_CODE_ORDERING_ERROR = 11              /* units came in the wrong order */
@@ -150,13 +163,25 @@ enum rtr_order {
     RTR_SERIAL_NO_ORDER = 3 /* they are 2^31 apart */
 };
 
-/* What rtr_name has names of. */
+/* The kinds of numbers that rtr_name names. */
 enum rtr_named {
-    RTR_NAMED_STATUS = 0, /* an rtr_status, without its detail: "unit type is not allowed here" */
-    RTR_NAMED_KIND = 1,   /* an rtr_kind: "IPv4 prefix" */
-    RTR_NAMED_CAUSE = 2,  /* an rtr_cause: "the cache is too slow" */
-    RTR_NAMED_REASON = 3, /* an rtr_reason: "the router is too slow" */
-    RTR_NAMED_CODE = 4    /* an error code (RFC 8210 section 12): "Corrupt Data" */
+    RTR_NAMED_STATUS = 0,   /* an rtr_status, without its detail: "unit type is not allowed here" */
+    RTR_NAMED_KIND = 1,     /* an rtr_kind: "IPv4 prefix" */
+    RTR_NAMED_CAUSE = 2,    /* an rtr_cause: "the cache is too slow" */
+    RTR_NAMED_REASON = 3,   /* an rtr_reason: "the router is too slow" */
+    RTR_NAMED_CODE = 4,     /* an error code (RFC 8210 section 12): "Corrupt Data" */
+    RTR_NAMED_TIME_RULE = 5 /* an rtr_time_rule: "the retry time has to be 1 to 7200 seconds" */
+};
+
+/* The rules on the times that a cache sends, in seconds (RFC 8210 section 6); rtr_time_rule_text
+ * returns their texts. */
+enum rtr_time_rule {
+    RTR_TIME_RULE_NONE = 0,
+    RTR_TIME_RULE_REFRESH = 1,       /* the refresh time is 1 to 86400 */
+    RTR_TIME_RULE_RETRY = 2,         /* the retry time is 1 to 7200 */
+    RTR_TIME_RULE_EXPIRE = 3,        /* the expire time is 600 to 172800 */
+    RTR_TIME_RULE_ABOVE_REFRESH = 4, /* the expire time is longer than the refresh time */
+    RTR_TIME_RULE_ABOVE_RETRY = 5    /* the expire time is longer than the retry time */
 };
 
 /* The two inputs of a comparison. */
@@ -167,12 +192,12 @@ enum rtr_side {
 
 /* The result of a call that normalises. */
 struct rtr_answer {
-    uint64_t units; /* payload units that were taken from the input, without the end of data */
-    uint64_t forms; /* how many of them were written; fewer than `units` only for one version */
-    size_t taken;   /* bytes of the input that were taken: whole units, and the end of data. Where
-                       the call stopped, the offset of the unit that it stopped at */
-    size_t written; /* bytes of the output that were written, from its front */
-    size_t wanted;  /* after RTR_SHORT, how many bytes from input + taken on are needed at least, as
+    uint64_t units; /* payload units that were read, without the end of data */
+    uint64_t forms; /* payload units that were written; fewer than `units` only for one version */
+    size_t taken;   /* bytes of the input that were read: whole units, and the end of data. If the
+                       call stopped, the offset of the unit at which it stopped */
+    size_t written; /* bytes of the output that were written, from its start */
+    size_t wanted;  /* after RTR_SHORT, the least number of bytes needed from input + taken on, as
                        in an rtr_unit; else 0 */
     uint8_t status; /* an rtr_status, as the call returns it */
     uint8_t detail; /* as enum rtr_status says of RTR_UNIT_TYPE, RTR_UNIT_VERSION and RTR_PREFIX;
@@ -181,48 +206,66 @@ struct rtr_answer {
 
 /* The result of a call on data and changes. */
 struct rtr_data_answer {
-    size_t written; /* after RTR_OK the bytes of the output that were written, from its front; else
-                       0. After RTR_NO_ROOM the output's bytes are open, after any other status they
-                       are as they were */
-    size_t offset;  /* where the unit at fault begins in its input; 0 where no unit is at fault */
+    size_t written; /* after RTR_OK the bytes of the output that were written, from its start; else
+                       0. After RTR_NO_ROOM the output's contents are unspecified, after any other
+                       status unchanged */
+    size_t offset;  /* the offset of the unit at fault in its input; 0 if no unit is at fault */
     uint8_t status; /* an rtr_status, as the call returns it */
-    uint8_t side;   /* 1 or 2 where the first or the second input is at fault, else 0 */
+    uint8_t side;   /* 1 or 2 if the first or the second input is at fault, else 0 */
     uint8_t detail; /* as in an rtr_answer */
+};
+
+/* The result of rtr_load. Unless the status is RTR_OK, what describes data is 0. */
+struct rtr_loaded {
+    size_t length;    /* bytes of the data, from the front of the output */
+    size_t offset;    /* where the unit at fault begins in the input; 0 where no unit is at fault */
+    size_t wanted;    /* after RTR_SHORT, how many bytes from input + offset on are needed at least,
+                         as in an rtr_unit; after RTR_NO_INDEX, how many elements the index needs at
+                         least; else 0 */
+    uint32_t serial;  /* of the data */
+    uint32_t refresh; /* of the data, in seconds; 0 in version 0 */
+    uint32_t retry;
+    uint32_t expire;
+    uint16_t session; /* of the data */
+    uint8_t version;  /* of the data and of each of their units */
+    bool has_cut;     /* whether an answer was left out: the next one began before its end */
+    uint8_t status;   /* an rtr_status, as the call returns it */
+    uint8_t detail;   /* the version that RTR_OTHER_VERSION refuses, else as in an rtr_answer */
 };
 
 /* The result of a comparison. */
 struct rtr_comparison {
-    size_t offset;  /* where the unit that the call stopped at begins, in the input of `side`; 0
+    size_t offset;  /* the offset of the unit at which the call stopped, in the input of `side`; 0
                        after RTR_OK */
-    size_t wanted;  /* after RTR_SHORT, how many bytes of that input from there on are needed at
-                       least, as in an rtr_unit; else 0 */
+    size_t wanted;  /* after RTR_SHORT, the least number of bytes of that input needed from `offset`
+                       on, as in an rtr_unit; else 0 */
     uint8_t status; /* an rtr_status, as the call returns it */
-    uint8_t side;   /* an rtr_side: the input that the call stopped in; 0 after RTR_OK */
+    uint8_t side;   /* an rtr_side: the input in which the call stopped; 0 after RTR_OK */
     uint8_t detail; /* as in an rtr_answer */
     bool same;      /* whether both inputs mean the same; false unless the status is RTR_OK */
 };
 
-/* The answer of rtr_line, rtr_json, rtr_change_line and rtr_change_json. */
+/* The result of rtr_line, rtr_json, rtr_change_line and rtr_change_json. */
 struct rtr_line {
     size_t size;    /* bytes of the unit in the input */
-    size_t length;  /* bytes of what is written, also where the output is shorter */
-    size_t wanted;  /* after RTR_SHORT, how many bytes of input are needed at least, as in an
-                       rtr_unit; else 0 */
+    size_t length;  /* bytes of the whole line, even if the output is shorter */
+    size_t wanted;  /* after RTR_SHORT, the least number of input bytes needed, as in an rtr_unit;
+                       else 0 */
     uint8_t status; /* an rtr_status, as the call returns it */
     uint8_t detail; /* as in an rtr_answer */
 };
 
 /* A unit of any kind. Fields that its kind doesn't have are 0. */
 struct rtr_unit {
-    size_t size;        /* bytes of the unit in the input, header included; of a unit that
-                           rtr_next refuses by RTR_PREFIX, too */
-    size_t wanted;      /* if rtr_next answers RTR_SHORT, how many bytes of input are needed at
-                           least: 8 without a whole header, and then the length of the unit */
-    size_t part_start;  /* where the key info of a router key, the providers of an ASPA, or the
-                           unit that a report is about begin: counted from the front of the unit */
-    size_t part_length; /* their length in bytes; a provider has 4, in network order */
-    size_t text_start;  /* where the text of a report begins. A report whose inner lengths don't
-                           fit has 0 here and in part_start and both lengths */
+    size_t size;        /* bytes of the unit in the input, header included; also set if rtr_next
+                           returns RTR_PREFIX */
+    size_t wanted;      /* if rtr_next returns RTR_SHORT, the least number of input bytes needed: 8
+                           without a whole header, else the length of the unit */
+    size_t part_start;  /* the offset in the unit of a router key's key info, an ASPA's providers,
+                           or the unit that a report encloses */
+    size_t part_length; /* their length in bytes; a provider has 4, in network byte order */
+    size_t text_start;  /* the offset in the unit of a report's text. A report whose inner lengths
+                           don't fit has 0 here and in part_start and both lengths */
     size_t text_length; /* its length in bytes; it should be UTF-8, which isn't checked */
     uint32_t asn;       /* of a prefix or a router key */
     uint32_t customer;  /* of an ASPA */
@@ -234,43 +277,52 @@ struct rtr_unit {
     uint16_t code;      /* the error code of a report (RFC 8210 section 12) */
     uint8_t kind;       /* an rtr_kind */
     uint8_t version;    /* of the protocol */
-    uint8_t action;     /* 1 where the payload is announced, 0 where it is withdrawn */
+    uint8_t action;     /* 1 if the payload is announced, 0 if it is withdrawn */
     uint8_t family;     /* 4 or 6 for a prefix */
     uint8_t prefix_length;
     uint8_t max_length;
-    uint8_t address[16];        /* in network order, the bits after the prefix length zero; for
+    uint8_t address[16];        /* in network byte order, the bits after the prefix length zero; for
                                    IPv4 the first 4 bytes */
     uint8_t key_identifier[20]; /* the subject key identifier of a router key */
-    uint8_t detail;             /* if rtr_next refuses, as in an rtr_answer; else 0 */
+    uint8_t detail;             /* if rtr_next returns a fault, as in an rtr_answer; else 0 */
 };
 
-/* What origin validation says of a route (RFC 6811 section 2). */
+/* The validation state of a route (RFC 6811 section 2). */
 enum rtr_validity {
     RTR_NOT_FOUND = 0, /* no VRP covers the route */
     RTR_VALID = 1,     /* a VRP matches it */
     RTR_INVALID = 2,   /* VRPs cover it, and none matches */
-    RTR_NO_ROUTE = 3   /* the family is neither 4 nor 6, or the prefix length is above 32 or 128 */
+    RTR_NO_ROUTE = 3,  /* the family is neither 4 nor 6, or the prefix length is above 32 or 128 */
+    RTR_UNCHECKED = 4  /* the struct rtr_data wasn't filled by rtr_check_data */
+};
+
+/* Whether a VRP covers a route. */
+enum rtr_covers {
+    RTR_COVERS_NONE = 0,      /* no VRP covers it, or no further one */
+    RTR_COVERS_ONE = 1,       /* a VRP covers it */
+    RTR_COVERS_NO_ROUTE = 2,  /* as RTR_NO_ROUTE */
+    RTR_COVERS_UNCHECKED = 3  /* as RTR_UNCHECKED */
 };
 
 /* Why a VRP that covers a route doesn't match it: the first of these that holds. */
 enum rtr_mismatch {
     RTR_MATCHES = 0,  /* it matches */
-    RTR_AS_ZERO = 1,  /* it is one of AS 0, which says that no route is valid */
-    RTR_OTHER_AS = 2, /* the route isn't from its AS */
+    RTR_AS_ZERO = 1,  /* its AS is 0, which no route may match */
+    RTR_OTHER_AS = 2, /* the route's origin is another AS */
     RTR_LONGER = 3    /* the route's prefix is longer than its max length */
 };
 
 /* A route. */
 struct rtr_route {
-    uint32_t asn;          /* the AS that it is from; 0 where that is no single one, as after an
-                              AS_SET at the end of its path: no VRP matches it then */
+    uint32_t asn;          /* the origin AS; 0 if there is no single one, as with an AS_SET at the
+                              end of the path: then no VRP matches */
     uint8_t family;        /* 4 or 6 */
     uint8_t prefix_length;
-    uint8_t address[16];   /* in network order, for IPv4 the first 4 bytes; the bits after the
-                              prefix length don't count */
+    uint8_t address[16];   /* in network byte order, for IPv4 the first 4 bytes; the bits after the
+                              prefix length are ignored */
 };
 
-/* Where the prefixes of data lie. What is in it only matters to the calls that take it. */
+/* An index of the prefixes in data. Its fields are private to the calls of the archive. */
 struct rtr_tables {
     size_t ipv4;
     size_t ipv6;
@@ -280,107 +332,61 @@ struct rtr_tables {
     uint8_t shortest[256];
 };
 
-/* A VRP that covers a route. Its prefix are the first bits of the route's address. */
+/* The index of checked data, with their length and a seal; private, too. */
+struct rtr_lookup {
+    size_t length;
+    size_t seal;
+    struct rtr_tables tables;
+};
+
+/* Data in canonical form. Only rtr_check_data fills it, and its fields are private. It points at
+ * the bytes, which must neither change nor move while it is used. */
+struct rtr_data {
+    const uint8_t *bytes;
+    struct rtr_lookup lookup;
+};
+
+/* A VRP that covers a route. Its prefix is the first prefix_length bits of the route's address. */
 struct rtr_covering {
-    size_t place;          /* which payload of the data it is, from 0 */
+    size_t place;          /* the index of the payload in the data, from 0 */
     uint32_t asn;
     uint8_t prefix_length;
     uint8_t max_length;
     uint8_t mismatch;      /* an rtr_mismatch */
 };
 
-/* The functions of the archive that take slices. They are those below, without the ending of their
- * names, but no pointer may be null: with length 0 any other pointer will do. */
-uint8_t rtr_normalise_slice_nonnull(const uint8_t *input, size_t input_length,
-                                    uint8_t *output, size_t output_length,
-                                    uint64_t limit, struct rtr_answer *answer);
-uint8_t rtr_normalise_for_slice_nonnull(const uint8_t *input, size_t input_length,
-                                        uint8_t *output, size_t output_length,
-                                        uint64_t limit, uint8_t version,
-                                        struct rtr_answer *answer);
-uint8_t rtr_unit_size_nonnull(const uint8_t *input, size_t input_length, size_t *size,
-                              uint8_t *detail);
-uint8_t rtr_next_nonnull(const uint8_t *input, size_t input_length, struct rtr_unit *unit);
-uint8_t rtr_next_many_nonnull(const uint8_t *input, size_t input_length,
-                              struct rtr_unit *units, size_t units_length,
-                              size_t *count, size_t *taken);
-uint8_t rtr_line_nonnull(const uint8_t *input, size_t input_length, uint64_t offset,
-                         uint8_t *output, size_t output_length, struct rtr_line *answer);
-uint8_t rtr_json_nonnull(const uint8_t *input, size_t input_length, uint64_t offset,
-                         uint8_t *output, size_t output_length, struct rtr_line *answer);
-uint8_t rtr_change_line_nonnull(const uint8_t *input, size_t input_length,
-                                uint8_t *output, size_t output_length, struct rtr_line *answer);
-uint8_t rtr_change_json_nonnull(const uint8_t *input, size_t input_length,
-                                uint8_t *output, size_t output_length, struct rtr_line *answer);
-uint8_t rtr_text_nonnull(uint8_t status, uint8_t detail, uint8_t *output, size_t output_length,
-                         size_t *length);
-uint8_t rtr_name_nonnull(uint8_t named, uint16_t number, uint8_t *output, size_t output_length,
-                         size_t *length);
-bool rtr_provider_nonnull(const struct rtr_unit *unit, const uint8_t *input, size_t input_length,
-                          size_t index, uint32_t *provider);
-bool rtr_error_code_nonnull(uint8_t status, const uint8_t *input, size_t input_length,
-                            uint16_t *code);
-uint8_t rtr_write_unit_nonnull(const struct rtr_unit *unit,
-                               const uint8_t *input, size_t input_length,
-                               uint8_t *output, size_t output_length, size_t *written);
-uint8_t rtr_same_meaning_nonnull(const uint8_t *left, size_t left_length,
-                                 const uint8_t *right, size_t right_length,
-                                 uint64_t limit, struct rtr_comparison *answer);
-
-uint8_t rtr_delta_nonnull(const uint8_t *old_data, size_t old_length,
-                          const uint8_t *new_data, size_t new_length,
-                          uint8_t *output, size_t output_length, struct rtr_data_answer *answer);
-uint8_t rtr_apply_nonnull(const uint8_t *data, size_t data_length,
-                          const uint8_t *changes, size_t changes_length,
-                          uint8_t *output, size_t output_length, struct rtr_data_answer *answer);
-uint8_t rtr_apply_in_order_nonnull(const uint8_t *data, size_t data_length,
-                                   const uint8_t *changes, size_t changes_length,
-                                   size_t *index, size_t index_length,
-                                   uint8_t *output, size_t output_length,
-                                   struct rtr_data_answer *answer);
-uint8_t rtr_order_nonnull(const uint8_t *input, size_t input_length,
-                          size_t *index, size_t index_length,
-                          uint8_t *output, size_t output_length, struct rtr_data_answer *answer);
-
-void rtr_tables_nonnull(const uint8_t *data, size_t data_length, struct rtr_tables *tables);
-uint8_t rtr_validate_nonnull(const uint8_t *data, size_t data_length,
-                             const struct rtr_tables *tables, const struct rtr_route *route);
-bool rtr_covering_nonnull(const uint8_t *data, size_t data_length,
-                          const struct rtr_tables *tables, const struct rtr_route *route,
-                          size_t from, struct rtr_covering *covering);
-
-/* The pointer of a slice to be read; in place of a null pointer, whose length is 0, another. */
+/* Returns the pointer of an input slice; for a null pointer, whose length is 0, another. */
 static inline const uint8_t *rtr_readable(const uint8_t *bytes)
 {
     static const uint8_t nowhere = 0;
     return bytes ? bytes : &nowhere;
 }
 
-/* The same of a slice to be written, of which nothing is written where its length is 0. */
+/* The same for an output slice; with length 0 nothing is written to it. */
 static inline uint8_t *rtr_writable(uint8_t *bytes)
 {
     static uint8_t nowhere;
     return bytes ? bytes : &nowhere;
 }
 
-/* Normalises the sequence that the input begins with: reads payload units up to an end of data,
- * and writes the form of what each means, and the end of data, to the front of the output.
+/* Normalises the sequence at the start of the input: reads payload units up to an end of data, and
+ * writes the form of what each means, and the end of data, to the start of the output.
  *
- * At most `limit` units are taken, the end of data included; UINT64_MAX allows all. The call
- * answers RTR_OK exactly if the input begins with fewer than `limit` acceptable payload units and
- * an end of data, and the output is at least as long as their form. Then all of these were taken
- * and their form was written. What follows in the input isn't taken.
+ * At most `limit` units are read, the end of data included; UINT64_MAX allows all. The call returns
+ * RTR_OK if and only if the input begins with fewer than `limit` acceptable payload units and an
+ * end of data, and the output is at least as long as their form. Then all of these were read and
+ * their form was written. What follows in the input isn't read.
  *
- * Otherwise the call stopped before a unit, of which no byte counts as taken: output[0 .. written)
+ * Otherwise the call stopped before a unit, no byte of which counts as taken: output[0 .. written)
  * is the form of input[0 .. taken), whole units. RTR_TOO_MANY is checked first, then RTR_SHORT to
- * RTR_PREFIX, then RTR_NO_ROOM. To go on, call again at input + taken:
- *   - after RTR_NO_ROOM with more room, and after RTR_SHORT with more input, with `units`
+ * RTR_PREFIX, then RTR_NO_ROOM. To resume, call again at input + taken:
+ *   - after RTR_NO_ROOM with a larger output, and after RTR_SHORT with more input, with `units`
  *     subtracted from the limit;
  *   - after RTR_TOO_MANY with another limit.
  *
  * The rest of the output is unchanged. An output at least as long as the input always suffices:
- * then the call never answers RTR_NO_ROOM. Two sequences have the same form exactly if they mean
- * the same. */
+ * then the call never returns RTR_NO_ROOM. Two sequences have the same form if and only if they
+ * mean the same. */
 static inline uint8_t rtr_normalise_slice(const uint8_t *input, size_t input_length,
                                           uint8_t *output, size_t output_length,
                                           uint64_t limit, struct rtr_answer *answer)
@@ -389,14 +395,14 @@ static inline uint8_t rtr_normalise_slice(const uint8_t *input, size_t input_len
                                        output_length, limit, answer);
 }
 
-/* The same for clients of one version of the protocol. Units that the version doesn't have are
- * checked and counted in `units` but not written. All others, and the end of data, are written in
- * this version. Version 0 has prefixes, version 1 also router keys, version 2 also ASPAs.
+/* As rtr_normalise_slice, for clients of one protocol version. Units that the version doesn't have
+ * are checked and counted in `units` but not written. All others, and the end of data, are written
+ * in this version. Version 0 has prefixes, version 1 also router keys, version 2 also ASPAs.
  *
- * An end of data has 12 bytes in version 0 and 24 in versions 1 and 2, so one that came in version
- * 0 grows. An output at least 12 bytes longer than the input always suffices.
+ * An end of data has 12 bytes in version 0 and 24 in versions 1 and 2, so an end of data that came
+ * in version 0 grows. An output at least 12 bytes longer than the input always suffices.
  *
- * For a version above 2 the call answers RTR_UNIT_VERSION before anything else, with that version
+ * For a version above 2 the call returns RTR_UNIT_VERSION before any other fault, with that version
  * as `detail` and nothing taken or written. */
 static inline uint8_t rtr_normalise_for_slice(const uint8_t *input, size_t input_length,
                                               uint8_t *output, size_t output_length,
@@ -408,38 +414,38 @@ static inline uint8_t rtr_normalise_for_slice(const uint8_t *input, size_t input
                                            answer);
 }
 
-/* How long the unit is that the input begins with, by its header alone: what follows may be
- * missing. For one of a fixed size it is the size of its type, for a router key, a report or an
- * ASPA at most 65535; no other length is answered.
+/* Reads the length of the unit at the start of the input from its header; the rest may be missing.
+ * The length of a unit of fixed size is that of its type; of a router key, a report or an ASPA it
+ * is at most 65535. No other length is returned.
  *
- * RTR_OK with the length in `size`; RTR_SHORT for fewer than the 8 bytes of a header, with 8, which
- * are wanted, in `size`; or RTR_UNIT_TYPE to RTR_EMPTY_PROVIDERS with 0 in `size` and the detail.
- * Else `detail` is 0. */
+ * RTR_OK with the length in `size`; RTR_SHORT for fewer than the 8 bytes of a header, with 8, the
+ * bytes needed, in `size`; or RTR_UNIT_TYPE to RTR_EMPTY_PROVIDERS with 0 in `size` and the detail
+ * in `detail`, which is 0 otherwise. */
 static inline uint8_t rtr_unit_size(const uint8_t *input, size_t input_length, size_t *size,
                                     uint8_t *detail)
 {
     return rtr_unit_size_nonnull(rtr_readable(input), input_length, size, detail);
 }
 
-/* Decodes the unit that the input begins with. The next one begins `size` bytes later; what follows
- * doesn't matter. Only fixed fields are copied: key info, providers, and the unit that a report is
- * about are input[part_start .. part_start + part_length), unchanged, on a withdrawal too, and the
- * text of a report is input[text_start .. text_start + text_length).
+/* Decodes the unit at the start of the input. The next unit begins `size` bytes later; its bytes
+ * are ignored. Only fixed fields are copied: key info, providers, and the unit that a report
+ * encloses are input[part_start .. part_start + part_length), unchanged, even of a withdrawal, and
+ * the text of a report is input[text_start .. text_start + text_length).
  *
- * RTR_OK; or, with all fields 0 except `detail`, RTR_SHORT to RTR_PREFIX. After RTR_SHORT also
- * `wanted` is there, and after RTR_PREFIX `size`, so that a caller may go on after the unit. */
+ * RTR_OK; or, with all fields 0 except `detail`, RTR_SHORT to RTR_PREFIX. After RTR_SHORT `wanted`
+ * is set, too, and after RTR_PREFIX `size`, so that a caller can skip the unit. */
 static inline uint8_t rtr_next(const uint8_t *input, size_t input_length, struct rtr_unit *unit)
 {
     return rtr_next_nonnull(rtr_readable(input), input_length, unit);
 }
 
-/* Decodes the units that the input begins with, each as rtr_next: the first into units[0], the
- * next into units[1] and so on, until all places are filled or a unit is refused. `count` units are
- * decoded, which have `taken` bytes. Where their parts begin is said from the front of each unit.
+/* Decodes the units at the start of the input, each as rtr_next: the first into units[0], the next
+ * into units[1] and so on, until the array is full or a unit is refused. Sets `count` to the number
+ * of decoded units, and `taken` to their bytes. Offsets of parts count from the start of each unit.
  *
- * RTR_OK if all places are filled; or the status of the next unit, RTR_SHORT to RTR_PREFIX, and
- * units[count] is as rtr_next leaves it. So the status of an input whose last unit is whole is
- * RTR_SHORT, with all of the input taken. Places behind that are left as they were. */
+ * RTR_OK if the array is full; or the status of the next unit, RTR_SHORT to RTR_PREFIX, with
+ * units[count] as rtr_next sets it. So whole units that don't fill the array end with RTR_SHORT,
+ * and all of the input taken. Later elements are unchanged. */
 static inline uint8_t rtr_next_many(const uint8_t *input, size_t input_length,
                                     struct rtr_unit *units, size_t units_length,
                                     size_t *count, size_t *taken)
@@ -449,13 +455,12 @@ static inline uint8_t rtr_next_many(const uint8_t *input, size_t input_length,
                                  units_length, count, taken);
 }
 
-/* The line of the unit that the input begins with, in ASCII, without its end or a 0 behind it: what
- * the program rtr_list prints of a unit that stands after `offset` bytes. Like that program it
- * shows a prefix whose lengths break their rule, which rtr_next refuses. The next unit begins
- * `size` bytes later.
+/* Writes the line that the program rtr_list prints for the unit at the start of the input, at this
+ * offset, in ASCII, without a newline or a terminating 0. Like that program it shows a prefix whose
+ * lengths break their rule, which rtr_next refuses. The next unit begins `size` bytes later.
  *
- * RTR_OK; or RTR_NO_ROOM, where the output holds the front of the line, and `length` says how many
- * bytes are wanted. Before that RTR_SHORT to RTR_EMPTY_PROVIDERS, with nothing written. */
+ * RTR_OK; or, in this order, RTR_SHORT to RTR_EMPTY_PROVIDERS, with nothing written; RTR_NO_ROOM,
+ * with the start of the line in the output, and the number of bytes needed in `length`. */
 static inline uint8_t rtr_line(const uint8_t *input, size_t input_length, uint64_t offset,
                                uint8_t *output, size_t output_length, struct rtr_line *answer)
 {
@@ -463,7 +468,8 @@ static inline uint8_t rtr_line(const uint8_t *input, size_t input_length, uint64
                             output_length, answer);
 }
 
-/* The JSON object of the same unit, as rtr_list --json prints it, in UTF-8. Else as rtr_line. */
+/* Writes the JSON object that rtr_list --json prints for the unit, in UTF-8. Otherwise as
+ * rtr_line. */
 static inline uint8_t rtr_json(const uint8_t *input, size_t input_length, uint64_t offset,
                                uint8_t *output, size_t output_length, struct rtr_line *answer)
 {
@@ -471,8 +477,8 @@ static inline uint8_t rtr_json(const uint8_t *input, size_t input_length, uint64
                             output_length, answer);
 }
 
-/* The line of the change that a payload unit makes, as the program rtr_diff prints it, such as
- * "+ IPv4 prefix 192.0.2.0/23-26 AS65551"; of any other unit nothing, with length 0. Else as
+/* Writes the line of a payload unit's change, as the program rtr_diff prints it, such as "+ IPv4
+ * prefix 192.0.2.0/23-26 AS65551"; nothing for any other unit, with length 0. Otherwise as
  * rtr_line. */
 static inline uint8_t rtr_change_line(const uint8_t *input, size_t input_length,
                                       uint8_t *output, size_t output_length,
@@ -482,7 +488,7 @@ static inline uint8_t rtr_change_line(const uint8_t *input, size_t input_length,
                                    output_length, answer);
 }
 
-/* The JSON object of the same change, as rtr_diff --json prints it. Else as rtr_line. */
+/* Writes the JSON object that rtr_diff --json prints for the change. Otherwise as rtr_line. */
 static inline uint8_t rtr_change_json(const uint8_t *input, size_t input_length,
                                       uint8_t *output, size_t output_length,
                                       struct rtr_line *answer)
@@ -491,37 +497,38 @@ static inline uint8_t rtr_change_json(const uint8_t *input, size_t input_length,
                                    output_length, answer);
 }
 
-/* The text of a status with its detail, such as "unit type 5 is not allowed here", in ASCII without
- * a 0 behind it; any numbers may be passed.
+/* Writes the text of a status with its detail, such as "unit type 5 is not allowed here", in ASCII
+ * without a terminating 0; any numbers may be passed.
  *
- * RTR_OK; or RTR_NO_ROOM, where the output holds the front of the text. `length` says how many
- * bytes all of it has. */
+ * RTR_OK; or RTR_NO_ROOM, with the start of the text in the output. `length` is that of the whole
+ * text. */
 static inline uint8_t rtr_text(uint8_t status, uint8_t detail, uint8_t *output,
                                size_t output_length, size_t *length)
 {
     return rtr_text_nonnull(status, detail, rtr_writable(output), output_length, length);
 }
 
-/* The name of a number, by an rtr_named: of a status, a kind, a cause, a reason or an error code.
- * For a number without a name a text says so, such as "type 5" or "error code 12"; for another
- * `named` the text is empty. Else as rtr_text. */
+/* Writes the name of a number, as `named`, an rtr_named, selects: of a status, a kind, a cause, a
+ * reason or an error code; or the text of a rule on times. A number without a name gets a text such
+ * as "type 5" or "error code 12"; for any other `named` the text is empty. Otherwise as
+ * rtr_text. */
 static inline uint8_t rtr_name(uint8_t named, uint16_t number, uint8_t *output,
                                size_t output_length, size_t *length)
 {
     return rtr_name_nonnull(named, number, rtr_writable(output), output_length, length);
 }
 
-/* Whether the unit is an ASPA with a provider of this index, counted from 0. The provider is then
- * in `provider`, and else 0. The input is the one that part_start counts from. */
+/* Reports whether the unit is an ASPA with a provider at this index, from 0, and sets `provider` to
+ * it, or else to 0. The input is the one from whose start part_start counts. */
 static inline bool rtr_provider(const struct rtr_unit *unit, const uint8_t *input,
                                 size_t input_length, size_t index, uint32_t *provider)
 {
     return rtr_provider_nonnull(unit, rtr_readable(input), input_length, index, provider);
 }
 
-/* Whether a report is owed to the peer for this status of rtr_next or rtr_unit_size, or for that of
- * a sequence, where the input begins with the unit that it is about. The error code of the report
- * (RFC 8210 section 12) is then in `code`, and else 0:
+/* Reports whether the peer is owed an error report for this status of rtr_next, rtr_unit_size or a
+ * sequence; the input begins with the unit at fault. Sets `code` to the error code of the report
+ * (RFC 8210 section 12), or else to 0:
  *
  *   RTR_SHORT            0, corrupt data
  *   RTR_UNIT_TYPE        5, unsupported PDU type
@@ -534,39 +541,44 @@ static inline bool rtr_provider(const struct rtr_unit *unit, const uint8_t *inpu
  *   RTR_DUPLICATE        7, duplicate announcement received
  *   RTR_UNKNOWN          6, withdrawal of unknown record
  *
- * For no other status is one owed, nor for any unit that is itself a report (section 5.11). */
+ * No report is owed for any other status, nor for a unit that is itself a report (section 5.11). */
 static inline bool rtr_error_code(uint8_t status, const uint8_t *input, size_t input_length,
                                   uint16_t *code)
 {
     return rtr_error_code_nonnull(status, rtr_readable(input), input_length, code);
 }
 
-/* The order of two serial numbers, an rtr_order. */
+/* Returns the order of two serial numbers, an rtr_order. */
 uint8_t rtr_serial_order(uint32_t left, uint32_t right);
 
-/* Whether a version of the protocol has units of this kind: 0 all but router keys and ASPAs, 1 all
- * but ASPAs, 2 all, and versions above 2 none. The calls check the version of an end of data alone:
- * who wants the others checked asks here. */
+/* Reports whether a protocol version has units of this kind: 0 has all but router keys and ASPAs, 1
+ * all but ASPAs, 2 all, and versions above 2 none. Other calls only check the version of an end of
+ * data; to check that of other units, use this call. */
 bool rtr_version_has(uint8_t version, uint8_t kind);
 
-/* The version of the archive, as RTR_WIRE_VERSION_NUMBER is that of the header. */
+/* Returns the first rule that these times in seconds break, an rtr_time_rule; RTR_TIME_RULE_NONE if
+ * a cache may send them. */
+uint8_t rtr_times_rule(uint32_t refresh, uint32_t retry, uint32_t expire);
+
+/* Returns the version of the archive; RTR_WIRE_VERSION_NUMBER is that of the header. */
 uint32_t rtr_wire_version(void);
 
-/* Writes the written form of the unit to the front of the output, and its length to `written`: at
- * most 65535. Key info, providers, and the unit that a report is about are input[part_start ..
+/* Writes the form of the unit to the start of the output, and its length to `written`: at most
+ * 65535. Key info, providers, and the unit that a report encloses are input[part_start ..
  * part_start + part_length), and its text is input[text_start .. text_start + text_length). An
  * address is written with the bits after the prefix length zero, a withdrawn ASPA without
- * providers, and an end of data of version 0 without timings. Ignored are `size`, `wanted`,
- * `detail`, what the kind doesn't have, and the input unless the kind has one of these parts.
+ * providers, and an end of data of version 0 without timings. `size`, `wanted`, `detail` and fields
+ * that the kind doesn't have are ignored, and so is the input unless the kind has one of these
+ * parts.
  *
- * A report isn't cut: where it would be too long, pass a shorter part_length or text_length. Both
- * together may have 65519 bytes.
+ * A report that is too long isn't truncated: pass a shorter part_length or text_length, together at
+ * most 65519 bytes.
  *
  * RTR_OK; or, with nothing written and `written` 0, in this order:
  *   RTR_UNIT_TYPE        `kind` is no rtr_kind
  *   RTR_NO_FORM          `action` is above 1, or above 0 for what has no payload; `family` isn't
  *                        that of the kind; a part or a text lies outside of the input
- *   RTR_PREFIX           the lengths of a prefix break their rule; which part isn't reported
+ *   RTR_PREFIX           the lengths of a prefix break a rule; which one isn't reported
  *   RTR_TOO_LONG         more than 65503 bytes of key info, 65519 of unit and text of a report or,
  *                        announced, 65520 of providers
  *   RTR_UNIT_LENGTH      announced providers that aren't 4 bytes each
@@ -581,13 +593,12 @@ static inline uint8_t rtr_write_unit(const struct rtr_unit *unit,
                                   output_length, written);
 }
 
-/* Whether both inputs begin with sequences that mean the same, of fewer than `limit` payload units
- * each.
+/* Reports whether both inputs begin with sequences that mean the same, of fewer than `limit`
+ * payload units each.
  *
- * RTR_OK, and `same` says it. Otherwise the status is one of RTR_SHORT to RTR_PREFIX or
+ * RTR_OK, with the result in `same`. Otherwise the status is RTR_SHORT to RTR_PREFIX or
  * RTR_TOO_MANY: that of the left input, or if the left one is accepted, that of the right one.
- * `side` and `offset` say which input and which unit it is of: the one at which rtr_normalise_slice
- * stops. */
+ * `side` is the input at fault, and `offset` the unit in it at which rtr_normalise_slice stops. */
 static inline uint8_t rtr_same_meaning(const uint8_t *left, size_t left_length,
                                        const uint8_t *right, size_t right_length,
                                        uint64_t limit, struct rtr_comparison *answer)
@@ -598,27 +609,27 @@ static inline uint8_t rtr_same_meaning(const uint8_t *left, size_t left_length,
 
 /* Data and changes in canonical form.
  *
- * Changes are a sequence: payload units, and an end of data. They are in canonical form if all of
- * it is of one version, the units that announce come first and then those that withdraw, each in
- * the order of payloads, and no two units name the same payload (of an ASPA, the same customer).
- * The order of payloads is: origins, then router keys, then ASPAs; of origins IPv4 before IPv6,
- * then by address, prefix length, max length and ASN; of router keys by key identifier, ASN and key
- * info; of ASPAs by customer.
+ * Changes are a sequence: payload units, and an end of data. They are in canonical form if all
+ * units are of one version, announcements come before withdrawals, each group in the order of
+ * payloads, and no two units name the same payload (for ASPAs, the same customer). The order of
+ * payloads is: origins, then router keys, then ASPAs; origins have IPv4 before IPv6, then go by
+ * address, prefix length, max length and ASN; router keys by key identifier, ASN and key info;
+ * ASPAs by customer.
  *
- * Data, what a cache has or a router has of it, are changes in canonical form that withdraw
- * nothing. An end of data alone is data without payloads: rtr_write_unit writes one.
+ * Data, as a cache or its router holds them, are changes in canonical form that withdraw nothing.
+ * An end of data alone is data without payloads; rtr_write_unit writes one.
  *
- * What follows the end of data in an input doesn't count. */
+ * Bytes after the end of data in an input are ignored. */
 
-/* Writes the delta that leads a router from the old data to the new (RFC 8210 section 8.2): changes
- * in canonical form, with the end of data of the new data. An output of old_length + new_length
- * bytes always suffices. rtr_apply then makes of the old data the new.
+/* Writes the delta from the old data to the new (RFC 8210 section 8.2): changes in canonical form,
+ * with the end of data of the new data. An output of old_length + new_length bytes always suffices.
+ * rtr_apply turns the old data into the new with it.
  *
  * RTR_OK; or, in this order,
  *   RTR_SHORT to RTR_PREFIX, RTR_NOT_CANONICAL   the first fault of the old data (side 1), or else
  *                                                of the new (side 2)
  *   RTR_UNIT_VERSION                             the new data are of another version than the old:
- *                                                of the one in `detail`
+ *                                                of `detail`
  *   RTR_OTHER_SESSION                            the new data are of another session than the old
  *   RTR_NO_ROOM                                  the output is shorter than the delta */
 static inline uint8_t rtr_delta(const uint8_t *old_data, size_t old_length,
@@ -630,19 +641,19 @@ static inline uint8_t rtr_delta(const uint8_t *old_data, size_t old_length,
                              rtr_writable(output), output_length, answer);
 }
 
-/* Writes what the changes make of the data: data in canonical form, with the end of data of the
- * changes. All changes are made, or none. An ASPA that is announced takes the place of the one of
- * its customer, and so is never RTR_DUPLICATE. An output of data_length + changes_length bytes
- * always suffices.
+/* Applies the changes to the data, and writes the result: data in canonical form, with the end of
+ * data of the changes. All changes are applied, or none. An announced ASPA replaces that of its
+ * customer, and so is never RTR_DUPLICATE. An output of data_length + changes_length bytes always
+ * suffices.
  *
  * RTR_OK; or, in this order,
  *   RTR_SHORT to RTR_PREFIX, RTR_NOT_CANONICAL   the first fault of the data (side 1), or else of
  *                                                the changes (side 2)
  *   RTR_UNIT_VERSION                             the changes are of another version than the data:
- *                                                of the one in `detail`
+ *                                                of `detail`
  *   RTR_OTHER_SESSION                            the changes are of another session than the data
- *   RTR_DUPLICATE, RTR_UNKNOWN                   the first of the changes that the rules refuse
- *                                                (side 2), at `offset`
+ *   RTR_DUPLICATE, RTR_UNKNOWN                   the first change that the rules refuse (side 2),
+ *                                                at `offset`
  *   RTR_NO_ROOM                                  the output is shorter than the data */
 static inline uint8_t rtr_apply(const uint8_t *data, size_t data_length,
                                 const uint8_t *changes, size_t changes_length,
@@ -653,31 +664,30 @@ static inline uint8_t rtr_apply(const uint8_t *data, size_t data_length,
                              rtr_writable(output), output_length, answer);
 }
 
-/* Writes what the changes of an answer make of the data, made one after the other in the order in
- * which they came: data in canonical form, with the end of data of the changes. All changes are
- * made, or none. An ASPA that is announced takes the place of the one of its customer. An output of
- * data_length + changes_length bytes always suffices.
+/* Applies the changes of an answer to the data in the order in which they came, and writes the
+ * result: data in canonical form, with the end of data of the changes. All changes are applied, or
+ * none. An announced ASPA replaces that of its customer. An output of data_length + changes_length
+ * bytes always suffices.
  *
  * The data are in canonical form. The changes are a sequence, as a cache sends it after its
  * response: payload units in any order and an end of data, all of one version.
  *
- * The index is room that the call works in: as many places as the changes have payload units. What
- * it holds afterwards is open.
+ * The index is working memory: as many entries as the changes have payload units. Its contents
+ * afterwards are unspecified.
  *
  * RTR_OK; or, in this order,
  *   RTR_SHORT to RTR_PREFIX, RTR_NOT_CANONICAL   the first fault of the data (side 1), or else of
  *                                                the changes (side 2), where RTR_NOT_CANONICAL is
- *                                                of what isn't of the version of the units before
- *                                                it
+ *                                                for a unit of another version than those before it
  *   RTR_UNIT_VERSION                             the changes are of another version than the data:
- *                                                of the one in `detail`
+ *                                                of `detail`
  *   RTR_OTHER_SESSION                            the changes are of another session than the data
- *   RTR_NO_INDEX                                 the index has fewer places than the changes have
+ *   RTR_NO_INDEX                                 the index has fewer entries than the changes have
  *                                                payload units
- *   RTR_DUPLICATE, RTR_UNKNOWN                   the first of the changes, as they came, that
- *                                                announces what is there then, or withdraws what
- *                                                isn't (side 2), at `offset`: rtr_error_code
- *                                                answers 7 and 6 for it (RFC 8210 section 12)
+ *   RTR_DUPLICATE, RTR_UNKNOWN                   the first change, as they came, that announces a
+ *                                                payload which is present then, or withdraws one
+ *                                                which isn't (side 2), at `offset`: rtr_error_code
+ *                                                gives 7 and 6 for it (RFC 8210 section 12)
  *   RTR_NO_ROOM                                  the output is shorter than the data */
 static inline uint8_t rtr_apply_in_order(const uint8_t *data, size_t data_length,
                                          const uint8_t *changes, size_t changes_length,
@@ -691,27 +701,27 @@ static inline uint8_t rtr_apply_in_order(const uint8_t *data, size_t data_length
                                       rtr_writable(output), output_length, answer);
 }
 
-/* Writes the sequence that the input begins with in canonical form: what its changes come to, made
- * one after the other. Caches send deltas in any order, and rtr_apply takes them in canonical form
- * alone; for changes that aren't compared or shown but made onto data, rtr_apply_in_order is
- * enough. Where all of the changes are allowed one after the other, rtr_apply makes of the data
- * with those that are written what these make of it. An output as long as the input always
- * suffices.
+/* Writes the sequence at the start of the input in canonical form: the net effect of its changes,
+ * applied one after the other. Caches send deltas in any order, and rtr_apply only takes the
+ * canonical form; to apply changes without comparing or showing them, rtr_apply_in_order is enough.
+ * If all of the changes are allowed one after the other, rtr_apply gives the same data with what is
+ * written here. An output as long as the input always suffices.
  *
- * The index is room that the call works in: as many places as there are payload units. What it
- * holds afterwards is open.
+ * The index is working memory: as many entries as there are payload units. Its contents afterwards
+ * are unspecified.
  *
  * RTR_OK; or, in this order,
  *   RTR_SHORT to RTR_PREFIX,          the first fault of the input (side 1)
- *   RTR_NOT_CANONICAL                 or, of what isn't of the version of the units before it
- *   RTR_NO_INDEX                      the index has fewer places than there are payload units
- *   RTR_DUPLICATE, RTR_UNKNOWN        a payload is announced, or withdrawn, twice with nothing in
- *                                     between, as the rules never allow (side 1, the second unit)
- *   RTR_UNDECIDED                     of a customer the first change announces an ASPA, and the
+ *   RTR_NOT_CANONICAL                 or a unit of another version than those before it
+ *   RTR_NO_INDEX                      the index has fewer entries than there are payload units
+ *   RTR_DUPLICATE, RTR_UNKNOWN        a payload is announced, or withdrawn, twice in a row, which
+ *                                     the rules never allow (side 1, the second unit)
+ *   RTR_UNDECIDED                     the first change to a customer's ASPA announces it, and the
  *                                     last withdraws it (side 1, the last)
  *   RTR_NO_ROOM                       the output is shorter than what is to be written
- * Of the units that RTR_DUPLICATE, RTR_UNKNOWN and RTR_UNDECIDED refuse it is the first in the
- * order of payloads. An ASPA is never RTR_DUPLICATE: of two announcements the later one counts. */
+ * Of several units that RTR_DUPLICATE, RTR_UNKNOWN and RTR_UNDECIDED refuse, the first in the order
+ * of payloads is reported. An ASPA is never RTR_DUPLICATE: of two announcements the later one
+ * counts. */
 static inline uint8_t rtr_order(const uint8_t *input, size_t input_length,
                                 size_t *index, size_t index_length,
                                 uint8_t *output, size_t output_length,
@@ -722,43 +732,99 @@ static inline uint8_t rtr_order(const uint8_t *input, size_t input_length,
                              index_length, rtr_writable(output), output_length, answer);
 }
 
-/* Route origin validation (RFC 6811 section 2) by the prefixes of data in canonical form, as
- * rtr_apply_in_order and rtr_apply write them; a prefix with its AS is called a VRP here. The
- * tables say where they lie in the data: make them anew for each data. Any number of threads may
- * ask at once. Over other bytes, or with other tables, a call returns, reads nothing else, and
- * answers something.
+/* Loads a recording or a list: writes the data that it leaves in canonical form, whatever the order
+ * of its payload units. A list is payload units and an end of data. A recording is what a cache
+ * sent, with or without the router's queries, of one answer or several, each with or without a
+ * cache response; as in a router, an answer changes the data before it only in the same session and
+ * unless all data were asked for (RFC 8210 sections 5.1, 5.3 to 5.5, 5.9 and 8). An answer that the
+ * next cache response cuts off is left out, and `has_cut` reports it. Serial notifies, and error
+ * reports between answers, are ignored. The input is loaded to its end: only units may follow.
  *
- * A VRP covers a route where the route's prefix lies in its own; it matches the route where it
- * covers it, its AS is the route's and isn't 0, and the route's prefix length is at most its max
- * length. */
-
-/* Makes the tables of the data, in one pass. */
-static inline void rtr_tables(const uint8_t *data, size_t data_length, struct rtr_tables *tables)
+ * The index and `work` are room that the call works in: the index has as many elements as the
+ * longest answer has payload units, and `work` is as long as the data of each answer, as the output
+ * is. Always enough are input_length / RTR_SHORTEST_PAYLOAD elements, and input_length bytes for
+ * `work` and for the output. What index and `work` hold afterwards is open; so is the output behind
+ * `length`, and after a refusal all of it.
+ *
+ * RTR_OK; or, of the first unit at which loading can't go on, with its offset:
+ *   RTR_SHORT to RTR_PREFIX      it can't be read, as rtr_next refuses it. RTR_SHORT at the end of
+ *                                the input: an answer has no end of data, or there is no answer
+ *   RTR_DUPLICATE, RTR_UNKNOWN   it announces what is there, and isn't an ASPA, or withdraws what
+ *                                isn't there (RFC 8210 section 12)
+ *   RTR_OTHER_VERSION            it is a payload unit or an end of data of another version than the
+ *                                units before it in its answer, or than the data that this changes.
+ *                                rtr_list --vrps takes answers of several versions
+ *   RTR_OTHER_SESSION            it is an end of data of another session than its answer
+ *   RTR_OLD_SERIAL               it is an end of data whose serial number comes before that of the
+ *                                data that its answer changes (RFC 1982)
+ *   RTR_RESET_INSIDE             it is a cache reset, and an answer is open
+ *   RTR_REPORT_INSIDE            it is an error report, and an answer is open
+ * or, of a buffer, with offset 0:
+ *   RTR_NO_INDEX                 the index is too short for the payload units of an answer
+ *   RTR_NO_ROOM                  `work` or the output is too short for the data of an answer */
+static inline uint8_t rtr_load(const uint8_t *input, size_t input_length,
+                               size_t *index, size_t index_length,
+                               uint8_t *work, size_t work_length,
+                               uint8_t *output, size_t output_length, struct rtr_loaded *loaded)
 {
-    rtr_tables_nonnull(rtr_readable(data), data_length, tables);
+    static size_t nowhere;
+    return rtr_load_nonnull(rtr_readable(input), input_length, index ? index : &nowhere,
+                            index_length, rtr_writable(work), work_length, rtr_writable(output),
+                            output_length, loaded);
 }
 
-/* The validity of a route, an rtr_validity. */
-static inline uint8_t rtr_validate(const uint8_t *data, size_t data_length,
-                                   const struct rtr_tables *tables, const struct rtr_route *route)
+/* Route origin validation (RFC 6811 section 2) by the prefixes of data in canonical form, as
+ * rtr_load, rtr_apply_in_order and rtr_apply write them; a prefix with its AS is called a VRP here:
+ *
+ *   struct rtr_data data;
+ *   if (rtr_check_data(bytes, length, &data, &answer) != RTR_OK)
+ *       say rtr_status_text(answer.status) at answer.offset
+ *   for each route:
+ *       rtr_validate(&data, &route)
+ *
+ * Any number of threads may look up routes at once. A struct rtr_data that rtr_check_data didn't
+ * fill, such as a zeroed one, is refused. It is only for the bytes that were checked: after they
+ * change, check them again.
+ *
+ * A VRP covers a route if the route's prefix lies in its own; it matches the route if it covers it,
+ * its AS is the route's and isn't 0, and the route's prefix length is at most its max length. */
+
+/* Checks that the bytes begin with data in canonical form, and indexes them for lookups, in two
+ * passes. Bytes after the end of data are ignored. The caller still owns the bytes.
+ *
+ * RTR_OK; or the first fault (side 1), and `data` is refused by the calls below:
+ *   RTR_SHORT to RTR_PREFIX  the unit at `offset` is refused
+ *   RTR_NOT_CANONICAL        a unit that withdraws, isn't after the one before it in the order of
+ *                            payloads, or isn't of its version; or an end of data of another
+ *                            version. A leading cache response is RTR_UNIT_TYPE at offset 0 */
+static inline uint8_t rtr_check_data(const uint8_t *bytes, size_t length, struct rtr_data *data,
+                                     struct rtr_data_answer *answer)
 {
-    return rtr_validate_nonnull(rtr_readable(data), data_length, tables, route);
+    data->bytes = rtr_readable(bytes);
+    return rtr_check_data_nonnull(data->bytes, length, &data->lookup, answer);
 }
 
-/* Whether a VRP covers the route, of the payloads from the place `from` on, counted from 0: the
- * first one is then in `covering`, and else 0 is in all of it, also where the route is none. To see
- * all of them, in the order of payloads, go on from covering->place + 1. */
-static inline bool rtr_covering(const uint8_t *data, size_t data_length,
-                                const struct rtr_tables *tables, const struct rtr_route *route,
-                                size_t from, struct rtr_covering *covering)
+/* Returns the validity of a route, an rtr_validity. */
+static inline uint8_t rtr_validate(const struct rtr_data *data, const struct rtr_route *route)
 {
-    return rtr_covering_nonnull(rtr_readable(data), data_length, tables, route, from, covering);
+    return rtr_validate_nonnull(rtr_readable(data->bytes), data->lookup.length, &data->lookup,
+                                route);
 }
 
-/* The rules that the program rtr_list looks for with --check, unit by unit, in the units that
- * rtr_line takes. The struct rtr_check has what is known of the sequence that is read; all of it is
- * 0 before the first unit. Whether a payload is announced twice hangs on all that an answer
- * announced before, which the caller keeps, as a set of names:
+/* Finds the first VRP that covers the route among the payloads from index `from` on, counted from
+ * 0, and returns an rtr_covers: after RTR_COVERS_ONE the VRP is in `covering`, which is all zero
+ * otherwise. To see all of them, in the order of payloads, call again with covering->place + 1. */
+static inline uint8_t rtr_covering(const struct rtr_data *data, const struct rtr_route *route,
+                                   size_t from, struct rtr_covering *covering)
+{
+    return rtr_covering_nonnull(rtr_readable(data->bytes), data->lookup.length, &data->lookup,
+                                route, from, covering);
+}
+
+/* The rules that the program rtr_list checks with --check, unit by unit, in the units that rtr_line
+ * accepts. The struct rtr_check is the state of the sequence that is being read; all of it is 0
+ * before the first unit. Whether a payload is announced twice depends on all that the answer
+ * announced before, which the caller keeps as a set of names:
  *
  *   struct rtr_check check = {0};
  *   for each unit:
@@ -769,8 +835,8 @@ static inline bool rtr_covering(const uint8_t *data, size_t data_length,
  *       put the name into the set if named.announces, and else take it out
  *   rtr_check_end(&check, &finding);
  *
- * Then what is found is exactly what the program says. A name is of at most 65528 bytes, which mean
- * nothing but which payload it is. */
+ * The findings are then exactly those of the program. A name has at most 65528 bytes, and only
+ * identifies its payload. */
 
 /* A rule that a unit breaks. */
 enum rtr_rule {
@@ -790,9 +856,11 @@ enum rtr_rule {
                                           unit reads as one of an older draft */
     RTR_RULE_TWICE = 13,               /* a payload is announced once */
     RTR_RULE_PROVIDER_ORDER = 14,      /* providers ascend */
-    RTR_RULE_REPORT_PARTS = 15,        /* the lengths inside an error report make it up */
+    RTR_RULE_REPORT_PARTS = 15,        /* the lengths inside an error report add up to its length */
     RTR_RULE_REPORT_TEXT = 16,         /* the text of an error report is UTF-8 */
-    RTR_RULE_REPORT_OF_REPORT = 17     /* no error report is about an error report */
+    RTR_RULE_REPORT_OF_REPORT = 17,    /* no error report is about an error report */
+    RTR_RULE_TIMES = 18                /* a cache may send the times: the rule that they break is
+                                          `value`, an rtr_time_rule */
 };
 
 struct rtr_check {
@@ -808,42 +876,33 @@ struct rtr_finding {
     uint8_t rule;   /* an rtr_rule */
 };
 
-/* The answer of rtr_check_unit. */
+/* The result of rtr_check_unit. */
 struct rtr_checked {
     size_t size;    /* bytes of the unit in the input */
     size_t wanted;  /* as in an rtr_line */
-    struct rtr_finding findings[7]; /* in the order in which they are said; RTR_RULE_NONE may stand
+    struct rtr_finding findings[7]; /* in the order of rtr_list's lines; RTR_RULE_NONE may be
                                        between them */
     uint8_t status; /* an rtr_status, as the call returns it */
     uint8_t detail; /* as in an rtr_answer */
 };
 
-/* The answer of rtr_check_name. */
+/* The result of rtr_check_name. */
 struct rtr_naming {
     size_t size;    /* bytes of the unit in the input */
-    size_t length;  /* bytes of the name, also where the output is shorter; 0 where the unit names
-                       no payload */
+    size_t length;  /* bytes of the name, even if the output is shorter; 0 if the unit names no
+                       payload */
     size_t wanted;  /* as in an rtr_line */
     uint8_t status; /* an rtr_status, as the call returns it */
     uint8_t detail; /* as in an rtr_answer */
-    bool begins;    /* whether a sequence begins with the unit */
+    bool begins;    /* whether the unit begins a sequence */
     bool announces; /* whether the payload is announced */
 };
 
-/* The archive's calls for the three below that take slices, without null pointers. */
-uint8_t rtr_check_name_nonnull(const uint8_t *input, size_t input_length,
-                               uint8_t *output, size_t output_length, struct rtr_naming *answer);
-uint8_t rtr_check_unit_nonnull(struct rtr_check *check,
-                               const uint8_t *input, size_t input_length, bool was_there,
-                               struct rtr_checked *answer);
-size_t rtr_finding_line_nonnull(const struct rtr_finding *finding, uint64_t offset,
-                                uint8_t *output, size_t output_length);
-
-/* The name of the payload that the unit announces or withdraws that the input begins with. The next
- * unit begins `size` bytes later.
+/* Writes the name of the payload that the unit at the start of the input announces or withdraws.
+ * The next unit begins `size` bytes later.
  *
- * RTR_OK; or RTR_NO_ROOM, where `length` says how many bytes are wanted. Before that RTR_SHORT to
- * RTR_EMPTY_PROVIDERS, with nothing written. */
+ * RTR_OK; or, in this order, RTR_SHORT to RTR_EMPTY_PROVIDERS, with nothing written; RTR_NO_ROOM,
+ * with the number of bytes needed in `length`. */
 static inline uint8_t rtr_check_name(const uint8_t *input, size_t input_length,
                                      uint8_t *output, size_t output_length,
                                      struct rtr_naming *answer)
@@ -852,9 +911,9 @@ static inline uint8_t rtr_check_name(const uint8_t *input, size_t input_length,
                                   output_length, answer);
 }
 
-/* What the unit breaks that the input begins with, where the caller says whether its set had the
- * name before it. RTR_OK; or RTR_SHORT to RTR_EMPTY_PROVIDERS, with no findings, and `check` as it
- * was. */
+/* Finds the rules that the unit at the start of the input breaks; `was_there` is whether the
+ * caller's set had the name before. RTR_OK; or RTR_SHORT to RTR_EMPTY_PROVIDERS, with no findings,
+ * and `check` unchanged. */
 static inline uint8_t rtr_check_unit(struct rtr_check *check,
                                      const uint8_t *input, size_t input_length, bool was_there,
                                      struct rtr_checked *answer)
@@ -862,64 +921,65 @@ static inline uint8_t rtr_check_unit(struct rtr_check *check,
     return rtr_check_unit_nonnull(check, rtr_readable(input), input_length, was_there, answer);
 }
 
-/* What is missing where the input ends, or RTR_RULE_NONE. */
+/* Finds what is missing at the end of the input; RTR_RULE_NONE if nothing is. */
 void rtr_check_end(const struct rtr_check *check, struct rtr_finding *finding);
 
-/* Writes the line of a finding at a unit that stands after `offset` bytes, as rtr_list prints it,
- * in ASCII, without its end or a 0 behind it, as far as there is room, and answers its length: at
- * most 128 bytes. Of what is missing where the input ends the offset is the input's length. */
+/* Writes the line that rtr_list prints for a finding at the unit with this offset, in ASCII,
+ * without a newline or a terminating 0, truncated to the output, and returns its whole length: at
+ * most 128 bytes. For what is missing at the end of the input the offset is the input's length. */
 static inline size_t rtr_finding_line(const struct rtr_finding *finding, uint64_t offset,
                                       uint8_t *output, size_t output_length)
 {
     return rtr_finding_line_nonnull(finding, offset, rtr_writable(output), output_length);
 }
 
-/* A router's end of the protocol: what to do when, without sockets, clock and memory (RFC 8210;
+/* The router's end of the protocol: a state machine without sockets, a clock or memory (RFC 8210;
  * docs/SESSIONS.md has its states). A program has a struct rtr_router for each cache, tells it what
- * happens, and does what the action says that is answered:
+ * happens, and carries out the action that the call returns:
  *
- *   RTR_WAIT     nothing, until something comes or the time is rtr_router_wakes
+ *   RTR_WAIT     do nothing until bytes arrive or the time is rtr_router_wakes
  *   RTR_CONNECT  open a connection; then call rtr_router_connected or rtr_router_lost
  *   RTR_ASK      send what rtr_router_query writes
- *   RTR_BEGIN    forget the units that were kept: a response begins
- *   RTR_KEEP     keep the `taken` bytes that the input begins with, behind those that were kept
- *   RTR_APPLY    make the changes that were kept, with the end of data at `start` of the input, in
- *                their order: of the data, or of none unless `changes`. rtr_apply_in_order does.
- *                Then call rtr_router_applied or rtr_router_not_applied
- *   RTR_SHOW     what they made are the data now
- *   RTR_NO_DATA  the cache has no data yet; it is asked again
- *   RTR_DROP     the data have expired: there are none any more
- *   RTR_END      drop the data if it `drops`, send what rtr_router_report writes if it `reports`,
- *                and close the connection, or what would have become one, for this `cause`
+ *   RTR_BEGIN    discard the units that were kept: a response begins
+ *   RTR_KEEP     append the first `taken` bytes of the input to the units that were kept
+ *   RTR_APPLY    apply the units that were kept, with the end of data at `start` of the input, by
+ *                rtr_apply_in_order: to the data if `changes`, else to data without payloads. Then
+ *                call rtr_router_applied or rtr_router_not_applied
+ *   RTR_SHOW     the result of that is the data now
+ *   RTR_NO_DATA  the cache has no data yet; the router will ask again
+ *   RTR_DROP     drop the data: they have expired
+ *   RTR_END      drop the data if `drops`, send what rtr_router_report writes if `reports`, and
+ *                close the connection, or give up connecting; `cause` is the reason
  *
- * After each action but RTR_WAIT it calls rtr_router_tick, and rtr_router_read with what is left of
- * the input behind `taken`, until both answer RTR_WAIT with nothing taken. After RTR_END nothing
- * more of that connection is told. Times are in milliseconds, by a clock that doesn't go back, and
- * below 2^63. A struct is plain: it may be copied, and read. */
+ * After each action but RTR_WAIT it calls rtr_router_tick, and rtr_router_read with the input after
+ * `taken`, until both return RTR_WAIT with nothing taken. After RTR_END it reports nothing more of
+ * that connection. Times are in milliseconds, by a monotonic clock, and below 2^63. A struct is
+ * plain data: it may be copied and read. */
 
-/* Where a router is: the `phase` of its struct. */
+/* The states of a router, in `phase` of its struct. */
 enum rtr_phase {
     RTR_PHASE_OFFLINE = 0,    /* there is no connection */
-    RTR_PHASE_CONNECTING = 1, /* one is made */
-    RTR_PHASE_ASKED = 2,      /* an answer is awaited */
-    RTR_PHASE_READING = 3,    /* in a response */
-    RTR_PHASE_APPLYING = 4,   /* its changes are made */
-    RTR_PHASE_WAITING = 5     /* it waits for a notify, or for its time */
+    RTR_PHASE_CONNECTING = 1, /* a connection is being made */
+    RTR_PHASE_ASKED = 2,      /* waiting for an answer */
+    RTR_PHASE_READING = 3,    /* reading a response */
+    RTR_PHASE_APPLYING = 4,   /* its changes are being applied */
+    RTR_PHASE_WAITING = 5     /* idle until a notify comes or it is time to ask */
 };
 
 /* What a program may set. Times are in milliseconds. */
 struct rtr_settings {
-    uint64_t most_bytes;     /* of the payload units of an answer; 128 MiB */
-    uint32_t pause;          /* between two queries or connections, at least; 1 second */
-    uint32_t connect_limit;  /* to make a connection; 30 seconds */
-    uint32_t response_limit; /* from a query to the end of data that answers it; 2 minutes */
-    uint32_t refresh, retry, expire; /* where not 0, in place of the cache's (RFC 8210 section 6) */
-    uint32_t most_units;     /* of the payload units of an answer; 4 million */
-    uint16_t chance;         /* a random number: waits that grow are shortened by chance / 131072 */
-    uint8_t highest;         /* the version that a connection begins in: 0, 1 or 2 */
+    uint64_t most_bytes;     /* the most bytes of an answer's payload units; default 128 MiB */
+    uint32_t pause;          /* the least time between two queries or connections; default 1 s */
+    uint32_t connect_limit;  /* the time limit for connecting; default 30 seconds */
+    uint32_t response_limit; /* the time limit from a query to its end of data; default 2 minutes */
+    uint32_t refresh, retry, expire; /* if not 0, used instead of the cache's (RFC 8210 section
+                                        6) */
+    uint32_t most_units;     /* the most payload units of an answer; default 4 million */
+    uint16_t chance;         /* a random number: growing waits are shortened by chance / 131072 */
+    uint8_t highest;         /* the version in which a connection begins: 0, 1 or 2 */
 };
 
-/* What names data, and their times in seconds. */
+/* The session, serial number and version of data, and their times in seconds. */
 struct rtr_known {
     uint32_t serial, refresh, retry, expire;
     uint16_t session;
@@ -928,13 +988,13 @@ struct rtr_known {
 
 struct rtr_router {
     struct rtr_settings settings;
-    uint64_t expires, asked, due, bytes;
-    struct rtr_known known;  /* of the data, if it `has_data` */
+    uint64_t expires, came, asked, tried, due, rises, bytes;
+    struct rtr_known known;  /* of the data, if `has_data` */
     struct rtr_known answer;
-    uint32_t wait, units, note; /* units: payload units of the response so far */
+    uint32_t wait, rise_wait, units, note; /* units: payload units of the response so far */
     uint16_t session;
     uint8_t phase, version, floor;
-    bool agreed, fell, changes, resync, answered, noted, has_data;
+    bool agreed, fell, silent, changes, resync, answered, noted, has_data;
 };
 
 enum rtr_action_kind {
@@ -950,12 +1010,12 @@ enum rtr_action_kind {
     RTR_END
 };
 
-/* Why a connection ends; rtr_cause_text says it in words. */
+/* Why a connection ends; rtr_cause_text returns the text. */
 enum rtr_cause {
     RTR_CAUSE_LOST,
     RTR_CAUSE_SLOW,
     RTR_CAUSE_FAULTY,          /* a unit is refused, for `status` */
-    RTR_CAUSE_REPORTED,        /* by the unit between `start` and `taken` */
+    RTR_CAUSE_REPORTED,        /* the cache reports an error, in the unit from `start` to `taken` */
     RTR_CAUSE_OUT_OF_PLACE,
     RTR_CAUSE_NO_SUCH_PAYLOAD,
     RTR_CAUSE_OTHER_VERSION,
@@ -966,15 +1026,16 @@ enum rtr_cause {
     RTR_CAUSE_TOO_LONG,
     RTR_CAUSE_NOT_APPLIED,     /* changes are refused, for `status` */
     RTR_CAUSE_EXPIRED,
-    RTR_CAUSE_LOWER            /* no failure: it connects again at once, in a lower version */
+    RTR_CAUSE_LOWER,           /* no failure: it reconnects at once, in a lower version */
+    RTR_CAUSE_HIGHER           /* no failure: it reconnects at once, in the highest version */
 };
 
-/* What is to be done. Fields that an action doesn't have are 0. */
+/* What the program has to do. Fields that an action doesn't have are 0. */
 struct rtr_action {
-    size_t start;    /* where in the input the unit begins that it is about */
-    size_t taken;    /* how many bytes of the input are done with, that unit among them; of a unit
-                        that is refused none, since the connection ends */
-    size_t wanted;   /* after rtr_router_read, if no whole unit is there, as in an rtr_unit */
+    size_t start;    /* the offset in the input of the unit that it is about */
+    size_t taken;    /* how many bytes of the input were consumed, that unit included; a unit that
+                        is refused isn't consumed, since the connection ends */
+    size_t wanted;   /* after rtr_router_read, if there is no whole unit, as in an rtr_unit */
     uint32_t serial; /* of a serial query */
     uint16_t session;
     uint16_t code;   /* of the report */
@@ -986,41 +1047,48 @@ struct rtr_action {
     bool changes, drops, reports;
 };
 
-/* The usual settings, with this version, or 2 if it is higher. */
+/* Sets the default settings, with this version, or 2 if it is higher. */
 void rtr_settings_usual(struct rtr_settings *settings, uint8_t highest);
 
-/* Begins a router without data, whatever the struct holds; its first rtr_router_tick connects. */
+/* Initializes a router without data, whatever the struct holds; its first rtr_router_tick
+ * connects. */
 void rtr_router_init(struct rtr_router *router, const struct rtr_settings *settings);
+
+/* Restarts a router that was stopped, as in a group, without data: it continues with the same
+ * cache, so its waits continue to grow. */
+void rtr_router_again(struct rtr_router *router);
+
+/* Reports whether the router has data at this time: not after they expire, even if no call has
+ * returned RTR_DROP or RTR_END yet. */
+bool rtr_router_has_data(const struct rtr_router *router, uint64_t now);
 
 /* Time passed. */
 void rtr_router_tick(struct rtr_router *router, uint64_t now, struct rtr_action *action);
 
-/* The connection is there. */
+/* The program requests current data: the router asks as soon as it may, or connects. */
+void rtr_router_asked(struct rtr_router *router, uint64_t now, struct rtr_action *action);
+
+/* The connection is established. */
 void rtr_router_connected(struct rtr_router *router, uint64_t now, struct rtr_action *action);
 
-/* None could be made, or it is gone, and rtr_router_read has nothing left. */
+/* The connection failed or was lost, and rtr_router_read has no input left. */
 void rtr_router_lost(struct rtr_router *router, uint64_t now, struct rtr_action *action);
 
-/* All changes of the answer were made. */
+/* All changes of the answer were applied, before its expire time is over. */
 void rtr_router_applied(struct rtr_router *router, uint64_t now, struct rtr_action *action);
 
-/* None was made, since rtr_apply_in_order answered this status; with RTR_OK, since there was no
- * memory, for a unit or for the changes. The action's detail is 0: the caller puts there the one that
- * came with the status, before rtr_router_report. */
+/* No change was applied, since rtr_apply_in_order returned this status; RTR_OK means that there was
+ * no memory for a unit or for the changes. The action's detail is 0: before rtr_router_report the
+ * caller sets it to the one that came with the status. */
 void rtr_router_not_applied(struct rtr_router *router, uint64_t now, uint8_t status,
                             struct rtr_action *action);
 
-/* When rtr_router_tick is to be called, if nothing comes before. It may have passed. */
+/* Returns when to call rtr_router_tick, if nothing happens before. The time may be past. */
 uint64_t rtr_router_wakes(const struct rtr_router *router);
 
-/* The archive's call for rtr_router_read, which takes no null pointer. */
-void rtr_router_read_nonnull(struct rtr_router *router, uint64_t now,
-                             const uint8_t *input, size_t input_length, bool ended,
-                             struct rtr_action *action);
-
-/* Tells the router of the units that the input begins with: of payload units of a response as many
- * as there are (RTR_KEEP), and otherwise of one. Where the peer has closed, `ended`, what is left
- * of a unit is refused. RTR_WAIT with nothing taken: no whole unit is there. */
+/* Gives the router the units at the start of the input: as many payload units of a response as
+ * there are (RTR_KEEP), otherwise one unit. If the peer has closed, `ended`, an incomplete unit is
+ * refused. RTR_WAIT with nothing taken means that there is no whole unit. */
 static inline void rtr_router_read(struct rtr_router *router, uint64_t now,
                                    const uint8_t *input, size_t input_length, bool ended,
                                    struct rtr_action *action)
@@ -1028,25 +1096,16 @@ static inline void rtr_router_read(struct rtr_router *router, uint64_t now,
     rtr_router_read_nonnull(router, now, rtr_readable(input), input_length, ended, action);
 }
 
-/* The archive's call for rtr_router_query, which takes no null pointer. */
-size_t rtr_router_query_nonnull(const struct rtr_action *action, uint8_t *output,
-                                size_t output_length);
-
-/* Writes the query of RTR_ASK, and answers its length: 8 or 12; 0 if the output is shorter. */
+/* Writes the query of RTR_ASK, and returns its length: 8 or 12; 0 if the output is shorter. */
 static inline size_t rtr_router_query(const struct rtr_action *action, uint8_t *output,
                                       size_t output_length)
 {
     return rtr_router_query_nonnull(action, rtr_writable(output), output_length);
 }
 
-/* The archive's call for rtr_router_report, which takes no null pointer. */
-bool rtr_router_report_nonnull(const struct rtr_action *action,
-                               const uint8_t *input, size_t input_length,
-                               uint8_t *output, size_t output_length, size_t *written);
-
-/* Writes the report that RTR_END owes about the unit that this input begins with: that at `start`,
- * or the change at the offset that rtr_apply_in_order answered. False, with `written` 0, if none is
- * owed or the output is too short; 65535 bytes are always enough. */
+/* Writes the report that RTR_END owes about the unit at the start of this input: that at `start`,
+ * or the change at the offset that rtr_apply_in_order returned. Returns false, with `written` 0, if
+ * no report is owed or the output is too short; 65535 bytes are always enough. */
 static inline bool rtr_router_report(const struct rtr_action *action,
                                      const uint8_t *input, size_t input_length,
                                      uint8_t *output, size_t output_length, size_t *written)
@@ -1055,7 +1114,7 @@ static inline bool rtr_router_report(const struct rtr_action *action,
                                      rtr_writable(output), output_length, written);
 }
 
-/* A text for a cause, never null; any number may be passed. */
+/* Returns the text of a cause, never null; any number may be passed. */
 static inline const char *rtr_cause_text(uint8_t cause)
 {
     static const char *const texts[] = {
@@ -1074,120 +1133,362 @@ static inline const char *rtr_cause_text(uint8_t cause)
         "changes are refused",
         "the data have expired",
         "the cache may have a lower version",
+        "the cache may have a higher version",
     };
     return cause < sizeof texts / sizeof texts[0] ? texts[cause] : "unknown cause";
 }
 
-/* Caches in an order of preference (RFC 8210 section 10): whose data are shown, and who is asked,
- * without sockets, clock and memory. A group has up to 16 members: each is a router's end with the
- * cache that it asks, and member 0 is preferred most. It holds no data. A program starts member 0,
- * calls one of the four calls for each thing that happens to a member, and does what the answer
- * says, in this order:
+/* A router's end of a session with its bytes and its data, without sockets, clock and memory (RFC
+ * 8210; docs/SESSIONS.md has its states): a struct rtr_router with what carries its units. The
+ * program owns the buffers, passes them to each call, and makes them longer when it is asked to. It
+ * calls rtr_link_next again and again, and does what that returns in a struct rtr_todo:
  *
- *   shown   RTR_GROUP_DATA: the data of `member`, as they are now, are those that are shown, in
- *           place of those that were (rtr_delta makes the difference). RTR_GROUP_NOTHING: there are
- *           none any more
- *   stops   the members from `stop` on are left, if they run, and their data forgotten
- *   starts  `start` is asked, as one without data
+ *   RTR_TODO_GO         nothing
+ *   RTR_TODO_WAIT       send the bytes at rtr_link_output, and call rtr_link_sent; read to
+ *                       rtr_link_room, and call rtr_link_received. Call rtr_link_next again when
+ *                       bytes came, the connection was lost, or the time is `wakes`
+ *   RTR_TODO_CONNECT    open a connection until `wakes`, then call rtr_link_opened or
+ *                       rtr_link_lost, and rtr_link_next. The output is empty
+ *   RTR_TODO_CLOSE      send the bytes at rtr_link_output, and close the connection, or stop
+ *                       opening it, for this `cause`. There is one for each RTR_TODO_CONNECT. If a
+ *                       unit or a change ends the connection, it begins at `offset` of the input
+ *   RTR_TODO_DATA       there are new data: rtr_link_data. Those before them are still in the
+ *                       other buffer, until a whole answer is there again (`answers`)
+ *   RTR_TODO_DROPPED    the data have expired: there are none any more
+ *   RTR_TODO_NO_DATA    the cache has no data yet (RFC 8210 section 8.4), by its report at
+ *                       `offset` of the input. It is asked again
+ *   RTR_TODO_INPUT_ROOM, RTR_TODO_FIRST_ROOM, RTR_TODO_SECOND_ROOM, RTR_TODO_INDEX_ROOM,
+ *   RTR_TODO_OUTPUT_ROOM
+ *                       make this buffer at least `room` long, and keep what it holds; of the
+ *                       output, sending helps too. Without memory for it, call
+ *                       rtr_link_give_up. Nothing has happened
  *
- * At each time the data of the first member that has some are shown, also while its connection is
- * gone, until they expire. A member runs while each one before it has failed since it was started,
- * or had a whole answer. What is said of one that doesn't run is passed over. A struct is plain: it
- * may be copied, and read. */
+ * After any of these but RTR_TODO_WAIT it calls rtr_link_next again. Unlike other calls, these take
+ * any bytes as their struct, and any length, time and order: a wrong call has an rtr_link_status,
+ * checked in the order of that enum, and changes nothing. Times are in milliseconds, below 2^63. */
 
-/* What becomes of what is shown. */
+/* How a call for a router's end ended. */
+enum rtr_link_status {
+    RTR_LINK_OK = 0,
+    RTR_LINK_NOT_BEGUN = 1,    /* no call leaves the struct like this */
+    RTR_LINK_SHORT_BUFFER = 2, /* a buffer is shorter than what it holds; for rtr_link_give_up,
+                                  the output is shorter than RTR_LONGEST_UNIT */
+    RTR_LINK_BAD_TIME = 3,     /* the time is before that of an earlier call, or not below 2^63 */
+    RTR_LINK_OUT_OF_TURN = 4,  /* no connection is there, or being opened, to which this happens */
+    RTR_LINK_TOO_LONG = 5      /* more bytes than there is room for, or than are to be sent */
+};
+
+enum rtr_todo_kind {
+    RTR_TODO_NOTHING = 0,      /* the call was refused */
+    RTR_TODO_GO = 1,
+    RTR_TODO_WAIT = 2,
+    RTR_TODO_CONNECT = 3,
+    RTR_TODO_CLOSE = 4,
+    RTR_TODO_DATA = 5,
+    RTR_TODO_DROPPED = 6,
+    RTR_TODO_NO_DATA = 7,
+    RTR_TODO_INPUT_ROOM = 8,
+    RTR_TODO_FIRST_ROOM = 9,
+    RTR_TODO_SECOND_ROOM = 10,
+    RTR_TODO_INDEX_ROOM = 11,
+    RTR_TODO_OUTPUT_ROOM = 12
+};
+
+/* A router's end: 224 bytes, aligned as a uint64_t. Its fields are its own. It may be copied. */
+struct rtr_link {
+    struct rtr_settings settings;
+    uint64_t expires, came, asked, tried, due, rises, bytes, latest;
+    size_t kept, end_size, filled, shown, unsent;
+    struct rtr_known known;  /* of the data, for which it may be read */
+    struct rtr_known answer;
+    uint32_t wait, rise_wait, units, note, mark;
+    uint16_t session;
+    uint8_t phase, version, floor;
+    uint8_t agreed, fell, silent, changes, resync, answered, noted, has_data;
+    uint8_t holding, since, shows, second, opened, closed;
+};
+
+/* What is to be done. Fields that it doesn't have are 0. */
+struct rtr_todo {
+    uint64_t wakes;  /* when to call rtr_link_next, if nothing comes before. It may have passed */
+    size_t room;     /* the length that a buffer needs: in bytes, of the index in entries */
+    size_t offset;   /* in the input */
+    uint16_t code;   /* of the report that the output ends with */
+    uint8_t kind;    /* an rtr_todo_kind */
+    uint8_t cause;   /* an rtr_cause */
+    uint8_t status;  /* an rtr_status of a unit or a change that is refused, or 0 */
+    uint8_t detail;  /* as in an rtr_answer */
+    bool drops;      /* there are no data any more */
+    bool reports;    /* the output ends with a report */
+};
+
+/* What the buffers hold. */
+struct rtr_link_state {
+    uint64_t wakes;  /* as in an rtr_todo */
+    size_t filled;   /* the offset in the input at which the next bytes are read */
+    size_t unsent;   /* how many bytes of the output are to be sent, from its front */
+    size_t shown;    /* the length of the data, in canonical form; 0 if there are none */
+    size_t answer;   /* the length of the payload units of a whole answer, at the front of the
+                        input, which the next rtr_link_next applies; or 0 */
+    bool has_data;   /* there are data, which haven't expired at this time */
+    bool second;     /* they are in the second buffer */
+    bool answers;    /* a whole answer is there */
+    bool since;      /* its units are changes of the data, and not all payloads */
+};
+
+/* The buffers of a router's end, of any length at first. They don't overlap. */
+struct rtr_link_buffers {
+    uint8_t *input;            /* what was read */
+    size_t input_length;
+    uint8_t *first, *second;   /* one holds the data; the next answer is written to the other */
+    size_t first_length, second_length;
+    size_t *index;             /* to sort in: an entry for each payload unit of an answer */
+    size_t index_length;
+    uint8_t *output;           /* what is to be sent */
+    size_t output_length;
+};
+
+/* Begins a router's end without data, whatever the struct holds. It connects at once. */
+void rtr_link_init(struct rtr_link *link, const struct rtr_settings *settings);
+
+/* Begins a router's end again, without data and with its settings: the waits for a failing cache
+ * continue to grow. A program that stopped following a cache calls it before it follows it again,
+ * with no connection open. */
+uint8_t rtr_link_again(struct rtr_link *link);
+
+/* The connection is open. RTR_LINK_OUT_OF_TURN unless RTR_TODO_CONNECT asked for it, and neither
+ * this call, rtr_link_lost nor RTR_TODO_CLOSE followed. */
+uint8_t rtr_link_opened(struct rtr_link *link);
+
+/* No connection could be opened, the peer closed it, or it broke. Bytes that were read before are
+ * still taken. RTR_LINK_OUT_OF_TURN if there is none and none is being opened, or it was lost. */
+uint8_t rtr_link_lost(struct rtr_link *link);
+
+/* So many bytes were read to rtr_link_room. RTR_LINK_OUT_OF_TURN if there is no connection, or it
+ * was lost; RTR_LINK_TOO_LONG if there is room for fewer. */
+static inline uint8_t rtr_link_received(struct rtr_link *link,
+                                        const struct rtr_link_buffers *buffers, size_t size)
+{
+    return rtr_link_received_nonnull(link, rtr_readable(buffers->input), buffers->input_length,
+                                     size);
+}
+
+/* So many bytes at rtr_link_output were sent; the others move to the front of the output.
+ * RTR_LINK_TOO_LONG if there are fewer. */
+static inline uint8_t rtr_link_sent(struct rtr_link *link, const struct rtr_link_buffers *buffers,
+                                    size_t size)
+{
+    return rtr_link_sent_nonnull(link, rtr_writable(buffers->output), buffers->output_length, size);
+}
+
+/* What is to be done next. */
+static inline uint8_t rtr_link_next(struct rtr_link *link, const struct rtr_link_buffers *buffers,
+                                    uint64_t now, struct rtr_todo *todo)
+{
+    static size_t nowhere;
+    return rtr_link_next_nonnull(link, now, rtr_writable(buffers->input), buffers->input_length,
+                                 rtr_writable(buffers->first), buffers->first_length,
+                                 rtr_writable(buffers->second), buffers->second_length,
+                                 buffers->index ? buffers->index : &nowhere, buffers->index_length,
+                                 rtr_writable(buffers->output), buffers->output_length, todo);
+}
+
+/* The program wants the present data: the cache is asked as soon as the pause allows it. The
+ * program does what this returns, as for rtr_link_next; RTR_TODO_OUTPUT_ROOM: call it again. */
+static inline uint8_t rtr_link_ask_now(struct rtr_link *link,
+                                       const struct rtr_link_buffers *buffers, uint64_t now,
+                                       struct rtr_todo *todo)
+{
+    return rtr_link_ask_now_nonnull(link, now, rtr_writable(buffers->input), buffers->input_length,
+                                    rtr_writable(buffers->output), buffers->output_length, todo);
+}
+
+/* A buffer gets no more room: the connection ends, if there is one, and the data stay. The program
+ * does what this returns, as for rtr_link_next. If the output has no room for a report, its unsent
+ * bytes are dropped. */
+static inline uint8_t rtr_link_give_up(struct rtr_link *link,
+                                       const struct rtr_link_buffers *buffers, uint64_t now,
+                                       struct rtr_todo *todo)
+{
+    return rtr_link_give_up_nonnull(link, now, rtr_writable(buffers->input), buffers->input_length,
+                                    rtr_writable(buffers->output), buffers->output_length, todo);
+}
+
+/* What the buffers hold at this time. If the call is refused, all fields are 0. */
+static inline uint8_t rtr_link_state(const struct rtr_link *link,
+                                     const struct rtr_link_buffers *buffers, uint64_t now,
+                                     struct rtr_link_state *state)
+{
+    return rtr_link_state_of(link, now, buffers->input_length, buffers->first_length,
+                             buffers->second_length, buffers->output_length, state);
+}
+
+/* Where to read to, and how many bytes at most: some, after RTR_TODO_WAIT. */
+static inline uint8_t *rtr_link_room(const struct rtr_link_buffers *buffers,
+                                     const struct rtr_link_state *state, size_t *length)
+{
+    *length = buffers->input_length - state->filled;
+    return buffers->input ? buffers->input + state->filled : buffers->input;
+}
+
+/* What is to be sent, of `length` bytes: nothing, if that is 0. */
+static inline const uint8_t *rtr_link_output(const struct rtr_link_buffers *buffers,
+                                             const struct rtr_link_state *state, size_t *length)
+{
+    *length = state->unsent;
+    return buffers->output;
+}
+
+/* The data, in canonical form, of `length` bytes; a null pointer if there are none. */
+static inline const uint8_t *rtr_link_data(const struct rtr_link_buffers *buffers,
+                                           const struct rtr_link_state *state, size_t *length)
+{
+    *length = state->shown;
+    return !state->has_data ? NULL : state->second ? buffers->second : buffers->first;
+}
+
+/* Caches in order of preference (RFC 8210 section 10): which cache's data are shown, and which are
+ * asked, without sockets, a clock or memory. A group has up to 16 members, each a router with its
+ * cache; member 0 is the most preferred. The group holds no data. A program starts member 0,
+ * reports what happens to a member by one of three calls, calls rtr_group_tick when the time is
+ * rtr_group_wakes, and carries out each answer, in this order:
+ *
+ *   shown   RTR_GROUP_DATA: show the present data of `member` in place of those before (rtr_delta
+ *           gives the difference). RTR_GROUP_NOTHING: no data are shown any more
+ *   stops   stop the members from `stop` on that run, and drop their data. Keep their routers
+ *   starts  start the member `start` without data: the first time with a new router, later with
+ *           rtr_router_again, so that the waits for its cache aren't reset
+ *
+ * An action of a router is at most one event of the group: RTR_SHOW is rtr_group_shows; RTR_DROP,
+ * and RTR_END with `drops`, is rtr_group_drops alone; RTR_NO_DATA, and RTR_END without `drops`, is
+ * rtr_group_fails, unless its cause is RTR_CAUSE_LOWER or RTR_CAUSE_HIGHER; other actions are no
+ * event.
+ *
+ * A member is current from a whole answer until its next failure. The data of the most preferred
+ * current member are shown; while none is current, those of the member with the latest whole
+ * answer, until they expire. A member runs while each one before it has, since it was started and
+ * since its last whole answer, failed or been silent for the patience. Events of a member that
+ * doesn't run are ignored. Times are in milliseconds, by a monotonic clock, and below 2^63. A
+ * struct is plain data: it may be copied and read. */
+
+/* How the shown data change. */
 enum rtr_group_shown {
     RTR_GROUP_SAME,
     RTR_GROUP_DATA,
     RTR_GROUP_NOTHING
 };
 
-struct rtr_group {
-    size_t count; /* how many members it has */
-    size_t runs;  /* how many of them run, from the first on */
-    bool has[16]; /* whether each of those has data */
+/* What a program may set. */
+struct rtr_group_settings {
+    uint32_t patience;  /* how long, in milliseconds, a member may have no whole answer before the
+                           next one is started too, while none is current; default 5 seconds */
+    bool empty_is_data; /* whether a whole answer without payloads counts as data, and not as a
+                           failure that drops them; default false */
 };
 
-/* What is to be done. Fields that an answer doesn't have are 0. */
+struct rtr_group {
+    struct rtr_group_settings settings;
+    size_t count; /* the number of members */
+    size_t runs;  /* the number of members that run, from the first on */
+    uint64_t due; /* when the next member is started, while none is current */
+    bool has[16]; /* whether each member that runs has data */
+    bool current; /* whether the last member that runs is current */
+};
+
+/* What the program has to do. Fields that an answer doesn't have are 0. */
 struct rtr_group_answer {
-    size_t member; /* whose data are shown, for RTR_GROUP_DATA */
-    size_t stop;   /* the first of those that are left, if it `stops` */
-    size_t start;  /* who is asked, if it `starts` */
+    size_t member; /* the member whose data to show, for RTR_GROUP_DATA */
+    size_t stop;   /* the first member to stop, if `stops` */
+    size_t start;  /* the member to start, if `starts` */
     uint8_t shown; /* an rtr_group_shown */
     bool stops, starts;
 };
 
-/* Begins a group of so many members without data, at most 16, whatever the struct holds. */
-void rtr_group_init(struct rtr_group *group, size_t count);
+/* Sets the default settings. */
+void rtr_group_usual(struct rtr_group_settings *settings);
 
-/* Whether data are shown, and of which member; 0 where there are none. */
+/* Initializes a group of `count` members without data, whatever the struct holds.
+ *
+ * RTR_OK; or RTR_TOO_MANY_MEMBERS, and the group has no members. */
+uint8_t rtr_group_init(struct rtr_group *group, const struct rtr_group_settings *settings,
+                       size_t count, uint64_t now);
+
+/* Reports whether data are shown, and sets `member` to the one that they are from, or to 0. */
 bool rtr_group_best(const struct rtr_group *group, size_t *member);
 
-/* A member shows data, of a whole answer: its first ones, or others than before (RTR_SHOW). */
-void rtr_group_shows(struct rtr_group *group, size_t member, struct rtr_group_answer *answer);
+/* Returns when to call rtr_group_tick, if nothing happens before; UINT64_MAX for never. */
+uint64_t rtr_group_wakes(const struct rtr_group *group);
 
-/* It has no data any more: they expired, or were dropped (RTR_DROP; RTR_END that `drops`). This is
- * a failure, too. */
-void rtr_group_drops(struct rtr_group *group, size_t member, struct rtr_group_answer *answer);
+/* Time passed. */
+void rtr_group_tick(struct rtr_group *group, uint64_t now, struct rtr_group_answer *answer);
 
-/* It failed, and the data that it has stay (RTR_NO_DATA; RTR_END that doesn't drop them, but for
- * RTR_CAUSE_LOWER). */
-void rtr_group_fails(struct rtr_group *group, size_t member, struct rtr_group_answer *answer);
+/* A member has the data of a whole answer, with this number of payloads (RTR_SHOW). They may be
+ * unchanged. */
+void rtr_group_shows(struct rtr_group *group, uint64_t now, size_t member, size_t payloads,
+                     struct rtr_group_answer *answer);
 
-/* It has a whole answer again, and its data are what they were: for programs that tell of changes
- * alone. */
-void rtr_group_well(struct rtr_group *group, size_t member, struct rtr_group_answer *answer);
+/* A member has no data any more: they expired, or were dropped (RTR_DROP; RTR_END with `drops`).
+ * This is a failure, too. */
+void rtr_group_drops(struct rtr_group *group, uint64_t now, size_t member,
+                     struct rtr_group_answer *answer);
 
-/* A cache's end of the protocol: what to answer when, without sockets, clock and memory (RFC 8210;
+/* A member failed, and keeps its data if it has any (RTR_NO_DATA; RTR_END without `drops`, except
+ * for RTR_CAUSE_LOWER and RTR_CAUSE_HIGHER). */
+void rtr_group_fails(struct rtr_group *group, uint64_t now, size_t member,
+                     struct rtr_group_answer *answer);
+
+/* The cache's end of the protocol: a state machine without sockets, a clock or memory (RFC 8210;
  * docs/SESSIONS.md has its rules). A program has a struct rtr_cache for each connection, tells it
- * what happens and what names its newest data, and does what is answered:
+ * what happens and which data are its newest, and carries out what the call returns:
  *
- *   RTR_SERVE_WAIT     nothing, until something comes, there are new data, or the time is
+ *   RTR_SERVE_WAIT     do nothing until bytes arrive, there are new data, or the time is
  *                      rtr_cache_wakes
  *   RTR_SERVE_ALL      send the cache response that rtr_cache_unit writes, and all data, with their
  *                      end of data
- *   RTR_SERVE_CHANGES  send the cache response that rtr_cache_unit writes, and the changes that
- *                      lead from the data of the serial number `serial` to the newest, with the end
- *                      of data of these
+ *   RTR_SERVE_CHANGES  send the cache response that rtr_cache_unit writes, and the changes from the
+ *                      data of the serial number `serial` to the newest data, with the end of data
+ *                      of the newest
  *   RTR_SERVE_RESET    send the cache reset that rtr_cache_unit writes
- *   RTR_SERVE_NO_DATA  send the report that rtr_cache_report writes. The connection stays
+ *   RTR_SERVE_NO_DATA  send the report that rtr_cache_report writes. The connection stays open
  *   RTR_SERVE_NOTIFY   send the notify that rtr_cache_unit writes
- *   RTR_SERVE_END      send what rtr_cache_report writes if it `reports`, and close the connection,
- *                      for this `reason`
+ *   RTR_SERVE_END      send what rtr_cache_report writes if `reports`, and close the connection;
+ *                      `reason` says why
  *
- * All of it is sent in the version `version`, to its end before anything else. Data and changes in
- * canonical form are sent as they are: rtr_normalise_for_slice writes data for a version, and
- * rtr_delta changes. Two data of one session and serial number are the same.
+ * Everything is sent in the version `version`, each answer to its end before the next. Data and
+ * changes in canonical form are sent as they are: rtr_normalise_for_slice writes data for a
+ * version, and rtr_delta changes. A session and serial number always name the same data.
  *
- * After each answer but RTR_SERVE_WAIT the program calls rtr_cache_read with what is left of the
- * input behind `taken`, until it answers RTR_SERVE_WAIT with nothing taken; and rtr_cache_tick, as
- * it does where there are new data. After RTR_SERVE_END nothing more of the connection is told.
- * Times are in milliseconds, by a clock that doesn't go back, and below 2^63. A struct is plain: it
- * may be copied, and read. */
+ * After each answer but RTR_SERVE_WAIT the program calls rtr_cache_read with the input after
+ * `taken`, until it returns RTR_SERVE_WAIT with nothing taken; and rtr_cache_tick, as it does when
+ * there are new data. After RTR_SERVE_END it reports nothing more of the connection. Times are in
+ * milliseconds, by a monotonic clock, and below 2^63. A struct is plain data: it may be copied and
+ * read. */
 
-/* What names the newest data of a cache. */
+/* The session and serial number of a cache's newest data. */
 struct rtr_present {
     uint32_t serial;
     uint16_t session;
-    bool has; /* whether there are any; where not, the two others are ignored */
+    bool has; /* whether there are data; if not, the two other fields are ignored */
 };
 
 /* What a program may set. Times are in milliseconds. */
 struct rtr_cache_settings {
-    uint32_t first_limit; /* from the connection to the first query; 30 seconds */
-    uint32_t idle_limit;  /* from a query to the next one; 25 hours */
-    uint32_t pause;       /* between two notifies, at least; 1 minute */
-    bool refuses;         /* whether a report of code 0 and the end answer a serial query whose
-                             changes can't be told, in place of a cache reset; false */
+    uint32_t first_limit; /* the time limit to the first query; default 30 seconds */
+    uint32_t idle_limit;  /* the time limit from a query to the next; default 25 hours */
+    uint32_t pause;       /* the least time between two notifies; default 1 minute */
+    bool refuses;         /* whether a serial query whose changes aren't known is answered by a
+                             report of code 0 and the end, instead of a cache reset; default
+                             false */
 };
 
 struct rtr_cache {
     struct rtr_cache_settings settings;
     uint64_t notify_from, due;
-    uint32_t serial; /* of the data that the router knows of, if it was `told` of any */
+    uint32_t serial; /* of the newest data that the router was `told` of, or of the newest data when
+                        a cache reset made it ask for all, `reset` */
     uint16_t session;
-    uint8_t version; /* of the connection, if a query came, `asked` */
-    bool live, asked, told;
+    uint8_t version; /* of the connection, once a query came, `asked` */
+    bool live, asked, told, reset;
 };
 
 enum rtr_serving_kind {
@@ -1200,13 +1501,13 @@ enum rtr_serving_kind {
     RTR_SERVE_END
 };
 
-/* Why a cache ends a connection; rtr_reason_text says it in words. */
+/* Why a cache ends a connection; rtr_reason_text returns the text. */
 enum rtr_reason {
     RTR_REASON_LOST,
     RTR_REASON_SLOW,
     RTR_REASON_FULL,
     RTR_REASON_FAULTY,        /* a unit is refused, for `status` */
-    RTR_REASON_REPORTED,      /* by the first `taken` bytes of the input */
+    RTR_REASON_REPORTED,      /* the router reports an error, in `taken` bytes of input */
     RTR_REASON_NO_QUERY,
     RTR_REASON_OTHER_VERSION,
     RTR_REASON_NO_VERSION,
@@ -1214,13 +1515,13 @@ enum rtr_reason {
     RTR_REASON_UNKNOWN
 };
 
-/* What is to be sent. Fields that an answer doesn't have are 0. */
+/* What the program has to send. Fields that an answer doesn't have are 0. */
 struct rtr_serving {
-    size_t taken;     /* how many bytes of the input are done with: the unit that it begins with; of
-                         a unit that is refused none, since the connection ends */
-    size_t wanted;    /* after rtr_cache_read, if no whole unit is there, as in an rtr_unit */
-    uint32_t serial;  /* of all data or a notify; of RTR_SERVE_CHANGES, of the data that they lead
-                         from */
+    size_t taken;     /* how many bytes of the input were consumed: its first unit; a unit that is
+                         refused isn't consumed, since the connection ends */
+    size_t wanted;    /* after rtr_cache_read, if there is no whole unit, as in an rtr_unit */
+    uint32_t serial;  /* of all data or a notify; for RTR_SERVE_CHANGES, of the data from which they
+                         lead */
     uint16_t session; /* of all data, changes or a notify */
     uint16_t code;    /* of the report */
     uint8_t kind;     /* an rtr_serving_kind */
@@ -1231,10 +1532,10 @@ struct rtr_serving {
     bool reports;     /* whether a report is owed */
 };
 
-/* The usual settings. */
+/* Sets the default settings. */
 void rtr_cache_settings_usual(struct rtr_cache_settings *settings);
 
-/* Begins a connection that was made at this time, whatever the struct holds. */
+/* Initializes a connection that was made at this time, whatever the struct holds. */
 void rtr_cache_init(struct rtr_cache *cache, uint64_t now,
                     const struct rtr_cache_settings *settings);
 
@@ -1242,30 +1543,22 @@ void rtr_cache_init(struct rtr_cache *cache, uint64_t now,
 void rtr_cache_tick(struct rtr_cache *cache, uint64_t now, const struct rtr_present *present,
                     struct rtr_serving *serving);
 
-/* The connection is one more than the cache may have: it ends with a report. */
+/* The connection is above the cache's limit: it ends with a report. */
 void rtr_cache_full(struct rtr_cache *cache, uint64_t now, const struct rtr_present *present,
                     struct rtr_serving *serving);
 
-/* The connection is gone and rtr_cache_read has nothing left, or what is sent isn't taken in its
- * time. */
+/* The connection was lost and rtr_cache_read has no input left, or sending took too long. */
 void rtr_cache_lost(struct rtr_cache *cache, uint64_t now, const struct rtr_present *present,
                     struct rtr_serving *serving);
 
-/* When rtr_cache_tick is to be called, if nothing comes before and these stay the newest data. It
- * may have passed; UINT64_MAX after the end. */
+/* Returns when to call rtr_cache_tick, if nothing happens before and these stay the newest data.
+ * The time may be past; UINT64_MAX after the end. */
 uint64_t rtr_cache_wakes(const struct rtr_cache *cache, const struct rtr_present *present);
 
-/* The archive's call for rtr_cache_read, which takes no null pointer. */
-void rtr_cache_read_nonnull(struct rtr_cache *cache, uint64_t now,
-                            const struct rtr_present *present,
-                            const uint32_t *kept, size_t kept_count,
-                            const uint8_t *input, size_t input_length, bool ended,
-                            struct rtr_serving *serving);
-
-/* Tells the cache of the unit that the input begins with. `kept` are the serial numbers of the
- * present session from which the program can tell the changes, in any order; from the present one
- * it always can, there are none. Where the router has closed, `ended`, what is left of a unit is
- * refused. RTR_SERVE_WAIT with nothing taken: no whole unit is there. */
+/* Gives the cache the unit at the start of the input. `kept` are the serial numbers of the present
+ * session from which the program can send changes, in any order; the present one, from which there
+ * are none, needn't be among them. If the router has closed, `ended`, an incomplete unit is
+ * refused. RTR_SERVE_WAIT with nothing taken means that there is no whole unit. */
 static inline void rtr_cache_read(struct rtr_cache *cache, uint64_t now,
                                   const struct rtr_present *present,
                                   const uint32_t *kept, size_t kept_count,
@@ -1277,27 +1570,18 @@ static inline void rtr_cache_read(struct rtr_cache *cache, uint64_t now,
                            rtr_readable(input), input_length, ended, serving);
 }
 
-/* The archive's call for rtr_cache_unit, which takes no null pointer. */
-size_t rtr_cache_unit_nonnull(const struct rtr_serving *serving, uint8_t *output,
-                              size_t output_length);
-
-/* Writes the unit that an answer begins with, and answers its length: 8 for a cache response
- * (RTR_SERVE_ALL and RTR_SERVE_CHANGES) or a cache reset, and 12 for a notify; 0 if the answer has
- * none, or the output is shorter. */
+/* Writes the first unit of an answer, and returns its length: 8 for a cache response (RTR_SERVE_ALL
+ * and RTR_SERVE_CHANGES) or a cache reset, and 12 for a notify; 0 if the answer has none, or the
+ * output is shorter. */
 static inline size_t rtr_cache_unit(const struct rtr_serving *serving, uint8_t *output,
                                     size_t output_length)
 {
     return rtr_cache_unit_nonnull(serving, rtr_writable(output), output_length);
 }
 
-/* The archive's call for rtr_cache_report, which takes no null pointer. */
-bool rtr_cache_report_nonnull(const struct rtr_serving *serving,
-                              const uint8_t *input, size_t input_length,
-                              uint8_t *output, size_t output_length, size_t *written);
-
-/* Writes the report that an answer owes, about the unit that the input begins with, as
- * rtr_cache_read had it; that of rtr_cache_full is about none. False, with `written` 0, if none is
- * owed or the output is too short; 65535 bytes are always enough. */
+/* Writes the report that an answer owes, about the unit at the start of the input that
+ * rtr_cache_read got; that of rtr_cache_full encloses no unit. Returns false, with `written` 0, if
+ * no report is owed or the output is too short; 65535 bytes are always enough. */
 static inline bool rtr_cache_report(const struct rtr_serving *serving,
                                     const uint8_t *input, size_t input_length,
                                     uint8_t *output, size_t output_length, size_t *written)
@@ -1306,7 +1590,21 @@ static inline bool rtr_cache_report(const struct rtr_serving *serving,
                                     rtr_writable(output), output_length, written);
 }
 
-/* A text for a reason, never null; any number may be passed. */
+/* Returns the text of a rule on times, never null; any number may be passed. */
+static inline const char *rtr_time_rule_text(uint8_t rule)
+{
+    static const char *const texts[] = {
+        0,
+        "the refresh time has to be 1 to 86400 seconds",
+        "the retry time has to be 1 to 7200 seconds",
+        "the expire time has to be 600 to 172800 seconds",
+        "the expire time has to be longer than the refresh time",
+        "the expire time has to be longer than the retry time",
+    };
+    return rule && rule < sizeof texts / sizeof *texts ? texts[rule] : "unknown time rule";
+}
+
+/* Returns the text of a reason, never null; any number may be passed. */
 static inline const char *rtr_reason_text(uint8_t reason)
 {
     static const char *const texts[] = {
@@ -1324,7 +1622,7 @@ static inline const char *rtr_reason_text(uint8_t reason)
     return reason < sizeof texts / sizeof texts[0] ? texts[reason] : "unknown reason";
 }
 
-/* A text for a status, never null; any number may be passed. */
+/* Returns the text of a status, never null; any number may be passed. */
 static inline const char *rtr_status_text(uint8_t status)
 {
     static const char *const texts[] = {
@@ -1346,12 +1644,17 @@ static inline const char *rtr_status_text(uint8_t status)
         "withdrawal of an unknown record",
         "an ASPA is announced and then withdrawn",
         "no room in the index",
+        "too many members",
+        "of another version than the units before",
+        "serial number before that of the data",
+        "cache reset inside an answer",
+        "error report inside an answer",
     };
     return status < sizeof texts / sizeof texts[0] && texts[status] ? texts[status]
                                                                     : "unknown status";
 }
 
-/* A name for a kind, never null; any number may be passed. */
+/* Returns the name of a kind, never null; any number may be passed. */
 static inline const char *rtr_kind_text(uint8_t kind)
 {
     static const char *const texts[] = {

@@ -205,31 +205,37 @@ static enum rtr_update refuse(struct rtr_server *s, uint8_t status, size_t offse
     return RTR_UPDATE_REFUSED;
 }
 
-/* The data of a sequence in any order, and how many units they have before their end of data. */
-static enum rtr_update read_data(struct rtr_server *s, const uint8_t *input, size_t length,
-                                 struct rtr_shared **data, size_t *count)
+/* Loads the data of a recording or a list. */
+static enum rtr_update load(struct rtr_server *s, const uint8_t *input, size_t length,
+                            struct rtr_shared **data)
 {
-    size_t at = 0, first = SIZE_MAX;
-    struct rtr_unit unit;
-    struct rtr_data_answer answer;
-    *count = 0;
-    for (; !rtr_next(input + at, length - at, &unit) && unit.kind != RTR_END_OF_DATA;
-         at += unit.size, *count += 1)
-        first = !unit.action && first == SIZE_MAX ? at : first;
-    size_t *index = malloc((*count + 1) * sizeof *index);
+    struct rtr_loaded loaded;
+    size_t most = length / RTR_SHORTEST_PAYLOAD;
+    size_t *index = malloc((most + 1) * sizeof *index);
+    uint8_t *work = malloc(length + 1);
     struct rtr_shared *made = shared(length);
-    if (index && made)
-        rtr_order(input, length, index, *count, made->bytes, length, &answer);
+    bool has_memory = index && work && made;
+    if (has_memory)
+        rtr_load(input, length, index, most, work, length, made->bytes, length, &loaded);
     free(index);
-    if (index && made && !answer.status && first == SIZE_MAX) {
-        *data = cut(made, answer.written);
+    free(work);
+    if (has_memory && loaded.status == RTR_OK) {
+        *data = cut(made, loaded.length);
+        s->has_cut = loaded.has_cut;
         return RTR_UPDATE_TAKEN;
     }
     release(made);
-    if (!index || !made)
-        return RTR_UPDATE_MEMORY;
-    return answer.status ? refuse(s, answer.status, answer.offset)
-                         : refuse(s, RTR_NOT_CANONICAL, first);
+    return has_memory ? refuse(s, loaded.status, loaded.offset) : RTR_UPDATE_MEMORY;
+}
+
+/* How many payload units stand before the end of data. */
+static size_t payloads_of(const struct rtr_shared *data)
+{
+    uint8_t detail;
+    size_t size, count = 0;
+    for (size_t at = 0; data->bytes[at + 1] != RTR_END_OF_DATA; at += size, count += 1)
+        rtr_unit_size(data->bytes + at, data->length - at, &size, &detail);
+    return count;
 }
 
 /* The newest data as those of a version, or null. They are made when they are asked for first. */
@@ -342,25 +348,35 @@ static enum rtr_update step_back(struct rtr_server *s, int64_t now, const struct
 }
 
 /* Makes these the newest data. */
-static void take(struct rtr_server *s, int64_t now, struct rtr_shared *data, size_t count)
+static void take(struct rtr_server *s, int64_t now, struct rtr_shared *data)
 {
     s->end = end_of(data);
     if (s->present.has && s->present.session != s->end.session)
         forget_back(s, 0);
     forget_made(s);
     s->forms[s->end.version] = data;
-    s->payloads = count;
+    s->payloads = payloads_of(data);
     s->number += 1;
     s->present = (struct rtr_present){s->end.serial, s->end.session, true};
     limit_back(s, now);
 }
 
-/* Takes data in canonical form, unless it says that it doesn't; then it releases them. */
-static enum rtr_update update(struct rtr_server *s, int64_t now, struct rtr_shared *data,
-                              size_t count)
+/* Whether a cache may name the timings of these data; version 0 has none. */
+static bool may_name(struct rtr_server *s, const struct rtr_shared *data)
 {
-    enum rtr_update update = RTR_UPDATE_TAKEN;
-    if (s->present.has && s->present.session == end_of(data).session) {
+    struct rtr_unit end = end_of(data);
+    s->time_rule = RTR_TIME_RULE_NONE;
+    if (end.version)
+        s->time_rule = rtr_times_rule(end.refresh, end.retry, end.expire);
+    return s->time_rule == RTR_TIME_RULE_NONE;
+}
+
+/* Takes data in canonical form, unless it says that it doesn't; then it releases them. */
+static enum rtr_update update(struct rtr_server *s, int64_t now, struct rtr_shared *data)
+{
+    enum rtr_update update = may_name(s, data) ? RTR_UPDATE_TAKEN : RTR_UPDATE_TIMES;
+    if (update == RTR_UPDATE_TAKEN && s->present.has
+        && s->present.session == end_of(data).session) {
         if (s->end.version > data->bytes[0]) {
             struct rtr_shared *raised = in_version(data, s->end.version);
             release(data);
@@ -373,7 +389,7 @@ static enum rtr_update update(struct rtr_server *s, int64_t now, struct rtr_shar
             update = step_back(s, now, data);
     }
     if (update == RTR_UPDATE_TAKEN)
-        take(s, now, data, count);
+        take(s, now, data);
     else
         release(data);
     return update;
@@ -382,14 +398,9 @@ static enum rtr_update update(struct rtr_server *s, int64_t now, struct rtr_shar
 enum rtr_update rtr_server_update(struct rtr_server *s, int64_t now, const uint8_t *input,
                                   size_t length)
 {
-    size_t start = 0, count;
-    struct rtr_unit unit;
     struct rtr_shared *data;
-    if (!rtr_next(input, length, &unit) && unit.kind == RTR_CACHE_RESPONSE)
-        start = unit.size;
-    enum rtr_update read = read_data(s, input + start, length - start, &data, &count);
-    s->offset += read == RTR_UPDATE_REFUSED ? start : 0;
-    return read == RTR_UPDATE_TAKEN ? update(s, now, data, count) : read;
+    enum rtr_update loaded = load(s, input, length, &data);
+    return loaded == RTR_UPDATE_TAKEN ? update(s, now, data) : loaded;
 }
 
 /* ---- changes that lead back */
@@ -571,7 +582,8 @@ static enum rtr_update restore_all(struct rtr_server *s, int64_t now, int64_t da
         update = restore_one(s, now, until, input + at, size);
         at += size;
     }
-    return update == RTR_UPDATE_TAKEN || update == RTR_UPDATE_MEMORY ? update : RTR_UPDATE_TORN;
+    bool told = update == RTR_UPDATE_MEMORY || update == RTR_UPDATE_TIMES;
+    return update == RTR_UPDATE_TAKEN || told ? update : RTR_UPDATE_TORN;
 }
 
 enum rtr_update rtr_server_restore(struct rtr_server *s, int64_t now, int64_t date,
@@ -633,6 +645,8 @@ const char *rtr_update_text(const struct rtr_server *s, enum rtr_update update)
         return "the serial number of other data isn't after the present one";
     case RTR_UPDATE_TIMING:
         return "new timings want a new serial number";
+    case RTR_UPDATE_TIMES:
+        return rtr_time_rule_text(s->time_rule);
     case RTR_UPDATE_TORN:
         return "the file of editions is torn";
     default:
@@ -853,10 +867,15 @@ uint8_t *rtr_served_room(struct rtr_served *c, size_t *length)
     return c->input + c->filled;
 }
 
-void rtr_served_received(struct rtr_served *c, int64_t now, size_t length)
+bool rtr_served_received(struct rtr_served *c, int64_t now, size_t length)
 {
+    if (length > c->room - c->filled) {
+        rtr_served_lost(c, "more bytes were read than there is room for");
+        return false;
+    }
     c->begun = c->filled ? c->begun : now;
     c->filled += length;
+    return true;
 }
 
 int rtr_served_output(const struct rtr_served *c, struct rtr_part parts[2])
@@ -873,8 +892,13 @@ int rtr_served_output(const struct rtr_served *c, struct rtr_part parts[2])
     return count;
 }
 
-void rtr_served_sent(struct rtr_served *c, int64_t now, size_t length)
+bool rtr_served_sent(struct rtr_served *c, int64_t now, size_t length)
 {
+    if (length > unsent(c)) {
+        rtr_served_lost(c, "more bytes were sent than there are");
+        return false;
+    }
     c->sent += length;
     c->taken = length ? now : c->taken;
+    return true;
 }

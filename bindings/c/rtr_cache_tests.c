@@ -1,8 +1,8 @@
-/* Tests of rtr_cache.h with a clock and routers that are played, and memory that is counted and
- * denied: link it with -Wl,--wrap=malloc,--wrap=realloc,--wrap=free. What is expected is written by
+/* Tests of rtr_cache.h with a simulated clock and routers, and allocations that are counted and
+ * fail: link it with -Wl,--wrap=malloc,--wrap=realloc,--wrap=free. Expected values are written by
  * hand, after RFC 8210 and docs/SESSIONS.md.
  *
- * usage: rtr_cache_tests [SESSIONS]   with so many sessions of random bytes; 3000 if not said */
+ * usage: rtr_cache_tests [SESSIONS]   with this many sessions of random bytes; default 3000 */
 #include "counting.h"
 #include "rtr_cache.h"
 #include <sys/resource.h>
@@ -13,11 +13,11 @@ static struct rtr_server s;
 static struct rtr_served v;
 static int64_t now = 1000000;
 
-/* What a connection has sent that isn't looked at yet, and how many bytes a router takes. */
+/* The bytes that a connection sent and no check has seen yet, and how many bytes a router reads. */
 static struct text said;
 static size_t piece = SIZE_MAX;
 
-/* Has the connection do all that there is to do; what it answers then. */
+/* Runs the connection until it waits or closes; returns its event. */
 static enum rtr_served_event runs(void)
 {
     struct rtr_part parts[2];
@@ -41,7 +41,7 @@ static void begins(void)
     CHECK(runs() == RTR_SERVED_WAIT && said.length == 0);
 }
 
-/* These bytes come. */
+/* Receives these bytes. */
 static void comes(const void *bytes, size_t length)
 {
     for (size_t at = 0, most; at < length; at += most) {
@@ -69,7 +69,7 @@ static void asks_changes(uint8_t version, uint16_t session, uint32_t serial)
     comes(query.bytes, query.length);
 }
 
-/* What was sent are these bytes. */
+/* Checks that exactly these bytes were sent. */
 static void says(const struct text *wanted)
 {
     CHECK(said.length == wanted->length && !memcmp(said.bytes, wanted->bytes, said.length));
@@ -94,7 +94,7 @@ static void says_same(uint8_t version, uint32_t serial)
     says(whole(version, serial, 2, 1));
 }
 
-/* A report of this version and code, about so many bytes. */
+/* A report of this version and code, about this many bytes. */
 static void says_report(uint8_t version, uint16_t code, size_t about)
 {
     struct rtr_unit unit;
@@ -104,7 +104,7 @@ static void says_report(uint8_t version, uint16_t code, size_t about)
     said.length = 0;
 }
 
-/* The connection is to be closed, for this reason. */
+/* Checks that the connection closes, for this reason. */
 static void closes(const char *text)
 {
     CHECK(runs() == RTR_SERVED_CLOSE && v.wakes == now + s.report_limit);
@@ -139,6 +139,39 @@ static void ends(void)
     CHECK(held == 0);
 }
 
+/* Times that RFC 8210 section 6 doesn't allow are refused by their rule, and the data before stay;
+ * version 0 has no times. */
+static void test_times(void)
+{
+    static const struct {
+        uint32_t times[3];
+        uint8_t rule;
+    } rows[] = {
+        {{0, 600, 7200}, RTR_TIME_RULE_REFRESH},
+        {{86401, 600, 172800}, RTR_TIME_RULE_REFRESH},
+        {{3600, 0, 7200}, RTR_TIME_RULE_RETRY},
+        {{3600, 7201, 172800}, RTR_TIME_RULE_RETRY},
+        {{1, 1, 599}, RTR_TIME_RULE_EXPIRE},
+        {{3600, 600, 172801}, RTR_TIME_RULE_EXPIRE},
+        {{3600, 600, 3600}, RTR_TIME_RULE_ABOVE_REFRESH},
+        {{600, 3600, 3600}, RTR_TIME_RULE_ABOVE_RETRY},
+    };
+    struct text text = {.length = 0};
+    has_data(1);
+    for (size_t i = 0; i < sizeof rows / sizeof *rows; i++)
+        for (uint8_t version = 1; version < 3; version++) {
+            text.length = 0;
+            add_end(&text, version, SESSION, 6, rows[i].times);
+            CHECK(takes(&text) == RTR_UPDATE_TIMES && s.time_rule == rows[i].rule);
+            CHECK(!strcmp(rtr_update_text(&s, RTR_UPDATE_TIMES), rtr_time_rule_text(s.time_rule)));
+            CHECK(s.present.serial == 5 && s.payloads == 3);
+        }
+    text.length = 0;
+    add_end(&text, 0, SESSION, 6, usual);
+    CHECK(takes(&text) == RTR_UPDATE_TAKEN && s.present.serial == 6);
+    ends();
+}
+
 /* Whatever the version of the file and of the router, each query gets its answer. */
 static void test_answers(void)
 {
@@ -160,7 +193,7 @@ static void test_answers(void)
     }
 }
 
-/* Of a file of version 2, versions 0 and 1 have what they know. */
+/* Of a file of version 2, routers of versions 0 and 1 get what their version has. */
 static void test_versions(void)
 {
     struct text file = {.length = 0}, wanted;
@@ -187,7 +220,7 @@ static void test_versions(void)
     ends();
 }
 
-/* However the bytes of queries come, and are taken, the answers are the same. */
+/* However queries are split, and answers are read, the answers are the same. */
 static void test_pieces(void)
 {
     struct text queries = {.length = 0}, wanted = {.length = 0};
@@ -208,7 +241,7 @@ static void test_pieces(void)
     ends();
 }
 
-/* From each of the last serial numbers on, the changes are told, each payload that differs once. */
+/* From each of the last serial numbers on, changes are sent, each payload that differs once. */
 static void test_changes(void)
 {
     has_data(1);
@@ -240,7 +273,7 @@ static void test_changes(void)
     ends();
 }
 
-/* Changes from data are told for two hours after newer ones came, within a limit of bytes. */
+/* Changes from data are sent for two hours after newer data came, within a limit of bytes. */
 static void test_kept(void)
 {
     has_data(1);
@@ -261,7 +294,7 @@ static void test_kept(void)
     ends();
 }
 
-/* Serial numbers are compared by RFC 1982: one that isn't before the present one is forgotten. */
+/* Serial numbers are compared by RFC 1982: one that isn't before the present one is dropped. */
 static void test_wrap(void)
 {
     rtr_server_init(&s);
@@ -331,7 +364,7 @@ struct refused {
 static void test_refusals(void)
 {
     static const struct refused all[] = {
-        {RTR_SHORT, 68}, {RTR_DUPLICATE, 68}, {RTR_NOT_CANONICAL, 68}, {RTR_UNIT_TYPE, 68}};
+        {RTR_SHORT, 68}, {RTR_DUPLICATE, 68}, {RTR_UNKNOWN, 68}, {RTR_RESET_INSIDE, 68}};
     has_data(1);
     for (size_t i = 0; i < sizeof all / sizeof all[0]; i++) {
         struct text text = *whole(1, 6, 1, 3);
@@ -341,7 +374,7 @@ static void test_refusals(void)
         if (i == 2)
             add_prefix(&text, 1, 0, 4);
         if (i == 3)
-            add_serial(&text, 1, 0, SESSION, 6);
+            add_header(&text, 1, RTR_CACHE_RESET, 0, RTR_HEADER_SIZE);
         if (i > 0)
             add_end(&text, 1, SESSION, 6, usual);
         CHECK(takes(&text) == RTR_UPDATE_REFUSED);
@@ -355,7 +388,7 @@ static void test_refusals(void)
     ends();
 }
 
-/* A new session ends a connection whose router knows of data of the one before, and no other. */
+/* A new session ends a connection whose router has data of the session before, and no other. */
 static void test_session(void)
 {
     for (int asked = 0; asked < 2; asked++) {
@@ -376,7 +409,7 @@ static void test_session(void)
     }
 }
 
-/* What a cache tells of a router, and what that gets. */
+/* The text that a cache has for a router's fault, and the report that the router gets. */
 static void test_closes(void)
 {
     static const char late[] = "\1\2\0\0";
@@ -420,7 +453,8 @@ static void test_closes(void)
     ends();
 }
 
-/* With the setting for it, what can't be told is answered by a report of code 0 and the end. */
+/* With `refuses`, a query whose changes aren't kept is answered by a report of code 0 and the
+ * end. */
 static void test_refuses(void)
 {
     has_data(1);
@@ -432,7 +466,7 @@ static void test_refuses(void)
     ends();
 }
 
-/* A unit that is longer than the room that a connection begins with. */
+/* A unit that is longer than a connection's first buffer. */
 static void test_long_unit(void)
 {
     static struct text report, text;
@@ -451,7 +485,7 @@ static void test_long_unit(void)
     ends();
 }
 
-/* The connection above the limit gets a report, and those before it go on. */
+/* The connection above the limit gets a report, and the others stay open. */
 static void test_connections(void)
 {
     struct rtr_served first;
@@ -470,7 +504,7 @@ static void test_connections(void)
     ends();
 }
 
-/* A router that takes nothing more of its answer. */
+/* A router that stops reading its answer. */
 static void stalls(void)
 {
     struct rtr_part parts[2];
@@ -486,7 +520,7 @@ static void stalls(void)
     CHECK(room == 0);
 }
 
-/* What is sent has its times, and may be of data that two newer ones followed. */
+/* Sending has its time limits, and an answer may be of data that two newer ones followed. */
 static void test_stalls(void)
 {
     struct rtr_part parts[2];
@@ -520,7 +554,7 @@ static void test_stalls(void)
     ends();
 }
 
-/* ---- what is saved */
+/* ---- saving */
 
 static bool write_to(void *to, const void *bytes, size_t length)
 {
@@ -530,7 +564,7 @@ static bool write_to(void *to, const void *bytes, size_t length)
 
 static const int64_t date = INT64_C(1800000000000); /* in January 2027 */
 
-/* A server that is started again answers as the one before, by as much time as that would have. */
+/* A restarted server answers as the one before, and keeps changes for as long. */
 static void test_saved(void)
 {
     static struct text saved;
@@ -554,13 +588,13 @@ static void test_saved(void)
     asks_changes(1, SESSION, 5);
     says(whole(1, 9, 4, 9));
     leaves();
-    now += s.keep - 60000 - 1000; /* newer data than number 6 came 1000 before it was saved */
+    now += s.keep - 60000 - 1000; /* newer data than number 6 came 1000 ms before saving */
     CHECK(takes(whole(1, 10, 1, 10)) == RTR_UPDATE_TAKEN && s.back_count == 4);
     CHECK(s.kept[0] == 9 && s.kept[1] == 8 && s.kept[2] == 7 && s.kept[3] == 6);
     ends();
 }
 
-/* Where a byte is another, or the end is cut off, nothing is taken. */
+/* If a byte is changed, or the end is missing, nothing is loaded. */
 static void test_torn(void)
 {
     static struct text saved, torn;
@@ -586,8 +620,8 @@ static void test_torn(void)
 
 /* ---- memory */
 
-/* One allocation is denied: the data are those before or after, and a connection ends by name.
- * Whether that many are made. */
+/* One allocation fails: the data are those before or after, and a connection ends with its reason.
+ * Returns whether that many are made. */
 static bool denies(uint8_t version, size_t which)
 {
     has_data(version);
@@ -624,7 +658,30 @@ static void test_memory(void)
             CHECK(which < 100);
 }
 
-/* A table that many routers ask for is held once. */
+/* More bytes than fit, or than there are to send, are refused, and end the connection. */
+static void test_wrong_lengths(void)
+{
+    struct rtr_part parts[2];
+    size_t room;
+    has_data(1);
+    for (int wrong = 0; wrong < 2; wrong++) {
+        begins();
+        rtr_served_room(&v, &room);
+        CHECK(!rtr_served_received(&v, now, wrong ? SIZE_MAX : room + 1));
+        closes("more bytes were read than there is room for");
+        stalls();
+        CHECK(rtr_served_output(&v, parts) == 2);
+        room = parts[0].length + parts[1].length;
+        CHECK(!rtr_served_sent(&v, now, wrong ? SIZE_MAX : room + 1));
+        closes("more bytes were sent than there are");
+    }
+    stalls();
+    CHECK(rtr_served_sent(&v, now, room) && !rtr_served_sent(&v, now, 1));
+    rtr_served_free(&v);
+    ends();
+}
+
+/* Data that many routers ask for are held once. */
 static void test_held(void)
 {
     static struct rtr_served many[100];
@@ -645,7 +702,7 @@ static void test_held(void)
     ends();
 }
 
-/* A table of more than a huge page lies in a file in memory, unless files may have fewer bytes. */
+/* Data of more than a huge page lie in a file in memory, unless file sizes are limited. */
 static void test_filed(bool limited)
 {
     enum { COUNT = 170000, LENGTH = COUNT * 20 + 24 };
@@ -738,6 +795,7 @@ int main(int count, char **words)
     test_wrap();
     test_other_versions();
     test_updates();
+    test_times();
     test_refusals();
     test_session();
     test_closes();
@@ -748,6 +806,7 @@ int main(int count, char **words)
     test_saved();
     test_torn();
     test_memory();
+    test_wrong_lengths();
     test_held();
     test_filed(false);
     test_filed(true);

@@ -1,11 +1,16 @@
-/* See rtr_client.h. What to do when, the calls of rtr.h on a struct rtr_router say: here are
- * buffers, texts and what a program is told. */
+/* See rtr_client.h. The calls of rtr.h on a struct rtr_link take the units that come, apply
+ * answers, and write queries and reports; this file has the buffers, the texts and the events for
+ * the program. */
 #include <stdio.h>
 #include <stdlib.h>
 #include <string.h>
 #include "rtr_client.h"
 
-/* What a program is told of each rtr_cause. */
+/* The length of the output: a report fits behind two queries. A cache that doesn't take them is not
+ * asked again. The input has INPUT bytes between two answers. */
+enum { OUTPUT = 2 * RTR_SERIAL_SIZE + RTR_LONGEST_UNIT, INPUT = RTR_LONGEST_UNIT };
+
+/* The rtr_client_failure that the program gets for each rtr_cause. */
 static const uint8_t failures[] = {
     RTR_CLIENT_LOST,   RTR_CLIENT_SLOW,   RTR_CLIENT_REFUSED, RTR_CLIENT_REPORTED,
     RTR_CLIENT_BREACH, RTR_CLIENT_BREACH, RTR_CLIENT_BREACH,  RTR_CLIENT_BREACH,
@@ -17,19 +22,126 @@ struct bytes {
     size_t length;
 };
 
+/* This file calls nothing out of turn: a refused call is a fault of its own, or the program has
+ * overwritten the client. */
+static void must(uint8_t status)
+{
+    if (status != RTR_LINK_OK) {
+        fprintf(stderr, "rtr_client: a call was refused: status %u\n", status);
+        abort();
+    }
+}
+
 static void happens(struct rtr_client *c, enum rtr_client_event event)
 {
     c->events[c->count++] = (uint8_t)event;
 }
 
+/* What the buffers hold; nothing before the first rtr_client_next. */
+static struct rtr_link_state state(const struct rtr_client *c)
+{
+    struct rtr_link_state held = {.wakes = 0};
+    if (c->begun)
+        must(rtr_link_state(&c->link, &c->buffers, (uint64_t)c->now, &held));
+    return held;
+}
+
+/* ---- buffers */
+
+/* Makes a buffer this long, with what it holds; false without memory. */
+static bool resize(uint8_t **buffer, size_t *length, size_t size)
+{
+    uint8_t *moved = realloc(*buffer, size);
+    if (moved) {
+        *buffer = moved;
+        *length = size;
+    }
+    return moved != NULL;
+}
+
+static void release(uint8_t **buffer, size_t *length)
+{
+    free(*buffer);
+    *buffer = NULL;
+    *length = 0;
+}
+
+static void release_index(struct rtr_client *c)
+{
+    free(c->buffers.index);
+    c->buffers.index = NULL;
+    c->buffers.index_length = 0;
+}
+
+/* Makes an index with this many entries; false without memory. */
+static bool new_index(struct rtr_client *c, size_t count)
+{
+    release_index(c);
+    if (count <= SIZE_MAX / sizeof *c->buffers.index)
+        c->buffers.index = malloc(count * sizeof *c->buffers.index);
+    if (c->buffers.index)
+        c->buffers.index_length = count;
+    return c->buffers.index != NULL;
+}
+
+/* Makes this many bytes of room for changes; false without memory. */
+static bool room_for_changes(struct rtr_client *c, size_t size)
+{
+    if (size <= c->room_length)
+        return true;
+    release(&c->room, &c->room_length);
+    return resize(&c->room, &c->room_length, size);
+}
+
+static void forget_output(struct rtr_client *c)
+{
+    must(rtr_link_sent(&c->link, &c->buffers, state(c).unsent));
+}
+
+/* Makes the buffer longer that this asks for; false without memory. The input doubles, so that a
+ * long answer is moved a few times only. The output stays as long as it is. */
+static bool give_room(struct rtr_client *c, const struct rtr_todo *todo)
+{
+    struct rtr_link_buffers *b = &c->buffers;
+    size_t twice = 2 * b->input_length;
+    switch (todo->kind) {
+    case RTR_TODO_INPUT_ROOM:
+        return resize(&b->input, &b->input_length, todo->room > twice ? todo->room : twice);
+    case RTR_TODO_FIRST_ROOM:
+        return resize(&b->first, &b->first_length, todo->room);
+    case RTR_TODO_SECOND_ROOM:
+        return resize(&b->second, &b->second_length, todo->room);
+    case RTR_TODO_INDEX_ROOM:
+        return new_index(c, todo->room);
+    default: /* the cache doesn't read */
+        rtr_client_lost(c, rtr_cause_text(RTR_CAUSE_SLOW));
+        forget_output(c);
+        return true;
+    }
+}
+
+/* Releases what an answer needed, and the buffer that doesn't hold the data. */
+static void trim(struct rtr_client *c)
+{
+    struct rtr_link_buffers *b = &c->buffers;
+    release_index(c);
+    if (c->data != b->first)
+        release(&b->first, &b->first_length);
+    if (c->data != b->second)
+        release(&b->second, &b->second_length);
+    if (b->input_length > INPUT && state(c).filled <= INPUT)
+        resize(&b->input, &b->input_length, INPUT);
+}
+
 /* ---- data */
 
-/* Writes data as those of another version and session, and answers their length. */
+/* Writes data in another version and session, and returns their length; 0 if they aren't data. */
 static size_t write_form(struct bytes data, uint8_t version, uint16_t session, struct bytes form)
 {
     struct rtr_answer answer;
-    rtr_normalise_for_slice(data.at, data.length, form.at, form.length, UINT64_MAX, version,
-                            &answer);
+    if (rtr_normalise_for_slice(data.at, data.length, form.at, form.length, UINT64_MAX, version,
+                                &answer) != RTR_OK)
+        return 0;
     uint8_t *end = form.at + answer.written - (version ? RTR_LONGEST_END : RTR_SHORTEST_END);
     end[2] = (uint8_t)(session >> 8);
     end[3] = (uint8_t)session;
@@ -44,225 +156,210 @@ static struct bytes nothing(const struct rtr_unit *end, uint8_t *at)
     return none;
 }
 
-/* What leads from old data to new ones, of whatever versions and sessions, is the client's changes;
- * false where there is no memory for them. The forms of both lie behind the changes. */
-static bool tell_changes(struct rtr_client *c, struct bytes old, const struct rtr_unit *old_end,
-                         struct bytes new, const struct rtr_unit *end)
+/* The room for changes from old data to new ones, and for both in another form behind them. */
+static size_t size_of_changes(size_t old, size_t new)
 {
-    uint8_t none[RTR_LONGEST_END];
+    return 2 * (old + new + 2 * RTR_LONGEST_END);
+}
+
+/* Writes the client's changes from the old data to the new, whatever their versions and sessions,
+ * to the room that there is for them. Returns the status of rtr_delta. */
+static uint8_t write_changes(struct rtr_client *c, struct bytes old, const struct rtr_unit *old_end,
+                             struct bytes new, const struct rtr_unit *end)
+{
     struct rtr_data_answer answer;
-    uint8_t version = old.at && old_end->version > end->version ? old_end->version : end->version;
-    if (!old.at)
-        old = nothing(end, none);
-    size_t from = old.length + RTR_LONGEST_END, to = new.length + RTR_LONGEST_END, size = from + to;
-    free(c->changes);
-    c->changes = malloc(2 * size);
-    answer.written = 0;
-    if (c->changes) {
-        uint8_t *forms = c->changes + size;
-        from = write_form(old, version, end->session, (struct bytes){forms, from});
-        to = write_form(new, version, end->session, (struct bytes){forms + from, to});
-        rtr_delta(forms, from, forms + from, to, c->changes, size, &answer);
+    uint8_t version = old_end->version > end->version ? old_end->version : end->version;
+    size_t most = old.length + new.length + 2 * RTR_LONGEST_END;
+    if (old_end->version != end->version || old_end->session != end->session) {
+        struct bytes from = {c->room + most, old.length + RTR_LONGEST_END};
+        struct bytes to = {from.at + from.length, new.length + RTR_LONGEST_END};
+        from.length = write_form(old, version, end->session, from);
+        to.length = write_form(new, version, end->session, to);
+        old = from;
+        new = to;
     }
+    uint8_t status = rtr_delta(old.at, old.length, new.at, new.length, c->room, most, &answer);
+    c->changes = status == RTR_OK ? c->room : NULL;
     c->changes_length = answer.written;
-    return c->changes != NULL;
+    return status;
 }
 
-/* What leads from the client's data to these. */
-static bool change_to(struct rtr_client *c, struct bytes new, const struct rtr_unit *end)
+/* Makes room for the data that a whole answer makes, so that it isn't sorted in vain first, and for
+ * what changes then, while the data are still those before it; false without memory. */
+static bool reserve(struct rtr_client *c, const struct rtr_link_state *held)
 {
-    return tell_changes(c, (struct bytes){c->data, c->data_length}, &c->end, new, end);
+    struct rtr_link_buffers *b = &c->buffers;
+    uint8_t **buffer = held->second ? &b->first : &b->second;
+    size_t *length = held->second ? &b->first_length : &b->second_length;
+    size_t before = held->since ? c->data_length : RTR_LONGEST_END;
+    size_t made = before + held->answer + RTR_LONGEST_END;
+    return (made <= *length || resize(buffer, length, made))
+        && (!c->data || room_for_changes(c, size_of_changes(c->data_length, made)));
 }
 
-/* Takes the data that an answer made. */
+/* Sets the number of payload units of the data, and their end of data. */
+static void count_payloads(struct rtr_client *c)
+{
+    uint8_t detail;
+    size_t size, at = 0;
+    must(rtr_unit_size(c->data, c->data_length, &size, &detail));
+    for (c->payloads = 0; at + size < c->data_length; c->payloads++) {
+        at += size;
+        must(rtr_unit_size(c->data + at, c->data_length - at, &size, &detail));
+    }
+    must(rtr_next(c->data + at, size, &c->end));
+}
+
+/* There are new data. Those before them are in the other buffer. */
 static void show(struct rtr_client *c)
 {
-    struct rtr_unit unit = {.size = 0};
-    free(c->data);
-    c->data = c->made;
-    c->data_length = c->made_length;
-    c->made = NULL;
-    c->end = c->next_end;
-    c->payloads = 0;
-    for (size_t at = 0; at + c->end.size < c->data_length; at += unit.size, c->payloads++)
-        rtr_next(c->data + at, c->data_length - at, &unit);
+    struct rtr_link_state held = state(c);
+    struct bytes old = {c->data, c->data_length};
+    struct rtr_unit old_end = c->end;
+    c->data = held.second ? c->buffers.second : c->buffers.first;
+    c->data_length = held.shown;
+    count_payloads(c);
+    if (old.at) {
+        must(write_changes(c, old, &old_end, (struct bytes){c->data, held.shown}, &c->end));
+    } else { /* the changes from no data are the data */
+        c->changes = c->data;
+        c->changes_length = c->data_length;
+    }
+    trim(c);
     happens(c, RTR_CLIENT_DATA);
 }
 
 static void drop(struct rtr_client *c)
 {
-    uint8_t none[RTR_LONGEST_END];
-    change_to(c, nothing(&c->end, none), &c->end);
-    free(c->data);
+    uint8_t at[RTR_LONGEST_END];
+    struct bytes old = {c->data, c->data_length}, none = nothing(&c->end, at);
+    if (room_for_changes(c, size_of_changes(old.length, none.length)))
+        must(write_changes(c, old, &c->end, none, &c->end));
     c->data = NULL;
     c->data_length = c->payloads = 0;
+    trim(c);
     happens(c, RTR_CLIENT_DROPPED);
 }
 
-/* Appends units to those of the answer; false where there is no memory. */
-static bool keep(struct rtr_client *c, const uint8_t *units, size_t length)
-{
-    if (!c->answer || length > c->answer_room - c->answer_length) {
-        size_t size = 2 * (c->answer_length + length);
-        uint8_t *more = realloc(c->answer, size);
-        if (!more)
-            return false;
-        c->answer = more;
-        c->answer_room = size;
-    }
-    memcpy(c->answer + c->answer_length, units, length);
-    c->answer_length += length;
-    return true;
-}
+/* ---- what is to be done */
 
-static void forget(struct rtr_client *c)
-{
-    free(c->answer);
-    free(c->made);
-    c->answer = c->made = NULL;
-    c->answer_length = c->answer_room = 0;
-}
-
-/* ---- what the router wants done */
-
-/* What the report says that came. */
+/* Writes the text of a cache's error report. */
 static void say_report(struct rtr_client *c, struct bytes report)
 {
     struct rtr_unit unit;
     rtr_next(report.at, report.length, &unit);
     int count = snprintf(c->text, sizeof c->text, "the cache reports code %u", unit.code);
     for (size_t i = 0; i < unit.text_length && i < 200; i++) {
-        uint8_t one = report.at[unit.text_start + i];
+        uint8_t byte = report.at[unit.text_start + i];
         count += snprintf(c->text + count, sizeof c->text - (size_t)count, "%s%c", i ? "" : ": ",
-                          one >= ' ' && one <= '~' ? one : '?');
+                          byte >= ' ' && byte <= '~' ? byte : '?');
     }
     c->code = unit.code;
 }
 
-/* What is refused, at this offset. */
-static void say_refused(struct rtr_client *c, const struct rtr_action *a, uint64_t at)
+/* Writes which unit is refused, and its offset: that of a change in its answer, of another unit in
+ * what came on the connection. */
+static void say_refused(struct rtr_client *c, const struct rtr_todo *todo, size_t filled)
 {
     size_t count;
-    rtr_text(a->status, a->detail, (uint8_t *)c->text, RTR_TEXT_ROOM, &count);
+    uint64_t at = todo->offset;
+    if (todo->cause == RTR_CAUSE_FAULTY)
+        at += c->received - filled;
+    rtr_text(todo->status, todo->detail, (uint8_t *)c->text, RTR_TEXT_ROOM, &count);
     snprintf(c->text + count, sizeof c->text - count, ", at byte %llu", (unsigned long long)at);
 }
 
-/* Why there is no connection, because of what these bytes begin with, at this offset. */
-static void fail(struct rtr_client *c, const struct rtr_action *a, struct bytes about, uint64_t at)
+/* The connection failed for this reason, which `text` says. */
+static void fail(struct rtr_client *c, enum rtr_client_failure failure, const char *text)
 {
-    bool starved = a->cause == RTR_CAUSE_NOT_APPLIED && a->status == RTR_OK;
-    const char *text = a->cause == RTR_CAUSE_LOST ? c->reason : rtr_cause_text(a->cause);
-    c->failure = starved ? RTR_CLIENT_MEMORY : failures[a->cause];
-    c->status = a->status;
-    if (c->failure == RTR_CLIENT_REPORTED)
-        say_report(c, about);
-    else if (c->failure == RTR_CLIENT_REFUSED)
-        say_refused(c, a, at);
-    else
-        snprintf(c->text, sizeof c->text, "%s", starved ? "no memory" : text);
+    c->failure = (uint8_t)failure;
+    if (text)
+        snprintf(c->text, sizeof c->text, "%s", text);
     happens(c, RTR_CLIENT_FAILED);
 }
 
-/* Room for a query or a report behind what is still to be sent. */
-static uint8_t *output_end(struct rtr_client *c)
+/* Says why the connection ends. The input had this many bytes. */
+static void explain(struct rtr_client *c, const struct rtr_todo *todo, size_t filled)
 {
-    memmove(c->output, c->output + c->sent, c->unsent);
-    c->sent = 0;
-    return c->output + c->unsent;
+    enum rtr_client_failure failure = failures[todo->cause];
+    c->status = todo->status;
+    if (c->starved || (todo->cause == RTR_CAUSE_NOT_APPLIED && todo->status == RTR_OK)) {
+        fail(c, RTR_CLIENT_MEMORY, "no memory");
+    } else if (failure == RTR_CLIENT_REPORTED) {
+        say_report(c, (struct bytes){c->buffers.input + todo->offset, filled - todo->offset});
+        fail(c, failure, NULL);
+    } else if (failure == RTR_CLIENT_REFUSED) {
+        say_refused(c, todo, filled);
+        fail(c, failure, NULL);
+    } else {
+        fail(c, failure, failure == RTR_CLIENT_LOST ? c->reason : rtr_cause_text(todo->cause));
+    }
 }
 
-/* Drops the data, ends the connection after the report that is owed, or both. After a fall to a
- * lower version the next one comes at once. */
-static void end(struct rtr_client *c, const struct rtr_action *a, struct bytes about, uint64_t at)
+/* The connection ends, and the data may be dropped. After a change to a lower version, or back to a
+ * higher one, the next connection follows at once. The input had this many bytes. */
+static void end(struct rtr_client *c, const struct rtr_todo *todo, size_t filled)
 {
-    size_t written;
-    uint8_t *output = output_end(c);
-    if (a->drops)
+    if (todo->drops)
         drop(c);
-    rtr_router_report(a, about.at, about.length, output, sizeof c->output - c->unsent, &written);
-    c->unsent = c->broken ? 0 : c->unsent + written;
-    if (a->kind == RTR_END)
-        happens(c, RTR_CLIENT_CLOSE);
-    if (a->cause != RTR_CAUSE_LOWER)
-        fail(c, a, about, at);
-    forget(c);
+    if (c->broken)
+        forget_output(c);
+    c->closing = true;
+    happens(c, RTR_CLIENT_CLOSE);
+    if (todo->cause != RTR_CAUSE_LOWER && todo->cause != RTR_CAUSE_HIGHER)
+        explain(c, todo, filled);
+    trim(c);
 }
 
-/* Makes the changes of the answer, of the data or of none: all, or none. */
-static void apply(struct rtr_client *c, const struct rtr_action *a, struct bytes unit)
+/* Does what is to be done. The input had this many bytes. */
+static void act(struct rtr_client *c, const struct rtr_todo *todo, size_t filled)
 {
-    uint8_t none[RTR_LONGEST_END];
-    struct rtr_action next;
-    struct rtr_data_answer why = {.status = RTR_OK};
-    struct bytes old = {c->data, c->data_length}, made = {NULL, 0};
-    rtr_next(unit.at, unit.length, &c->next_end);
-    if (!a->changes)
-        old = nothing(&c->next_end, none);
-    size_t *index = malloc((c->router.units + 1) * sizeof *index);
-    bool can = index && keep(c, unit.at, c->next_end.size);
-    size_t most = old.length + c->answer_length;
-    c->made = made.at = can ? malloc(most) : NULL;
-    can = made.at && !rtr_apply_in_order(old.at, old.length, c->answer, c->answer_length, index,
-                                         c->router.units, made.at, most, &why);
-    free(index);
-    c->made_length = made.length = why.written;
-    if (can && change_to(c, made, &c->next_end))
-        rtr_router_applied(&c->router, c->now, &next);
-    else {
-        rtr_router_not_applied(&c->router, c->now, why.status, &next);
-        next.detail = why.detail;
-    }
-    if (next.kind == RTR_SHOW)
-        show(c);
-    else
-        end(c, &next, (struct bytes){c->answer + why.offset, c->answer_length - why.offset},
-            why.offset);
-    forget(c);
-}
-
-/* Does what the router wants done, about what these bytes begin with. */
-static void act(struct rtr_client *c, struct rtr_action *a, struct bytes about)
-{
-    if (a->kind == RTR_KEEP && !keep(c, about.at, a->taken))
-        rtr_router_not_applied(&c->router, c->now, RTR_OK, a);
-    if (a->kind == RTR_CONNECT) {
-        c->closed = c->broken = false;
-        c->offset = c->start = c->filled = c->sent = c->unsent = 0;
+    if (todo->kind == RTR_TODO_CONNECT) {
+        c->broken = false;
+        c->received = 0;
         happens(c, RTR_CLIENT_CONNECT);
-    } else if (a->kind == RTR_ASK && c->unsent > RTR_SERIAL_SIZE) { /* it takes none of them */
-        rtr_client_lost(c, rtr_cause_text(RTR_CAUSE_SLOW));
-    } else if (a->kind == RTR_ASK) {
-        c->unsent += rtr_router_query(a, output_end(c), RTR_SERIAL_SIZE);
-    } else if (a->kind == RTR_BEGIN) {
-        forget(c);
-    } else if (a->kind == RTR_APPLY) {
-        apply(c, a, about);
-    } else if (a->kind == RTR_NO_DATA) {
-        say_report(c, about);
+    } else if (todo->kind == RTR_TODO_CLOSE) {
+        end(c, todo, filled);
+    } else if (todo->kind == RTR_TODO_DATA) {
+        show(c);
+    } else if (todo->kind == RTR_TODO_DROPPED) {
+        drop(c);
+        fail(c, RTR_CLIENT_EXPIRED, rtr_cause_text(RTR_CAUSE_EXPIRED));
+    } else if (todo->kind == RTR_TODO_NO_DATA) {
+        say_report(c, (struct bytes){c->buffers.input + todo->offset, filled - todo->offset});
         happens(c, RTR_CLIENT_NO_DATA);
-    } else if (a->kind == RTR_DROP || a->kind == RTR_END) {
-        end(c, a, about, c->offset + a->start);
     }
 }
 
-/* Tells the router what has happened. Answers whether there was something. */
-static bool tell(struct rtr_client *c)
+/* Asks the link what is to be done, or gives up where there is no memory for what it needs. */
+static void ask_link(struct rtr_client *c, const struct rtr_link_state *held, struct rtr_todo *todo)
 {
-    struct rtr_action a;
-    struct bytes input = {c->input + c->start, c->filled - c->start};
-    rtr_router_tick(&c->router, c->now, &a);
-    if (a.kind == RTR_WAIT && c->connected)
-        rtr_router_connected(&c->router, c->now, &a);
-    else if (a.kind == RTR_WAIT)
-        rtr_router_read(&c->router, c->now, input.at, input.length, c->closed, &a);
-    if (a.kind == RTR_WAIT && !a.taken && c->closed)
-        rtr_router_lost(&c->router, c->now, &a);
-    c->connected = false;
-    act(c, &a, (struct bytes){input.at + a.start, input.length - a.start});
-    c->start += a.taken;
-    c->offset += a.taken;
-    return a.kind != RTR_WAIT || a.taken;
+    uint64_t now = (uint64_t)c->now;
+    bool asks = c->wished && !held->answers && held->wakes > now;
+    c->starved = held->answers && !reserve(c, held);
+    if (!c->starved) {
+        must(asks ? rtr_link_ask_now(&c->link, &c->buffers, now, todo)
+                  : rtr_link_next(&c->link, &c->buffers, now, todo));
+        if (todo->kind >= RTR_TODO_INPUT_ROOM)
+            c->starved = !give_room(c, todo);
+        else if (asks)
+            c->wished = false;
+    }
+    if (c->starved)
+        must(rtr_link_give_up(&c->link, &c->buffers, now, todo));
 }
+
+/* Takes a step; returns whether there may be another one now. */
+static bool step(struct rtr_client *c)
+{
+    struct rtr_todo todo;
+    struct rtr_link_state held = state(c);
+    ask_link(c, &held, &todo);
+    act(c, &todo, held.filled);
+    return todo.kind != RTR_TODO_WAIT;
+}
+
+/* ---- calls */
 
 void rtr_client_init(struct rtr_client *c, uint8_t version)
 {
@@ -277,77 +374,165 @@ void rtr_client_init(struct rtr_client *c, uint8_t version)
     c->report_limit = 2000;
 }
 
+/* Forgets the changes of an earlier event. */
+static void forget_changes(struct rtr_client *c)
+{
+    release(&c->room, &c->room_length);
+    c->changes = NULL;
+    c->changes_length = 0;
+}
+
 void rtr_client_free(struct rtr_client *c)
 {
-    forget(c);
-    free(c->data);
-    free(c->changes);
-    c->data = c->changes = NULL;
+    forget_changes(c);
+    release_index(c);
+    release(&c->buffers.input, &c->buffers.input_length);
+    release(&c->buffers.first, &c->buffers.first_length);
+    release(&c->buffers.second, &c->buffers.second_length);
+    release(&c->buffers.output, &c->buffers.output_length);
+    c->data = NULL;
+    c->data_length = c->payloads = 0;
+    if (c->begun)
+        must(rtr_link_again(&c->link));
+}
+
+void rtr_client_again(struct rtr_client *c)
+{
+    struct rtr_client old = *c;
+    memset(c, 0, sizeof *c);
+    c->settings = old.settings;
+    c->report_limit = old.report_limit;
+    c->link = old.link;
+    c->now = old.now;
+    c->begun = old.begun;
+}
+
+/* Begins, with the buffers that each connection needs. Without memory for them there is a failure
+ * now, and the next try a pause later; false until then. */
+static bool begin(struct rtr_client *c)
+{
+    struct rtr_link_buffers *b = &c->buffers;
+    if (!c->begun)
+        rtr_link_init(&c->link, &c->settings);
+    c->begun = true;
+    if (b->input && b->output)
+        return true;
+    if (c->now < c->tries)
+        return false;
+    if ((b->input || resize(&b->input, &b->input_length, INPUT))
+        && resize(&b->output, &b->output_length, OUTPUT))
+        return true;
+    c->tries = c->now + c->settings.pause + 1;
+    fail(c, RTR_CLIENT_MEMORY, "no memory");
+    return false;
 }
 
 enum rtr_client_event rtr_client_next(struct rtr_client *c, int64_t now)
 {
-    c->now = (uint64_t)now;
-    if (!c->begun)
-        rtr_router_init(&c->router, &c->settings);
-    c->begun = true;
+    bool begun = true;
+    c->now = now > c->now ? now : c->now;
     if (!c->count) {
-        free(c->changes);
-        c->changes = NULL;
-        c->changes_length = c->status = 0;
-        while (!c->count && tell(c)) {}
+        forget_changes(c);
+        c->status = 0;
+        if (c->closing)
+            forget_output(c);
+        c->closing = false;
+        begun = begin(c);
+        while (begun && !c->count && step(c)) {}
     }
     enum rtr_client_event event = c->count ? c->events[0] : RTR_CLIENT_WAIT;
     memmove(c->events, c->events + 1, sizeof c->events - 1);
     c->count -= c->count > 0;
-    c->wakes = (int64_t)rtr_router_wakes(&c->router);
+    c->wakes = begun ? (int64_t)state(c).wakes : c->tries;
     if (event == RTR_CLIENT_CLOSE)
-        c->wakes = now + c->report_limit;
+        c->wakes = c->now + c->report_limit;
     return event;
+}
+
+void rtr_client_ask_now(struct rtr_client *c)
+{
+    c->wished = true;
+}
+
+bool rtr_client_has_data(const struct rtr_client *c, int64_t now)
+{
+    struct rtr_link_state held = {.has_data = false};
+    uint64_t time = (uint64_t)(now > c->now ? now : c->now);
+    if (c->data)
+        must(rtr_link_state(&c->link, &c->buffers, time, &held));
+    return held.has_data;
 }
 
 bool rtr_client_instead(struct rtr_client *c, uint8_t *data, size_t length,
                         const struct rtr_unit *end)
 {
-    return tell_changes(c, (struct bytes){data, length}, end,
-                        (struct bytes){c->data, c->data_length}, &c->end);
+    struct bytes new = {c->data, c->data_length};
+    forget_changes(c);
+    if (!data) {
+        c->changes = c->data;
+        c->changes_length = c->data_length;
+        return true;
+    }
+    return room_for_changes(c, size_of_changes(length, new.length))
+        && write_changes(c, (struct bytes){data, length}, end, new, &c->end) == RTR_OK;
 }
 
-void rtr_client_connected(struct rtr_client *c)
+/* Whether a call for the connection came in turn. */
+static bool in_turn(uint8_t status)
 {
-    c->connected = true;
+    if (status != RTR_LINK_OUT_OF_TURN)
+        must(status);
+    return status == RTR_LINK_OK;
 }
 
-void rtr_client_lost(struct rtr_client *c, const char *reason)
+bool rtr_client_connected(struct rtr_client *c)
 {
+    return c->begun && in_turn(rtr_link_opened(&c->link));
+}
+
+bool rtr_client_lost(struct rtr_client *c, const char *reason)
+{
+    if (!c->begun || !in_turn(rtr_link_lost(&c->link)))
+        return false;
     snprintf(c->reason, sizeof c->reason, "%s",
              reason ? reason : "the cache closed the connection");
-    c->closed = true;
     c->broken = reason != NULL;
+    return true;
 }
 
 uint8_t *rtr_client_room(struct rtr_client *c, size_t *length)
 {
-    memmove(c->input, c->input + c->start, c->filled - c->start);
-    c->filled -= c->start;
-    c->start = 0;
-    *length = sizeof c->input - c->filled;
-    return c->input + c->filled;
+    struct rtr_link_state held = state(c);
+    return rtr_link_room(&c->buffers, &held, length);
 }
 
-void rtr_client_received(struct rtr_client *c, size_t length)
+bool rtr_client_received(struct rtr_client *c, size_t length)
 {
-    c->filled += length;
+    size_t most;
+    rtr_client_room(c, &most);
+    if (length > most) {
+        rtr_client_lost(c, "more bytes were read than there is room for");
+        return false;
+    }
+    if (!c->begun || !in_turn(rtr_link_received(&c->link, &c->buffers, length)))
+        return false;
+    c->received += length;
+    return true;
 }
 
 const uint8_t *rtr_client_output(const struct rtr_client *c, size_t *length)
 {
-    *length = c->unsent;
-    return c->output + c->sent;
+    struct rtr_link_state held = state(c);
+    return rtr_link_output(&c->buffers, &held, length);
 }
 
-void rtr_client_sent(struct rtr_client *c, size_t length)
+bool rtr_client_sent(struct rtr_client *c, size_t length)
 {
-    c->sent += length;
-    c->unsent -= length;
+    if (length > state(c).unsent) {
+        rtr_client_lost(c, "more bytes were sent than there are");
+        return false;
+    }
+    if (length)
+        must(rtr_link_sent(&c->link, &c->buffers, length));
+    return true;
 }

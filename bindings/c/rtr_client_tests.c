@@ -1,14 +1,14 @@
-/* Tests of rtr_client.h with a clock and a cache that are played, and memory that is counted and
- * denied: link it with -Wl,--wrap=malloc,--wrap=free. What is expected is written by hand, after
- * RFC 8210 and docs/SESSIONS.md.
+/* Tests of rtr_client.h with a simulated clock and cache, and allocations that are counted: link it
+ * with -Wl,--wrap=malloc,--wrap=realloc,--wrap=free. Expected values are written by hand, after RFC
+ * 8210 and docs/SESSIONS.md.
  *
- * usage: rtr_client_tests [SESSIONS]   with so many sessions of random units; 3000 if not said */
+ * usage: rtr_client_tests [SESSIONS]   with this many sessions of random units; default 3000 */
 #include "played.h"
 
-_Static_assert(sizeof(struct rtr_client) / 1024 == 193, "rtr_client.h says how large it is");
+_Static_assert(sizeof(struct rtr_client) <= 1280, "rtr_client.h says how large it is");
 
-/* However the bytes of an answer are cut, the data are the same, and they are there at the last
- * byte and not before. */
+/* However the bytes of an answer are split, the data are the same, and come with the last byte and
+ * not before. */
 static void test_pieces(void)
 {
     const struct text *text = whole(2, 5, 1, 3);
@@ -41,8 +41,8 @@ struct failing {
 
 #define PREFIX(version, asn) version "\4\0\0\0\0\0\x14\1\x08\x18\0\x0a\0\0\0\0\0\0" asn
 
-/* What a program is told of what comes in the response to a serial query, after 100 bytes. What the
- * cache gets, tests/transcripts has. */
+/* The events of a program for what comes in the response to a serial query, after 100 bytes.
+ * tests/transcripts has what the cache gets. */
 static const struct failing all_failing[] = {
     {BYTES("\2\5\0\0\0\0\0\x08"), RTR_CLIENT_REFUSED, RTR_UNIT_TYPE,
      "unit type 5 is not allowed here, at byte 100"},
@@ -77,11 +77,15 @@ static void test_failures(void)
         CHECK(c.payloads == 3 && c.end.serial == 5);
         connects_after(1000);
         sends_reset_query(2);
+        comes((const uint8_t *)"\2\5\0\0\0\0\0\x08", 8); /* offsets begin at 0 again */
+        EXPECT(CLOSE);
+        EXPECT(FAILED);
+        CHECK(!strcmp(c.text, "unit type 5 is not allowed here, at byte 0"));
         ends();
     }
 }
 
-/* What it is told of a cache that is lost, slow, or without data, and of data that expire. */
+/* The events for a cache that is lost, slow, or without data, and for data that expire. */
 static void test_texts(void)
 {
     struct text none = {.length = 0};
@@ -115,7 +119,61 @@ static void test_texts(void)
     ends();
 }
 
-/* The changes of an answer, in any order, are told in canonical form. */
+/* A request of the program: a pending answer comes first, then the client asks a pause after its
+ * last query, or at once, and connects before it is due (docs/SESSIONS.md). */
+static void test_wish(void)
+{
+    has_data(1);
+    rtr_client_ask_now(&c);
+    EXPECT(WAIT);
+    sends(&(struct text){.length = 0});
+    comes(whole(1, 5, 1, 3)->bytes, 8);
+    comes(whole(1, 5, 1, 3)->bytes + 8 + 3 * 20, 24);
+    EXPECT(DATA);
+    EXPECT(WAIT);
+    CHECK(c.wakes == now + 3600 * 1000);
+    rtr_client_ask_now(&c);
+    EXPECT(WAIT);
+    CHECK(c.wakes == now + 1000);
+    now = c.wakes;
+    EXPECT(WAIT);
+    sends_serial_query(1, 5);
+    comes(whole(1, 5, 1, 3)->bytes, 8);
+    comes(whole(1, 5, 1, 3)->bytes + 8 + 3 * 20, 24);
+    EXPECT(DATA);
+    EXPECT(WAIT);
+    now += 5000;
+    rtr_client_ask_now(&c);
+    EXPECT(WAIT);
+    sends_serial_query(1, 5);
+    rtr_client_lost(&c, NULL);
+    EXPECT(CLOSE);
+    EXPECT(FAILED);
+    connects_after(1000);
+    rtr_client_lost(&c, NULL);
+    EXPECT(CLOSE);
+    EXPECT(FAILED);
+    EXPECT(WAIT);
+    CHECK(c.wakes > now + 1000);
+    now += 1000;
+    rtr_client_ask_now(&c);
+    EXPECT(CONNECT);
+    ends();
+}
+
+/* Data last until they expire, even if the program makes no call. */
+static void test_expiry(void)
+{
+    rtr_client_init(&c, 1);
+    CHECK(!rtr_client_has_data(&c, now));
+    has_data(1);
+    int64_t expires = now - 3600 * 1000 + 7200 * 1000;
+    CHECK(rtr_client_has_data(&c, now) && rtr_client_has_data(&c, expires - 1));
+    CHECK(!rtr_client_has_data(&c, expires) && c.data);
+    ends();
+}
+
+/* The changes of an answer, in any order, are given in canonical form. */
 static void test_changes(void)
 {
     struct text changes = {.length = 0};
@@ -132,8 +190,44 @@ static void test_changes(void)
     ends();
 }
 
-/* An answer in a lower version to a serial query: all data are asked for in that version, and what
- * it lacks is withdrawn: ASPAs from version 2 to 1, router keys from 1 to 0. */
+/* The changes from other data, whatever their version and session, to a client's own. */
+static void test_instead(void)
+{
+    static struct text other, wanted;
+    for (uint8_t version = 0; version < 3; version++) {
+        struct rtr_unit end;
+        uint8_t higher = version > 1 ? version : 1;
+        other.length = wanted.length = 0;
+        add_prefix(&wanted, higher, 1, 1);
+        add_prefix(&wanted, higher, 0, 4);
+        add_prefix(&other, version, 1, 2);
+        add_prefix(&other, version, 1, 3);
+        add_prefix(&other, version, 1, 4);
+        if (version == 2)
+            add_aspa(&other, 1, 7, 8), add_aspa(&wanted, 0, 7, 8);
+        size_t payloads = other.length;
+        add_end(&other, version, SESSION + version, 9, usual);
+        add_end(&wanted, higher, SESSION, 5, usual);
+        has_data(1);
+        CHECK(rtr_next(other.bytes + payloads, other.length - payloads, &end) == RTR_OK);
+        CHECK(rtr_client_instead(&c, other.bytes, other.length, &end));
+        CHECK(c.changes_length == wanted.length);
+        CHECK(memcmp(c.changes, wanted.bytes, wanted.length) == 0);
+        CHECK(rtr_client_instead(&c, NULL, 0, &end));
+        CHECK(c.changes_length == c.data_length && !memcmp(c.changes, c.data, c.data_length));
+        CHECK(!rtr_client_instead(&c, other.bytes, other.length - 1, &end) && !c.changes);
+        allocations = 0;
+        denied = 1;
+        CHECK(!rtr_client_instead(&c, other.bytes, other.length, &end));
+        CHECK(!c.changes && c.changes_length == 0);
+        denied = 0;
+        EXPECT(WAIT);
+        ends();
+    }
+}
+
+/* An answer in a lower version to a serial query: the client asks for all data in that version, and
+ * withdraws what it lacks: ASPAs from version 2 to 1, router keys from 1 to 0. */
 static void test_lower_answer(void)
 {
     for (uint8_t lower = 0; lower < 2; lower++) {
@@ -169,7 +263,7 @@ static void test_lower_answer(void)
     }
 }
 
-/* A cache that answers, and doesn't take the next queries. */
+/* A cache that answers, and doesn't read the next queries. */
 static void test_queries_not_taken(void)
 {
     begins(1);
@@ -189,11 +283,12 @@ static void test_queries_not_taken(void)
     ends();
 }
 
-/* Payloads without an end: what is kept of them has a bound. */
+/* Endless payloads: the memory for them is limited. */
 static void test_flood(void)
 {
-    begins(1);
-    c.router.settings.most_bytes = 100000;
+    rtr_client_init(&c, 1);
+    c.settings.most_bytes = 100000;
+    asks();
     most_held = 0;
     struct text response = {.length = 0};
     add_response(&response, 1, SESSION);
@@ -205,17 +300,18 @@ static void test_flood(void)
         CHECK(asn < 5002);
     }
     EXPECT(FAILED);
-    CHECK(c.failure == RTR_CLIENT_TOO_LONG && most_held <= 4 * c.router.settings.most_bytes);
+    CHECK(c.failure == RTR_CLIENT_TOO_LONG && most_held <= 4 * c.settings.most_bytes);
     ends();
 }
 
-/* An answer with as many bytes of payload units as are allowed, and with a byte more. */
+/* An answer with as many bytes of payload units as allowed, and with a byte more. */
 static void test_limit(void)
 {
     const struct text *text = whole(1, 5, 1, 3);
     for (size_t over = 0; over < 2; over++) {
-        begins(1);
-        c.router.settings.most_bytes = text->length - 8 - 24 - over;
+        rtr_client_init(&c, 1);
+        c.settings.most_bytes = text->length - 8 - 24 - over;
+        asks();
         comes(text->bytes, text->length);
         if (over == 0) {
             EXPECT(DATA);
@@ -230,7 +326,7 @@ static void test_limit(void)
     }
 }
 
-/* The second unit is as long as the room that was got for the first one left over, or differs by a
+/* The second unit exactly fills the space that the first left in the buffer, or differs by a
  * byte. */
 static void test_room(void)
 {
@@ -255,7 +351,152 @@ static void test_room(void)
     }
 }
 
-/* Of a report's text the first 200 bytes are told, for which there is room. */
+/* More bytes than fit, or than there are to send, are refused, and end the connection. The last are
+ * those of an error of recv or send that is passed on. */
+static void test_wrong_lengths(void)
+{
+    size_t room;
+    for (int wrong = 0; wrong < 4; wrong++) {
+        size_t more = wrong % 2 ? SIZE_MAX : 1;
+        has_data(1);
+        rtr_client_room(&c, &room);
+        if (wrong < 2)
+            CHECK(!rtr_client_received(&c, more == 1 ? room + 1 : more));
+        else
+            CHECK(!rtr_client_sent(&c, more)); /* there are none */
+        EXPECT(CLOSE);
+        EXPECT(FAILED);
+        CHECK(c.failure == RTR_CLIENT_LOST && c.payloads == 3);
+        CHECK(!strcmp(c.text, wrong < 2 ? "more bytes were read than there is room for"
+                                        : "more bytes were sent than there are"));
+        ends();
+    }
+    begins(1);
+    rtr_client_room(&c, &room);
+    CHECK(rtr_client_received(&c, room) && !rtr_client_received(&c, 1));
+    ends();
+}
+
+/* Bytes that are sent in pieces; what wasn't sent before the connection is closed is forgotten. */
+static void test_pieces_sent(void)
+{
+    static const uint8_t wrong[] = {1, 5, 0, 0, 0, 0, 0, 8};
+    static const uint8_t query[] = {1, 1, 0x12, 0x34, 0, 0, 0, 12, 0, 0, 0, 5};
+    size_t length, whole_length;
+    has_data(1);
+    comes(whole(1, 5, 1, 0)->bytes, whole(1, 5, 1, 0)->length);
+    EXPECT(DATA);
+    EXPECT(WAIT);
+    now = c.wakes;
+    for (size_t sent = 0; sent < sizeof query; sent += 5) {
+        EXPECT(WAIT);
+        const uint8_t *output = rtr_client_output(&c, &length);
+        CHECK(length == sizeof query - sent && memcmp(output, query + sent, length) == 0);
+        CHECK(rtr_client_sent(&c, length < 5 ? length : 5));
+    }
+    comes(wrong, sizeof wrong);
+    EXPECT(CLOSE);
+    owes(5, 8);
+    rtr_client_output(&c, &whole_length);
+    CHECK(rtr_client_sent(&c, 1));
+    rtr_client_output(&c, &length);
+    CHECK(length == whole_length - 1);
+    EXPECT(FAILED);
+    EXPECT(WAIT);
+    rtr_client_output(&c, &length);
+    CHECK(length == 0);
+    ends();
+    rtr_client_init(&c, 0);
+    connected = false;
+    EXPECT(CONNECT);
+    CHECK(rtr_client_connected(&c));
+    EXPECT(WAIT);
+    CHECK(rtr_client_sent(&c, 3) && rtr_client_lost(&c, NULL));
+    EXPECT(CLOSE);
+    rtr_client_output(&c, &length);
+    CHECK(length == 5);
+    EXPECT(FAILED);
+    EXPECT(WAIT);
+    rtr_client_output(&c, &length);
+    CHECK(length == 0);
+    ends();
+}
+
+/* Nothing is sent to a connection that broke, the report about a cut unit neither. */
+static void test_broken(void)
+{
+    size_t length;
+    for (int broke = 0; broke < 2; broke++) {
+        has_data(1);
+        comes((const uint8_t *)"\1\4", 2);
+        CHECK(rtr_client_lost(&c, broke ? "it broke" : NULL));
+        EXPECT(CLOSE);
+        rtr_client_output(&c, &length);
+        CHECK((length == 0) == broke);
+        EXPECT(FAILED);
+        CHECK(c.failure == RTR_CLIENT_REFUSED && c.status == RTR_SHORT);
+        ends();
+    }
+}
+
+/* Calls for a connection that isn't there, or was lost: they return false and change nothing. A
+ * time that goes back is that of the call before. */
+static void test_turns(void)
+{
+    rtr_client_init(&c, 1);
+    CHECK(!rtr_client_connected(&c) && !rtr_client_lost(&c, NULL) && !rtr_client_received(&c, 0));
+    connected = false;
+    EXPECT(CONNECT);
+    CHECK(!rtr_client_received(&c, 0));
+    CHECK(rtr_client_connected(&c) && !rtr_client_connected(&c));
+    EXPECT(WAIT);
+    sends_reset_query(1);
+    int64_t wakes = c.wakes;
+    CHECK(rtr_client_next(&c, now - 5000) == RTR_CLIENT_WAIT && c.wakes == wakes);
+    CHECK(rtr_client_next(&c, -1) == RTR_CLIENT_WAIT && c.wakes == wakes);
+    comes(whole(1, 5, 1, 3)->bytes, whole(1, 5, 1, 3)->length);
+    CHECK(rtr_client_lost(&c, "it broke") && !rtr_client_lost(&c, NULL));
+    CHECK(!rtr_client_received(&c, 1) && !rtr_client_connected(&c));
+    EXPECT(DATA);
+    CHECK(rtr_client_has_data(&c, -1));
+    EXPECT(CLOSE);
+    CHECK(!rtr_client_lost(&c, NULL));
+    EXPECT(FAILED);
+    CHECK(c.failure == RTR_CLIENT_LOST && !strcmp(c.text, "it broke"));
+    CHECK(!rtr_client_connected(&c) && !rtr_client_lost(&c, NULL) && !rtr_client_received(&c, 0));
+    connects_after(1000);
+    ends();
+}
+
+/* After rtr_client_again a client connects at once, without data; the waits for a failing cache
+ * grow on. */
+static void test_again(void)
+{
+    has_data(1);
+    rtr_client_free(&c);
+    CHECK(held == 0 && !c.data && !rtr_client_has_data(&c, now));
+    rtr_client_again(&c);
+    asks();
+    ends();
+    rtr_client_init(&c, 0);
+    c.report_limit = 7;
+    asks();
+    for (int64_t wait = 1000; wait <= 8000; wait *= 2) {
+        rtr_client_lost(&c, NULL);
+        EXPECT(CLOSE);
+        CHECK(c.wakes == now + 7);
+        EXPECT(FAILED);
+        EXPECT(WAIT);
+        CHECK(c.wakes == now + wait);
+        rtr_client_free(&c);
+        CHECK(held == 0);
+        rtr_client_again(&c);
+        asks();
+    }
+    ends();
+}
+
+/* The text of a failure has the first 200 bytes of a report's text. */
 static void test_long_report(void)
 {
     static const char front[] = "the cache reports code 1: ";
@@ -281,7 +522,7 @@ static void test_long_report(void)
     }
 }
 
-/* Whether a unit of this type may have this length (docs/PROTOCOL.md). */
+/* Reports whether a unit of this type may have this length (docs/PROTOCOL.md). */
 static bool suits(int type, uint32_t length)
 {
     static const uint8_t fixed[] = {12, 12, 8, 8, 20, 0, 32, 24, 8};
@@ -293,7 +534,7 @@ static bool suits(int type, uint32_t length)
 }
 
 /* A header of each type, with lengths that it may have and others: nothing is allocated for it, and
- * what is wrong is reported. */
+ * faults are reported. */
 static void test_lengths(void)
 {
     static const uint32_t lengths[] = {0,  7,  8,     11,    12,       16,        20, 24,
@@ -322,43 +563,7 @@ static void test_lengths(void)
     }
 }
 
-/* Each allocation in turn is denied: the data are those before or those after, the failure has its
- * name, and the next connection brings the data. */
-static void test_memory(void)
-{
-    bool succeeded = false;
-    for (size_t which = 1; !succeeded; which++) {
-        CHECK(which < 100);
-        begins(1);
-        comes(whole(1, 5, 1, 3)->bytes, whole(1, 5, 1, 3)->length);
-        allocations = 0;
-        denied = which;
-        enum rtr_client_event one = event();
-        denied = 0;
-        succeeded = one == RTR_CLIENT_DATA;
-        if (!succeeded) {
-            CHECK(one == RTR_CLIENT_CLOSE && !c.data);
-            owes(NONE, 0);
-            EXPECT(FAILED);
-            CHECK(c.failure == RTR_CLIENT_MEMORY && !strcmp(c.text, "no memory"));
-            connects_after(1000);
-            sends_reset_query(1);
-            comes(whole(1, 5, 1, 3)->bytes, whole(1, 5, 1, 3)->length);
-            EXPECT(DATA);
-        }
-        CHECK(c.payloads == 3);
-        EXPECT(WAIT);
-        now += 7200 * 1000;
-        allocations = 0;
-        denied = which;
-        one = event();
-        denied = 0;
-        CHECK(one == RTR_CLIENT_DROPPED && (c.changes_length == 3 * 20 + 24 || which == 1));
-        ends();
-    }
-}
-
-/* ---- sessions with some bytes changed, cut anywhere, at any times */
+/* ---- sessions with some bytes changed, split anywhere, at any times */
 
 static uint32_t some(uint32_t bound)
 {
@@ -394,22 +599,23 @@ static void add_something(struct text *to)
 static void test_random(int sessions)
 {
     for (int session = 0; session < sessions; session++) {
+        bool lost = false;
         rtr_client_init(&c, (uint8_t)some(3));
         connected = false;
         for (int turn = 0; turn < 60; turn++) {
             size_t length;
             enum rtr_client_event one = event();
             if (one == RTR_CLIENT_CONNECT && some(8))
-                rtr_client_connected(&c);
+                lost = !rtr_client_connected(&c);
             else if (one == RTR_CLIENT_CONNECT || (connected && some(30) == 0))
-                rtr_client_lost(&c, some(2) ? NULL : "it broke");
+                lost = rtr_client_lost(&c, some(2) ? NULL : "it broke") || lost;
             if (one != RTR_CLIENT_WAIT)
                 continue;
             struct text text = {.length = 0};
             add_something(&text);
             if (some(4) == 0)
                 text.bytes[some((uint32_t)text.length)] = (uint8_t)some(256);
-            if (connected && !c.closed && some(8))
+            if (connected && !lost && some(8))
                 comes(text.bytes, some(4) ? text.length : some((uint32_t)text.length));
             else
                 now = some(2) ? c.wakes : now + some(2000);
@@ -425,15 +631,22 @@ int main(int count, char **words)
     test_pieces();
     test_failures();
     test_texts();
+    test_wish();
+    test_expiry();
     test_changes();
+    test_instead();
     test_lower_answer();
     test_queries_not_taken();
     test_flood();
     test_limit();
     test_room();
+    test_wrong_lengths();
+    test_pieces_sent();
+    test_broken();
+    test_turns();
+    test_again();
     test_long_report();
     test_lengths();
-    test_memory();
     test_random(count > 1 ? atoi(words[1]) : 3000);
     return 0;
 }

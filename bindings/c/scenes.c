@@ -1,15 +1,15 @@
-/* Plays scenes of a router and its cache (tests/transcripts) by the client without sockets, with a
- * made clock, and prints what it does otherwise than they say.
+/* Plays scenes of a router and its cache (tests/transcripts) with the client without sockets and a
+ * simulated clock, and prints where it differs from them.
  *
  * usage: scenes < SCENES
- *        scenes --joined     as an end that a cache is joined with (tests/joined) */
+ *        scenes --joined as one end of a connection to a cache (tests/joined) */
 #include "scenes.h"
 #include "rtr_client.h"
 
 static struct rtr_client c;
 static bool connected;
 
-/* Notes what the client sends: queries, and reports. */
+/* Records what the client sends: queries and reports. */
 static void sends(void)
 {
     size_t length;
@@ -21,6 +21,7 @@ static void sends(void)
 static void shows(void)
 {
     struct rtr_unit unit;
+    CHECK(rtr_client_has_data(&c, now));
     add(&seen, "%" PRId64 " shows {", now);
     for (size_t at = 0; at < c.data_length; at += unit.size) {
         CHECK(rtr_next(c.data + at, c.data_length - at, &unit) == RTR_OK);
@@ -30,7 +31,7 @@ static void shows(void)
     add(&seen, " }\n");
 }
 
-/* Has the client go on until it waits. */
+/* Runs the client until it waits. */
 static void settle(void)
 {
     for (;;) {
@@ -51,7 +52,7 @@ static void settle(void)
     }
 }
 
-/* The clock comes to this time. */
+/* Advances the clock to this time. */
 static void pass(int64_t time)
 {
     while (c.wakes <= time) {
@@ -61,14 +62,19 @@ static void pass(int64_t time)
     now = time;
 }
 
-/* The bytes of words in hexadecimal come. */
+/* Receives the bytes of words in hexadecimal, in pieces where there is no room for all. */
 static void comes(const char *hex)
 {
-    size_t length;
-    uint8_t *to = rtr_client_room(&c, &length);
-    length = from_hex(to, length, hex);
-    if (connected)
-        rtr_client_received(&c, length);
+    static uint8_t bytes[LONGEST_LINE / 2];
+    size_t length = from_hex(bytes, sizeof bytes, hex), room, piece;
+    for (size_t at = 0; connected && at < length; at += piece) {
+        uint8_t *to = rtr_client_room(&c, &room);
+        piece = length - at < room ? length - at : room;
+        memcpy(to, bytes + at, piece);
+        rtr_client_received(&c, piece);
+        if (at + piece < length)
+            settle();
+    }
 }
 
 static void set(const char *key, uint64_t value)
@@ -90,21 +96,29 @@ static void set(const char *key, uint64_t value)
                                            : &s->most_units) = (uint32_t)value;
 }
 
-/* A step that the cache takes at this time, or none. */
+/* Carries out a step that is given at this time: of the cache, the caller's request, or none. */
 static void given(int64_t time, const char *step)
 {
     pass(time);
     if (step)
         compare();
-    if (step && !strncmp(step, "> ", 2))
-        comes(step + 2);
-    else if (step && !strcmp(step, " accepts"))
+    if (step && !strncmp(step, "cache> ", 7))
+        comes(step + 7);
+    else if (step && !strcmp(step, "cache accepts"))
         connected = true, rtr_client_connected(&c);
+    else if (step && !strcmp(step, "caller asks"))
+        rtr_client_ask_now(&c);
     else if (step)
-        rtr_client_lost(&c, strcmp(step, " closes") ? "it broke" : NULL);
+        rtr_client_lost(&c, strcmp(step, "cache closes") ? "it broke" : NULL);
     if (step)
         settle();
     answers(c.wakes);
+}
+
+/* Reports whether a step is given, not expected. */
+static bool is_given(const char *step)
+{
+    return !strncmp(step, "cache", 5) || !strcmp(step, "caller asks");
 }
 
 static void line(char *text)
@@ -126,7 +140,7 @@ static void line(char *text)
         set(key, value);
     } else if (sscanf(text, "at %" SCNd64, &time) == 1) {
         given(time, NULL);
-    } else if (sscanf(text, "%" SCNd64 " cache%n", &time, &at) == 1 && at) {
+    } else if (sscanf(text, "%" SCNd64 " %n", &time, &at) == 1 && is_given(text + at)) {
         given(time, text + at);
     } else if (text[0]) {
         wants("router", text);

@@ -1,4 +1,4 @@
-/* What the programs share that play scenes (tests/transcripts): steps that are wanted and seen. */
+/* What the programs that play scenes (tests/transcripts) share: steps expected and seen. */
 #ifndef SCENES_H
 #define SCENES_H
 
@@ -8,7 +8,7 @@
 
 enum { LONGEST_LINE = 1 << 18 };
 
-/* Steps, a line each. */
+/* Steps, one per line. */
 struct steps {
     char text[1 << 20];
     size_t length;
@@ -16,9 +16,9 @@ struct steps {
 
 static int64_t now;
 static struct steps wanted, seen;
-static char name[256]; /* of the scene, until it differs */
+static char name[256]; /* of the scene, empty once it differs */
 static unsigned played, differ;
-static bool joined; /* it plays with another end, which gets the bytes as they are */
+static bool joined; /* it is connected to another end, which gets the raw bytes */
 
 static inline void add(struct steps *to, const char *format, ...)
 {
@@ -42,7 +42,7 @@ static inline void add_hex(struct steps *to, const uint8_t *bytes, size_t length
     to->text[to->length] = 0;
 }
 
-/* Notes units that this end sends, or bytes for another end. */
+/* Records units that this end sends, or bytes for another end. */
 static inline void sees_units(const char *end, const uint8_t *units, size_t length)
 {
     struct rtr_unit unit;
@@ -67,7 +67,7 @@ static inline void sees_units(const char *end, const uint8_t *units, size_t leng
     }
 }
 
-/* A step that this end has to take, with one space between words and none in a unit. */
+/* Records a step that this end has to take, with one space between words and none in a unit. */
 static inline void wants(const char *end, char *step)
 {
     unsigned place = 0;
@@ -94,7 +94,7 @@ static inline void compare(void)
     wanted.text[0] = seen.text[0] = 0;
 }
 
-/* Tells what was seen since a step of another end came, and when this end acts by itself. */
+/* Prints what was seen since the last step of another end, and when this end acts by itself. */
 static inline void answers(int64_t wakes)
 {
     if (!joined)
@@ -105,7 +105,7 @@ static inline void answers(int64_t wakes)
     seen.text[0] = 0;
 }
 
-/* Puts the bytes of words in hexadecimal into this room, and answers how many there are. */
+/* Decodes words in hexadecimal into this buffer, and returns the number of bytes. */
 static inline size_t from_hex(uint8_t *to, size_t room, const char *hex)
 {
     size_t count = 0;
@@ -117,7 +117,7 @@ static inline size_t from_hex(uint8_t *to, size_t room, const char *hex)
     return count;
 }
 
-/* Cuts a line before its comment, and the spaces at its end. */
+/* Removes a line's comment and trailing spaces. */
 static inline void trim(char *text)
 {
     text[strcspn(text, "#\n")] = 0;

@@ -1,6 +1,6 @@
 /* What the tests of C share. No sanitizer sees what the archive reads and writes, since it isn't
- * instrumented. So each input and output lies between two inaccessible pages, once right after the
- * first and once right before the second. */
+ * instrumented. So each input and output lies between two guard pages, once right after the first
+ * and once right before the second. */
 #ifndef TESTING_H
 #define TESTING_H
 
@@ -22,7 +22,7 @@ static inline void check(int holds, const char *what, const char *file, int line
     }
 }
 
-/* The next number, of eight bytes, the lowest first. */
+/* Reads the next number, of eight bytes, little-endian. */
 static inline uint64_t number(const uint8_t **at)
 {
     uint64_t value = 0;
@@ -35,7 +35,7 @@ static inline uint64_t number(const uint8_t **at)
 /* The most bytes of an input or an output. */
 #define MOST ((size_t)1 << 19)
 
-/* Whole pages between two inaccessible ones. */
+/* Pages between two guard pages. */
 struct fenced {
     uint8_t *front, *end;
 };
@@ -49,7 +49,7 @@ static inline struct fenced fence(size_t most)
     return (struct fenced){all + page, all + page + size};
 }
 
-/* Where the inputs and outputs of a thread lie: all at the front of their pages, or at the end. */
+/* The inputs and outputs of a thread: all at the start of their pages, or at the end. */
 struct place {
     bool at_end;
     struct fenced input, other, output, index, told, unit;
@@ -61,7 +61,7 @@ static inline struct place new_place(void)
                           fence(MOST), fence(1),    fence(1)};
 }
 
-/* So many bytes, right after the first inaccessible page or right before the second. */
+/* Returns this many bytes, right after the first guard page or right before the second. */
 static inline void *lie(const struct place *place, struct fenced fenced, size_t length)
 {
     CHECK(length <= (size_t)(fenced.end - fenced.front));
@@ -76,10 +76,10 @@ static inline uint8_t *copied(const struct place *place, struct fenced fenced,
     return copy;
 }
 
-/* What the last pointer points at, filled with bytes that no call answers. */
+/* Memory for the last pointer, filled with bytes that no call returns. */
 #define FILLED(fenced, type) ((type *)memset(lie(place, fenced, sizeof(type)), 0xa5, sizeof(type)))
 
-/* The bytes of a file. */
+/* Reads a file. */
 struct cases {
     const uint8_t *bytes;
     size_t length;

@@ -1,5 +1,5 @@
-/* Calls each function over the cases of a file that `tests/libraries/cases.py` wrote, in eight
- * threads at once, and over a few units by hand, between inaccessible pages (testing.h).
+/* Calls each function with the cases of a file that `tests/libraries/cases.py` wrote, in eight
+ * threads at once, and with a few units by hand, between guard pages (testing.h).
  *
  * usage: tests CASES SESSIONS   the second file is that of `tests/libraries/sessions.py cases` */
 #include "testing.h"
@@ -7,7 +7,7 @@
 
 #define THREADS 8
 
-/* One case: a version or 255, and what is expected of a call. The numbers are little-endian. */
+/* One case: a version or 255, and the expected result of a call. Numbers are little-endian. */
 struct test_case {
     uint8_t version, status, detail;
     uint64_t units, forms, taken;
@@ -15,7 +15,7 @@ struct test_case {
     size_t input_length, form_length, wanted;
 };
 
-/* How many bytes are wanted of a unit that is cut off: a header, and then as many as it says. */
+/* Returns how many bytes a truncated unit needs: a header, then the length in it. */
 static size_t wanted(const uint8_t *bytes, size_t length)
 {
     if (length < 8)
@@ -25,78 +25,78 @@ static size_t wanted(const uint8_t *bytes, size_t length)
 
 static struct test_case next_case(const uint8_t **at)
 {
-    struct test_case one = {(*at)[0], (*at)[1], (*at)[2], 0, 0, 0, NULL, NULL, 0, 0, 0};
+    struct test_case test = {(*at)[0], (*at)[1], (*at)[2], 0, 0, 0, NULL, NULL, 0, 0, 0};
     *at += 3;
-    one.units = number(at);
-    one.forms = number(at);
-    one.taken = number(at);
-    one.input_length = number(at);
-    one.form_length = number(at);
-    one.input = *at;
-    one.form = *at += one.input_length;
-    *at += one.form_length;
-    if (one.status == RTR_SHORT)
-        one.wanted = wanted(one.input + one.taken, one.input_length - one.taken);
-    return one;
+    test.units = number(at);
+    test.forms = number(at);
+    test.taken = number(at);
+    test.input_length = number(at);
+    test.form_length = number(at);
+    test.input = *at;
+    test.form = *at += test.input_length;
+    *at += test.form_length;
+    if (test.status == RTR_SHORT)
+        test.wanted = wanted(test.input + test.taken, test.input_length - test.taken);
+    return test;
 }
 
-static uint8_t normalised(const struct test_case *one, const uint8_t *input, uint8_t *output,
+static uint8_t normalised(const struct test_case *test, const uint8_t *input, uint8_t *output,
                           size_t room, uint64_t limit, struct rtr_answer *answer)
 {
-    uint8_t status = one->version == 255
-        ? rtr_normalise_slice(input, one->input_length, output, room, limit, answer)
-        : rtr_normalise_for_slice(input, one->input_length, output, room, limit, one->version,
+    uint8_t status = test->version == 255
+        ? rtr_normalise_slice(input, test->input_length, output, room, limit, answer)
+        : rtr_normalise_for_slice(input, test->input_length, output, room, limit, test->version,
                                   answer);
     CHECK(status == answer->status);
     return status;
 }
 
-/* In one call, with as much room as always suffices. */
-static void check_whole(const struct place *place, const struct test_case *one,
+/* In one call, with an output that always suffices. */
+static void check_whole(const struct place *place, const struct test_case *test,
                         const uint8_t *input)
 {
-    size_t room = one->input_length + (one->version == 255 ? 0 : 12);
+    size_t room = test->input_length + (test->version == 255 ? 0 : 12);
     uint8_t *output = lie(place, place->output, room);
     struct rtr_answer *answer = FILLED(place->told, struct rtr_answer);
     memset(output, 0xa5, room);
-    CHECK(normalised(one, input, output, room, UINT32_MAX, answer) == one->status);
-    CHECK(answer->detail == one->detail && answer->units == one->units);
-    CHECK(answer->forms == one->forms && answer->taken == one->taken);
-    CHECK(answer->written == one->form_length && answer->wanted == one->wanted);
-    CHECK(memcmp(output, one->form, one->form_length) == 0);
+    CHECK(normalised(test, input, output, room, UINT32_MAX, answer) == test->status);
+    CHECK(answer->detail == test->detail && answer->units == test->units);
+    CHECK(answer->forms == test->forms && answer->taken == test->taken);
+    CHECK(answer->written == test->form_length && answer->wanted == test->wanted);
+    CHECK(memcmp(output, test->form, test->form_length) == 0);
     for (size_t i = answer->written; i < room; i++)
         CHECK(output[i] == 0xa5);
 }
 
 /* An output as long as the form suffices, and a shorter one doesn't. */
-static void check_room(const struct place *place, const struct test_case *one,
+static void check_room(const struct place *place, const struct test_case *test,
                        const uint8_t *input)
 {
-    for (size_t lack = 0; lack < 2 && one->status == RTR_OK; lack++) {
-        size_t room = one->form_length - lack;
+    for (size_t lack = 0; lack < 2 && test->status == RTR_OK; lack++) {
+        size_t room = test->form_length - lack;
         uint8_t *output = lie(place, place->output, room);
         struct rtr_answer *answer = FILLED(place->told, struct rtr_answer);
-        CHECK(normalised(one, input, output, room, one->units + 1, answer)
+        CHECK(normalised(test, input, output, room, test->units + 1, answer)
               == (lack ? RTR_NO_ROOM : RTR_OK));
-        CHECK(memcmp(output, one->form, answer->written) == 0);
-        CHECK(lack ? answer->taken < one->taken : answer->written == room);
-        CHECK(normalised(one, input, output, room, one->units, answer) == RTR_TOO_MANY);
+        CHECK(memcmp(output, test->form, answer->written) == 0);
+        CHECK(lack ? answer->taken < test->taken : answer->written == room);
+        CHECK(normalised(test, input, output, room, test->units, answer) == RTR_TOO_MANY);
     }
 }
 
-/* In steps, with little room and few units each time: the result is the same. */
-static void check_in_turns(const struct place *place, const struct test_case *one,
+/* In steps, with a small output and few units each time: the result is the same. */
+static void check_in_turns(const struct place *place, const struct test_case *test,
                            const uint8_t *input, size_t room)
 {
-    struct test_case rest = *one;
+    struct test_case rest = *test;
     size_t taken = 0, written = 0;
     uint64_t units = 0;
     for (;;) {
         uint8_t *output = lie(place, place->output, room);
         struct rtr_answer *answer = FILLED(place->told, struct rtr_answer);
         uint8_t status = normalised(&rest, input + taken, output, room, 3, answer);
-        CHECK(answer->written <= room && written + answer->written <= one->form_length);
-        CHECK(memcmp(output, one->form + written, answer->written) == 0);
+        CHECK(answer->written <= room && written + answer->written <= test->form_length);
+        CHECK(memcmp(output, test->form + written, answer->written) == 0);
         taken += answer->taken;
         written += answer->written;
         units += answer->units;
@@ -104,15 +104,15 @@ static void check_in_turns(const struct place *place, const struct test_case *on
         if (status == RTR_NO_ROOM && answer->taken == 0)
             room *= 2;
         else if (status != RTR_NO_ROOM && status != RTR_TOO_MANY) {
-            CHECK(status == one->status && answer->detail == one->detail);
-            CHECK(answer->wanted == one->wanted);
+            CHECK(status == test->status && answer->detail == test->detail);
+            CHECK(answer->wanted == test->wanted);
             break;
         }
     }
-    CHECK(taken == one->taken && written == one->form_length && units == one->units);
+    CHECK(taken == test->taken && written == test->form_length && units == test->units);
 }
 
-/* A unit is written again as this part of the form. Gives the length of that. */
+/* Checks that a unit is encoded as this part of the form, and returns its length. */
 static size_t check_unit(const struct place *place, const struct rtr_unit *unit,
                          const uint8_t *bytes, const uint8_t *form, size_t most)
 {
@@ -128,14 +128,14 @@ static size_t check_unit(const struct place *place, const struct rtr_unit *unit,
     return size;
 }
 
-/* Whether a sequence is refused for a unit of this type, which rtr_next knows. */
+/* Reports whether a sequence is refused for a unit of this type, which rtr_next accepts. */
 static bool is_plain(uint8_t kind)
 {
     return kind <= RTR_CACHE_RESPONSE || kind == RTR_CACHE_RESET || kind == RTR_ERROR_REPORT;
 }
 
 /* Unit by unit, up to where the sequence ends or is refused. */
-static void check_units(const struct place *place, const struct test_case *one,
+static void check_units(const struct place *place, const struct test_case *test,
                         const uint8_t *input)
 {
     size_t at = 0, formed = 0;
@@ -143,27 +143,27 @@ static void check_units(const struct place *place, const struct test_case *one,
     struct rtr_unit *unit = FILLED(place->unit, struct rtr_unit);
     uint8_t status;
     for (;;) {
-        if (at == one->taken && one->status == RTR_UNIT_TYPE && is_plain(one->detail))
+        if (at == test->taken && test->status == RTR_UNIT_TYPE && is_plain(test->detail))
             return;
-        status = rtr_next(input + at, one->input_length - at, unit);
+        status = rtr_next(input + at, test->input_length - at, unit);
         if (status != RTR_OK)
             break;
-        CHECK(unit->size <= one->input_length - at && unit->detail == 0);
+        CHECK(unit->size <= test->input_length - at && unit->detail == 0);
         CHECK(unit->part_start + unit->part_length <= unit->size);
-        formed += check_unit(place, unit, input + at, one->form + formed,
-                             one->form_length - formed);
+        formed += check_unit(place, unit, input + at, test->form + formed,
+                             test->form_length - formed);
         at += unit->size;
         if (unit->kind == RTR_END_OF_DATA)
             break;
         units++;
     }
-    CHECK(status == one->status && at == one->taken && units == one->units);
-    CHECK(formed == one->form_length);
+    CHECK(status == test->status && at == test->taken && units == test->units);
+    CHECK(formed == test->form_length);
     if (status != RTR_OK) {
         struct rtr_unit nothing;
         memset(&nothing, 0, sizeof nothing);
-        nothing.detail = one->detail;
-        nothing.wanted = one->wanted;
+        nothing.detail = test->detail;
+        nothing.wanted = test->wanted;
         if (status == RTR_PREFIX)
             nothing.size = input[at + 1] == RTR_IPV4_PREFIX ? 20 : 32;
         CHECK(memcmp(unit, &nothing, offsetof(struct rtr_unit, detail) + 1) == 0);
@@ -172,7 +172,7 @@ static void check_units(const struct place *place, const struct test_case *one,
 
 #define FIELDS (offsetof(struct rtr_unit, detail) + 1)
 
-/* Many units in one call: in each place what rtr_next shows, and in those behind what was there. */
+/* Many units in one call: each element is what rtr_next gives, and later ones are unchanged. */
 static void check_many(const uint8_t *input, size_t length)
 {
     struct rtr_unit units[5], untouched, unit;
@@ -194,47 +194,47 @@ static void check_many(const uint8_t *input, size_t length)
     }
 }
 
-/* The input of the case is compared as the left input or the right one, with a sequence that is
- * accepted: its fault is told, or whether they mean the same. */
-static void check_comparison(const struct place *place, const struct test_case *one,
+/* Compares the case's input, as the left or the right one, with a sequence that is accepted: the
+ * result is its fault, or whether they mean the same. */
+static void check_comparison(const struct place *place, const struct test_case *test,
                              const uint8_t *input, enum rtr_side side, const uint8_t *sequence,
                              size_t length, bool same)
 {
     struct rtr_comparison *answer = FILLED(place->told, struct rtr_comparison), expected;
     memset(&expected, 0, sizeof expected);
-    if (one->status == RTR_OK) {
+    if (test->status == RTR_OK) {
         expected.same = same;
     } else {
-        expected.offset = one->taken;
-        expected.wanted = one->wanted;
-        expected.status = one->status;
+        expected.offset = test->taken;
+        expected.wanted = test->wanted;
+        expected.status = test->status;
         expected.side = (uint8_t)side;
-        expected.detail = one->detail;
+        expected.detail = test->detail;
     }
     const uint8_t *other = copied(place, place->other, sequence, length);
     uint8_t status = side == RTR_LEFT
-        ? rtr_same_meaning(input, one->input_length, other, length, UINT32_MAX, answer)
-        : rtr_same_meaning(other, length, input, one->input_length, UINT32_MAX, answer);
-    CHECK(status == one->status);
+        ? rtr_same_meaning(input, test->input_length, other, length, UINT32_MAX, answer)
+        : rtr_same_meaning(other, length, input, test->input_length, UINT32_MAX, answer);
+    CHECK(status == test->status);
     CHECK(memcmp(answer, &expected, offsetof(struct rtr_comparison, same) + 1) == 0);
 }
 
-/* A sequence means the same as its form, and the same as an end of data if it is that. A fault is
- * told on either side, and of two the left one's. */
-static void check_same(const struct place *place, const struct test_case *one,
+/* A sequence means the same as its form, and the same as an end of data if it is test. A fault is
+ * found on either side, and of two the left one's. */
+static void check_same(const struct place *place, const struct test_case *test,
                        const uint8_t *input)
 {
     static const uint8_t end[] = {0, 7, 0, 1, 0, 0, 0, 12, 0, 0, 0, 2};
-    bool ends = one->form_length == sizeof end && memcmp(one->form, end, sizeof end) == 0;
-    check_comparison(place, one, input, RTR_LEFT, one->form, one->form_length, true);
-    check_comparison(place, one, input, RTR_LEFT, end, sizeof end, ends);
-    check_comparison(place, one, input, RTR_RIGHT, end, sizeof end, ends);
-    if (one->status == RTR_OK)
-        check_comparison(place, one, input, RTR_RIGHT, one->form, one->form_length, true);
+    bool ends = test->form_length == sizeof end && memcmp(test->form, end, sizeof end) == 0;
+    check_comparison(place, test, input, RTR_LEFT, test->form, test->form_length, true);
+    check_comparison(place, test, input, RTR_LEFT, end, sizeof end, ends);
+    check_comparison(place, test, input, RTR_RIGHT, end, sizeof end, ends);
+    if (test->status == RTR_OK)
+        check_comparison(place, test, input, RTR_RIGHT, test->form, test->form_length, true);
 }
 
-/* The limit is that of both sequences, and a comparison that it ends stops at the unit after as
- * many. */
+/* The limit applies to both sequences, and a comparison that reaches it stops at the unit after
+ * that many. */
 static void check_same_limit(const struct place *place)
 {
     static const uint8_t units[] = {
@@ -258,19 +258,19 @@ static void check_same_limit(const struct place *place)
     }
 }
 
-static void check_case(const struct place *place, const struct test_case *one)
+static void check_case(const struct place *place, const struct test_case *test)
 {
-    const uint8_t *input = copied(place, place->input, one->input, one->input_length);
-    check_whole(place, one, input);
-    check_room(place, one, input);
-    if (one->input_length < 1 << 16)
-        check_in_turns(place, one, input, 16);
-    if (one->version == 255) {
-        check_units(place, one, input);
-        check_many(input, one->input_length);
-        check_same(place, one, input);
+    const uint8_t *input = copied(place, place->input, test->input, test->input_length);
+    check_whole(place, test, input);
+    check_room(place, test, input);
+    if (test->input_length < 1 << 16)
+        check_in_turns(place, test, input, 16);
+    if (test->version == 255) {
+        check_units(place, test, input);
+        check_many(input, test->input_length);
+        check_same(place, test, input);
     }
-    CHECK(memcmp(input, one->input, one->input_length) == 0);
+    CHECK(memcmp(input, test->input, test->input_length) == 0);
 }
 
 static void *check_cases(void *all)
@@ -279,10 +279,10 @@ static void *check_cases(void *all)
     const uint8_t *at = cases->bytes;
     struct place place = new_place();
     while (at < cases->bytes + cases->length) {
-        struct test_case one = next_case(&at);
+        struct test_case test = next_case(&at);
         for (int side = 0; side < 2; side++) {
             place.at_end = side;
-            check_case(&place, &one);
+            check_case(&place, &test);
         }
     }
     return NULL;
@@ -291,7 +291,7 @@ static void *check_cases(void *all)
 /* An IPv4 prefix with free bits set, field by field (RFC 8210 section 5.6). */
 static void check_ipv4(const struct place *place)
 {
-    static const uint8_t stray[] = {1, 4,  0,  7, 0,   0, 0, 20, /* free bytes are 7, 3 and 9 */
+    static const uint8_t stray[] = {1, 4,  0,  7, 0,   0, 0, 20, /* reserved bytes are 7, 3 and 9 */
                                     3, 23, 26, 9, 192, 0, 2, 10, 0, 1, 0, 15};
     static const uint8_t form[] = {1, 4,  0,  0, 0,   0, 0, 20, /* and the address is cleared */
                                    1, 23, 26, 0, 192, 0, 2, 0,  0, 1, 0, 15};
@@ -329,7 +329,7 @@ static void check_older_aspa(const struct place *place)
     CHECK(unit->part_start == 12 && unit->part_length == 3 * 4);
 }
 
-/* What has no form is refused, and nothing is written. */
+/* A unit without a form is refused, and nothing is written. */
 static void check_refused(const struct place *place)
 {
     static const struct {
@@ -406,7 +406,7 @@ static void check_bounds(const struct place *place)
     CHECK(rtr_same_meaning(none, 0, none, 0, 0, both) == RTR_TOO_MANY && both->wanted == 0);
 }
 
-/* The unit that an answer of a session says, with its status in *status. */
+/* Returns the unit of a session's answer, with its status in *status. */
 static struct rtr_unit next_answer(const uint8_t **at, uint64_t *status)
 {
     struct rtr_unit unit;
@@ -440,7 +440,7 @@ static struct rtr_unit next_answer(const uint8_t **at, uint64_t *status)
 }
 
 
-/* The length by the header alone agrees with the answer for the whole unit. */
+/* The length from the header alone agrees with that of the whole unit. */
 static void check_size(const struct place *place, const uint8_t *input, size_t length,
                        const struct rtr_unit *expected, uint64_t status)
 {
@@ -610,7 +610,7 @@ static void check_versions(void)
     CHECK(strcmp(text, RTR_WIRE_VERSION) == 0 && rtr_wire_version() == RTR_WIRE_VERSION_NUMBER);
 }
 
-/* The error codes of RFC 8210 section 12, and that none is owed for a report (section 5.11). */
+/* The error codes of RFC 8210 section 12; none is owed for a report (section 5.11). */
 static void check_codes(const struct place *place)
 {
     static const int codes[] = {-1, 0, 5, 4, 0, 0, 9, 0, -1, -1, -1, -1, -1, -1, 7, 6};
@@ -627,10 +627,10 @@ static void check_codes(const struct place *place)
             }
 }
 
-/* The text of each cause is the one that the archive writes into a report. */
+/* The header's text of each cause is the one that the archive writes into a report. */
 static void check_causes(void)
 {
-    for (uint8_t cause = RTR_CAUSE_LOST; cause <= RTR_CAUSE_LOWER; cause++) {
+    for (uint8_t cause = RTR_CAUSE_LOST; cause <= RTR_CAUSE_HIGHER; cause++) {
         const struct rtr_action action = {.kind = RTR_END, .cause = cause, .reports = true};
         const char *text = rtr_cause_text(cause);
         struct rtr_unit unit;

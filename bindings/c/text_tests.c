@@ -1,22 +1,22 @@
-/* The texts of statuses, and names: those in the file tests/texts, with every room for them, which
- * lies between inaccessible pages (testing.h); and the sample units in the file tests/samples:
- * their lines and JSON, what is written of them, and why they are refused.
+/* Tests the texts of statuses, and names, with the file tests/texts, at every output size and
+ * between guard pages (testing.h); and the sample units in the file tests/samples: their lines and
+ * JSON, their forms, and why they are refused.
  *
  * usage: text_tests TEXTS SAMPLES */
 #include "testing.h"
 
-/* What rows of names begin with, by their rtr_named. */
-static const char *const words[] = {"status", "kind", "cause", "reason", "code"};
+/* The first words of the rows of names, by rtr_named. */
+static const char *const words[] = {"status", "kind", "cause", "reason", "code", "time_rule"};
 
-/* The functions of rtr.h that need no room, by the same. */
+/* The functions of rtr.h that need no buffer, by the same. */
 static const char *(*const plain[])(uint8_t) = {
-    rtr_status_text, rtr_kind_text, rtr_cause_text, rtr_reason_text, NULL,
+    rtr_status_text, rtr_kind_text, rtr_cause_text, rtr_reason_text, NULL, rtr_time_rule_text,
 };
 
 #define NO_TEXT 255 /* no rtr_named */
 
-/* Calls rtr_text, or rtr_name where that isn't NO_TEXT, with each room: the text is written where
- * there is room for it, and else its front. */
+/* Calls rtr_text, or rtr_name if `named` isn't NO_TEXT, with each output size: the text is written
+ * if it fits, else its start. */
 static void check_text(const struct place *place, uint8_t named, unsigned long number,
                        uint8_t detail, const char *text)
 {
@@ -35,14 +35,15 @@ static void check_text(const struct place *place, uint8_t named, unsigned long n
     }
 }
 
-/* The same text from the header alone, but where there is no such name. */
+/* The header gives the same text, if it has such a name. */
 static void check_plain(uint8_t named, unsigned long number, const char *text)
 {
     if (!plain[named] || number > 255)
         return;
     const char *said = plain[named]((uint8_t)number);
     if (strncmp(said, "unknown ", 8) == 0)
-        CHECK(strncmp(said + 8, words[named], strlen(words[named])) == 0);
+        CHECK(strncmp(said + 8, words[named], strlen(words[named])) == 0
+              || strncmp(said, text, strlen(said)) == 0);
     else
         CHECK(strcmp(said, text) == 0);
 }
@@ -67,19 +68,21 @@ static void check_row(const struct place *place, const char *row)
     CHECK(!"a row of no such name");
 }
 
-/* The names that the header has without room are the archive's, and are as many. */
+/* The names that the header has without a buffer are the archive's, and as many. */
 static void check_all(void)
 {
-    for (uint8_t named = 0; named < 4; named++)
+    for (uint8_t named = 0; named < 6; named++)
         for (int number = 0; number < 256; number++) {
             uint8_t text[RTR_TEXT_ROOM] = {0};
             size_t length;
             CHECK(rtr_name(named, (uint16_t)number, text, sizeof text, &length) == RTR_OK);
+            if (!plain[named])
+                continue;
             const char *said = plain[named]((uint8_t)number);
             bool is_named = strncmp(said, "unknown ", 8) != 0;
             CHECK(length < sizeof text && (strcmp(said, (char *)text) == 0) == is_named);
         }
-    for (int named = 5; named < 256; named++) {
+    for (int named = 6; named < 256; named++) {
         size_t length = 1;
         CHECK(rtr_name((uint8_t)named, 1, NULL, 0, &length) == RTR_OK && length == 0);
     }
@@ -91,7 +94,7 @@ static void check_all(void)
         }
 }
 
-/* What a sample may have, by the first words of its rows, and where none is of it an empty text. */
+/* The rows that a sample may have, by their first words; a row that it doesn't have is empty. */
 enum { UNIT, BYTES, FORM, REFUSED, LINE, OBJECT_LISTED, CHANGE, OBJECT, WORDS };
 static const char *const sample_words[WORDS] = {
     "unit", "bytes", "form", "refused", "line", "json", "change", "object",
@@ -101,7 +104,7 @@ struct sample {
     char rows[WORDS][400];
 };
 
-/* The bytes of a row of hex digits, and how many there are. */
+/* Decodes a row of hex digits, and returns the number of bytes. */
 static size_t bytes_of(const char *row, uint8_t *bytes)
 {
     size_t count = 0;
@@ -127,7 +130,7 @@ static uint8_t unit_json(const uint8_t *input, size_t length, uint8_t *output, s
 
 static line_call *const line_calls[] = {unit_line, rtr_change_line, rtr_change_json, unit_json};
 
-/* Calls one of them with this room. */
+/* Calls one of them with an output of this size. */
 static struct rtr_line line_of(const struct place *place, size_t call, const uint8_t *input,
                                size_t length, size_t room)
 {
@@ -139,7 +142,7 @@ static struct rtr_line line_of(const struct place *place, size_t call, const uin
     return *answer;
 }
 
-/* A line is written where there is room for it, and else its front; `length` is that of all. */
+/* A line is written if it fits, else its start; `length` is that of the whole line. */
 static void check_line(const struct place *place, size_t call, const uint8_t *input, size_t size,
                        const char *line)
 {
@@ -181,12 +184,12 @@ static void check_unit(const struct place *place, const struct sample *s, const 
     CHECK(written == length && memcmp(output, form, length) == 0);
 }
 
-/* Lines are written of a unit, and none of its front. */
+/* Lines are written for a unit, and none for a truncated one. */
 static void check_lines(const struct place *place, const struct sample *s, const uint8_t *bytes,
                         size_t size)
 {
     char line[400], object[400];
-    snprintf(line, sizeof line, "24%s", s->rows[LINE] + 1); /* it stands after 24 bytes */
+    snprintf(line, sizeof line, "24%s", s->rows[LINE] + 1); /* its offset is 24 */
     snprintf(object, sizeof object, "{\"offset\":24%s",
              s->rows[OBJECT_LISTED] + strlen("{\"offset\":0"));
     const uint8_t *input = copied(place, place->input, bytes, size);
@@ -224,7 +227,7 @@ static void check_sample(const struct place *place, const struct sample *s)
 /* The sample that is checked. */
 static struct sample sample;
 
-/* The row that is read, or nothing, for a check that fails. */
+/* The row that is being read, or null, for the message of a failed check. */
 static const char *row_read;
 
 static void say_row(void)
@@ -235,7 +238,7 @@ static void say_row(void)
         fprintf(stderr, "in the row: %s\n", row_read);
 }
 
-/* Checks the sample whose rows came, if there is one, and begins another. */
+/* Checks the sample whose rows were read, if there is one, and begins another. */
 static void end_sample(struct place *place)
 {
     for (int side = 0; side < 2 && sample.rows[UNIT][0]; side++) {
@@ -245,7 +248,7 @@ static void end_sample(struct place *place)
     memset(&sample, 0, sizeof sample);
 }
 
-/* Takes a row of the file of samples. */
+/* Reads a row of the file of samples. */
 static void take_row(struct place *place, const char *row)
 {
     size_t length = strcspn(row, " ");
@@ -268,7 +271,7 @@ static void take_text(struct place *place, const char *row)
     }
 }
 
-/* Gives each row of a file, without its end, to a function, and answers how many there are. */
+/* Calls a function with each row of a file, without its newline, and returns the number of rows. */
 static int each_row(const char *path, struct place *place,
                     void (*take)(struct place *place, const char *row))
 {

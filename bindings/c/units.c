@@ -1,4 +1,4 @@
-/* Prints the units of the sequence on standard input, and how long its form is. */
+/* Prints the units of the sequence on standard input, and the length of its form. */
 #include <inttypes.h>
 #include <stdio.h>
 #include "rtr.h"

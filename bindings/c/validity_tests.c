@@ -1,10 +1,12 @@
 /* Looks up the routes of the tables in a file that `tests/libraries/validity.py` wrote, whose data
- * lie between inaccessible pages (testing.h).
+ * lie between guard pages (testing.h).
  *
  * usage: validity_tests TABLES */
 #include "testing.h"
 
-/* The next number of four bytes, the lowest first. */
+static const struct rtr_route anywhere = {1, 4, 0, {0}};
+
+/* Reads the next number, of four bytes, little-endian. */
 static uint32_t number32(const uint8_t **at)
 {
     uint32_t value = 0;
@@ -14,16 +16,25 @@ static uint32_t number32(const uint8_t **at)
     return value;
 }
 
-/* The VRPs that cover the route are these, in this order, and no others where there are fewer than
- * the file has room for. */
-static void check_covering(const struct place *place, const uint8_t *data, size_t length,
-                           const struct rtr_tables *tables, const struct rtr_route *route,
-                           uint8_t count, const uint8_t **at)
+/* No VRP is shown, for this reason. */
+static void check_nothing(const struct place *place, const struct rtr_data *data,
+                          const struct rtr_route *route, size_t from, uint8_t why)
+{
+    struct rtr_covering *vrp = FILLED(place->told, struct rtr_covering);
+    CHECK(rtr_covering(data, route, from, vrp) == why);
+    CHECK(vrp->place == 0 && vrp->asn == 0 && vrp->prefix_length == 0);
+    CHECK(vrp->max_length == 0 && vrp->mismatch == RTR_MATCHES);
+}
+
+/* The VRPs that cover the route are these, in this order, and no others if there are fewer than a
+ * row can hold. */
+static void check_covering(const struct place *place, const struct rtr_data *data,
+                           const struct rtr_route *route, uint8_t count, const uint8_t **at)
 {
     struct rtr_covering *vrp = FILLED(place->told, struct rtr_covering);
     size_t from = 0;
     for (uint8_t i = 0; i < count; i++) {
-        CHECK(rtr_covering(data, length, tables, route, from, vrp));
+        CHECK(rtr_covering(data, route, from, vrp) == RTR_COVERS_ONE);
         CHECK(vrp->place == number32(at) && vrp->asn == number32(at));
         CHECK(vrp->prefix_length == (*at)[0] && vrp->max_length == (*at)[1]);
         CHECK(vrp->mismatch == (*at)[2]);
@@ -32,10 +43,18 @@ static void check_covering(const struct place *place, const uint8_t *data, size_
     }
     if (count == UINT8_MAX)
         return;
-    static const struct rtr_covering none;
-    CHECK(!rtr_covering(data, length, tables, route, from, vrp));
-    CHECK(vrp->place == none.place && vrp->asn == 0 && vrp->prefix_length == 0);
-    CHECK(vrp->max_length == 0 && vrp->mismatch == RTR_MATCHES);
+    check_nothing(place, data, route, from, RTR_COVERS_NONE);
+}
+
+/* The call accepts the bytes. */
+static struct rtr_data *checked(const struct place *place, const uint8_t *bytes, size_t length)
+{
+    struct rtr_data *data = FILLED(place->other, struct rtr_data);
+    struct rtr_data_answer *answer = FILLED(place->told, struct rtr_data_answer);
+    CHECK(rtr_check_data(bytes, length, data, answer) == RTR_OK);
+    CHECK(answer->status == RTR_OK && answer->written == 0 && answer->offset == 0);
+    CHECK(answer->side == 0 && answer->detail == 0);
+    return data;
 }
 
 /* A table: its data, and each of its routes. */
@@ -43,10 +62,8 @@ static void check_table(const struct place *place, const uint8_t **at, size_t *s
 {
     size_t length = number32(at);
     uint32_t routes = number32(at);
-    const uint8_t *data = copied(place, place->input, *at, length);
+    const struct rtr_data *data = checked(place, copied(place, place->input, *at, length), length);
     *at += length;
-    struct rtr_tables *tables = FILLED(place->other, struct rtr_tables);
-    rtr_tables(data, length, tables);
     for (uint32_t i = 0; i < routes; i++) {
         struct rtr_route *route = FILLED(place->unit, struct rtr_route);
         uint8_t validity = (*at)[2], count = (*at)[3];
@@ -56,31 +73,95 @@ static void check_table(const struct place *place, const uint8_t **at, size_t *s
         route->asn = number32(at);
         memcpy(route->address, *at, sizeof route->address);
         *at += sizeof route->address;
-        CHECK(rtr_validate(data, length, tables, route) == validity);
+        CHECK(rtr_validate(data, route) == validity);
         seen[validity]++;
-        check_covering(place, data, length, tables, route, count, at);
+        check_covering(place, data, route, count, at);
     }
 }
 
-/* What is no route, and data of no bytes. */
+/* Invalid routes, over data without payloads. */
 static void check_none(const struct place *place)
 {
     static const uint8_t end[] = {0, RTR_END_OF_DATA, 0, 1, 0, 0, 0, 12, 0, 0, 0, 7};
     static const struct rtr_route none[] = {
         {1, 0, 0, {0}}, {1, 5, 0, {0}}, {1, 4, 33, {0}}, {1, 6, 129, {0}},
     };
-    static const struct rtr_route route = {1, 4, 0, {0}};
-    struct rtr_tables *tables = FILLED(place->other, struct rtr_tables);
-    struct rtr_covering *vrp = FILLED(place->told, struct rtr_covering);
-    rtr_tables(end, sizeof end, tables);
+    const struct rtr_data *data = checked(place, copied(place, place->input, end, sizeof end),
+                                          sizeof end);
     for (size_t i = 0; i < sizeof none / sizeof none[0]; i++) {
-        CHECK(rtr_validate(end, sizeof end, tables, none + i) == RTR_NO_ROUTE);
-        CHECK(!rtr_covering(end, sizeof end, tables, none + i, 0, vrp));
+        CHECK(rtr_validate(data, none + i) == RTR_NO_ROUTE);
+        check_nothing(place, data, none + i, 0, RTR_COVERS_NO_ROUTE);
     }
-    CHECK(rtr_validate(end, sizeof end, tables, &route) == RTR_NOT_FOUND);
-    rtr_tables(NULL, 0, tables);
-    CHECK(rtr_validate(NULL, 0, tables, &route) == RTR_NOT_FOUND);
-    CHECK(!rtr_covering(NULL, 0, tables, &route, 0, vrp));
+    CHECK(rtr_validate(data, &anywhere) == RTR_NOT_FOUND);
+    check_nothing(place, data, &anywhere, 0, RTR_COVERS_NONE);
+}
+
+/* Data that are refused: where the call stops, and why. */
+struct refused {
+    const char *what;
+    uint8_t bytes[64];
+    size_t length, offset;
+    uint8_t status, detail;
+};
+
+#define V4(action, last) 1, RTR_IPV4_PREFIX, 0, 0, 0, 0, 0, 20, action, 24, 24, 0, 10, 0, last, 0, \
+    0, 0, 0, 7
+#define END 1, RTR_END_OF_DATA, 0, 9, 0, 0, 0, 24, 0, 0, 0, 3, 0, 0, 14, 16, 0, 0, 2, 88, 0, 0, \
+    28, 32
+
+static const struct refused refusals[] = {
+    {"no bytes", {0}, 0, 0, RTR_SHORT, 0},
+    {"no end of data", {V4(1, 1)}, 20, 20, RTR_SHORT, 0},
+    {"cut off", {V4(1, 1), END}, 43, 20, RTR_SHORT, 0},
+    {"a cache response in front",
+     {1, RTR_CACHE_RESPONSE, 0, 9, 0, 0, 0, 8, V4(1, 1), END},
+     52, 0, RTR_UNIT_TYPE, RTR_CACHE_RESPONSE},
+    {"out of order", {V4(1, 2), V4(1, 1), END}, 64, 20, RTR_NOT_CANONICAL, 0},
+    {"twice", {V4(1, 2), V4(1, 2), END}, 64, 20, RTR_NOT_CANONICAL, 0},
+    {"a withdrawal", {V4(0, 1), END}, 44, 0, RTR_NOT_CANONICAL, 0},
+    {"another version", {V4(1, 1), 2, RTR_END_OF_DATA, 0, 9, 0, 0, 0, 24, 0, 0, 0, 3, 0, 0, 14, 16,
+     0, 0, 2, 88, 0, 0, 28, 32}, 44, 20, RTR_NOT_CANONICAL, 0},
+};
+
+/* Lookups over bytes that aren't data are refused, and so are those over a struct that no check
+ * filled. */
+static void check_refused(const struct place *place)
+{
+    for (const struct refused *row = refusals; row < refusals + sizeof refusals / sizeof *refusals;
+         row++) {
+        struct rtr_data *data = FILLED(place->other, struct rtr_data);
+        struct rtr_data_answer *answer = FILLED(place->told, struct rtr_data_answer);
+        const uint8_t *bytes = copied(place, place->input, row->bytes, row->length);
+        uint8_t status = rtr_check_data(row->length ? bytes : NULL, row->length, data, answer);
+        check(status == row->status && answer->status == status, row->what, __FILE__, __LINE__);
+        check(answer->offset == row->offset, row->what, __FILE__, __LINE__);
+        CHECK(answer->detail == row->detail && answer->side == 1 && answer->written == 0);
+        CHECK(rtr_validate(data, &anywhere) == RTR_UNCHECKED);
+        check_nothing(place, data, &anywhere, 0, RTR_COVERS_UNCHECKED);
+    }
+    static const struct rtr_data zeros;
+    CHECK(rtr_validate(&zeros, &anywhere) == RTR_UNCHECKED);
+    check_nothing(place, &zeros, &anywhere, 0, RTR_COVERS_UNCHECKED);
+    const struct rtr_data *filled = FILLED(place->other, struct rtr_data);
+    CHECK(rtr_validate(filled, &anywhere) == RTR_UNCHECKED);
+    check_nothing(place, filled, &anywhere, 0, RTR_COVERS_UNCHECKED);
+}
+
+/* The archive's calls refuse a lookup with bytes of another length. */
+static void check_foreign(const struct place *place)
+{
+    static const uint8_t bytes[] = {V4(1, 1), END, 0};
+    const struct rtr_data *data = checked(place, copied(place, place->input, bytes, sizeof bytes),
+                                          sizeof bytes);
+    const struct rtr_lookup *lookup = &data->lookup;
+    struct rtr_covering *vrp = FILLED(place->told, struct rtr_covering);
+    for (size_t length = 0; length <= sizeof bytes; length++) {
+        bool same = length == sizeof bytes;
+        CHECK(rtr_validate_nonnull(data->bytes, length, lookup, &anywhere) ==
+              (same ? RTR_NOT_FOUND : RTR_UNCHECKED));
+        CHECK(rtr_covering_nonnull(data->bytes, length, lookup, &anywhere, 0, vrp) ==
+              (same ? RTR_COVERS_NONE : RTR_COVERS_UNCHECKED));
+    }
 }
 
 int main(int count, char **words)
@@ -92,6 +173,8 @@ int main(int count, char **words)
     for (int side = 0; side < 2; side++) {
         place.at_end = side;
         check_none(&place);
+        check_refused(&place);
+        check_foreign(&place);
         for (const uint8_t *at = cases.bytes; at < cases.bytes + cases.length;)
             check_table(&place, &at, seen);
     }

@@ -1,0 +1,250 @@
+/* Follows caches over TLS, in order of preference, and prints what changes (RFC 8210 sections 9.2
+ * and 10), until a signal: rtr_client.h over OpenSSL 3.
+ *
+ * usage: client_tls CA OWN HOST:PORT..
+ * CA is a file with the certificates that sign those of caches, which have to name HOST. OWN has
+ * the client's own certificate and its key. The lines are those of rtr_diff. */
+#define _POSIX_C_SOURCE 200809L
+#include <errno.h>
+#include <openssl/err.h>
+#include <openssl/ssl.h>
+#include <poll.h>
+#include <signal.h>
+#include <stdio.h>
+#include <stdlib.h>
+#include <string.h>
+#include <sys/socket.h>
+#include <time.h>
+#include <unistd.h>
+#include "rtr_client.h"
+
+/* A cache, and the client that asks it. */
+static struct member {
+    struct rtr_client client;
+    const char *address;
+    BIO *connection; /* null if there is none */
+    bool open;       /* it is made, and TLS hasn't failed */
+    short wants;     /* POLLIN or POLLOUT: what TLS waits for */
+    bool dropped;    /* its data were dropped, and the failure of the same event is to come */
+} members[RTR_MOST_MEMBERS];
+
+static SSL_CTX *context;
+static struct rtr_group group;
+static struct rtr_client none, *source = &none; /* whose data are shown */
+
+static int64_t now(void)
+{
+    struct timespec time;
+    clock_gettime(CLOCK_MONOTONIC, &time);
+    return (int64_t)time.tv_sec * 1000 + time.tv_nsec / 1000000;
+}
+
+static int left(int64_t until)
+{
+    int64_t time = until - now();
+    return time < 0 ? 0 : time < 60000 ? (int)time : 60000;
+}
+
+/* What is wrong, by the oldest error of OpenSSL, or the last one of the system. */
+static const char *reason(void)
+{
+    const char *text = ERR_reason_error_string(ERR_peek_error());
+    return text ? text : strerror(errno);
+}
+
+static void must(bool done, const char *what)
+{
+    if (!done) {
+        fprintf(stderr, "client_tls: %s: %s\n", what, reason());
+        exit(1);
+    }
+}
+
+/* A call on the connection didn't succeed: it waits, or the connection is lost. */
+static void unfinished(struct member *m)
+{
+    SSL *tls = NULL;
+    const char *why = reason();
+    m->wants = BIO_should_read(m->connection) ? POLLIN : POLLOUT;
+    if (BIO_should_retry(m->connection))
+        return;
+    BIO_get_ssl(m->connection, &tls);
+    if (SSL_get_verify_result(tls) != X509_V_OK)
+        why = X509_verify_cert_error_string(SSL_get_verify_result(tls));
+    bool closed = !ERR_peek_error() && SSL_get_shutdown(tls) & SSL_RECEIVED_SHUTDOWN;
+    m->open = m->open && closed;
+    rtr_client_lost(&m->client, closed ? NULL : why);
+}
+
+/* Sends some of the unsent bytes; returns whether the connection is still open. */
+static bool send_some(struct member *m)
+{
+    size_t length, count;
+    const uint8_t *output = rtr_client_output(&m->client, &length);
+    if (length && BIO_write_ex(m->connection, output, length, &count))
+        rtr_client_sent(&m->client, count);
+    else if (length)
+        unfinished(m);
+    return m->open;
+}
+
+/* Goes on with a connection: tries the cache's addresses, begins TLS, or sends and reads. */
+static void go_on(struct member *m)
+{
+    size_t length, count;
+    ERR_clear_error();
+    if (!m->open) {
+        m->open = BIO_do_connect(m->connection) == 1 && rtr_client_connected(&m->client);
+        if (!m->open)
+            unfinished(m);
+    } else if (send_some(m)) {
+        uint8_t *room = rtr_client_room(&m->client, &length);
+        if (BIO_read_ex(m->connection, room, length, &count))
+            rtr_client_received(&m->client, count);
+        else
+            unfinished(m);
+    }
+}
+
+static void dial(struct member *m)
+{
+    SSL *tls = NULL;
+    m->connection = BIO_new_ssl_connect(context);
+    must(m->connection && BIO_get_ssl(m->connection, &tls) && BIO_set_nbio(m->connection, 1)
+             && BIO_set_conn_hostname(m->connection, m->address)
+             && SSL_set1_host(tls, BIO_get_conn_hostname(m->connection)), m->address);
+    go_on(m);
+}
+
+static void close_connection(struct member *m)
+{
+    BIO_free_all(m->connection);
+    m->connection = NULL;
+    m->open = false;
+}
+
+/* Closes the connection so that a report still arrives, which unread bytes would destroy. */
+static void hang_up(struct member *m)
+{
+    uint8_t read[4096];
+    size_t length = 0;
+    struct pollfd ready = {m->open ? (int)BIO_get_fd(m->connection, NULL) : -1, POLLOUT, 0};
+    while (m->open && rtr_client_output(&m->client, &length) && length
+           && poll(&ready, 1, left(m->client.wakes)) == 1 && send_some(m)) {}
+    if (m->open)
+        BIO_ssl_shutdown(m->connection);
+    shutdown(ready.fd, SHUT_WR);
+    ready.events = POLLIN;
+    for (int64_t until = now() + 200; ready.fd >= 0 && poll(&ready, 1, left(until)) == 1
+                                      && recv(ready.fd, read, sizeof read, MSG_DONTWAIT) > 0;) {}
+    close_connection(m);
+}
+
+/* Waits for connections, or until a client wakes, and goes on with them. */
+static void wait_for_all(void)
+{
+    struct pollfd ready[RTR_MOST_MEMBERS];
+    int64_t wakes = (int64_t)rtr_group_wakes(&group);
+    for (size_t i = 0; i < group.runs; i++) {
+        size_t length;
+        struct member *m = &members[i];
+        rtr_client_output(&m->client, &length);
+        ready[i] = (struct pollfd){m->connection ? (int)BIO_get_fd(m->connection, NULL) : -1,
+                                   !m->open ? m->wants : length ? POLLIN | POLLOUT : POLLIN, 0};
+        wakes = m->client.wakes < wakes ? m->client.wakes : wakes;
+        wakes = m->open && BIO_pending(m->connection) ? 0 : wakes; /* TLS has read more already */
+    }
+    poll(ready, group.runs, left(wakes));
+    for (size_t i = 0; i < group.runs; i++)
+        if (members[i].connection && (members[i].open || ready[i].revents))
+            go_on(&members[i]);
+}
+
+static void print_changes(const struct rtr_client *c)
+{
+    static uint8_t text[1 << 18]; /* longer than any change's line */
+    struct rtr_line line = {.size = 1};
+    for (size_t at = 0; line.size > 0; at += line.size) {
+        rtr_change_line(c->changes + at, c->changes_length - at, text, sizeof text, &line);
+        if (line.length > 0)
+            printf("%.*s\n", (int)line.length, (const char *)text);
+    }
+    must(!fflush(stdout), "standard output");
+}
+
+/* Shows other data in place of those before, and stops clients, as the group says. */
+static void obey(const struct rtr_group_answer *answer)
+{
+    struct rtr_client *c = &members[answer->member].client;
+    if (answer->shown == RTR_GROUP_DATA && c != source) {
+        must(rtr_client_instead(c, source->data, source->data_length, &source->end), "changes");
+        print_changes(c);
+    }
+    if (answer->shown != RTR_GROUP_SAME)
+        source = answer->shown == RTR_GROUP_DATA ? c : &none;
+    for (size_t i = answer->stop; answer->stops && i < group.count; i++) {
+        close_connection(&members[i]);
+        rtr_client_free(&members[i].client);
+        rtr_client_again(&members[i].client);
+    }
+}
+
+/* Carries out an event of a client. A failure that comes with a loss of data isn't the group's. */
+static void act(size_t number, enum rtr_client_event event)
+{
+    struct member *m = &members[number];
+    struct rtr_group_answer answer = {.shown = RTR_GROUP_SAME};
+    if (event == RTR_CLIENT_CONNECT)
+        dial(m);
+    if (event == RTR_CLIENT_CLOSE)
+        hang_up(m);
+    if (event >= RTR_CLIENT_NO_DATA)
+        fprintf(stderr, "%s: %s\n", m->address, m->client.text);
+    if ((event == RTR_CLIENT_DATA || event == RTR_CLIENT_DROPPED) && source == &m->client)
+        print_changes(source);
+    if (event == RTR_CLIENT_DATA)
+        rtr_group_shows(&group, (uint64_t)now(), number, m->client.payloads, &answer);
+    else if (event == RTR_CLIENT_DROPPED)
+        rtr_group_drops(&group, (uint64_t)now(), number, &answer);
+    else if (event >= RTR_CLIENT_NO_DATA && !m->dropped)
+        rtr_group_fails(&group, (uint64_t)now(), number, &answer);
+    if (event >= RTR_CLIENT_DATA)
+        m->dropped = event == RTR_CLIENT_DROPPED;
+    obey(&answer);
+}
+
+int main(int count, char **words)
+{
+    struct rtr_group_settings settings;
+    struct rtr_group_answer answer;
+    if (count < 4 || count - 3 > RTR_MOST_MEMBERS)
+        return fprintf(stderr, "usage: client_tls CA OWN HOST:PORT..\n"), 2;
+    for (int i = 3; i < count; i++) {
+        members[i - 3].address = words[i];
+        rtr_client_init(&members[i - 3].client, 1);
+        members[i - 3].client.settings.chance = (uint16_t)(now() ^ getpid());
+    }
+    must((context = SSL_CTX_new(TLS_client_method())) != NULL, "OpenSSL");
+    must(SSL_CTX_load_verify_file(context, words[1]), words[1]);
+    must(SSL_CTX_use_certificate_chain_file(context, words[2])
+             && SSL_CTX_use_PrivateKey_file(context, words[2], SSL_FILETYPE_PEM), words[2]);
+    SSL_CTX_set_verify(context, SSL_VERIFY_PEER, NULL);
+    SSL_CTX_set_options(context, SSL_OP_NO_RENEGOTIATION);
+    SSL_CTX_set_mode(context, SSL_MODE_ENABLE_PARTIAL_WRITE | SSL_MODE_ACCEPT_MOVING_WRITE_BUFFER);
+    signal(SIGPIPE, SIG_IGN);
+    rtr_group_usual(&settings);
+    settings.empty_is_data = count == 4; /* there is no other cache to ask */
+    rtr_group_init(&group, &settings, (size_t)count - 3, (uint64_t)now());
+    for (;;) {
+        bool waits = true;
+        rtr_group_tick(&group, (uint64_t)now(), &answer);
+        obey(&answer);
+        for (size_t i = 0; i < group.runs; i++) {
+            enum rtr_client_event event = rtr_client_next(&members[i].client, now());
+            waits = waits && event == RTR_CLIENT_WAIT;
+            act(i, event);
+        }
+        if (waits)
+            wait_for_all();
+    }
+}

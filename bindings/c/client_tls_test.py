@@ -1,0 +1,247 @@
+#!/usr/bin/env python3
+"""Runs `client_tls` beside caches over TLS on the loopback interface that behave or don't.
+
+usage: client_tls_test.py PROGRAM [TEST..]
+
+The certificates are made by `openssl`, without which all tests are skipped with a message. Without
+names all tests are run. Units and lines are those of client_test.py. Prints one line if all is
+well.
+"""
+import os
+import shutil
+import socket
+import ssl
+import subprocess
+import sys
+import tempfile
+import threading
+
+sys.dont_write_bytecode = True
+
+from client_test import (PATIENCE, PROGRAM, expect, notify, prefix, received, report,
+                         reset_query, response, serial_query, unit, end)
+
+(ONE, ONE_LINE), (TWO, TWO_LINE) = [
+    (prefix(net, 24, asn, version=1), f"IPv4 prefix {net}-24 AS{asn}")
+    for net, asn in (("10.0.0.0/8", 65551), ("192.0.2.0/24", 7))]
+
+
+def answer(payloads, serial, session=4660):
+    return response(1, session) + b"".join(payloads) + end(serial, 1, session)
+
+
+class Certificates:
+    """An authority, and what it signed: for 127.0.0.1, for another host, and for the client."""
+
+    def __init__(self, folder):
+        self.folder = folder
+        self.openssl("req", "-x509", "-newkey", "ec", "-pkeyopt", "ec_paramgen_curve:P-256",
+                     "-nodes", "-days", "2", "-subj", "/CN=authority", "-keyout",
+                     self.path("ca.key"), "-out", self.path("ca"))
+        for name, names in (("cache", "IP:127.0.0.1"), ("other", "DNS:cache.example"),
+                            ("client", "DNS:router.example")):
+            self.sign(name, names)
+
+    def path(self, name):
+        return os.path.join(self.folder, name)
+
+    def openssl(self, *words):
+        subprocess.run(["openssl", *words], check=True, capture_output=True, cwd=self.folder)
+
+    def sign(self, name, names):
+        with open(self.path("names"), "w", encoding="ascii") as file:
+            file.write(f"subjectAltName={names}\n")
+        key, request, signed = (self.path(f"{name}.{one}") for one in ("key", "request", "signed"))
+        self.openssl("req", "-newkey", "ec", "-pkeyopt", "ec_paramgen_curve:P-256", "-nodes",
+                     "-subj", f"/CN={name}", "-keyout", key, "-out", request)
+        self.openssl("x509", "-req", "-in", request, "-CA", self.path("ca"), "-CAkey",
+                     self.path("ca.key"), "-CAcreateserial", "-days", "2", "-extfile",
+                     self.path("names"), "-out", signed)
+        with open(self.path(name), "wb") as both:
+            for part in (signed, key):
+                with open(part, "rb") as file:
+                    both.write(file.read())
+
+    def context(self, name):
+        """Of a cache with this certificate, which demands one of the client."""
+        context = ssl.SSLContext(ssl.PROTOCOL_TLS_SERVER)
+        context.load_cert_chain(self.path(name))
+        context.load_verify_locations(self.path("ca"))
+        context.verify_mode = ssl.CERT_REQUIRED
+        return context
+
+
+class Run:
+    """Runs a client with caches, by preference, that play this script."""
+
+    def __init__(self, script, caches=1, certificates=("cache", "cache")):
+        self.contexts = [CERTIFICATES.context(name) for name in certificates]
+        self.listeners = [socket.create_server(("127.0.0.1", 0)) for _ in range(caches)]
+        addresses = [f"127.0.0.1:{one.getsockname()[1]}" for one in self.listeners]
+        for listener in self.listeners:
+            listener.settimeout(PATIENCE)
+        self.failed, self.peers = None, []
+        thread = threading.Thread(target=self.play, args=(script,))
+        self.process = subprocess.Popen(
+            [PROGRAM, CERTIFICATES.path("ca"), CERTIFICATES.path("client"), *addresses],
+            stdout=subprocess.PIPE, stderr=subprocess.PIPE, text=True)
+        thread.start()
+        out, said = self.process.communicate(timeout=PATIENCE)
+        thread.join(PATIENCE)
+        for one in (*self.listeners, *self.peers):
+            one.close()
+        if self.failed:
+            raise AssertionError(f"{self.failed!r}: {out} {said}")
+        for number, address in enumerate(addresses):
+            said = said.replace(address, str(number))
+        self.lines, self.said = out.splitlines(), said.splitlines()
+
+    def play(self, script):
+        try:
+            script(self)
+        except (AssertionError, OSError) as error:
+            self.failed = error
+        self.process.terminate()
+
+    def accept(self, cache=0):
+        peer, _ = self.listeners[cache].accept()
+        peer.settimeout(PATIENCE)
+        return self.contexts[cache].wrap_socket(peer, server_side=True)
+
+    def asked(self, query, cache=0):
+        peer = self.accept(cache)
+        self.peers.append(peer)  # it stays open until the client has ended
+        expect(peer, query)
+        return peer
+
+
+def is_taken(peer, serial, session=4660):
+    """Waits until the client has taken what was sent: it answers a notify by a query, to which
+    nothing is new."""
+    peer.sendall(notify(4294967295, 1, session))
+    expect(peer, serial_query(1, serial, session))
+    peer.sendall(answer([], serial, session))
+
+
+def test_following():
+    """Changes, a close, a broken connection, and a report: the client connects again."""
+    def script(run):
+        with run.asked(reset_query(1)) as peer:
+            assert peer.getpeercert()["subject"] == ((("commonName", "client"),),)
+            for byte in answer([ONE], 1) + notify(2, 1):
+                peer.sendall(bytes([byte]))
+            expect(peer, serial_query(1, 1))
+            peer.sendall(answer([TWO], 2))
+            is_taken(peer, 2)
+            peer.unwrap()
+        with run.asked(serial_query(1, 2)) as peer:
+            peer.sendall(answer([prefix("10.0.0.0/8", 24, 65551, 0, 1)], 3))
+            is_taken(peer, 3)
+        with run.asked(serial_query(1, 3)) as peer:
+            peer.sendall(answer([TWO], 4))  # it is there already
+            assert received(peer)[1:4] == b"\x0a\0\7"
+            assert received(peer) == b""
+        peer = run.asked(reset_query(1))
+        peer.sendall(answer([ONE], 5))
+        is_taken(peer, 5)
+
+    run = Run(script)
+    assert run.lines == ["+ " + ONE_LINE, "+ " + TWO_LINE, "- " + ONE_LINE, "+ " + ONE_LINE,
+                         "- " + TWO_LINE], (run.lines, run.said)
+    assert run.said[0] == "0: the cache closed the connection" and len(run.said) == 3, run.said
+    assert run.said[2] == "0: duplicate announcement, at byte 0", run.said
+
+
+def test_large():
+    """An answer of many records of TLS, that come faster than the client takes them."""
+    block = [prefix(f"10.1.{i // 256}.{i % 256}/32", 32, i, version=1) for i in range(60000)]
+
+    def script(run):
+        peer = run.asked(reset_query(1))
+        peer.sendall(answer(block, 1))
+        is_taken(peer, 1)
+
+    run = Run(script)
+    assert run.lines == [f"+ IPv4 prefix 10.1.{i // 256}.{i % 256}/32-32 AS{i}"
+                         for i in range(60000)], (len(run.lines), run.said)
+
+
+def test_other_cache():
+    """The second cache is used while the first fails, and the first again once it has data."""
+    def script(run):
+        with run.asked(reset_query(1)) as best:
+            best.sendall(report(1, 1))
+            assert received(best) == b""
+        other = run.asked(reset_query(1), 1)
+        other.sendall(answer([ONE], 7, 9))
+        is_taken(other, 7, 9)
+        best = run.asked(reset_query(1))
+        best.sendall(answer([TWO], 3))
+        is_taken(best, 3)
+        assert received(other) == b""
+
+    run = Run(script, 2)
+    assert run.lines == ["+ " + ONE_LINE, "+ " + TWO_LINE, "- " + ONE_LINE], (run.lines, run.said)
+    assert run.said == ["0: the cache reports code 1: no"], run.said
+
+
+def test_refused():
+    """Certificates that name another host, or that nobody signed, and a cache without TLS."""
+    def script(run):
+        try:
+            with run.accept() as best:
+                assert received(best) == b""
+        except ssl.SSLError:
+            pass
+        other = run.asked(reset_query(1), 1)
+        other.sendall(answer([ONE], 7))
+        is_taken(other, 7)
+
+    run = Run(script, 2, ("other", "cache"))
+    assert run.lines == ["+ " + ONE_LINE], (run.lines, run.said)
+    assert run.said == ["0: IP address mismatch"], run.said
+
+    def plain(run):
+        peer, _ = run.listeners[0].accept()
+        with peer:
+            peer.recv(1000)
+            peer.sendall(unit(1, 0, 0, b"\0\0\0\0"))
+        other = run.asked(reset_query(1), 1)
+        other.sendall(answer([ONE], 7))
+        is_taken(other, 7)
+
+    run = Run(plain, 2)
+    assert (run.lines, run.said) == (["+ " + ONE_LINE], ["0: wrong version number"]), run.said
+
+
+def test_nobody():
+    """Where nothing listens the next cache is asked; wrong arguments and files are named."""
+    def script(run):
+        run.listeners[0].close()
+        other = run.asked(reset_query(1), 1)
+        other.sendall(answer([ONE], 7))
+        is_taken(other, 7)
+
+    run = Run(script, 2)
+    assert run.lines == ["+ " + ONE_LINE], (run.lines, run.said)
+    for words, status, said in [((), 2, "usage: "), (("/none", "/none", "a:1"), 1, "/none: "),
+                                ((CERTIFICATES.path("ca"), "/none", "a:1"), 1, "/none: ")]:
+        done = subprocess.run([PROGRAM, *words], capture_output=True, text=True, timeout=PATIENCE)
+        assert done.returncode == status and said in done.stderr, done.stderr
+
+
+def main():
+    global CERTIFICATES
+    if not shutil.which("openssl"):
+        print("!!! client_tls_test.py: no openssl here: SKIPPED the client over TLS")
+        return
+    names = sys.argv[2:] or sorted(name for name in globals() if name.startswith("test_"))
+    with tempfile.TemporaryDirectory() as folder:
+        CERTIFICATES = Certificates(folder)
+        for name in names:
+            globals()[name]()
+    print(f"client over TLS: {len(names)} tests")
+
+
+if __name__ == "__main__":
+    main()

@@ -1,0 +1,319 @@
+/* Follows a cache over TCP, and prints what changes (RFC 8210): the calls for a router's end of
+ * rtr.h, and what carries their bytes.
+ *
+ * usage: link HOST:PORT [0|1|2]   with the version that it asks in first; 2 if left out
+ *
+ * The lines are those of rtr_diff. On standard error is what data there are at each end of data,
+ * and what fails. It goes on until a signal. */
+#define _POSIX_C_SOURCE 200809L
+#include <errno.h>
+#include <inttypes.h>
+#include <netdb.h>
+#include <poll.h>
+#include <stdio.h>
+#include <stdlib.h>
+#include <string.h>
+#include <sys/socket.h>
+#include <time.h>
+#include <unistd.h>
+#include "rtr.h"
+
+static struct rtr_link session;
+static struct rtr_link_buffers buffers;
+static char *host, *port;
+static int connection = -1;
+static struct addrinfo *addresses, *address; /* while the one that is tried doesn't answer */
+static uint64_t deadline, tried_until;       /* of all addresses, and of the one that is tried */
+static struct rtr_link_state shown;          /* where the data are that were printed */
+
+/* The time in milliseconds. */
+static uint64_t now(void)
+{
+    struct timespec time;
+    clock_gettime(CLOCK_MONOTONIC, &time);
+    return (uint64_t)time.tv_sec * 1000 + (uint64_t)time.tv_nsec / 1000000;
+}
+
+/* The program calls nothing out of turn: a refused call is a fault of its own. */
+static void must(uint8_t status)
+{
+    if (status != RTR_LINK_OK) {
+        fprintf(stderr, "link: a call was refused: status %u\n", status);
+        abort();
+    }
+}
+
+static struct rtr_link_state state(void)
+{
+    struct rtr_link_state held;
+    must(rtr_link_state(&session, &buffers, now(), &held));
+    return held;
+}
+
+/* The milliseconds until then, as poll takes them. */
+static int left(uint64_t until)
+{
+    uint64_t time = now();
+    return until <= time ? 0 : until - time < 60000 ? (int)(until - time) : 60000;
+}
+
+/* ---- the loop */
+
+static void hang_up(void)
+{
+    if (connection >= 0)
+        close(connection);
+    if (addresses)
+        freeaddrinfo(addresses);
+    connection = -1;
+    addresses = address = NULL;
+}
+
+/* Tries this address and those behind it, each for its share of the time; where none is left, the
+ * connection is lost. */
+static void try_address(struct addrinfo *first)
+{
+    for (address = first; address; address = address->ai_next) {
+        int type = SOCK_STREAM | SOCK_CLOEXEC | SOCK_NONBLOCK;
+        uint64_t count = 0, time = now();
+        for (struct addrinfo *rest = address; rest; rest = rest->ai_next)
+            count++;
+        tried_until = time < deadline ? time + (deadline - time) / count : time;
+        connection = socket(address->ai_family, type, 0);
+        if (connection >= 0 && (connect(connection, address->ai_addr, address->ai_addrlen) == 0
+                                || errno == EINPROGRESS))
+            return;
+        if (connection >= 0)
+            close(connection);
+        connection = -1;
+    }
+    hang_up();
+    must(rtr_link_lost(&session));
+}
+
+static void dial(uint64_t until)
+{
+    struct addrinfo hints = {.ai_socktype = SOCK_STREAM};
+    deadline = until;
+    addresses = getaddrinfo(host, port, &hints, &addresses) ? NULL : addresses;
+    try_address(addresses);
+}
+
+/* The address that is tried answered, or its time is over: there is a connection, or the next one
+ * is tried. */
+static void look(bool answered)
+{
+    int error = 0;
+    socklen_t size = sizeof error;
+    if (!answered || getsockopt(connection, SOL_SOCKET, SO_ERROR, &error, &size) < 0 || error) {
+        close(connection);
+        connection = -1;
+        try_address(address->ai_next);
+        return;
+    }
+    freeaddrinfo(addresses);
+    addresses = address = NULL;
+    must(rtr_link_opened(&session));
+}
+
+/* Sends some of what there is to send; false where the connection broke. */
+static bool send_some(void)
+{
+    size_t length;
+    struct rtr_link_state held = state();
+    const uint8_t *output = rtr_link_output(&buffers, &held, &length);
+    ssize_t count = send(connection, output, length, MSG_NOSIGNAL | MSG_DONTWAIT);
+    if (count >= 0)
+        must(rtr_link_sent(&session, &buffers, (size_t)count));
+    return count >= 0 || errno == EAGAIN || errno == EINTR;
+}
+
+/* Reads some of what came; false where the peer closed, or the connection broke. */
+static bool receive_some(void)
+{
+    size_t length;
+    struct rtr_link_state held = state();
+    uint8_t *room = rtr_link_room(&buffers, &held, &length);
+    ssize_t count = recv(connection, room, length, MSG_DONTWAIT);
+    if (count > 0)
+        must(rtr_link_received(&session, &buffers, (size_t)count));
+    return count > 0 || (count < 0 && (errno == EAGAIN || errno == EINTR));
+}
+
+/* Sends and reads what can be, when it can, or waits until then. */
+static void wait_until(uint64_t wakes)
+{
+    struct pollfd ready = {.fd = connection, .events = POLLIN};
+    if (address || state().unsent)
+        ready.events |= POLLOUT;
+    int count = poll(&ready, 1, left(address && tried_until < wakes ? tried_until : wakes));
+    if (address && (count > 0 || (count == 0 && tried_until <= now())))
+        look(count > 0);
+    else if (!address && count > 0
+             && ((ready.revents & POLLOUT && !send_some()) || !receive_some())) {
+        hang_up();
+        must(rtr_link_lost(&session));
+    }
+}
+
+/* Sends what is still to be sent, for two seconds, and closes the connection so that it arrives:
+ * bytes of the peer that weren't read would have it reset. */
+static void finish(void)
+{
+    uint8_t read[4096];
+    uint64_t until = now() + 2000;
+    struct pollfd ready = {.fd = address ? -1 : connection, .events = POLLOUT};
+    while (ready.fd >= 0 && state().unsent && poll(&ready, 1, left(until)) == 1 && send_some()) {}
+    shutdown(ready.fd, SHUT_WR);
+    ready.events = POLLIN;
+    for (until = now() + 200; ready.fd >= 0 && poll(&ready, 1, left(until)) == 1;)
+        if (recv(connection, read, sizeof read, MSG_DONTWAIT) <= 0)
+            break;
+    hang_up();
+}
+
+/* Makes a buffer longer; where there is no memory, the answer is given up. */
+static void give_room(struct rtr_todo *todo)
+{
+    size_t each = todo->kind == RTR_TODO_INDEX_ROOM ? sizeof(size_t) : 1, room = todo->room;
+    struct {
+        void **buffer;
+        size_t *length;
+    } rooms[] = {{(void **)&buffers.input, &buffers.input_length},
+                 {(void **)&buffers.first, &buffers.first_length},
+                 {(void **)&buffers.second, &buffers.second_length},
+                 {(void **)&buffers.index, &buffers.index_length},
+                 {(void **)&buffers.output, &buffers.output_length}},
+      *one = &rooms[todo->kind - RTR_TODO_INPUT_ROOM];
+    void *more = room <= SIZE_MAX / each ? realloc(*one->buffer, room * each) : NULL;
+    todo->kind = RTR_TODO_GO;
+    if (more) {
+        *one->buffer = more;
+        *one->length = room;
+    } else
+        must(rtr_link_give_up(&session, &buffers, now(), todo));
+}
+
+/* ---- what is printed */
+
+struct bytes {
+    uint8_t *at;
+    size_t length;
+};
+
+/* Writes data as those of this version and session; of no data, their end of data alone. */
+static struct bytes form(const struct rtr_link_state *held, struct rtr_unit *end, uint8_t *at)
+{
+    struct bytes made = {at, 0};
+    struct rtr_answer answer = {.written = 0};
+    size_t length, size = end->version ? RTR_LONGEST_END : RTR_SHORTEST_END;
+    const uint8_t *data = rtr_link_data(&buffers, held, &length);
+    if (data)
+        rtr_normalise_for_slice(data, length, at, length + RTR_LONGEST_END, UINT64_MAX,
+                                end->version, &answer);
+    made.length = data ? answer.written : size;
+    rtr_write_unit(end, NULL, 0, at + made.length - size, size, &length);
+    return made;
+}
+
+/* Prints what leads from the data that were printed to these, which have this version. */
+static void print_changes(const struct rtr_link_state *held, uint8_t version)
+{
+    static uint8_t text[1 << 18]; /* more than any change has */
+    struct rtr_unit end = {.kind = RTR_END_OF_DATA, .version = version};
+    end.refresh = RTR_USUAL_REFRESH;
+    end.retry = RTR_USUAL_RETRY;
+    end.expire = RTR_USUAL_EXPIRE;
+    struct rtr_line line = {.size = 1};
+    struct rtr_data_answer answer;
+    size_t most = held->shown + shown.shown + 2 * RTR_LONGEST_END;
+    uint8_t *room = malloc(2 * most);
+    if (!room) {
+        fprintf(stderr, "link: no memory\n");
+        exit(1);
+    }
+    struct bytes old = form(&shown, &end, room), new = form(held, &end, room + old.length);
+    rtr_delta(old.at, old.length, new.at, new.length, room + most, most, &answer);
+    for (size_t at = 0; line.size > 0; at += line.size) {
+        rtr_change_line(room + most + at, answer.written - at, text, sizeof text, &line);
+        if (line.length > 0)
+            printf("%.*s\n", (int)line.length, (const char *)text);
+    }
+    free(room);
+    fflush(stdout);
+}
+
+/* There are new data. */
+static void show(void)
+{
+    static uint8_t version;
+    struct rtr_link_state held = state();
+    version = version < session.known.version ? session.known.version : version;
+    print_changes(&held, version);
+    fprintf(stderr, "session %u serial %" PRIu32 " version %u\n", session.known.session,
+            session.known.serial, session.known.version);
+    shown = held;
+}
+
+/* There are no data any more. */
+static void drop(void)
+{
+    struct rtr_link_state none = {.shown = 0};
+    print_changes(&none, RTR_HIGHEST_VERSION);
+    shown = none;
+}
+
+/* Says why the connection ends. */
+static void explain(const struct rtr_todo *todo)
+{
+    uint8_t text[RTR_TEXT_ROOM];
+    size_t length;
+    rtr_text(todo->status, todo->detail, text, sizeof text, &length);
+    if (todo->status != RTR_OK)
+        fprintf(stderr, "%s:%s: %.*s\n", host, port, (int)length, (const char *)text);
+    else if (todo->cause != RTR_CAUSE_LOWER && todo->cause != RTR_CAUSE_HIGHER)
+        fprintf(stderr, "%s:%s: %s\n", host, port, rtr_cause_text(todo->cause));
+}
+
+/* Does what is to be done, and goes on. */
+static void follow(void)
+{
+    struct rtr_todo todo;
+    for (;;) {
+        must(rtr_link_next(&session, &buffers, now(), &todo));
+        if (todo.kind >= RTR_TODO_INPUT_ROOM)
+            give_room(&todo);
+        if (todo.kind == RTR_TODO_WAIT)
+            wait_until(todo.wakes);
+        if (todo.kind == RTR_TODO_CONNECT)
+            dial(todo.wakes);
+        if (todo.kind == RTR_TODO_DATA)
+            show();
+        if (todo.kind == RTR_TODO_NO_DATA)
+            fprintf(stderr, "%s:%s: the cache has no data yet\n", host, port);
+        if (todo.kind == RTR_TODO_CLOSE) {
+            explain(&todo);
+            finish();
+        }
+        if (todo.kind == RTR_TODO_DROPPED || todo.drops)
+            drop();
+    }
+}
+
+int main(int count, char **words)
+{
+    struct rtr_settings settings;
+    char *colon = count > 1 ? strrchr(words[1], ':') : NULL;
+    uint8_t version = count > 2 ? (uint8_t)(words[2][0] - '0') : RTR_HIGHEST_VERSION;
+    if (!colon || count > 3) {
+        fprintf(stderr, "usage: link HOST:PORT [0|1|2]\n");
+        return 2;
+    }
+    *colon = 0;
+    host = words[1];
+    port = colon + 1;
+    rtr_settings_usual(&settings, version);
+    settings.chance = (uint16_t)(now() ^ (uint64_t)getpid());
+    rtr_link_init(&session, &settings);
+    follow();
+}

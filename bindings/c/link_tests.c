@@ -1,0 +1,574 @@
+/* Tests of the calls for a router's end with its bytes and data: sessions played by hand, whose
+ * units are those of RFC 8210 section 5, with each buffer as short as it may be and between
+ * inaccessible pages; and calls that can't be, which are refused and change nothing.
+ *
+ * usage: link_tests [COUNT]   with the number of random structs; 100,000 if left out */
+#include "testing.h"
+
+/* Units of version 1, in hexadecimal. */
+#define RESET_QUERY "0102000000000008"
+#define RESPONSE "0103000700000008"
+#define CACHE_RESET "0108000000000008"
+#define NOTIFY(serial) "010000070000000c0000000" serial
+#define QUERY(serial) "010100070000000c0000000" serial
+/* Serial number; refresh, retry and expire of 3600, 600 and 7200 seconds. */
+#define END(serial) "0107000700000018" "0000000" serial "00000e10" "00000258" "00001c20"
+/* 192.0.2.0/24 and 198.51.100.0/24 of AS64496, announced and withdrawn. */
+#define PREFIX "0104000000000014" "01181800" "c0000200" "0000fbf0"
+#define OTHER "0104000000000014" "01181800" "c6336400" "0000fbf0"
+#define WITHDRAWAL "0104000000000014" "00181800" "c0000200" "0000fbf0"
+/* No data available (section 12), without a unit and with the text "no". */
+#define NO_DATA "010a000200000012" "00000000" "00000002" "6e6f"
+
+/* The length of the longest unit, which an output has room for behind what is to be sent. */
+#define OUTPUT ((size_t)RTR_LONGEST_UNIT)
+
+/* A router's end, and its buffers. */
+struct end {
+    struct rtr_link link;
+    struct rtr_link_buffers buffers;
+    struct place place;
+    struct rtr_todo todo;
+    struct rtr_link_state state;
+    uint64_t now;
+};
+
+/* The bytes that hexadecimal digits say, and how many they are. */
+static size_t bytes_of(const char *digits, uint8_t *bytes)
+{
+    size_t length = strlen(digits) / 2;
+    for (size_t i = 0; i < length; i++) {
+        unsigned byte;
+        CHECK(sscanf(digits + 2 * i, "%2x", &byte) == 1);
+        bytes[i] = (uint8_t)byte;
+    }
+    return length;
+}
+
+/* Makes a buffer this long, with the bytes that it holds. */
+static void *longer(const struct place *place, struct fenced fenced, const void *bytes,
+                    size_t length, size_t room)
+{
+    static uint8_t held[MOST];
+    size_t same = length < room ? length : room;
+    if (same)
+        memcpy(held, bytes, same);
+    uint8_t *lies = memset(lie(place, fenced, room), 0xa5, room);
+    return memcpy(lies, held, same);
+}
+
+static void input_room(struct end *e, size_t room)
+{
+    e->buffers.input =
+        longer(&e->place, e->place.input, e->buffers.input, e->buffers.input_length, room);
+    e->buffers.input_length = room;
+}
+
+static void first_room(struct end *e, size_t room)
+{
+    e->buffers.first =
+        longer(&e->place, e->place.other, e->buffers.first, e->buffers.first_length, room);
+    e->buffers.first_length = room;
+}
+
+static void second_room(struct end *e, size_t room)
+{
+    e->buffers.second =
+        longer(&e->place, e->place.told, e->buffers.second, e->buffers.second_length, room);
+    e->buffers.second_length = room;
+}
+
+static void index_room(struct end *e, size_t room)
+{
+    e->buffers.index = lie(&e->place, e->place.index, room * sizeof(size_t));
+    e->buffers.index_length = room;
+}
+
+static void output_room(struct end *e, size_t room)
+{
+    e->buffers.output =
+        longer(&e->place, e->place.output, e->buffers.output, e->buffers.output_length, room);
+    e->buffers.output_length = room;
+}
+
+/* A router's end of version 1, with buffers of length 0. */
+static void begin(struct end *e, bool at_end)
+{
+    static struct place place;
+    struct rtr_settings settings;
+    if (!place.input.front) {
+        place = new_place();
+        place.told = fence(MOST);
+    }
+    memset(e, 0xa5, sizeof *e);
+    e->place = place;
+    e->place.at_end = at_end;
+    e->buffers = (struct rtr_link_buffers){NULL, 0, NULL, NULL, 0, 0, NULL, 0, NULL, 0};
+    e->now = 0;
+    rtr_settings_usual(&settings, 1);
+    rtr_link_init(&e->link, &settings);
+}
+
+static void give_room(struct end *e)
+{
+    CHECK(e->todo.wakes == e->link.due || e->link.phase != RTR_PHASE_CONNECTING);
+    if (e->todo.kind == RTR_TODO_INPUT_ROOM)
+        input_room(e, e->todo.room);
+    if (e->todo.kind == RTR_TODO_FIRST_ROOM)
+        first_room(e, e->todo.room);
+    if (e->todo.kind == RTR_TODO_SECOND_ROOM)
+        second_room(e, e->todo.room);
+    if (e->todo.kind == RTR_TODO_INDEX_ROOM)
+        index_room(e, e->todo.room);
+    if (e->todo.kind == RTR_TODO_OUTPUT_ROOM)
+        output_room(e, e->todo.room);
+}
+
+static void look(struct end *e)
+{
+    CHECK(rtr_link_state(&e->link, &e->buffers, e->now, &e->state) == RTR_LINK_OK);
+}
+
+/* The next call has this to be done, after some that have nothing; room is given. */
+static void next_is(struct end *e, uint8_t kind)
+{
+    for (int turns = 0; turns < 1000; turns++) {
+        CHECK(rtr_link_next(&e->link, &e->buffers, e->now, &e->todo) == RTR_LINK_OK);
+        if (e->todo.kind == kind)
+            break;
+        CHECK(e->todo.kind == RTR_TODO_GO || e->todo.kind >= RTR_TODO_INPUT_ROOM);
+        give_room(e);
+    }
+    CHECK(e->todo.kind == kind);
+    look(e);
+    CHECK(e->state.wakes == e->todo.wakes);
+}
+
+/* These bytes come, and are read. */
+static void comes(struct end *e, const char *digits)
+{
+    uint8_t bytes[256];
+    size_t length = bytes_of(digits, bytes), room;
+    for (size_t i = 0; i < length; i++) {
+        next_is(e, RTR_TODO_WAIT);
+        uint8_t *to = rtr_link_room(&e->buffers, &e->state, &room);
+        CHECK(room > 0);
+        *to = bytes[i];
+        CHECK(rtr_link_received(&e->link, &e->buffers, 1) == RTR_LINK_OK);
+    }
+}
+
+/* These bytes are to be sent, and are, by and by. */
+static void sends(struct end *e, const char *digits)
+{
+    uint8_t bytes[256];
+    size_t length = bytes_of(digits, bytes), unsent;
+    for (size_t i = 0; i < length; i++) {
+        look(e);
+        const uint8_t *output = rtr_link_output(&e->buffers, &e->state, &unsent);
+        CHECK(unsent == length - i && memcmp(output, bytes + i, unsent) == 0);
+        CHECK(rtr_link_sent(&e->link, &e->buffers, 1) == RTR_LINK_OK);
+    }
+    look(e);
+    rtr_link_output(&e->buffers, &e->state, &unsent);
+    CHECK(unsent == 0);
+}
+
+/* These are the data; none, if no digits are given. */
+static void shows(struct end *e, const char *digits)
+{
+    uint8_t bytes[256];
+    size_t length = digits ? bytes_of(digits, bytes) : 0, shown;
+    look(e);
+    const uint8_t *data = rtr_link_data(&e->buffers, &e->state, &shown);
+    CHECK((data != NULL) == (digits != NULL) && shown == length && e->state.has_data == !!digits);
+    CHECK(length == 0 || memcmp(data, bytes, length) == 0);
+}
+
+/* A report is to be sent, and is: of this code, about this unit, with this text (section 5.11). */
+static void sends_report(struct end *e, uint16_t code, const char *unit, const char *text)
+{
+    uint8_t bytes[256];
+    size_t length = bytes_of(unit, bytes), said = strlen(text), size = 16 + length + said, unsent;
+    const uint8_t head[] = {1, RTR_ERROR_REPORT, 0, (uint8_t)code, 0, 0, 0, (uint8_t)size,
+                            0, 0, 0, (uint8_t)length};
+    look(e);
+    const uint8_t *output = rtr_link_output(&e->buffers, &e->state, &unsent);
+    CHECK(unsent == size && memcmp(output, head, sizeof head) == 0);
+    CHECK(memcmp(output + 12, bytes, length) == 0 && output[15 + length] == said);
+    CHECK(memcmp(output + 16 + length, text, said) == 0);
+    CHECK(rtr_link_sent(&e->link, &e->buffers, size) == RTR_LINK_OK);
+}
+
+static void connects(struct end *e)
+{
+    next_is(e, RTR_TODO_CONNECT);
+    CHECK(e->todo.wakes == e->now + 30000);
+    CHECK(rtr_link_opened(&e->link) == RTR_LINK_OK);
+}
+
+/* It has the first data, by a query for all. */
+static void loads(struct end *e)
+{
+    connects(e);
+    next_is(e, RTR_TODO_WAIT);
+    sends(e, RESET_QUERY);
+    comes(e, RESPONSE PREFIX END("5"));
+    next_is(e, RTR_TODO_DATA);
+    shows(e, PREFIX END("5"));
+}
+
+/* ---- sessions */
+
+/* All data, then what changes, then all data again (RFC 8210 sections 8.1 to 8.3). */
+static void check_session(struct end *e)
+{
+    size_t length;
+    loads(e);
+    CHECK(e->state.second && e->link.known.serial == 5 && e->link.known.session == 7);
+    e->now = 9000;
+    comes(e, NOTIFY("6"));
+    next_is(e, RTR_TODO_WAIT);
+    sends(e, QUERY("5"));
+    comes(e, RESPONSE WITHDRAWAL OTHER END("6"));
+    for (;;) {
+        look(e);
+        if (e->state.answers)
+            break;
+        CHECK(rtr_link_next(&e->link, &e->buffers, e->now, &e->todo) == RTR_LINK_OK);
+    }
+    CHECK(e->state.answer == 40 && e->state.since);
+    next_is(e, RTR_TODO_DATA);
+    shows(e, OTHER END("6"));
+    CHECK(!e->state.second && !e->state.answers && e->link.known.serial == 6);
+    e->now = 20000;
+    CHECK(rtr_link_ask_now(&e->link, &e->buffers, e->now, &e->todo) == RTR_LINK_OK);
+    CHECK(e->todo.kind == RTR_TODO_GO);
+    next_is(e, RTR_TODO_WAIT);
+    sends(e, QUERY("6"));
+    comes(e, CACHE_RESET);
+    next_is(e, RTR_TODO_WAIT);
+    sends(e, RESET_QUERY);
+    comes(e, RESPONSE PREFIX END("7"));
+    next_is(e, RTR_TODO_DATA);
+    shows(e, PREFIX END("7"));
+    next_is(e, RTR_TODO_WAIT);
+    CHECK(e->todo.wakes == 20000 + 3600000);
+    rtr_link_room(&e->buffers, &e->state, &length);
+    CHECK(length > 0);
+}
+
+/* A cache without data, whose report can be read at the offset that is told. */
+static void check_no_data(struct end *e)
+{
+    struct rtr_unit unit;
+    connects(e);
+    next_is(e, RTR_TODO_WAIT);
+    comes(e, NO_DATA);
+    next_is(e, RTR_TODO_NO_DATA);
+    CHECK(rtr_next(e->buffers.input + e->todo.offset, 18, &unit) == RTR_OK);
+    CHECK(unit.kind == RTR_ERROR_REPORT && unit.code == RTR_CODE_NO_DATA_AVAILABLE);
+    CHECK(unit.text_length == 2
+          && memcmp(e->buffers.input + e->todo.offset + unit.text_start, "no", 2) == 0);
+    shows(e, NULL);
+    next_is(e, RTR_TODO_WAIT);
+    CHECK(e->todo.wakes == 600000);
+}
+
+/* A prefix of 33 bits in an answer: it is named, and reported as corrupt data (section 12). */
+static void check_refused(struct end *e)
+{
+    loads(e);
+    e->now = 5000;
+    comes(e, NOTIFY("6"));
+    next_is(e, RTR_TODO_WAIT);
+    sends(e, QUERY("5"));
+    comes(e, RESPONSE OTHER "010400000000001401212100c00002000000fbf0");
+    next_is(e, RTR_TODO_CLOSE);
+    CHECK(e->todo.cause == RTR_CAUSE_FAULTY && e->todo.status == RTR_PREFIX);
+    CHECK(e->todo.detail == RTR_LENGTH_OVER && e->todo.offset == 20);
+    CHECK(e->todo.reports && e->todo.code == RTR_CODE_CORRUPT_DATA && !e->todo.drops);
+    sends_report(e, RTR_CODE_CORRUPT_DATA, "010400000000001401212100c00002000000fbf0",
+                 "prefix length too large");
+    shows(e, PREFIX END("5"));
+    next_is(e, RTR_TODO_WAIT);
+    CHECK(e->link.phase == RTR_PHASE_OFFLINE);
+}
+
+/* The withdrawal of what isn't there: the change is named where it stands in the input. */
+static void check_unknown(struct end *e)
+{
+    loads(e);
+    e->now = 5000;
+    comes(e, NOTIFY("6"));
+    next_is(e, RTR_TODO_WAIT);
+    sends(e, QUERY("5"));
+    comes(e, RESPONSE OTHER WITHDRAWAL WITHDRAWAL END("6"));
+    next_is(e, RTR_TODO_CLOSE);
+    CHECK(e->todo.cause == RTR_CAUSE_NOT_APPLIED && e->todo.status == RTR_UNKNOWN);
+    CHECK(e->todo.detail == 0 && e->todo.offset == 40);
+    CHECK(e->todo.reports && e->todo.code == RTR_CODE_WITHDRAWAL_OF_UNKNOWN_RECORD);
+    sends_report(e, RTR_CODE_WITHDRAWAL_OF_UNKNOWN_RECORD, WITHDRAWAL,
+                 "withdrawal of an unknown record");
+    shows(e, PREFIX END("5"));
+}
+
+/* The peer closes inside a unit, or before its data; the data stay until they expire. */
+static void check_lost(struct end *e)
+{
+    loads(e);
+    e->now = 7000000;
+    comes(e, "010000");
+    CHECK(rtr_link_lost(&e->link) == RTR_LINK_OK);
+    CHECK(rtr_link_lost(&e->link) == RTR_LINK_OUT_OF_TURN);
+    CHECK(rtr_link_received(&e->link, &e->buffers, 1) == RTR_LINK_OUT_OF_TURN);
+    next_is(e, RTR_TODO_CLOSE);
+    CHECK(e->todo.cause == RTR_CAUSE_FAULTY && e->todo.status == RTR_SHORT && !e->todo.drops);
+    shows(e, PREFIX END("5"));
+    e->now = 7200000;
+    shows(e, NULL);
+    next_is(e, RTR_TODO_DROPPED);
+    CHECK(!e->todo.drops && e->todo.wakes <= e->now + 600000);
+    shows(e, NULL);
+}
+
+/* The time from a lost connection, which was asked for now, to the next one. */
+static uint64_t wait_after_loss(struct end *e)
+{
+    next_is(e, RTR_TODO_CONNECT);
+    CHECK(rtr_link_lost(&e->link) == RTR_LINK_OK);
+    next_is(e, RTR_TODO_CLOSE);
+    next_is(e, RTR_TODO_WAIT);
+    return e->todo.wakes - e->now;
+}
+
+/* One that begins again has no data and connects at once, and the wait after its next failure is
+ * longer than that of a new one. */
+static void check_again(struct end *e)
+{
+    uint64_t first = wait_after_loss(e), second, after;
+    e->now = e->todo.wakes;
+    second = wait_after_loss(e);
+    CHECK(second > first);
+    CHECK(rtr_link_again(&e->link) == RTR_LINK_OK);
+    after = wait_after_loss(e);
+    CHECK(after > second);
+    e->now = e->todo.wakes;
+    loads(e);
+    CHECK(rtr_link_again(&e->link) == RTR_LINK_OK);
+    look(e);
+    CHECK(!e->state.has_data && e->state.shown == 0 && e->state.filled == 0);
+    CHECK(wait_after_loss(e) == first);
+    CHECK(rtr_link_next(&e->link, &e->buffers, e->now - 1, &e->todo) == RTR_LINK_BAD_TIME);
+}
+
+/* ---- want of room */
+
+/* The program has no memory: nothing is asked that it didn't take. */
+static void check_give_up(struct end *e)
+{
+    CHECK(rtr_link_next(&e->link, &e->buffers, 0, &e->todo) == RTR_LINK_OK);
+    CHECK(e->todo.kind == RTR_TODO_OUTPUT_ROOM && e->todo.room == OUTPUT);
+    CHECK(rtr_link_give_up(&e->link, &e->buffers, 0, &e->todo) == RTR_LINK_SHORT_BUFFER);
+    CHECK(e->todo.kind == RTR_TODO_NOTHING && e->todo.wakes == 0);
+    loads(e);
+    e->now = 5000;
+    comes(e, NOTIFY("6"));
+    next_is(e, RTR_TODO_WAIT);
+    sends(e, QUERY("5"));
+    comes(e, RESPONSE OTHER END("6"));
+    first_room(e, 0);
+    do
+        CHECK(rtr_link_next(&e->link, &e->buffers, 5000, &e->todo) == RTR_LINK_OK);
+    while (e->todo.kind == RTR_TODO_GO);
+    CHECK(e->todo.kind == RTR_TODO_FIRST_ROOM && e->todo.room == 44 + 44);
+    CHECK(rtr_link_give_up(&e->link, &e->buffers, 5000, &e->todo) == RTR_LINK_OK);
+    CHECK(e->todo.kind == RTR_TODO_CLOSE && e->todo.cause == RTR_CAUSE_NOT_APPLIED);
+    CHECK(e->todo.status == RTR_OK && !e->todo.drops);
+    shows(e, PREFIX END("5"));
+}
+
+/* ---- calls that can't be */
+
+/* The call has this status, and all stays as it was. */
+#define REFUSES(status, call)                                                                     \
+    do {                                                                                          \
+        struct rtr_link before = e->link;                                                         \
+        CHECK((call) == (status));                                                                \
+        CHECK(memcmp(&before, &e->link, sizeof before) == 0);                                     \
+    } while (0)
+
+static void check_turns(struct end *e)
+{
+    REFUSES(RTR_LINK_OUT_OF_TURN, rtr_link_opened(&e->link));
+    REFUSES(RTR_LINK_OUT_OF_TURN, rtr_link_lost(&e->link));
+    REFUSES(RTR_LINK_OUT_OF_TURN, rtr_link_received(&e->link, &e->buffers, 0));
+    next_is(e, RTR_TODO_CONNECT);
+    REFUSES(RTR_LINK_OUT_OF_TURN, rtr_link_received(&e->link, &e->buffers, 0));
+    CHECK(rtr_link_opened(&e->link) == RTR_LINK_OK);
+    REFUSES(RTR_LINK_OUT_OF_TURN, rtr_link_opened(&e->link));
+    CHECK(rtr_link_received(&e->link, &e->buffers, 0) == RTR_LINK_OK);
+    next_is(e, RTR_TODO_WAIT);
+    REFUSES(RTR_LINK_OUT_OF_TURN, rtr_link_opened(&e->link));
+    CHECK(rtr_link_lost(&e->link) == RTR_LINK_OK);
+    next_is(e, RTR_TODO_CLOSE);
+    /* A close without a word may mean a lower version (section 7). */
+    CHECK(e->todo.cause == RTR_CAUSE_LOWER && e->todo.offset == 0 && e->todo.status == RTR_OK);
+    REFUSES(RTR_LINK_OUT_OF_TURN, rtr_link_opened(&e->link));
+    REFUSES(RTR_LINK_OUT_OF_TURN, rtr_link_lost(&e->link));
+    e->now = e->link.due;
+    next_is(e, RTR_TODO_CONNECT);
+    CHECK(rtr_link_lost(&e->link) == RTR_LINK_OK);
+    REFUSES(RTR_LINK_OUT_OF_TURN, rtr_link_opened(&e->link));
+}
+
+static void check_lengths(struct end *e)
+{
+    size_t room;
+    connects(e);
+    next_is(e, RTR_TODO_WAIT);
+    rtr_link_room(&e->buffers, &e->state, &room);
+    REFUSES(RTR_LINK_TOO_LONG, rtr_link_received(&e->link, &e->buffers, room + 1));
+    REFUSES(RTR_LINK_TOO_LONG, rtr_link_received(&e->link, &e->buffers, SIZE_MAX));
+    REFUSES(RTR_LINK_TOO_LONG, rtr_link_sent(&e->link, &e->buffers, 9));
+    REFUSES(RTR_LINK_TOO_LONG, rtr_link_sent(&e->link, &e->buffers, SIZE_MAX));
+    struct rtr_link_buffers shorter = e->buffers;
+    shorter.output_length = 7;
+    REFUSES(RTR_LINK_SHORT_BUFFER, rtr_link_sent(&e->link, &shorter, 1));
+    REFUSES(RTR_LINK_SHORT_BUFFER, rtr_link_next(&e->link, &shorter, 0, &e->todo));
+    REFUSES(RTR_LINK_SHORT_BUFFER, rtr_link_ask_now(&e->link, &shorter, 0, &e->todo));
+    REFUSES(RTR_LINK_SHORT_BUFFER, rtr_link_state(&e->link, &shorter, 0, &e->state));
+    CHECK(e->state.filled == 0 && e->state.unsent == 0 && e->state.wakes == 0);
+    sends(e, RESET_QUERY);
+    comes(e, RESPONSE PREFIX END("5"));
+    next_is(e, RTR_TODO_DATA);
+    comes(e, "010000");
+    shorter = e->buffers;
+    shorter.second_length = 43;
+    REFUSES(RTR_LINK_SHORT_BUFFER, rtr_link_next(&e->link, &shorter, 0, &e->todo));
+    shorter = e->buffers;
+    shorter.input_length = 2;
+    REFUSES(RTR_LINK_SHORT_BUFFER, rtr_link_received(&e->link, &shorter, 0));
+    REFUSES(RTR_LINK_SHORT_BUFFER, rtr_link_next(&e->link, &shorter, 0, &e->todo));
+    REFUSES(RTR_LINK_SHORT_BUFFER, rtr_link_give_up(&e->link, &shorter, 0, &e->todo));
+}
+
+static void check_times(struct end *e)
+{
+    e->now = 10;
+    connects(e);
+    REFUSES(RTR_LINK_BAD_TIME, rtr_link_next(&e->link, &e->buffers, 9, &e->todo));
+    CHECK(e->todo.kind == RTR_TODO_NOTHING);
+    REFUSES(RTR_LINK_BAD_TIME, rtr_link_ask_now(&e->link, &e->buffers, 9, &e->todo));
+    REFUSES(RTR_LINK_BAD_TIME, rtr_link_give_up(&e->link, &e->buffers, 9, &e->todo));
+    REFUSES(RTR_LINK_BAD_TIME, rtr_link_state(&e->link, &e->buffers, 9, &e->state));
+    uint64_t late = (uint64_t)1 << 63;
+    REFUSES(RTR_LINK_BAD_TIME, rtr_link_next(&e->link, &e->buffers, late, &e->todo));
+    REFUSES(RTR_LINK_BAD_TIME, rtr_link_next(&e->link, &e->buffers, UINT64_MAX, &e->todo));
+    CHECK(rtr_link_next(&e->link, &e->buffers, late - 1, &e->todo) == RTR_LINK_OK);
+}
+
+/* Each call refuses the struct. */
+static void check_not_begun(struct end *e)
+{
+    REFUSES(RTR_LINK_NOT_BEGUN, rtr_link_opened(&e->link));
+    REFUSES(RTR_LINK_NOT_BEGUN, rtr_link_lost(&e->link));
+    REFUSES(RTR_LINK_NOT_BEGUN, rtr_link_again(&e->link));
+    REFUSES(RTR_LINK_NOT_BEGUN, rtr_link_received(&e->link, &e->buffers, 0));
+    REFUSES(RTR_LINK_NOT_BEGUN, rtr_link_sent(&e->link, &e->buffers, 0));
+    REFUSES(RTR_LINK_NOT_BEGUN, rtr_link_next(&e->link, &e->buffers, e->now, &e->todo));
+    REFUSES(RTR_LINK_NOT_BEGUN, rtr_link_ask_now(&e->link, &e->buffers, e->now, &e->todo));
+    REFUSES(RTR_LINK_NOT_BEGUN, rtr_link_give_up(&e->link, &e->buffers, e->now, &e->todo));
+    CHECK(e->todo.kind == RTR_TODO_NOTHING);
+    REFUSES(RTR_LINK_NOT_BEGUN, rtr_link_state(&e->link, &e->buffers, e->now, &e->state));
+}
+
+/* Structs of one byte, of another phase, of flags that are none, of offsets that contradict one
+ * another. */
+static void check_structs(struct end *e)
+{
+    struct rtr_link good;
+    loads(e);
+    good = e->link;
+    for (int byte = 0; byte < 256; byte += 5) {
+        memset(&e->link, byte, sizeof e->link);
+        check_not_begun(e);
+    }
+    for (int number = 0; number < 256; number++) {
+        e->link = good;
+        e->link.phase = (uint8_t)number;
+        if (number == RTR_PHASE_READING || number == RTR_PHASE_APPLYING || number > 5)
+            check_not_begun(e);
+        e->link = good;
+        e->link.holding = (uint8_t)number;
+        if (number > 0)
+            check_not_begun(e);
+        e->link = good;
+        (&e->link.agreed)[number % 8] = (uint8_t)number;
+        if (number > 1)
+            check_not_begun(e);
+        e->link = good;
+        (&e->link.since)[number % 5] = (uint8_t)number;
+        if (number > 1)
+            check_not_begun(e);
+    }
+    e->link = good;
+    e->link.kept = e->link.filled + 1;
+    check_not_begun(e);
+    e->link.kept = SIZE_MAX;
+    e->link.end_size = SIZE_MAX;
+    check_not_begun(e);
+    e->link = good;
+    e->link.mark ^= 1;
+    check_not_begun(e);
+    e->link = good;
+    next_is(e, RTR_TODO_WAIT);
+}
+
+/* Structs with random numbers, except where any call would refuse them at once: whatever they say,
+ * no call touches a byte beside the buffers. */
+static void check_random(struct end *e, long count)
+{
+    uint64_t seed = 88172645463325252;
+    loads(e);
+    struct rtr_link good = e->link;
+    for (long i = 0; i < count; i++) {
+        uint8_t *bytes = (uint8_t *)&e->link;
+        e->link = good;
+        for (int changes = 0; changes < 6; changes++) {
+            seed ^= seed << 13;
+            seed ^= seed >> 7;
+            seed ^= seed << 17;
+            size_t where = seed % sizeof e->link;
+            bytes[where] = (uint8_t)(seed >> 32) >> ((seed >> 40) % 8);
+        }
+        e->link.holding = e->link.phase == RTR_PHASE_READING ? 1
+            : e->link.phase == RTR_PHASE_APPLYING            ? 2
+                                                             : 0;
+        e->link.latest = 0;
+        CHECK(rtr_link_next(&e->link, &e->buffers, seed >> 20, &e->todo) <= RTR_LINK_SHORT_BUFFER);
+        CHECK(rtr_link_received(&e->link, &e->buffers, seed % 64) <= RTR_LINK_TOO_LONG);
+        CHECK(rtr_link_sent(&e->link, &e->buffers, seed % 64) <= RTR_LINK_TOO_LONG);
+        rtr_link_give_up(&e->link, &e->buffers, seed >> 20, &e->todo);
+    }
+}
+
+int main(int count, char **words)
+{
+    static void (*const checks[])(struct end *) = {
+        check_session, check_no_data, check_refused, check_unknown, check_lost, check_again,
+        check_give_up, check_turns,   check_lengths, check_times,   check_structs};
+    static struct end e;
+    long random = count > 1 ? strtol(words[1], NULL, 10) : 100000;
+    for (size_t i = 0; i < 2 * (sizeof checks / sizeof checks[0]); i++) {
+        begin(&e, i % 2);
+        checks[i / 2](&e);
+    }
+    begin(&e, true);
+    check_random(&e, random);
+    begin(&e, false);
+    check_random(&e, random);
+    printf("calls for a router's end: %zu sessions, %ld random structs\n",
+           2 * (sizeof checks / sizeof checks[0]), 2 * random);
+    return 0;
+}

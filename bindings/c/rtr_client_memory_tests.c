@@ -1,0 +1,172 @@
+/* Tests of rtr_client.h without enough memory, with a simulated clock and cache: link it with
+ * -Wl,--wrap=malloc,--wrap=realloc,--wrap=free. */
+#include "played.h"
+
+/* The next event, if this allocation from now on fails. */
+static enum rtr_client_event denies(size_t which)
+{
+    allocations = 0;
+    denied = which;
+    enum rtr_client_event one = event();
+    denied = 0;
+    return one;
+}
+
+/* Each allocation in turn fails: the data are those before or after, the failure is
+ * RTR_CLIENT_MEMORY, and the next connection gets the data. */
+static void test_answer(void)
+{
+    bool succeeded = false;
+    for (size_t which = 1; !succeeded; which++) {
+        CHECK(which < 100);
+        begins(1);
+        comes(whole(1, 5, 1, 3)->bytes, whole(1, 5, 1, 3)->length);
+        enum rtr_client_event one = denies(which);
+        succeeded = one == RTR_CLIENT_DATA;
+        if (!succeeded) {
+            CHECK(one == RTR_CLIENT_CLOSE && !c.data);
+            owes(NONE, 0);
+            EXPECT(FAILED);
+            CHECK(c.failure == RTR_CLIENT_MEMORY && !strcmp(c.text, "no memory"));
+            connects_after(1000);
+            sends_reset_query(1);
+            comes(whole(1, 5, 1, 3)->bytes, whole(1, 5, 1, 3)->length);
+            EXPECT(DATA);
+        }
+        CHECK(c.payloads == 3);
+        EXPECT(WAIT);
+        now += 7200 * 1000;
+        one = denies(which);
+        CHECK(one == RTR_CLIENT_DROPPED && (c.changes_length == 3 * 20 + 24 || which == 1));
+        ends();
+    }
+}
+
+/* The same for changes of data: these stay as they were, and are asked for again. */
+static void test_changes(void)
+{
+    const struct text before = *whole(1, 5, 1, 3);
+    bool succeeded = false;
+    for (size_t which = 1; !succeeded; which++) {
+        struct text changes = {.length = 0};
+        CHECK(which < 100);
+        add_response(&changes, 1, SESSION);
+        add_prefix(&changes, 1, 0, 2);
+        add_prefix(&changes, 1, 1, 9);
+        add_end(&changes, 1, SESSION, 6, usual);
+        has_data(1);
+        comes(changes.bytes, changes.length);
+        enum rtr_client_event one = denies(which);
+        succeeded = one == RTR_CLIENT_DATA;
+        if (!succeeded) {
+            CHECK(one == RTR_CLIENT_CLOSE && which <= 3);
+            EXPECT(FAILED);
+            CHECK(c.failure == RTR_CLIENT_MEMORY && !strcmp(c.text, "no memory"));
+            CHECK(c.payloads == 3 && c.end.serial == 5 && c.data_length == before.length - 8);
+            CHECK(memcmp(c.data, before.bytes + 8, c.data_length) == 0);
+            connects_after(1000);
+            sends_reset_query(1);
+            comes(whole(1, 6, 2, 4)->bytes, whole(1, 6, 2, 4)->length);
+            EXPECT(DATA);
+        }
+        CHECK(c.payloads == 3 && c.end.serial == 6 && c.changes_length == 2 * 20 + 24);
+        ends();
+    }
+}
+
+/* An answer that its buffer has no memory for: the data before it stay. */
+static void test_input(void)
+{
+    const struct text before = *whole(1, 5, 1, 3);
+    size_t room, more;
+    has_data(1);
+    rtr_client_room(&c, &room);
+    comes(whole(1, 6, 1, 4000)->bytes, room);
+    EXPECT(WAIT);
+    rtr_client_room(&c, &more);
+    comes(whole(1, 6, 1, 4000)->bytes + room, more);
+    CHECK(denies(1) == RTR_CLIENT_CLOSE);
+    owes(NONE, 0);
+    EXPECT(FAILED);
+    CHECK(c.failure == RTR_CLIENT_MEMORY && c.payloads == 3 && c.end.serial == 5);
+    CHECK(c.data_length == before.length - 8 && !memcmp(c.data, before.bytes + 8, c.data_length));
+    connects_after(1000);
+    sends_reset_query(1);
+    comes(whole(1, 6, 1, 4000)->bytes, whole(1, 6, 1, 4000)->length);
+    EXPECT(DATA);
+    CHECK(c.payloads == 4000 && c.changes_length == 3997 * 20 + 24);
+    ends();
+}
+
+/* The same for a unit while no answer comes: it isn't taken for a loss of the connection. */
+static void test_unit(void)
+{
+    struct text none = {.length = 0};
+    static struct text key;
+    size_t room;
+    key.length = 0;
+    add_report(&none, 1, 2);
+    add_key(&key, 1, 1, 65535 - 32);
+    begins(1);
+    comes(none.bytes, none.length);
+    EXPECT(NO_DATA);
+    EXPECT(WAIT);
+    rtr_client_room(&c, &room);
+    CHECK(room < key.length);
+    comes(key.bytes, room);
+    CHECK(denies(1) == RTR_CLIENT_CLOSE);
+    EXPECT(FAILED);
+    CHECK(c.failure == RTR_CLIENT_MEMORY && !strcmp(c.text, "no memory"));
+    ends();
+}
+
+/* Without memory to connect the client fails at once, and connects a pause later. */
+static void test_beginning(void)
+{
+    for (size_t which = 1; which <= 2; which++) {
+        size_t room;
+        rtr_client_init(&c, 1);
+        connected = false;
+        CHECK(!rtr_client_room(&c, &room) && room == 0);
+        CHECK(denies(which) == RTR_CLIENT_FAILED);
+        CHECK(c.failure == RTR_CLIENT_MEMORY && !strcmp(c.text, "no memory"));
+        CHECK(rtr_client_next(&c, now) == RTR_CLIENT_WAIT && c.wakes > now);
+        now = c.wakes;
+        asks();
+        ends();
+    }
+}
+
+/* Between two answers a client holds its data, and 128 KiB besides. */
+static void test_held(void)
+{
+    begins(1);
+    for (uint32_t serial = 5; serial < 8; serial++) {
+        struct text changes = {.length = 0};
+        add_response(&changes, 1, SESSION);
+        add_prefix(&changes, 1, 1, 10000 + serial);
+        add_end(&changes, 1, SESSION, serial, usual);
+        const struct text *text = serial == 5 ? whole(1, 5, 1, 6000) : &changes;
+        comes(text->bytes, text->length);
+        EXPECT(DATA);
+        CHECK((c.changes == c.data) == (serial == 5));
+        EXPECT(WAIT);
+        CHECK(held < c.data_length + 2 * 65536 + 1000);
+        now = c.wakes;
+        EXPECT(WAIT);
+        sends_serial_query(1, serial);
+    }
+    CHECK(c.payloads == 6002);
+    ends();
+}
+
+int main(void)
+{
+    test_answer();
+    test_changes();
+    test_input();
+    test_unit();
+    test_beginning();
+    test_held();
+    return 0;
+}
