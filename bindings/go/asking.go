@@ -1,41 +1,78 @@
-//go:build cgo && linux && (amd64 || arm64)
+//go:build cgo && linux
 
 package rtr
 
 import (
 	"sync"
+	"sync/atomic"
 	"time"
+	"unsafe"
 )
 
-// AskNow has the client ask its cache now, before the time of the field Refresh has passed. The
-// proved machine is told of a notify with another serial number than that of its data, after which
-// it always asks (RFC 8210 section 8.2). So there is a pause between two queries, and after an
-// answer that is coming it asks again. Without a connection nothing comes sooner: on the next one
-// it asks anyway.
+// AskNow makes the client ask its cache before the refresh time has passed: at once, or a pause
+// after its last query. Without a connection it connects at once, or after a pause if it queried or
+// connected less than a pause ago. A connection attempt, or an answer that is coming, goes on. The
+// proved machine decides all of this.
 //
-// Any goroutine may call at any time. Where neither Run nor Fetch runs, nothing happens.
+// Any goroutine may call it at any time. If neither Run, Fetch nor Follow runs the client, nothing
+// happens; a copy of a client is another client.
 func (c *Client) AskNow() {
-	wishes.Range(func(one, client any) bool {
-		if client == c {
-			one.(*wish).make()
-		}
-		return true
-	})
+	c.wishesOf().make()
 }
 
-// wishes are those of the followers that run, each with its *Client. They aren't in the Client, so
-// that it may be copied.
-var wishes sync.Map
+// wishes are the requests of the followers that run for a client.
+type wishes struct {
+	client *Client // a copy of it gets wishes of its own
+	lock   sync.Mutex
+	all    map[*wish]bool
+}
 
-// wish is whether a follower is to ask now.
+// wishesOf returns the requests of the followers that run for the client. It is atomic, since a
+// Client has no lock, so that it may be copied.
+func (c *Client) wishesOf() *wishes {
+	field := (*unsafe.Pointer)(unsafe.Pointer(&c.wishes))
+	for {
+		found := (*wishes)(atomic.LoadPointer(field))
+		if found != nil && found.client == c {
+			return found
+		}
+		made := &wishes{client: c, all: map[*wish]bool{}}
+		atomic.CompareAndSwapPointer(field, unsafe.Pointer(found), unsafe.Pointer(made))
+	}
+}
+
+// make makes the request of each follower.
+func (w *wishes) make() {
+	w.lock.Lock()
+	defer w.lock.Unlock()
+	for one := range w.all {
+		one.make()
+	}
+}
+
+// add adds the request of a follower that starts to run.
+func (w *wishes) add(one *wish) {
+	w.lock.Lock()
+	defer w.lock.Unlock()
+	w.all[one] = true
+}
+
+// remove removes the request of a follower that has run.
+func (w *wishes) remove(one *wish) {
+	w.lock.Lock()
+	defer w.lock.Unlock()
+	delete(w.all, one)
+}
+
+// wish is a request to ask now, of one follower.
 type wish struct {
 	lock  sync.Mutex
-	made  bool   // and no query was sent since
+	made  bool   // and the link wasn't told of it yet
 	rings bool   // and the follower has to look at it
 	end   func() // ends what it waits for, if it does
 }
 
-// make makes the wish, and has the follower look at it.
+// make sets the request, and interrupts the follower's wait.
 func (w *wish) make() {
 	w.lock.Lock()
 	defer w.lock.Unlock()
@@ -47,7 +84,7 @@ func (w *wish) make() {
 	}
 }
 
-// fulfil says whether there is a wish, and that it needn't be looked at again.
+// fulfil reports whether a request is pending, and clears it.
 func (w *wish) fulfil() bool {
 	w.lock.Lock()
 	defer w.lock.Unlock()
@@ -56,7 +93,7 @@ func (w *wish) fulfil() bool {
 	return made
 }
 
-// waits says how a wait is ended that begins; nil where it is over.
+// waits registers the function that interrupts the current wait; nil clears it.
 func (w *wish) waits(end func()) {
 	w.lock.Lock()
 	defer w.lock.Unlock()
@@ -66,17 +103,7 @@ func (w *wish) waits(end func()) {
 	}
 }
 
-// asked tells a machine that waits of the wish to ask, if there is one.
-func (f *follower) asked() (action, bool) {
-	if !f.machine.waits() || !f.wish.fulfil() {
-		return action{}, false
-	}
-	a := f.machine.read(f.peer.now(), f.machine.otherSerial(), false)
-	f.came, f.unit = nil, nil
-	return a, a.kind != actionWait
-}
-
-// readUntil reads from the connection until the time, or until there is a wish.
+// readUntil reads from the connection until a time, or until a request is made.
 func (n *network) readUntil(at time.Time, buffer []byte) (int, error) {
 	if err := n.connection.SetReadDeadline(at); err != nil {
 		return 0, err

@@ -1,4 +1,4 @@
-//go:build cgo && linux && (amd64 || arm64)
+//go:build cgo && linux
 
 package rtr
 
@@ -6,11 +6,12 @@ import (
 	"bytes"
 	"context"
 	"net"
+	"sync"
 	"testing"
 	"time"
 )
 
-// quiet is a cache that plays scenes, fails the test where a query comes soon after them, and then
+// quiet is a cache that plays scenes, fails the test if a query comes soon after them, and then
 // closes the connection.
 func quiet(t *testing.T, scenes ...scene) func(*net.TCPConn) {
 	return func(cache *net.TCPConn) {
@@ -28,8 +29,8 @@ func quiet(t *testing.T, scenes ...scene) func(*net.TCPConn) {
 	}
 }
 
-// AskNow has a client ask that waits, once, from its own goroutine and from another one. That of
-// another client does nothing.
+// AskNow makes a waiting client ask, once, from its own goroutine and from another. That of another
+// client does nothing.
 func TestAskNow(t *testing.T) {
 	noLeaks(t)
 	first, second := scene{reset1, full(7, 1)}, scene{asked(1, 7, 1), full(7, 2)}
@@ -57,13 +58,13 @@ func TestAskNow(t *testing.T) {
 	}
 }
 
-// Without a connection AskNow comes to the query that the next one begins with.
+// Without a connection AskNow makes the next one.
 func TestAskNowOffline(t *testing.T) {
 	noLeaks(t)
 	client := quick(fakeCache(t, quiet(t, scene{reset1, full(7, 1)}),
 		quiet(t, scene{asked(1, 7, 1), full(7, 2)}),
 		play(t, nil, scene{asked(1, 7, 2), full(7, 3)})))
-	client.Version = 1
+	client.Version, client.Retry = 1, patience
 	ctx, cancel := limited(t)
 	defer cancel()
 	client.Failed = func(error) { client.AskNow() }
@@ -78,7 +79,7 @@ func TestAskNowOffline(t *testing.T) {
 	}
 }
 
-// While an answer comes AskNow has the client ask once more after it.
+// While an answer comes AskNow does nothing.
 func TestAskNowInAnAnswer(t *testing.T) {
 	noLeaks(t)
 	clients := make(chan *Client, 1)
@@ -89,8 +90,8 @@ func TestAskNowInAnAnswer(t *testing.T) {
 		cache.Write(answer[:30])
 		(<-clients).AskNow()
 		cache.Write(answer[30:])
-		play(t, nil, scene{asked(1, 7, 1), full(7, 3)})(cache)
-	}))
+		quiet(t)(cache)
+	}, play(t, nil, scene{asked(1, 7, 1), full(7, 3)})))
 	client.Version = 1
 	clients <- client
 	if updates, _ := follow(t, client, func(update Update) bool {
@@ -100,7 +101,41 @@ func TestAskNowInAnAnswer(t *testing.T) {
 	}
 }
 
-// Of a cache that has no data yet AskNow asks for all data.
+// hurried is a connection whose first read calls AskNow before the client has the bytes.
+type hurried struct {
+	*net.TCPConn
+	first  *sync.Once
+	client *Client
+}
+
+func (h hurried) Read(bytes []byte) (int, error) {
+	n, err := h.TCPConn.Read(bytes)
+	h.first.Do(h.client.AskNow)
+	return n, err
+}
+
+// A request comes before an answer that is read later, all of it at once.
+func TestAskNowBeforeAnAnswer(t *testing.T) {
+	noLeaks(t)
+	client := quick(fakeCache(t, quiet(t, scene{reset1, full(7, 1, ipv4)}),
+		play(t, nil, scene{asked(1, 7, 1), full(7, 3)})))
+	client.Version = 1
+	var first sync.Once
+	client.Dial = func(ctx context.Context, network, address string) (net.Conn, error) {
+		connection, err := new(net.Dialer).DialContext(ctx, network, address)
+		if err != nil {
+			return nil, err
+		}
+		return hurried{connection.(*net.TCPConn), &first, client}, nil
+	}
+	if updates, _ := follow(t, client, func(update Update) bool {
+		return update.Data.Serial() == 3
+	}); len(updates) != 2 {
+		t.Fatal(len(updates))
+	}
+}
+
+// AskNow asks a cache that has no data yet for all data.
 func TestAskNowWithoutData(t *testing.T) {
 	noLeaks(t)
 	client := quick(fakeCache(t, play(t, nil, scene{reset1, report(1, 2)}, scene{reset1, full(7, 3)})))
@@ -114,7 +149,7 @@ func TestAskNowWithoutData(t *testing.T) {
 	}
 }
 
-// A client that runs no more, or not yet, passes AskNow over.
+// A client that doesn't run any more, or yet, ignores AskNow.
 func TestAskNowWithoutRun(t *testing.T) {
 	noLeaks(t)
 	client := quick(fakeCache(t, play(t, nil, scene{reset1, full(7, 3)})))
@@ -128,15 +163,47 @@ func TestAskNowWithoutRun(t *testing.T) {
 			t.Fatal(err)
 		}
 	}
-	wishes.Range(func(_, left any) bool {
-		if left == client {
-			t.Error("a wish is left")
-		}
-		return true
-	})
+	if len(client.wishesOf().all) > 0 {
+		t.Error("a wish is left")
+	}
 }
 
-// AskNow doesn't disturb a client that is asked again and again, in whatever state it is.
+// asks returns a listener that calls AskNow of clients at the first data, and ends with the second.
+type asks []*Client
+
+func (a asks) Data(_ Source, update Update) error {
+	if update.Data.Serial() == 2 {
+		return errEnough
+	}
+	for _, client := range a {
+		client.AskNow()
+	}
+	return nil
+}
+
+func (a asks) Failed(_ Source, err error) error { return err }
+
+// AskNow works under Follow, for the sources that run.
+func TestAskNowInFollow(t *testing.T) {
+	noLeaks(t)
+	for count := 1; count <= 3; count++ {
+		var sources []Source
+		var clients asks
+		for i := 0; i < count; i++ {
+			client := quick(fakeCache(t, play(t, nil, scene{reset1, full(7, 1, ipv4)},
+				scene{asked(1, 7, 1), full(7, 2)})))
+			client.Version = 1
+			sources, clients = append(sources, Source{Client: client}), append(clients, client)
+		}
+		ctx, cancel := limited(t)
+		if err := Follow(ctx, sources, clients); err != errEnough {
+			t.Errorf("of %d: %v", count, err)
+		}
+		cancel()
+	}
+}
+
+// AskNow, called repeatedly, doesn't disturb a client in any state.
 func TestAskNowAgainAndAgain(t *testing.T) {
 	noLeaks(t)
 	_, address := started(t, nil, megabytes(t))

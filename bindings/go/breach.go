@@ -1,4 +1,4 @@
-//go:build cgo && linux && (amd64 || arm64)
+//go:build cgo && linux
 
 package rtr
 
@@ -13,29 +13,57 @@ import (
 	"time"
 )
 
-// What a Client and a Server refuse of a session, each in a Breach that says which unit it was.
+// Broken rules of a session, each in a Breach that names the unit.
 var (
-	// ErrOtherVersion is of a unit whose version isn't the one that the session has.
+	// ErrOtherVersion: the unit's version isn't that of the session.
 	ErrOtherVersion = errors.New(causeOtherVersion.String())
-	// ErrHigherVersion is of an answer whose version is above that of the query.
+	// ErrHigherVersion: the answer's version is above that of the query.
 	ErrHigherVersion = errors.New(causeHigherVersion.String())
-	// ErrNoVersion is of a query whose version isn't supported at all.
+	// ErrNoVersion: the query's version isn't supported at all.
 	ErrNoVersion = errors.New(reasonText(C.RTR_REASON_NO_VERSION))
-	// ErrOtherSession is of a unit of a cache whose session isn't that of its data.
+	// ErrOtherSession: the unit of a cache is of another session than its data.
 	ErrOtherSession = errors.New(causeOtherSession.String())
-	// ErrSerialBack is of an end of data whose serial number comes before that of the query.
+	// ErrSerialBack: the end of data has an earlier serial number than the query.
 	ErrSerialBack = errors.New(causeOldSerial.String())
-	// ErrOtherData is of an end of data with changes at the serial number of the query.
+	// ErrOtherData: there are changes, but the serial number is that of the query.
 	ErrOtherData = errors.New(causeOtherData.String())
-	// ErrNoQuery is of a unit of a client that is no query.
+	// ErrNoQuery: the unit of a client isn't a query.
 	ErrNoQuery = errors.New(reasonText(C.RTR_REASON_NO_QUERY))
-	// ErrMisplaced is of a unit of a cache that may not stand where it came.
+	// ErrMisplaced: a unit of this type isn't allowed where it came.
 	ErrMisplaced = errors.New(causeOutOfPlace.String())
-	// ErrNoPayload is of a payload unit that its version doesn't have.
+	// ErrNoPayload: the version has no payload unit of this type.
 	ErrNoPayload = errors.New(causeNoSuchPayload.String())
 )
 
-// breaches are the reasons of breaches, by the cause that the machine names.
+// cause is the reason why a connection ends.
+type cause uint8
+
+// The causes for which a Client has errors of their own.
+const (
+	causeLost          cause = C.RTR_CAUSE_LOST
+	causeSlow          cause = C.RTR_CAUSE_SLOW
+	causeFaulty        cause = C.RTR_CAUSE_FAULTY
+	causeReported      cause = C.RTR_CAUSE_REPORTED
+	causeOutOfPlace    cause = C.RTR_CAUSE_OUT_OF_PLACE
+	causeNoSuchPayload cause = C.RTR_CAUSE_NO_SUCH_PAYLOAD
+	causeOtherVersion  cause = C.RTR_CAUSE_OTHER_VERSION
+	causeHigherVersion cause = C.RTR_CAUSE_HIGHER_VERSION
+	causeOtherSession  cause = C.RTR_CAUSE_OTHER_SESSION
+	causeOldSerial     cause = C.RTR_CAUSE_OLD_SERIAL
+	causeOtherData     cause = C.RTR_CAUSE_OTHER_DATA
+	causeTooLong       cause = C.RTR_CAUSE_TOO_LONG
+	causeNotApplied    cause = C.RTR_CAUSE_NOT_APPLIED
+	causeExpired       cause = C.RTR_CAUSE_EXPIRED
+	causeLower         cause = C.RTR_CAUSE_LOWER
+	causeHigher        cause = C.RTR_CAUSE_HIGHER
+)
+
+// String is the text of the cause, as reports have it.
+func (c cause) String() string {
+	return name(namedCause, uint16(c))
+}
+
+// breaches maps the machine's causes to errors.
 var breaches = map[cause]error{
 	causeOutOfPlace:    ErrMisplaced,
 	causeNoSuchPayload: ErrNoPayload,
@@ -46,30 +74,30 @@ var breaches = map[cause]error{
 	causeOtherData:     ErrOtherData,
 }
 
-// Why a Server ended a connection, besides a Fault, a Breach, a Reported, ErrTooSlow, and errors of
-// the connection itself.
+// The reasons for which a Server ends a connection, besides a Fault, a Breach, a Reported,
+// ErrTooSlow, and errors of the connection itself.
 var (
-	// ErrServerClosed is of a Server that was closed or shut down.
+	// ErrServerClosed: the Server was closed or shut down.
 	ErrServerClosed = errors.New("rtr: the server is closed")
-	// ErrManyClients is of a client above the limit.
+	// ErrManyClients: the limit of clients is reached.
 	ErrManyClients = errors.New("rtr: " + reasonText(C.RTR_REASON_FULL))
-	// ErrSessionEnded is of a client that has data of the session before.
+	// ErrSessionEnded: the client has data of the former session.
 	ErrSessionEnded = errors.New("rtr: " + reasonText(C.RTR_REASON_NEW_SESSION))
-	// ErrUnknownData is of a serial query that was refused, as the limits say.
+	// ErrUnknownData: a serial query was refused, since Limits.Refuse is set.
 	ErrUnknownData = errors.New("rtr: " + reasonText(C.RTR_REASON_UNKNOWN))
-	// ErrBehind is of a client that takes an answer so slowly that three newer data have come.
+	// ErrBehind: three newer data have come while the client received an answer.
 	ErrBehind = errors.New("rtr: the router is too far behind")
 )
 
-// Data that a Server can't take: they aren't those that it has, and are of the same session.
+// Data that a Server refuses: the session is the same, and they differ from its present data.
 var (
-	// ErrSameSerial is of data whose serial number doesn't come later (RFC 1982).
+	// ErrSameSerial: the serial number of the data isn't later (RFC 1982).
 	ErrSameSerial = errors.New("the serial number isn't after the present one")
-	// ErrNewTiming is of data that differ in their timing alone.
+	// ErrNewTiming: the data differ only in their timing.
 	ErrNewTiming = errors.New("rtr: new timings want a new serial number")
 )
 
-// endings are the errors that the reasons are told by.
+// endings maps reasons to errors.
 var endings = map[C.uint8_t]error{
 	C.RTR_REASON_SLOW:          ErrTooSlow,
 	C.RTR_REASON_FULL:          ErrManyClients,
@@ -80,23 +108,23 @@ var endings = map[C.uint8_t]error{
 	C.RTR_REASON_UNKNOWN:       ErrUnknownData,
 }
 
-// reasonText is the text of a reason, as reports have it.
+// reasonText returns the text of a reason, as in reports.
 func reasonText(reason C.uint8_t) string {
 	return name(namedReason, uint16(reason))
 }
 
-// ErrTooSlow is of a peer that let a limit of time pass.
+// ErrTooSlow: the peer exceeded a time limit.
 var ErrTooSlow = errors.New("rtr: the peer is too slow")
 
-// Breach is a unit that the rules of a session don't allow, and that ends it. A unit that is wrong
-// by itself is a Fault. errors.Is finds the reason in it.
+// Breach is a unit that breaks a rule of the session, which ends it. A unit that is malformed is a
+// Fault. errors.Is finds the reason in it.
 type Breach struct {
 	Reason error     // one of the errors above
-	Code   ErrorCode // what it is reported with (RFC 8210 section 12)
+	Code   ErrorCode // of its report (RFC 8210 section 12)
 	Unit   []byte    // its bytes, as far as they were read
 }
 
-// Error names the reason, and the type and the version of the unit.
+// Error returns the reason, and the type and the version of the unit.
 func (b *Breach) Error() string {
 	if len(b.Unit) < 2 {
 		return "rtr: " + b.Reason.Error()
@@ -104,12 +132,12 @@ func (b *Breach) Error() string {
 	return fmt.Sprintf("rtr: %v: %v of version %d", b.Reason, Kind(b.Unit[1]), b.Unit[0])
 }
 
-// Unwrap gives the reason.
+// Unwrap returns the reason.
 func (b *Breach) Unwrap() error {
 	return b.Reason
 }
 
-// Report is the error report that is owed to the peer, and whether one is: none about an error
+// Report returns the error report that is owed to the peer, and whether one is: none about an error
 // report (RFC 8210 section 5.11).
 func (b *Breach) Report() (report *Unit, owed bool) {
 	if len(b.Unit) >= 2 && Kind(b.Unit[1]) == ErrorReport {
@@ -123,10 +151,10 @@ func (b *Breach) Report() (report *Unit, owed bool) {
 type Reported struct {
 	Version uint8
 	Code    ErrorCode
-	Text    string // as the peer gave it
+	Text    string // as received
 }
 
-// Error names the code, and quotes the text.
+// Error returns the code and the quoted text.
 func (r *Reported) Error() string {
 	if r.Text == "" {
 		return fmt.Sprintf("rtr: the peer reports: %v", r.Code)
@@ -134,8 +162,7 @@ func (r *Reported) Error() string {
 	return fmt.Sprintf("rtr: the peer reports: %v: %.200q", r.Code, r.Text)
 }
 
-// breachOf is the breach that a machine names, of the unit that these bytes begin with, of which it
-// has a copy.
+// breachOf returns the breach that a machine names, with a copy of the first unit of these bytes.
 func breachOf(why error, code ErrorCode, input []byte) error {
 	size, err := UnitSize(input)
 	if err != nil {
@@ -147,7 +174,7 @@ func breachOf(why error, code ErrorCode, input []byte) error {
 	return &Breach{Reason: why, Code: code, Unit: append([]byte{}, input[:size]...)}
 }
 
-// owned is the error with a copy of the unit, if it is a Fault.
+// owned returns the error, with a copy of the unit if it is a Fault.
 func owned(err error) error {
 	var fault *Fault
 	if errors.As(err, &fault) {
@@ -156,7 +183,7 @@ func owned(err error) error {
 	return err
 }
 
-// reportedIn is what the error report says that these bytes begin with.
+// reportedIn returns the error report at the start of these bytes.
 func reportedIn(input []byte) error {
 	unit, _, err := Next(input)
 	if err != nil {
@@ -165,22 +192,22 @@ func reportedIn(input []byte) error {
 	return reported(&unit)
 }
 
-// reported is what an error report says.
+// reported returns the content of an error report.
 func reported(unit *Unit) error {
 	return &Reported{Version: unit.Version, Code: unit.Code, Text: string(unit.Text)}
 }
 
-// isTimeout says whether a deadline passed.
+// isTimeout reports whether a deadline has passed.
 func isTimeout(err error) bool {
 	return errors.Is(err, os.ErrDeadlineExceeded)
 }
 
-// How much is read of a peer, and how long, after a report was sent to it: a connection that is
-// closed while bytes of the peer are unread is reset, and the report may be lost.
+// The bytes and the time for reading from a peer after a report was sent: closing a connection with
+// unread bytes resets it, and the report may be lost.
 const lingerBytes = 1 << 20
 
-// sendLast writes the bytes of a last unit to a connection, if there are some, and lets the peer
-// read them.
+// sendLast writes the bytes of a last unit to a connection, if there are any, and gives the peer
+// time to read them.
 func sendLast(connection net.Conn, last []byte, patience time.Duration) {
 	if len(last) == 0 {
 		return
@@ -197,7 +224,7 @@ func sendLast(connection net.Conn, last []byte, patience time.Duration) {
 	discard(connection, lingerBytes)
 }
 
-// discard reads what a connection still gives, at most so many bytes.
+// discard reads and drops bytes that still come, up to a number.
 func discard(connection net.Conn, most int) {
 	buffer := make([]byte, 4096)
 	for most > 0 {

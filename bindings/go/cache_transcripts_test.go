@@ -1,4 +1,4 @@
-//go:build cgo && linux && (amd64 || arm64)
+//go:build cgo && linux
 
 package rtr
 
@@ -15,19 +15,19 @@ import (
 	"time"
 )
 
-// playedCache is a scene of a cache: a connection with a made clock, and what the server does.
+// playedCache is a scene of a cache: a connection with a simulated clock, and what the server does.
 type playedCache struct {
-	net.Conn // none: what isn't below isn't called
+	net.Conn // nil: other methods aren't called
 	steps    // connects, beyond, > for bytes, closes, breaks, data, forgets, at
 	server   *Server
 	client   *served
 	broken   bool
 	deadline [2]time.Time // of the next read, and of the next write
-	later    []step       // came while it wrote
-	room     uint64       // how many bytes the router takes, until it is to take others
+	later    []step       // steps that came while it wrote
+	room     uint64       // how many bytes the router reads, until a step changes that
 }
 
-// The deadlines.
+// The indexes of the deadlines.
 const (
 	toRead = iota
 	toWrite
@@ -57,7 +57,7 @@ func (p *playedCache) SetWriteDeadline(until time.Time) error {
 	return nil
 }
 
-// until is a deadline by the made clock.
+// until returns a deadline by the simulated clock.
 func (p *playedCache) until(which int) uint64 {
 	if p.deadline[which].Before(p.server.clock.begun) {
 		return 0
@@ -65,7 +65,7 @@ func (p *playedCache) until(which int) uint64 {
 	return uint64(p.deadline[which].Sub(p.server.clock.begun).Milliseconds())
 }
 
-// waits has the clock come to the next step, if the deadline doesn't come before.
+// waits advances the clock to the next step, if the deadline doesn't come first.
 func (p *playedCache) waits(which int) error {
 	until := p.until(which)
 	switch {
@@ -88,7 +88,7 @@ func (p *playedCache) waits(which int) error {
 	return nil
 }
 
-// Read takes steps until bytes come, or the deadline does.
+// Read takes steps until bytes come, or the deadline passes.
 func (p *playedCache) Read(buffer []byte) (int, error) {
 	p.given, p.later = append(p.later, p.given...), nil
 	for {
@@ -116,8 +116,8 @@ func (p *playedCache) Read(buffer []byte) (int, error) {
 	}
 }
 
-// Write notes what is written, as far as the router takes it, and takes steps until it takes all,
-// or the deadline comes.
+// Write records what is written, as far as the router reads it, and takes steps until it reads
+// everything, or the deadline passes.
 func (p *playedCache) Write(bytes []byte) (int, error) {
 	for written := 0; ; {
 		if p.broken {
@@ -145,7 +145,7 @@ func (p *playedCache) Write(bytes []byte) (int, error) {
 	}
 }
 
-// sends notes units, or bytes for another end.
+// sends records units, or bytes for another end.
 func (p *playedCache) sends(bytes []byte) error {
 	if p.more != nil && len(bytes) > 0 {
 		p.notes("cache> %x", bytes)
@@ -201,7 +201,7 @@ func (p *playedCache) next() error {
 	return nil
 }
 
-// forgets has the server keep nothing of data up to those of a serial number.
+// forgets drops the server's deltas from data up to a serial number.
 func (p *playedCache) forgets(serial []byte) {
 	present := p.server.present.Load()
 	for i, one := range present.known {
@@ -212,7 +212,7 @@ func (p *playedCache) forgets(serial []byte) {
 	}
 }
 
-// play has a server do what the scene asks for.
+// play runs a server through the scene.
 func (p *playedCache) play() error {
 	for p.has(math.MaxUint64) {
 		what := p.given[0].what
@@ -237,7 +237,7 @@ func (p *playedCache) play() error {
 	return p.differs()
 }
 
-// take takes a line of the scene.
+// take reads a line of the scene.
 func (p *playedCache) take(line string) error {
 	words := strings.Fields(line)
 	if words[0] == "cache" {
@@ -276,7 +276,7 @@ func (p *playedCache) take(line string) error {
 	return err
 }
 
-// set takes a setting of the scene.
+// set reads a setting of the scene.
 func (p *playedCache) set(words []string) error {
 	number, err := strconv.ParseUint(words[1], 10, 64)
 	span := time.Duration(number) * time.Millisecond
@@ -298,7 +298,7 @@ func (p *playedCache) set(words []string) error {
 	return err
 }
 
-// A server does in each scene of a cache what the scene says.
+// A server does what each scene of a cache says.
 func TestCacheTranscripts(t *testing.T) {
 	playAll(t, "cache", newPlayedCache, "--cache")
 }

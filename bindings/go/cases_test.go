@@ -1,4 +1,4 @@
-//go:build cgo && linux && (amd64 || arm64)
+//go:build cgo && linux
 
 package rtr
 
@@ -27,8 +27,8 @@ var (
 	readsCases sync.Once
 )
 
-// The cases of the file that RTR_CASES names, or else those that cases.py makes. Where there is
-// no python3, the tests that need cases are skipped.
+// The cases of the file that RTR_CASES names, or else those that cases.py makes. Without python3
+// the tests that need cases are skipped.
 func cases(t *testing.T) []testCase {
 	readsCases.Do(func() {
 		if path := os.Getenv("RTR_CASES"); path != "" {
@@ -59,7 +59,7 @@ func cases(t *testing.T) []testCase {
 	return all
 }
 
-// numbers are the status and the detail of an error, as rtr.h has them.
+// numbers returns the status and the detail of an error, as rtr.h has them.
 func numbers(err error) (uint8, uint8) {
 	var fault *Fault
 	if !errors.As(err, &fault) {
@@ -76,7 +76,7 @@ func (one *testCase) normalised(input, output []byte, limit uint64) (Progress, e
 	return NormaliseFor(input, output, limit, one.version)
 }
 
-// room is how much room always suffices.
+// room returns an output size that always suffices.
 func (one *testCase) room() int {
 	if one.version == 255 {
 		return len(one.input)
@@ -84,7 +84,7 @@ func (one *testCase) room() int {
 	return len(one.input) + 12
 }
 
-// whole says what is wrong if the case is one call.
+// whole returns what is wrong if the case is one call.
 func (one *testCase) whole() error {
 	output := make([]byte, one.room())
 	progress, err := one.normalised(one.input, output, 1<<32)
@@ -99,7 +99,8 @@ func (one *testCase) whole() error {
 	return nil
 }
 
-// read says what is wrong if the case is read as a sequence of a Reader, and written by a Writer.
+// read returns what is wrong if the case is read as a sequence of a Reader, and written by a
+// Writer.
 func (one *testCase) read() error {
 	if one.version != 255 {
 		return nil
@@ -116,7 +117,7 @@ func (one *testCase) read() error {
 	taken := reader.Offset()
 	var fault *Fault
 	if errors.As(sequence.Err(), &fault) {
-		// A refused prefix is stepped over.
+		// A refused prefix is skipped.
 		taken = fault.Offset
 	}
 	if status != one.status || detail != one.detail || taken != int64(one.numbers[2]) {
@@ -159,7 +160,7 @@ func TestGoroutines(t *testing.T) {
 	running.Wait()
 }
 
-// In steps, with little room and few units each time: the result is the same.
+// In steps, with a small output and few units each time: the result is the same.
 func TestInTurns(t *testing.T) {
 	for _, one := range cases(t) {
 		if len(one.input) >= 1<<16 {
@@ -218,7 +219,7 @@ func TestNoRoomAndTooMany(t *testing.T) {
 	}
 }
 
-// The limit of a Sequence counts as that of Normalise. Where it ends one, another goes on.
+// The limit of a Sequence counts as that of Normalise. If it ends one, another continues.
 func TestSequenceLimit(t *testing.T) {
 	for _, one := range cases(t) {
 		if one.status != 0 || one.version != 255 || one.numbers[0] > 20 {
@@ -248,7 +249,7 @@ func TestSequenceLimit(t *testing.T) {
 }
 
 func TestMeanings(t *testing.T) {
-	// An end of data of version 0 alone.
+	// Only an end of data, of version 0.
 	end := []byte{0, 7, 0, 1, 0, 0, 0, 12, 0, 0, 0, 2}
 	for _, one := range cases(t) {
 		if one.version != 255 {
@@ -261,8 +262,8 @@ func TestMeanings(t *testing.T) {
 	}
 }
 
-// The limit of SameMeaning is that of both sequences, and its fault has the place where it ended
-// them.
+// The limit of SameMeaning applies to both sequences, and its fault has the offset at which it
+// ended them.
 func TestSameMeaningLimit(t *testing.T) {
 	short, long := join(ipv4, end), join(ipv4, ipv4, end)
 	for limit := uint64(0); limit < 4; limit++ {
@@ -289,7 +290,7 @@ func TestSameMeaningLimit(t *testing.T) {
 	}
 }
 
-// checkSame checks what SameMeaning answered of the case, which is the input of this side, and a
+// checkSame checks the result of SameMeaning for the case, which is the input of this side, and a
 // sequence that is accepted.
 func (one *testCase) checkSame(t *testing.T, same, expected bool, side Side, err error) {
 	status, detail := numbers(err)
@@ -314,7 +315,7 @@ type answer struct {
 	form                []byte
 }
 
-// sessions are those of the file that RTR_SESSIONS names, or else those that sessions.py makes,
+// sessions returns those of the file that RTR_SESSIONS names, or else those that sessions.py makes,
 // with the answer for each of their units.
 func sessions(t *testing.T) (inputs [][]byte, answers [][]answer) {
 	var rest []byte
@@ -352,7 +353,7 @@ func sessions(t *testing.T) (inputs [][]byte, answers [][]answer) {
 	return inputs, answers
 }
 
-// shown is what a unit shows, in the numbers of an answer, without those of a fault.
+// shown returns the fields of a unit, as the numbers of an answer, without those of a fault.
 func shown(unit *Unit, size int) [22]uint64 {
 	numbers := [22]uint64{
 		1: uint64(size), 7: uint64(unit.ASN), 8: uint64(unit.Customer), 9: uint64(unit.Serial),
@@ -384,7 +385,7 @@ func shown(unit *Unit, size int) [22]uint64 {
 	return numbers
 }
 
-// check says what is wrong with a unit that was read, or refused.
+// check returns what is wrong with a unit that was read, or refused.
 func (one *answer) check(unit *Unit, read []byte, err error) error {
 	status, detail := numbers(err)
 	if uint64(status) != one.numbers[0] || uint64(detail) != one.numbers[21] {
@@ -410,7 +411,7 @@ func (one *answer) check(unit *Unit, read []byte, err error) error {
 	return nil
 }
 
-// Sessions with units of all kinds, whole, cut off, and hostile: read by a Reader, and in memory.
+// Sessions with units of all kinds, whole, truncated, and hostile: read by a Reader, and in memory.
 func TestSessions(t *testing.T) {
 	inputs, answers := sessions(t)
 	for i, input := range inputs {

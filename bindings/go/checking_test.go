@@ -1,4 +1,4 @@
-//go:build cgo && linux && (amd64 || arm64)
+//go:build cgo && linux
 
 package rtr
 
@@ -11,7 +11,7 @@ import (
 	"testing"
 )
 
-// check is the lines of what a recording breaks, up to a unit that is refused.
+// check returns the lines of the rules that a recording breaks, up to a unit that is refused.
 func check(recording []byte) (string, error) {
 	var checker Checker
 	var said strings.Builder
@@ -59,7 +59,7 @@ func TestFindings(t *testing.T) {
 	}
 }
 
-// Units that are refused come after what was found before them.
+// The fault of a refused unit comes after the findings before it.
 func TestFindingsBeforeRefusal(t *testing.T) {
 	hosts := changed(ipv4, 15, 1)
 	for _, one := range []struct {

@@ -1,4 +1,4 @@
-//go:build cgo && linux && (amd64 || arm64)
+//go:build cgo && linux
 
 package rtr
 
@@ -15,8 +15,8 @@ import (
 	"time"
 )
 
-// fakeCache serves each connection in turn by a function of its own, the last one again and again,
-// and ends with the test. It gives its address.
+// fakeCache serves each connection in turn by a function of its own, the last one repeatedly, and
+// stops with the test. It returns its address.
 func fakeCache(t testing.TB, serve ...func(*net.TCPConn)) string {
 	t.Helper()
 	listener := listen(t, "127.0.0.1:0")
@@ -59,7 +59,7 @@ func fakeCache(t testing.TB, serve ...func(*net.TCPConn)) string {
 	return listener.Addr().String()
 }
 
-// quick is a client that waits for nothing long.
+// quick returns a client with short waits.
 func quick(address string) *Client {
 	client := NewClient(address)
 	client.Version = 2
@@ -70,7 +70,7 @@ func quick(address string) *Client {
 	return client
 }
 
-// A client without limits has those of NewClient, and asks in version 0.
+// A client without limits has those of NewClient, and asks in its version.
 func TestClientWithoutLimits(t *testing.T) {
 	noLeaks(t)
 	data := parsed(t, join(ipv4, ending(1, 7, 9)))
@@ -79,7 +79,7 @@ func TestClientWithoutLimits(t *testing.T) {
 	defer cancel()
 	client := &Client{Address: address}
 	got, err := client.Fetch(ctx)
-	if err != nil || got.Version() != 0 || got.Len() != 1 || got.Serial() != 9 {
+	if err != nil || got.Version() != 1 || got.Len() != 1 || got.Serial() != 9 {
 		t.Fatal(got, err)
 	}
 	updates, _ := follow(t, client, func(Update) bool { return true })
@@ -95,7 +95,7 @@ func TestClientWithoutLimits(t *testing.T) {
 	}
 }
 
-// An answer of as many bytes of payload units, or units, as are allowed is taken, and one of one
+// An answer with as many bytes of payload units, or units, as allowed is accepted, and with one
 // more isn't.
 func TestClientLimitsMet(t *testing.T) {
 	noLeaks(t)
@@ -121,13 +121,13 @@ func TestClientLimitsMet(t *testing.T) {
 	}
 }
 
-// limited is a context that ends with a test's patience.
+// limited returns a context that ends with a test's patience.
 func limited(t testing.TB) (context.Context, context.CancelFunc) {
 	t.Helper()
 	return context.WithTimeout(context.Background(), patience)
 }
 
-// readUnit reads a unit, and gives its bytes, or none at an error.
+// readUnit reads a unit, and returns its bytes, or none at an error.
 func readUnit(reader *Reader) []byte {
 	if _, err := reader.Next(); err != nil {
 		return nil
@@ -135,10 +135,10 @@ func readUnit(reader *Reader) []byte {
 	return append([]byte{}, reader.Bytes()...)
 }
 
-// errEnough ends a client that has what a test wants.
+// errEnough ends a client successfully.
 var errEnough = errors.New("enough")
 
-// follow runs a client until this answers true of an update, and gives all updates and failures.
+// follow runs a client until this returns true for an update, and returns all updates and failures.
 func follow(t testing.TB, client *Client, enough func(Update) bool) ([]Update, []error) {
 	t.Helper()
 	ctx, cancel := limited(t)
@@ -159,7 +159,7 @@ func follow(t testing.TB, client *Client, enough func(Update) bool) ([]Update, [
 	return updates, failures
 }
 
-// changesOf are the bytes of the units of an update.
+// changesOf returns the units of an update.
 func changesOf(update Update) []byte {
 	var all []byte
 	for units := update.Changes(); units.Scan(); {
@@ -168,7 +168,7 @@ func changesOf(update Update) []byte {
 	return all
 }
 
-// All data are fetched in each version, over IPv4 and IPv6.
+// All data are loaded in each version, over IPv4 and IPv6.
 func TestFetch(t *testing.T) {
 	noLeaks(t)
 	random := rand.New(rand.NewSource(7))
@@ -186,7 +186,7 @@ func TestFetch(t *testing.T) {
 	for version := uint8(0); version < 5; version++ {
 		for _, address := range addresses {
 			client := quick(address)
-			client.Version = version
+			client.AskIn(version)
 			data, err := client.Fetch(ctx)
 			asked := version
 			if asked > 2 {
@@ -199,8 +199,8 @@ func TestFetch(t *testing.T) {
 	}
 }
 
-// A client follows a server: each of its updates is a set that the server had, and the changes lead
-// from one to the next, as maps have them.
+// A client follows a server: each of its updates is a set that the server had, and the changes are
+// those from one to the next, as maps have them.
 func TestFollow(t *testing.T) {
 	noLeaks(t)
 	random := rand.New(rand.NewSource(8))
@@ -241,10 +241,11 @@ func TestFollow(t *testing.T) {
 	}
 }
 
-// scene is a script for a cache: what comes, and what it answers. If that is nil, it closes.
+// scene is a script for a cache: the expected unit, and the answer. A nil answer closes the
+// connection.
 type scene struct{ query, answer []byte }
 
-// play plays scenes, and then waits until the client closes the connection. It gives what came
+// play plays scenes, and then waits until the client closes the connection. It passes what came
 // after them to last, if that isn't nil.
 func play(t testing.TB, last chan<- []byte, scenes ...scene) func(*net.TCPConn) {
 	return func(connection *net.TCPConn) {
@@ -269,12 +270,12 @@ func play(t testing.TB, last chan<- []byte, scenes ...scene) func(*net.TCPConn) 
 	}
 }
 
-// full is an answer with all data in version 1: prefixes, and an end of data.
+// full returns an answer with all data in version 1: prefixes, and an end of data.
 func full(session uint16, serial uint32, prefixes ...[]byte) []byte {
 	return join(response(1, session), join(prefixes...), ending(1, session, serial))
 }
 
-// texts are the errors as texts.
+// texts returns the errors as texts.
 func texts(errs []error) string {
 	var all []string
 	for _, err := range errs {
@@ -290,17 +291,17 @@ var (
 	all0   = join(response(0, 7), changed(ipv4, 0, 0), ending(0, 7, 3))
 )
 
-// report is a report of a version with this code.
+// report returns a report of a version with this code.
 func report(version, code byte) []byte {
 	return reportBytes(version, code, nil, "no")
 }
 
-// Which failures a client tells of what ends a connection: the connections that it makes, with the
-// queries in each, the serial numbers that it gets to, and the failures. What it does where none is
-// told, tests/transcripts has.
+// The failures that a client reports for the end of a connection: its connections, with the queries
+// in each, its serial numbers, and the failures. tests/transcripts has what it does without a
+// failure.
 var clientFailures = map[string]struct {
 	connections [][]scene
-	serials     []uint32 // of the updates; 0 where the data were dropped
+	serials     []uint32 // of the updates; 0 if the data were dropped
 	failures    []error
 }{
 	"no data yet, and a notify": {
@@ -433,7 +434,7 @@ func TestClientFailures(t *testing.T) {
 	}
 }
 
-// From version 1 to version 0 a router key is withdrawn, and comes back.
+// From version 1 to version 0 a router key is withdrawn, and announced again.
 func TestChangesBetweenVersions(t *testing.T) {
 	noLeaks(t)
 	address := fakeCache(t, play(t, nil, scene{reset1, join(full(7, 1, key), report(1, 1))}),
@@ -456,7 +457,7 @@ func TestChangesBetweenVersions(t *testing.T) {
 	}
 }
 
-// sameReason says whether an error is the other one, or a report with its code.
+// sameReason reports whether an error is the other one, or a report with its code.
 func sameReason(err, other error) bool {
 	var report, code *Reported
 	if errors.As(other, &code) {
@@ -465,7 +466,7 @@ func sameReason(err, other error) bool {
 	return errors.Is(err, other)
 }
 
-// Data that aren't renewed in time are dropped, on a connection that is silent.
+// Data that aren't refreshed in time are dropped, on a silent connection.
 func TestExpire(t *testing.T) {
 	noLeaks(t)
 	client := quick(fakeCache(t, play(t, nil, scene{reset1, full(7, 1, ipv4)}),
@@ -486,15 +487,13 @@ func TestExpire(t *testing.T) {
 // The context ends a client in each of its states.
 func TestClientContext(t *testing.T) {
 	noLeaks(t)
-	closed := listen(t, "127.0.0.1:0")
-	closed.Close()
 	half := scene{asked(2, 0), response(2, 7)}
 	whole := scene{asked(2, 0), join(response(2, 7), ending(2, 7, 1))}
 	for name, address := range map[string]string{
 		"no answer":    fakeCache(t, play(t, nil)),
 		"half of one":  fakeCache(t, play(t, nil, half)),
 		"it waits":     fakeCache(t, play(t, nil, whole)),
-		"nobody there": closed.Addr().String(),
+		"nobody there": reserved(t),
 	} {
 		ctx, cancel := context.WithTimeout(context.Background(), 20*time.Millisecond)
 		client := quick(address)

@@ -1,4 +1,4 @@
-//go:build cgo && linux && (amd64 || arm64)
+//go:build cgo && linux
 
 package rtr
 
@@ -6,6 +6,7 @@ import (
 	"bytes"
 	"encoding/binary"
 	"errors"
+	"fmt"
 	"math"
 )
 
@@ -20,6 +21,19 @@ type Timing struct {
 // RecommendedTiming are the times that RFC 8210 section 6 recommends.
 var RecommendedTiming = Timing{
 	Refresh: usualRefresh, Retry: usualRetry, Expire: usualExpire,
+}
+
+// ErrTiming is of times that no cache may name.
+var ErrTiming = errors.New("rtr: no cache may name these times")
+
+// Check returns nil where a cache may name these times, and else an ErrTiming that says which rule
+// of RFC 8210 section 6 they break: the refresh time is 1 to 86400 seconds, the retry time 1 to
+// 7200, the expire time 600 to 172800, and longer than both.
+func (t Timing) Check() error {
+	if rule, broken := brokenTimeRule(t); broken {
+		return fmt.Errorf("%w: %s", ErrTiming, name(namedTimeRule, rule))
+	}
+	return nil
 }
 
 // Data is what a cache has, or a router has of it: payloads, and the end of data that says their
@@ -53,8 +67,8 @@ func NewData(version uint8, session uint16, serial uint32, timing Timing) (Data,
 }
 
 // ParseData makes data of the bytes that input begins with, if they are in canonical form and
-// withdraw nothing. What follows the end of data doesn't count. Order puts other sequences into
-// this form. The data have the written form of the units: what means nothing is zero.
+// withdraw nothing. What follows the end of data doesn't count. Load takes recordings, and lists in
+// any order. The data have the written form of the units: what means nothing is zero.
 //
 // Errors, each a Fault with the offset and the bytes of the unit: Short to PrefixRule;
 // NotCanonical.
@@ -69,6 +83,32 @@ func ParseData(input []byte) (Data, error) {
 		return Data{}, err
 	}
 	return checkedData(fitted(output, progress.Written)), nil
+}
+
+// Load makes data of all of a recording or a list, with their payload units in any order. A list is
+// payload units and an end of data. A recording is what a cache sent, with or without the router's
+// queries, of one answer or several, each with or without a cache response; as in a router, an
+// answer changes the data before it only in the same session and unless all data were asked for
+// (RFC 8210 sections 5.1, 5.3 to 5.5, 5.9 and 8). hasCut reports that an answer was left out, since
+// the next one began before its end of data.
+//
+// Errors, each a Fault with the offset and the bytes of the first unit that can't be taken:
+//   - Short to PrefixRule; Short at the end of an input whose last answer has no end of data, or
+//     that has no answer;
+//   - Duplicate or Unknown where a payload is announced that is there, or withdrawn that isn't (RFC
+//     8210 section 12);
+//   - OtherVersion for a payload unit or an end of data of another version than the units before it
+//     in its answer, or than the data that this changes;
+//   - OtherSession for an end of data of another session than its answer; OldSerial if its serial
+//     number comes before that of the data that its answer changes (RFC 1982);
+//   - ResetInside or ReportInside for a cache reset or an error report inside an answer.
+func Load(input []byte) (data Data, hasCut bool, err error) {
+	output := make([]byte, len(input))
+	length, hasCut, err := load(input, make([]byte, len(input)), output)
+	if err != nil {
+		return Data{}, false, err
+	}
+	return checkedData(fitted(output, length)), hasCut, nil
 }
 
 // unitLength is the length in the header of a unit that was checked.
@@ -247,11 +287,11 @@ func Delta(old, new Data) ([]byte, error) {
 // changesBetween are the changes between data of any versions and sessions: in the higher version,
 // as the other one may lack some of the payloads. The zero Data stands for none.
 func changesBetween(old, new Data) ([]byte, error) {
-	if old.IsZero() && new.IsZero() {
-		return nil, nil
+	if old.IsZero() {
+		return new.bytes, nil
 	}
 	version, session := new.Version(), new.Session()
-	if new.IsZero() || old.Version() > version && !old.IsZero() {
+	if new.IsZero() || old.Version() > version {
 		version = old.Version()
 	}
 	if new.IsZero() {

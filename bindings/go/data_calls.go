@@ -1,4 +1,4 @@
-//go:build cgo && linux && (amd64 || arm64)
+//go:build cgo && linux
 
 package rtr
 
@@ -43,6 +43,17 @@ static struct rtr_data_answer order(const uint8_t *input, size_t input_length,
 	rtr_order(input, input_length, index, index_length, output, output_length, &answer);
 	return answer;
 }
+
+static struct rtr_loaded load(const uint8_t *input, size_t input_length,
+                              size_t *index, size_t index_length,
+                              uint8_t *work, size_t work_length,
+                              uint8_t *output, size_t output_length)
+{
+	struct rtr_loaded loaded;
+	rtr_load(input, input_length, index, index_length, work, work_length, output, output_length,
+	         &loaded);
+	return loaded;
+}
 */
 import "C"
 
@@ -80,6 +91,20 @@ func order(changes, output []byte, units int) (int, error) {
 	in, n := place(changes)
 	out, room := place(output)
 	return answered(C.order(in, n, &index[0], C.size_t(units), out, room), changes)
+}
+
+// load writes the data that a recording or a list leaves to output, and returns their length and
+// whether an answer was left out. Work and output are as long as the input.
+func load(input, work, output []byte) (int, bool, error) {
+	index := make([]C.size_t, len(input)/shortestPayload)
+	in, n := place(input)
+	between, size := place(work)
+	out, room := place(output)
+	a := C.load(in, n, address(index), C.size_t(len(index)), between, size, out, room)
+	if status := Status(a.status); status != OK {
+		return 0, false, refusal(status, uint8(a.detail), input[a.offset:], int64(a.offset))
+	}
+	return int(a.length), bool(a.has_cut), nil
 }
 
 // answered is how a call ended that has these inputs.

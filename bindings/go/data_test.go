@@ -1,4 +1,4 @@
-//go:build cgo && linux && (amd64 || arm64)
+//go:build cgo && linux
 
 package rtr
 
@@ -14,16 +14,16 @@ import (
 	"testing"
 )
 
-// record is a payload as these tests have it: its rank orders records as docs of Data say, and its
-// name is what no two records of data share.
+// record is a payload in these tests: its rank orders records as the docs of Data say, and its name
+// is unique in data.
 type record struct {
 	kind Kind
-	body string // of the unit after its flags, without what means nothing
+	body string // of the unit after its flags, without free bits
 	rank string
 	name string
 }
 
-// recordOf is one of a few records, so that they meet.
+// recordOf returns one of a few records, so that they collide.
 func recordOf(random *rand.Rand) record {
 	number := func(n int) byte { return byte(random.Intn(n)) }
 	asn := []byte{0, number(2), 0, number(3)}
@@ -53,14 +53,14 @@ func recordOf(random *rand.Rand) record {
 	}
 }
 
-// origin is the record of a prefix unit.
+// origin returns the record of a prefix unit.
 func origin(kind Kind, address []byte, length, most byte, asn []byte) record {
 	rank := string([]byte{byte(kind)}) + string(address) + string([]byte{length, most}) + string(asn)
 	body := string([]byte{length, most, 0}) + string(address) + string(asn)
 	return record{kind: kind, body: body, rank: rank, name: rank}
 }
 
-// unit is the unit that announces or withdraws the record.
+// unit returns the unit that announces or withdraws the record.
 func (r record) unit(version byte, announce bool) []byte {
 	var flags byte
 	body := r.body
@@ -80,7 +80,7 @@ func (r record) unit(version byte, announce bool) []byte {
 	return unit
 }
 
-// ending is an end of data with the recommended timing.
+// ending returns an end of data with the recommended timing.
 func ending(version byte, session uint16, serial uint32) []byte {
 	if version == 0 {
 		unit := []byte{0, 7, 0, 0, 0, 0, 0, 12, 0, 0, 0, 0}
@@ -94,10 +94,10 @@ func ending(version byte, session uint16, serial uint32) []byte {
 	return unit
 }
 
-// records are data, by names.
+// records is data, by name.
 type records map[string]record
 
-// someRecords are random data.
+// someRecords returns random data.
 func someRecords(random *rand.Rand, count int) records {
 	all := records{}
 	for i := 0; i < count; i++ {
@@ -107,7 +107,7 @@ func someRecords(random *rand.Rand, count int) records {
 	return all
 }
 
-// ordered are the records for which this holds, by their rank.
+// ordered returns the records for which this holds, by rank.
 func (rs records) ordered(holds func(record) bool) []record {
 	var all []record
 	for _, one := range rs {
@@ -119,7 +119,7 @@ func (rs records) ordered(holds func(record) bool) []record {
 	return all
 }
 
-// units are the units that announce or withdraw these records.
+// units returns the units that announce or withdraw these records.
 func units(version byte, announce bool, all []record) [][]byte {
 	var units [][]byte
 	for _, one := range all {
@@ -128,20 +128,20 @@ func units(version byte, announce bool, all []record) [][]byte {
 	return units
 }
 
-// canonical are the bytes of the data.
+// canonical returns the bytes of the data.
 func (rs records) canonical(version byte, serial uint32) []byte {
 	all := units(version, true, rs.ordered(func(record) bool { return true }))
 	return join(append(all, ending(version, 0x1234, serial))...)
 }
 
-// leadingTo are the units of the delta to new.
+// leadingTo returns the units of the delta to new.
 func (rs records) leadingTo(new records, version byte) [][]byte {
 	announced := new.ordered(func(one record) bool { return rs[one.name] != one })
 	withdrawn := rs.ordered(func(one record) bool { _, stays := new[one.name]; return !stays })
 	return append(units(version, true, announced), units(version, false, withdrawn)...)
 }
 
-// parsed are data that have to be accepted.
+// parsed returns data that have to be accepted.
 func parsed(t testing.TB, input []byte) Data {
 	t.Helper()
 	data, err := ParseData(input)
@@ -151,8 +151,8 @@ func parsed(t testing.TB, input []byte) Data {
 	return data
 }
 
-// The delta between any two data is that of maps, and leads from the old ones to the new, in
-// whichever order its units come.
+// The delta between any two data is that of maps, and turns the old data into the new, in whichever
+// order its units come.
 func TestDeltas(t *testing.T) {
 	random := rand.New(rand.NewSource(1))
 	for i := 0; i < 2000; i++ {
@@ -184,8 +184,7 @@ func TestDeltas(t *testing.T) {
 	}
 }
 
-// changing are units of changes, and what is made of records by them, up to the first that isn't
-// allowed.
+// changing is units of changes, and the records after them, up to the first that isn't allowed.
 type changing struct {
 	held   records
 	input  []byte
@@ -210,7 +209,7 @@ func (c *changing) change(one record, announce bool) {
 	c.input = append(c.input, one.unit(2, announce)...)
 }
 
-// becomes checks what a call answered that made these changes.
+// becomes checks the result of a call that applied these changes.
 func (c *changing) becomes(t *testing.T, made Data, err error) {
 	t.Helper()
 	if c.status == OK {
@@ -222,7 +221,7 @@ func (c *changing) becomes(t *testing.T, made Data, err error) {
 	}
 }
 
-// Changes in any order are made one after the other, all or not at all, and the first that isn't
+// Changes in any order are applied one after the other, all or none, and the first that isn't
 // allowed is named.
 func TestApplyInOrder(t *testing.T) {
 	random := rand.New(rand.NewSource(6))
@@ -249,8 +248,7 @@ func TestApplyInOrder(t *testing.T) {
 	}
 }
 
-// Changes in canonical form are applied all or not at all, and the first that isn't allowed is
-// named.
+// Changes in canonical form are applied, all or none, and the first that isn't allowed is named.
 func TestApply(t *testing.T) {
 	random := rand.New(rand.NewSource(2))
 	refused := map[Status]int{}
@@ -278,8 +276,8 @@ func TestApply(t *testing.T) {
 	}
 }
 
-// refusedAt says what is wrong with an error that should have this status, offset and unit, and
-// owe the report that RFC 8210 section 12 has for it.
+// refusedAt returns what is wrong with an error that should have this status, offset and unit, and
+// owe the report of RFC 8210 section 12.
 func refusedAt(err error, status Status, input []byte, offset int) error {
 	var fault *Fault
 	if !errors.As(err, &fault) || !errors.Is(err, status) || fault.Offset != int64(offset) {
@@ -304,7 +302,7 @@ func refusedAt(err error, status Status, input []byte, offset int) error {
 	return nil
 }
 
-// Sequences in which payloads come and go: what they come to, as maps have it.
+// Sequences of repeated announcements and withdrawals: their net effect, as maps have it.
 func TestOrder(t *testing.T) {
 	random := rand.New(rand.NewSource(3))
 	seen := map[Status]int{}
@@ -344,8 +342,9 @@ type event struct {
 	offset   int
 }
 
-// comesTo is what events on the records of a pool, which are in order, come to in canonical form;
-// or which unit is refused. An ASPA that is withdrawn, announced and withdrawn again is left out.
+// comesTo returns the net effect of events on the records of a pool, which are in order, in
+// canonical form; or which unit is refused. An ASPA that is withdrawn, announced and withdrawn
+// again is left out.
 func comesTo(pool []record, events []event) (form []byte, status Status, offset int, known bool) {
 	var announced, withdrawn []byte
 	for _, one := range pool {
@@ -382,7 +381,7 @@ func comesTo(pool []record, events []event) (form []byte, status Status, offset 
 	return join(announced, withdrawn, ending(2, 0x1234, 6)), OK, 0, true
 }
 
-// changed is a copy of bytes with one that differs.
+// changed returns a copy of bytes with one changed.
 func changed(b []byte, at int, to byte) []byte {
 	b = append([]byte{}, b...)
 	b[at] = to
@@ -399,7 +398,7 @@ var (
 	withdrawn11 = changed(withdrawn, 0, 1)
 )
 
-// What is refused of data, of changes that are applied, and of those that are put in order.
+// Refusals of data, of changes that are applied, and of those that are sorted.
 var refusals = []struct {
 	name   string
 	call   func([]byte) error
@@ -517,11 +516,11 @@ func TestDeltaRefusals(t *testing.T) {
 	}
 }
 
-// second is the error of a call with two answers.
+// second returns the error of a call with two results.
 func second(_ any, err error) error { return err }
 
-// An output as long as what is written suffices, one that is a byte shorter doesn't, and nothing is
-// written after it.
+// An output of the exact size suffices, one that is a byte shorter doesn't, and nothing is written
+// after it.
 func TestDataOutputs(t *testing.T) {
 	old, new := join(ipv4, end), join(otherIPv4, announced6, end)
 	changes := join(otherIPv4, announced6, withdrawn4, end)
@@ -551,7 +550,7 @@ func TestDataOutputs(t *testing.T) {
 	}
 }
 
-// Data without payloads, and what an end of data says.
+// Data without payloads, and the fields of an end of data.
 func TestNewData(t *testing.T) {
 	timing := Timing{Refresh: 1, Retry: 2, Expire: 600}
 	for version := uint8(0); version < 4; version++ {
@@ -577,7 +576,7 @@ func TestNewData(t *testing.T) {
 	}
 }
 
-// Bytes that mean nothing may differ in what is parsed: the data are the same.
+// Free bits may differ in the input: the data are the same.
 func TestDataForm(t *testing.T) {
 	stray := changed(changed(changed(ipv4, 3, 9), 8, 3), 15, 77)
 	data := parsed(t, join(stray, end, stray))
@@ -602,7 +601,7 @@ func TestDataForm(t *testing.T) {
 	}
 }
 
-// Data for each version have what the version has.
+// Data for each version have the payloads that the version has.
 func TestDataFor(t *testing.T) {
 	random := rand.New(rand.NewSource(4))
 	for i := 0; i < 300; i++ {
@@ -632,7 +631,7 @@ func TestDataFor(t *testing.T) {
 	}
 }
 
-// reread checks what a loop over data gives, and is what there is for the next version.
+// reread checks a loop over data, and returns the data for the next version.
 func reread(t *testing.T, got, data Data, to uint8, all records) records {
 	units, at := got.Units(), 0
 	for units.Scan() {
@@ -654,7 +653,7 @@ func reread(t *testing.T, got, data Data, to uint8, all records) records {
 	return next
 }
 
-// recordsOf is the record of a unit.
+// recordsOf returns the record of a unit.
 func recordsOf(unit *Unit) records {
 	form, _ := unit.MarshalBinary()
 	body := string(form[8:])
@@ -669,7 +668,7 @@ func recordsOf(unit *Unit) records {
 	return records{one.name: one}
 }
 
-// The raw bytes of a sequence are collected, at most so many.
+// The raw bytes of a sequence are collected, up to a limit.
 func TestCollect(t *testing.T) {
 	input := join(ipv4, withdrawn, changed(ipv6, 2, 9), end, resetQuery)
 	sequence := join(ipv4, withdrawn, changed(ipv6, 2, 9), end)

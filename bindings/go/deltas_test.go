@@ -1,4 +1,4 @@
-//go:build cgo && linux && (amd64 || arm64)
+//go:build cgo && linux
 
 package rtr
 
@@ -11,15 +11,15 @@ import (
 	"testing"
 )
 
-// deltaCase is a case that tests/libraries/deltas.py wrote: a call, and what is expected of it.
+// deltaCase is a case that tests/libraries/deltas.py wrote: a call, and its expected result.
 type deltaCase struct {
 	call, status, side, detail uint8
 	offset                     int64
 	first, second, output      []byte
 }
 
-// deltaCases are those of the file that RTR_DELTAS names, or else those that deltas.py makes.
-// Where there is no python3, the test is skipped.
+// deltaCases returns those of the file that RTR_DELTAS names, or else those that deltas.py makes.
+// Without python3 the test is skipped.
 func deltaCases(t *testing.T) (all []deltaCase) {
 	path := os.Getenv("RTR_DELTAS")
 	rest, err := os.ReadFile(path)
@@ -36,7 +36,7 @@ func deltaCases(t *testing.T) (all []deltaCase) {
 		one := deltaCase{call: rest[0], status: rest[1], side: rest[2], detail: rest[3]}
 		one.offset = int64(binary.LittleEndian.Uint64(rest[4:]))
 		lengths := rest[12:36]
-		rest = rest[44:] // after how many places an index has: here one for each unit
+		rest = rest[44:] // without the size of the index: here an entry for each unit
 		for i, part := range []*[]byte{&one.first, &one.second, &one.output} {
 			length := binary.LittleEndian.Uint64(lengths[8*i:])
 			*part, rest = rest[:length], rest[length:]
@@ -46,7 +46,7 @@ func deltaCases(t *testing.T) (all []deltaCase) {
 	return all
 }
 
-// called calls what the case is of, with a place for each unit that may be there.
+// called makes the call of the case, with an index entry for each possible unit.
 func (one *deltaCase) called() ([]byte, error) {
 	switch output := make([]byte, len(one.first)+len(one.second)); one.call {
 	case 0:

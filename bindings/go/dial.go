@@ -1,4 +1,4 @@
-//go:build cgo && linux && (amd64 || arm64)
+//go:build cgo && linux
 
 package rtr
 
@@ -8,15 +8,15 @@ import (
 	"net"
 )
 
-// NewClientConn makes a Client as NewClient does, which has this connection and no other: Run and
-// Fetch end with it, and say why it ended, also where the cache has a lower version only.
+// NewClientConn makes a Client as NewClient does, with this connection only: Run and Fetch end with
+// it, and return why it ended, also if the cache has only a lower version.
 func NewClientConn(connection net.Conn) *Client {
 	client := NewClient("")
 	client.connection = connection
 	return client
 }
 
-// dialer is how the client makes connections.
+// dialer returns the function by which the client connects.
 func (c *Client) dialer() func(context.Context, string, string) (net.Conn, error) {
 	switch {
 	case c.connection != nil:
@@ -34,5 +34,5 @@ func (c *Client) dialer() func(context.Context, string, string) (net.Conn, error
 	return new(net.Dialer).DialContext
 }
 
-// errNoOther is of a client that has one connection only, after its end.
+// errNoOther reports that a client's only connection has ended.
 var errNoOther = errors.New("rtr: the connection has ended, and there is no other")

@@ -1,4 +1,4 @@
-//go:build cgo && linux && (amd64 || arm64)
+//go:build cgo && linux
 
 package rtr
 
@@ -13,15 +13,15 @@ import (
 	"time"
 )
 
-// How many versions of the protocol there are.
+// The number of versions of the protocol.
 const versions = 3
 
-// How many editions a client may be behind in the middle of an answer.
+// How many editions a client may fall behind during an answer.
 const mostBehind = 2
 
-// edition is what a cache has at one serial number; before its first data it has an empty one. Of
-// the data before these, of the same session, it has what leads back to them. It never changes, but
-// for what it makes for clients.
+// edition is a cache's data at one serial number, with the steps back to earlier data of the same
+// session; before its first data a cache has an empty one. Immutable, except for caches of encoded
+// answers.
 type edition struct {
 	mark
 	data  Data
@@ -37,7 +37,7 @@ type edition struct {
 	room   int // for more deltas
 }
 
-// mark says which edition one is.
+// mark identifies an edition.
 type mark struct {
 	full    bool // it has data
 	number  int  // of all that the cache had
@@ -56,8 +56,8 @@ type question struct {
 	serial  uint32
 }
 
-// newEdition is one of data, and of these steps back those that the limits allow, to serial numbers
-// that come before theirs.
+// newEdition returns an edition of data, with those of the steps back that the limits allow and
+// that lead to earlier serial numbers.
 func newEdition(number int, data Data, back []stepBack, limits ServerLimits) *edition {
 	room := limits.KeepBytes
 	e := &edition{
@@ -77,7 +77,7 @@ func newEdition(number int, data Data, back []stepBack, limits ServerLimits) *ed
 	return e
 }
 
-// next is the edition of new data after this one. Where they are the same it is this one.
+// next returns the edition of new data after this one, or this one if the data are the same.
 func (e *edition) next(data Data, limits ServerLimits) (*edition, error) {
 	if !e.full {
 		return newEdition(0, data, nil, limits), nil
@@ -108,7 +108,7 @@ func (e *edition) next(data Data, limits ServerLimits) (*edition, error) {
 	return newEdition(e.number+1, data, back, limits), err
 }
 
-// serialError is an ErrSameSerial of these serial numbers.
+// serialError returns an ErrSameSerial with these serial numbers.
 type serialError struct{ old, new uint32 }
 
 func (e *serialError) Error() string {
@@ -117,7 +117,7 @@ func (e *serialError) Error() string {
 
 func (e *serialError) Unwrap() error { return ErrSameSerial }
 
-// in are the data and the steps back in a version that isn't below theirs.
+// in returns the data and the steps back in a version at least as high as theirs.
 func (e *edition) in(version uint8) (Data, []stepBack, error) {
 	data, err := e.data.For(version)
 	if version == e.data.Version() || err != nil {
@@ -132,7 +132,7 @@ func (e *edition) in(version uint8) (Data, []stepBack, error) {
 	return data, back, nil
 }
 
-// behind says why no more of the edition is to be sent, if that is so.
+// behind returns why no more of the edition is to be sent; nil if it may be.
 func (m mark) behind(present mark) error {
 	switch {
 	case !m.full:
@@ -145,7 +145,7 @@ func (m mark) behind(present mark) error {
 	return nil
 }
 
-// form is what the version has of the data.
+// form returns the data as encoded for clients of version.
 func (e *edition) form(version uint8) (piece, error) {
 	e.lock.Lock()
 	defer e.lock.Unlock()
@@ -156,7 +156,7 @@ func (e *edition) form(version uint8) (piece, error) {
 	return piece{bytes: e.forms[version].Bytes()}, err
 }
 
-// file is the same in a file, if they are many, which is there until sent is called.
+// file returns the same in a file, if they are large; it stays until sent is called.
 func (e *edition) file(version uint8) (piece, error) {
 	e.lock.Lock()
 	defer e.lock.Unlock()
@@ -172,7 +172,7 @@ func (e *edition) file(version uint8) (piece, error) {
 	return *made, err
 }
 
-// sent says that a client is done with what file answered.
+// sent releases what file returned.
 func (e *edition) sent() {
 	e.lock.Lock()
 	defer e.lock.Unlock()
@@ -180,7 +180,7 @@ func (e *edition) sent() {
 	e.closeUnused()
 }
 
-// replaced says that there is a newer edition.
+// replaced notes that there is a newer edition.
 func (e *edition) replaced() {
 	e.lock.Lock()
 	defer e.lock.Unlock()
@@ -188,7 +188,7 @@ func (e *edition) replaced() {
 	e.closeUnused()
 }
 
-// closeUnused closes the files of an old edition that no client is sent.
+// closeUnused closes the files of an old edition that isn't being sent to any client.
 func (e *edition) closeUnused() {
 	for version := range e.files {
 		if made := &e.files[version]; e.old && e.sends == 0 && made.file != nil {
@@ -198,8 +198,8 @@ func (e *edition) closeUnused() {
 	}
 }
 
-// since is the delta for clients of a version from the data of a serial number that is known, or
-// from these data.
+// since returns the delta for clients of a version, from the data of a known serial number, or from
+// these data.
 func (e *edition) since(version uint8, serial uint32) ([]byte, error) {
 	if serial == e.data.Serial() {
 		_, end := parts(e.data.Bytes())
@@ -222,7 +222,7 @@ func (e *edition) since(version uint8, serial uint32) ([]byte, error) {
 	return e.change(asked, old)
 }
 
-// change is the delta that answers a question, from old data of the version of these.
+// change returns the delta that answers a question, from old data of the version of these.
 func (e *edition) change(asked question, old Data) ([]byte, error) {
 	changes, err := Delta(old, e.data)
 	if err == nil {
@@ -234,7 +234,7 @@ func (e *edition) change(asked question, old Data) ([]byte, error) {
 	return changes, err
 }
 
-// prepare makes what clients of the edition before will ask for. What fails is tried again then.
+// prepare computes what clients of the edition before will ask for. What fails is retried then.
 func (e *edition) prepare(old *edition) {
 	old.lock.Lock()
 	forms, files := old.forms, old.files
@@ -248,7 +248,7 @@ func (e *edition) prepare(old *edition) {
 	}
 }
 
-// before are the data that steps back make of data, one after the other.
+// before returns the data before these, one for each step back.
 func before(data Data, back []stepBack) (Data, error) {
 	if len(back) == 0 {
 		return data, nil

@@ -1,4 +1,4 @@
-//go:build cgo && linux && (amd64 || arm64)
+//go:build cgo && linux
 
 package rtr_test
 
@@ -11,17 +11,17 @@ import (
 	"fishreef/rtr"
 )
 
-// follow prints what a cache announces and withdraws, until the context ends. It keeps nothing:
+// follow prints what a cache announces and withdraws, until the context ends. It stores nothing:
 // the client has the data.
 func follow(ctx context.Context, address string) error {
 	client := rtr.NewClient(address)
-	client.Failed = func(err error) { fmt.Println(err) } // and it connects again
+	client.Failed = func(err error) { fmt.Println(err) } // and it reconnects
 	return client.Run(ctx, func(update rtr.Update) error {
 		for changes := update.Changes(); changes.Scan(); {
 			unit := changes.Unit()
 			fmt.Println(unit.Announce, unit.Kind, unit.Prefix, unit.ASN)
 		}
-		fmt.Println(update.Data.Len(), "payloads at serial number", update.Data.Serial())
+		fmt.Println("serial number", update.Data.Serial(), "payloads:", update.Data.Len())
 		if update.Data.Len() == 0 {
 			return errNothing
 		}
@@ -32,8 +32,8 @@ func follow(ctx context.Context, address string) error {
 // errNothing ends the client.
 var errNothing = errors.New("the cache has nothing any more")
 
-// serve makes a cache at an address, where it serves this sequence; after another Update it
-// notifies its clients. Close ends it.
+// serve starts a cache at an address, which serves this sequence; after another Update it notifies
+// its clients. Close stops it.
 func serve(address string, sequence []byte) (*rtr.Server, net.Addr, error) {
 	data, err := rtr.ParseData(sequence)
 	if err != nil {
@@ -68,6 +68,6 @@ func ExampleServer() {
 	fmt.Println(follow(context.Background(), address.String()))
 	// Output:
 	// 1 payload <nil>
-	// 0 payloads at serial number 2
+	// serial number 2 payloads: 0
 	// the cache has nothing any more
 }

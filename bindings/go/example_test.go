@@ -1,4 +1,4 @@
-//go:build cgo && linux && (amd64 || arm64)
+//go:build cgo && linux
 
 package rtr_test
 
@@ -22,8 +22,8 @@ var sent = []byte{
 	1, 7, 0x12, 0x34, 0, 0, 0, 24, 0, 0, 0, 5, 0, 0, 0x0e, 0x10, 0, 0, 2, 0x58, 0, 0, 0x1c, 0x20,
 }
 
-// fetch asks a cache for all of its data, and prints it. If a unit is refused, the report that is
-// owed goes to the cache.
+// fetch asks a cache for all of its data, and prints them. If a unit is refused, it sends the owed
+// report to the cache.
 func fetch(connection io.ReadWriter) error {
 	writer := rtr.NewWriter(connection)
 	if err := writer.Write(&rtr.Unit{Kind: rtr.ResetQuery, Version: 1}); err != nil {

@@ -1,4 +1,4 @@
-//go:build cgo && linux && (amd64 || arm64)
+//go:build cgo && linux
 
 package rtr_test
 
@@ -10,7 +10,7 @@ import (
 	"fishreef/rtr"
 )
 
-// states prints whether three routes are valid by the data of a router, and why one isn't.
+// states prints whether three routes are valid by the data of a router, and if not, why.
 func states(data rtr.Data) {
 	for _, route := range []struct {
 		prefix string

@@ -1,4 +1,4 @@
-//go:build cgo && linux && (amd64 || arm64)
+//go:build cgo && linux
 
 package rtr
 
@@ -53,7 +53,7 @@ type Fault struct {
 
 // Error is a text that names the detail and the offset.
 func (f *Fault) Error() string {
-	text := f.text()
+	text := f.Text()
 	switch {
 	case f.Offset < 0:
 		return "rtr: " + text
@@ -63,8 +63,8 @@ func (f *Fault) Error() string {
 	return fmt.Sprintf("rtr: %s, at byte %d", text, f.Offset)
 }
 
-// text names the detail.
-func (f *Fault) text() string {
+// Text says what is wrong, and names the detail, but not the offset.
+func (f *Fault) Text() string {
 	return statusText(f.Status, f.Detail)
 }
 
@@ -96,7 +96,7 @@ func (f *Fault) Report() (report *Unit, owed bool) {
 	if !owed {
 		return nil, false
 	}
-	return reportOn(code, f.Unit, f.text()), true
+	return reportOn(code, f.Unit, f.Text()), true
 }
 
 // reportOn is the error report with this code and text about a unit, in the version of that unit.
@@ -119,7 +119,8 @@ func refusal(status Status, detail uint8, input []byte, offset int64) *Fault {
 	size := len(input)
 	switch status {
 	case Short:
-	case PrefixRule, NotCanonical, Duplicate, Unknown, Undecided:
+	case PrefixRule, NotCanonical, Duplicate, Unknown, Undecided, OtherVersion, OtherSession,
+		OldSerial, ResetInside, ReportInside:
 		// The unit is whole.
 		size, _, _ = unitSize(input)
 	case TooMany, NoRoom:

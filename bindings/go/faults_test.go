@@ -1,4 +1,4 @@
-//go:build cgo && linux && (amd64 || arm64)
+//go:build cgo && linux
 
 package rtr
 
@@ -272,7 +272,8 @@ func TestClientRefusals(t *testing.T) {
 			got <- rest
 		})
 		client := quick(address)
-		client.Version, client.Limits.Units, client.Limits.Bytes = one.version, 100, 65536
+		client.AskIn(one.version)
+		client.Limits.Units, client.Limits.Bytes = 100, 65536
 		ctx, cancel := limited(t)
 		data, err := client.Fetch(ctx)
 		cancel()
@@ -400,7 +401,7 @@ func TestCrowd(t *testing.T) {
 		go func(version uint8) {
 			defer good.Done()
 			client := quick(address)
-			client.Version = version
+			client.AskIn(version)
 			client.Failed = func(err error) { t.Errorf("version %d: %v", version, err) }
 			err := client.Run(ctx, func(update Update) error {
 				serial := update.Data.Serial()

@@ -1,4 +1,4 @@
-//go:build cgo && linux && (amd64 || arm64)
+//go:build cgo && linux
 
 package rtr
 
@@ -13,11 +13,11 @@ import (
 	"unsafe"
 )
 
-// How many bytes a huge page has.
+// The size of a huge page.
 const hugePage = 1 << 21
 
-// piece is of an answer: bytes, or in their place what is left of a file in memory, from which a
-// socket takes it without a copy.
+// piece is a part of an answer: bytes, or the rest of a file in memory, which a socket sends
+// without a copy.
 type piece struct {
 	bytes []byte
 	file  *os.File
@@ -25,7 +25,7 @@ type piece struct {
 	left  int   // of the file
 }
 
-// filed are bytes in a file in memory, if they are many and the system has one for them.
+// filed holds bytes in a file in memory, if they are large and the system has one.
 func filed(bytes []byte) piece {
 	usual := piece{bytes: bytes}
 	if len(bytes) < chunk {
@@ -37,7 +37,7 @@ func filed(bytes []byte) piece {
 		return usual
 	}
 	beginHuge(int(descriptor), len(bytes))
-	// Once: at a limit for the size of files a second write would end the process.
+	// Once: at a limit of the size of files a second write would end the process.
 	if n, err := syscall.Write(int(descriptor), bytes); err != nil || n < len(bytes) {
 		syscall.Close(int(descriptor))
 		return usual
@@ -45,9 +45,10 @@ func filed(bytes []byte) piece {
 	return piece{file: os.NewFile(uintptr(descriptor), "rtr"), left: len(bytes)}
 }
 
-// beginHuge has an empty file in memory begin with huge pages, as many as these bytes fill at least
-// by half: to send them takes less time. A page has to have a byte before. Where the system has
-// none, or a write behind its limit would end the process, the bytes get the usual pages later.
+// beginHuge allocates huge pages at the front of an empty file in memory, as many as these bytes
+// fill at least by half: sending them is faster. A page is allocated by writing a byte to it. If
+// the system has none, or a write past its limit would end the process, the bytes get usual pages
+// later.
 func beginHuge(file, size int) {
 	const collapse = 25 // MADV_COLLAPSE, since Linux 6.1
 	var limit syscall.Rlimit
@@ -72,10 +73,10 @@ func beginHuge(file, size int) {
 	}
 }
 
-// size is how many bytes are left.
+// size returns how many bytes are left.
 func (p *piece) size() int { return len(p.bytes) + p.left }
 
-// send has a socket take some of the piece: how many bytes it took.
+// send writes some of the piece to a socket, and returns how many bytes were sent.
 func (p *piece) send(socket int) (int, error) {
 	if p.file == nil {
 		return syscall.Write(socket, p.bytes)
@@ -86,7 +87,7 @@ func (p *piece) send(socket int) (int, error) {
 	return taken, err
 }
 
-// skip is done with some of the piece.
+// skip drops sent bytes.
 func (p *piece) skip(taken int) {
 	if p.file == nil {
 		p.bytes = p.bytes[taken:]

@@ -1,4 +1,4 @@
-//go:build cgo && linux && (amd64 || arm64)
+//go:build cgo && linux
 
 package rtr
 
@@ -12,8 +12,7 @@ import (
 	"time"
 )
 
-// told is a listener that passes on which data it is told of, where they are others than before:
-// it is told of each answer.
+// told is a listener that forwards new data, since it is called for each answer.
 type told struct {
 	changes chan string
 	last    string
@@ -33,7 +32,7 @@ func (t *told) Data(source Source, update Update) error {
 
 func (t *told) Failed(Source, error) error { return nil }
 
-// says waits for what a listener is told next.
+// says waits for the next data of a listener.
 func (t *told) says(test *testing.T, want string) {
 	test.Helper()
 	select {
@@ -46,7 +45,7 @@ func (t *told) says(test *testing.T, want string) {
 	}
 }
 
-// cache is one at this address, with data of this serial number.
+// cache returns a cache at this address, with data of this serial number.
 func cache(t *testing.T, address string, serial uint32) (*Server, string) {
 	t.Helper()
 	listener, err := net.Listen("tcp", address)
@@ -74,17 +73,21 @@ func update(t *testing.T, server *Server, serial uint32) {
 	}
 }
 
-// following follows caches at these addresses, whose data expire after this time.
-func following(t *testing.T, expire time.Duration, addresses ...string) *told {
-	var sources []Source
+// sourcesAt returns caches at these addresses, whose data expire after this time.
+func sourcesAt(expire time.Duration, addresses ...string) (sources []Source) {
 	for number, address := range addresses {
 		client := NewClient(address)
 		client.Expire = expire
 		sources = append(sources, Source{Name: fmt.Sprint(number), Client: client})
 	}
+	return sources
+}
+
+// following runs a function that follows caches, until the test ends.
+func following(t *testing.T, follow func(context.Context, Listener) error) *told {
 	ctx, cancel := context.WithCancel(context.Background())
 	listener, ended := &told{changes: make(chan string, 100)}, make(chan error)
-	go func() { ended <- Follow(ctx, sources, listener) }()
+	go func() { ended <- follow(ctx, listener) }()
 	t.Cleanup(func() {
 		cancel()
 		if err := <-ended; !errors.Is(err, context.Canceled) {
@@ -94,35 +97,122 @@ func following(t *testing.T, expire time.Duration, addresses ...string) *told {
 	return listener
 }
 
-// Data stay while they live, though their cache is gone and the next one has some.
-func TestExpired(t *testing.T) {
-	const expire = 3 * time.Second
-	first, address := cache(t, "127.0.0.1:0", 1)
+// followingAt follows caches at these addresses, whose data expire after this time.
+func followingAt(t *testing.T, expire time.Duration, addresses ...string) *told {
+	return following(t, func(ctx context.Context, listener Listener) error {
+		return Follow(ctx, sourcesAt(expire, addresses...), listener)
+	})
+}
+
+// The data of a dead cache are shown until the next one has a whole answer, and those of the
+// preferred one again as soon as it has a whole answer.
+func TestNewer(t *testing.T) {
+	first, address := cache(t, reserved(t), 1)
 	second, other := cache(t, "127.0.0.1:0", 5)
-	listener := following(t, expire, address, other)
+	listener := followingAt(t, 0, address, other)
 	listener.says(t, "0: 1")
-	began := time.Now()
 	first.Close()
 	listener.says(t, "1: 5")
-	if lived := time.Since(began); lived < expire/2 {
-		t.Error(lived)
-	}
 	update(t, second, 6)
 	listener.says(t, "1: 6")
 	cache(t, address, 2)
 	listener.says(t, "0: 2")
-	update(t, second, 7) // it is left
+	update(t, second, 7) // the first cache replaces it
 	select {
 	case got := <-listener.changes:
 		t.Error(got)
-	case <-time.After(expire / 3):
+	case <-time.After(time.Second):
 	}
 }
 
-// Where no other cache has data there are none any more.
-func TestNone(t *testing.T) {
+// While no other cache answers, data stay until they expire.
+func TestExpired(t *testing.T) {
+	const expire = 3 * time.Second
+	first, address := cache(t, reserved(t), 1)
+	listener := followingAt(t, expire, address, reserved(t))
+	listener.says(t, "0: 1")
+	began := time.Now()
+	first.Close()
+	listener.says(t, "0: none")
+	if lived := time.Since(began); lived < expire/2 {
+		t.Error(lived)
+	}
+}
+
+// A silent cache costs the patience.
+func TestSilent(t *testing.T) {
+	silent, err := net.Listen("tcp", "127.0.0.1:0")
+	if err != nil {
+		t.Fatal(err)
+	}
+	defer silent.Close()
+	_, other := cache(t, "127.0.0.1:0", 5)
+	settings := GroupSettings{Patience: 500 * time.Millisecond}
+	began := time.Now()
+	listener := following(t, func(ctx context.Context, listener Listener) error {
+		return FollowWith(ctx, sourcesAt(0, silent.Addr().String(), other), settings, listener)
+	})
+	listener.says(t, "1: 5")
+	if took := time.Since(began); took < settings.Patience {
+		t.Error(took)
+	}
+}
+
+// A cache that was left is asked again when the preferred one fails again.
+func TestAgain(t *testing.T) {
+	address := reserved(t)
+	second, other := cache(t, "127.0.0.1:0", 5)
+	listener := followingAt(t, 0, address, other)
+	listener.says(t, "1: 5")
+	for serial := uint32(6); serial < 9; serial++ {
+		first, _ := cache(t, address, serial-5)
+		listener.says(t, fmt.Sprintf("0: %d", serial-5))
+		update(t, second, serial)
+		first.Close()
+		listener.says(t, fmt.Sprintf("1: %d", serial))
+	}
+}
+
+// empty gives a cache data without payloads, of this serial number.
+func empty(t *testing.T, server *Server, serial uint32) {
+	t.Helper()
+	data, err := NewData(1, 7, serial, RecommendedTiming)
+	if err == nil {
+		err = server.Update(data)
+	}
+	if err != nil {
+		t.Fatal(err)
+	}
+}
+
+// An empty answer is data only if there is a single cache.
+func TestEmpty(t *testing.T) {
 	first, address := cache(t, "127.0.0.1:0", 1)
-	listener := following(t, time.Second, address)
+	empty(t, first, 2)
+	_, other := cache(t, "127.0.0.1:0", 5)
+	alone := followingAt(t, 0, address)
+	both := followingAt(t, 0, address, other)
+	alone.says(t, "0: 2")
+	both.says(t, "1: 5")
+	update(t, first, 3)
+	alone.says(t, "0: 3")
+	both.says(t, "0: 3")
+}
+
+// Too many sources are refused.
+func TestTooManySources(t *testing.T) {
+	for _, count := range []int{MostMembers + 1, 100} {
+		err := Follow(context.Background(), make([]Source, count), &told{})
+		if err != TooManyMembers {
+			t.Error(count, err)
+		}
+	}
+}
+
+// If no other cache has data there are none any more.
+func TestNone(t *testing.T) {
+	first, address := cache(t, reserved(t), 1)
+	listener := followingAt(t, time.Second, address)
 	listener.says(t, "0: 1")
 	first.Close()
 	listener.says(t, "0: none")
@@ -132,10 +222,9 @@ func TestNone(t *testing.T) {
 
 // The next caches are asked one after the other.
 func TestNext(t *testing.T) {
-	gone, address := cache(t, "127.0.0.1:0", 1)
-	gone.Close()
+	gone := reserved(t)
 	third, last := cache(t, "127.0.0.1:0", 9)
-	listener := following(t, 0, address, address, last)
+	listener := followingAt(t, 0, gone, gone, last)
 	listener.says(t, "2: 9")
 	update(t, third, 10)
 	listener.says(t, "2: 10")

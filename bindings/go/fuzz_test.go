@@ -1,4 +1,4 @@
-//go:build cgo && linux && (amd64 || arm64)
+//go:build cgo && linux
 
 package rtr
 
@@ -10,8 +10,8 @@ import (
 	"testing/iotest"
 )
 
-// What a Reader gives of any bytes is what Next gives of them, however they come; and what is
-// written of a unit means the same.
+// A Reader returns the same units as Next for any bytes, however they come; and the form of a unit
+// means the same.
 func FuzzReader(f *testing.F) {
 	f.Add(session())
 	for _, one := range shownUnits {
@@ -50,8 +50,8 @@ func FuzzReader(f *testing.F) {
 	})
 }
 
-// What Order gives of any bytes is in canonical form, and stays as it is; data are what leads from
-// nothing to them; and what leads from some data to others, makes these of them.
+// The result of Order for any bytes is in canonical form, and a fixed point; the delta from no data
+// to data is the data; and the delta between two data turns one into the other.
 func FuzzOrder(f *testing.F) {
 	f.Add(join(ipv4, announced6, key, end))
 	f.Add(join(withdrawn4, otherIPv4, announced6, end))

@@ -1,4 +1,4 @@
-//go:build cgo && linux && (amd64 || arm64)
+//go:build cgo && linux
 
 package rtr
 
@@ -7,13 +7,14 @@ import (
 	"errors"
 )
 
-// shaker is a connection that begins with a handshake, as that of TLS.
+// shaker is a connection that begins with a handshake, such as TLS.
 type shaker interface {
 	HandshakeContext(ctx context.Context) error
 }
 
-// shake makes the handshake of a connection that has one, in the time of the first query. It can't
-// go on after a deadline, so new data don't wake it; the end of the server ends it.
+// shake does the handshake of a connection that has one, within the time limit of the first query.
+// A handshake can't continue after a deadline, so new data don't wake it; closing the server
+// interrupts it.
 func (c *served) shake() error {
 	connection, ok := c.connection.(shaker)
 	if !ok {
@@ -38,7 +39,7 @@ func (c *served) shake() error {
 	return err
 }
 
-// setShaking notes how a handshake is ended.
+// setShaking registers the function that interrupts a handshake.
 func (c *served) setShaking(end func()) {
 	c.lock.Lock()
 	defer c.lock.Unlock()

@@ -1,4 +1,4 @@
-//go:build cgo && linux && (amd64 || arm64)
+//go:build cgo && linux
 
 package rtr
 
@@ -10,8 +10,8 @@ import (
 	"testing"
 )
 
-// joined is an end that another one is joined with (tests/joined): what happens to it comes on
-// standard input, as the steps of a scene, and what it does at each goes to standard output.
+// joined is one end of a connection (tests/joined): its events come on standard input, as the steps
+// of a scene, and what it does at each goes to standard output.
 type joined struct {
 	lines *bufio.Scanner
 	out   *bufio.Writer
@@ -19,7 +19,7 @@ type joined struct {
 	next  string // the line that begins the next scene
 }
 
-// play has the end play scenes as long as there are some.
+// play plays scenes until there are none.
 func (j *joined) play(begin func(of steps) transcript) error {
 	for j.take(); j.next != ""; {
 		j.one, j.next = begin(steps{name: j.next, more: j.more}), ""
@@ -31,7 +31,7 @@ func (j *joined) play(begin func(of steps) transcript) error {
 	return j.lines.Err()
 }
 
-// take takes lines up to a step, or to the beginning of the next scene.
+// take reads lines up to a step, or to the start of the next scene.
 func (j *joined) take() {
 	for j.lines.Scan() {
 		line := j.lines.Text()
@@ -48,7 +48,7 @@ func (j *joined) take() {
 	}
 }
 
-// more tells what the end did, and when it acts by itself, and takes the next step.
+// more prints what the end did, and when it acts by itself, and takes the next step.
 func (j *joined) more(s *steps, wakes uint64) {
 	for _, line := range s.seen {
 		fmt.Fprintln(j.out, line)
@@ -59,7 +59,7 @@ func (j *joined) more(s *steps, wakes uint64) {
 	j.take()
 }
 
-// The test program is an end itself, where its argument says which one.
+// The test program is an end itself, if its argument names one.
 func TestMain(m *testing.M) {
 	ends := map[string]func(of steps) transcript{"router": newPlayed, "cache": newPlayedCache}
 	if begin := ends[os.Args[len(os.Args)-1]]; begin != nil {

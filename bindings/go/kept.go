@@ -1,4 +1,4 @@
-//go:build cgo && linux && (amd64 || arm64)
+//go:build cgo && linux
 
 package rtr
 
@@ -14,24 +14,25 @@ import (
 	"time"
 )
 
-// A file of editions begins with these bytes, and with the FNV-1a hash in 64 bits of what follows:
-// the present data, and then each step back. Before each stand when newer data came, in
-// milliseconds since 1970, and its length. Numbers have 64 bits, the highest first.
+// A file of editions begins with these bytes and the 64-bit FNV-1a hash of what follows: the
+// present data, then each step back, each after its time and its length. The time is when newer
+// data came, in milliseconds since 1970. Numbers have 64 bits, in network byte order.
 const keptMagic = "rtrkept1"
 
-// How long the beginning is, and what stands before a sequence.
+// The sizes of the head, and of the numbers before a sequence.
 const keptHead = 16
 
-// ErrTorn is of a file of editions that isn't as Save wrote it.
+// ErrTorn reports a file of editions that isn't as Save wrote it.
 var ErrTorn = errors.New("rtr: the file of editions is torn")
 
-// Save writes the present data, and what leads back to those before them, to a file: by another one
-// beside it, which then gets its name once it is on the disk. Without data it writes nothing.
+// Save writes the present data, and the steps back to earlier ones, to a file: it writes and syncs
+// one beside it, then renames that. Without data it writes nothing.
 func (s *Server) Save(path string) error {
+	s.ready()
 	return s.present.Load().save(path)
 }
 
-// save writes the edition to a file as Save does.
+// save saves the edition to a file, as Save does.
 func (e *edition) save(path string) error {
 	if !e.full {
 		return nil
@@ -56,7 +57,7 @@ func (e *edition) save(path string) error {
 	return syncFolder(filepath.Dir(path))
 }
 
-// syncFolder has the names in a folder be on the disk.
+// syncFolder fsyncs a directory.
 func syncFolder(path string) error {
 	folder, err := os.Open(path)
 	if err != nil {
@@ -66,7 +67,7 @@ func syncFolder(path string) error {
 	return folder.Sync()
 }
 
-// write writes the edition to a file that is empty.
+// write writes the edition to an empty file.
 func (e *edition) write(file *os.File) error {
 	sum := fnv.New64a()
 	output := io.MultiWriter(file, sum)
@@ -86,10 +87,11 @@ func (e *edition) write(file *os.File) error {
 	return err
 }
 
-// Restore takes what Save wrote, if the server has no data yet: with the session and the serial
-// number of then, clients go on where they are. Call it before Serve. It gives the data.
+// Restore loads what Save wrote, if the server has no data yet, and returns the data. With the
+// saved session and serial number, clients get deltas after a restart. Call it before Serve.
 //
-// Errors: those of the file; ErrTorn.
+// Errors: those of the file; ErrTorn; ErrTiming for times that RFC 8210 section 6 doesn't allow;
+// ErrServerClosed after Close or Shutdown.
 func (s *Server) Restore(path string) (Data, error) {
 	input, err := os.ReadFile(path)
 	if err != nil {
@@ -99,8 +101,15 @@ func (s *Server) Restore(path string) (Data, error) {
 	if !ok {
 		return Data{}, fmt.Errorf("%s: %w", path, ErrTorn)
 	}
+	if err := data.servable(); err != nil {
+		return Data{}, fmt.Errorf("%s: %w", path, err)
+	}
+	s.ready()
 	s.updating.Lock()
 	defer s.updating.Unlock()
+	if s.closed.Load() {
+		return Data{}, ErrServerClosed
+	}
 	if !s.present.Load().full {
 		s.present.Store(newEdition(0, data, back, s.Limits))
 		s.wake()
@@ -108,7 +117,8 @@ func (s *Server) Restore(path string) (Data, error) {
 	return data, nil
 }
 
-// parseKept gives the data and the steps back of a file, and whether it is as it was written.
+// parseKept returns the data and the steps back of a file, and reports whether it is as it was
+// written.
 func parseKept(input []byte) (data Data, back []stepBack, ok bool) {
 	if len(input) < keptHead {
 		return Data{}, nil, false

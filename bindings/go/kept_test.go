@@ -1,4 +1,4 @@
-//go:build cgo && linux && (amd64 || arm64)
+//go:build cgo && linux
 
 package rtr
 
@@ -7,12 +7,13 @@ import (
 	"context"
 	"errors"
 	"os"
+	"strings"
 	"syscall"
 	"testing"
 	"time"
 )
 
-// restarted is a server with what a server of these data saved, and its address.
+// restarted returns a server restored from what a server of these data saved, and its address.
 func restarted(t *testing.T, path string, all ...[]byte) (*Server, string) {
 	t.Helper()
 	first := NewServer()
@@ -32,8 +33,8 @@ func restarted(t *testing.T, path string, all ...[]byte) (*Server, string) {
 	return server, address
 }
 
-// A server that is started again has the session, the serial number, and the changes from data of
-// before; also where its data are newer by then.
+// A restarted server has the session, the serial number, and the changes from earlier data; even if
+// its data are newer by then.
 func TestServerRestart(t *testing.T) {
 	noLeaks(t)
 	path := t.TempDir() + "/kept"
@@ -52,7 +53,7 @@ func TestServerRestart(t *testing.T) {
 	if got := stepsBack(t, dial(t, address), 5); got != 4 {
 		t.Fatal(got)
 	}
-	// It has data now, and takes no others.
+	// It has data now, and doesn't restore others.
 	if _, err := server.Restore(path); err != nil {
 		t.Fatal(err)
 	}
@@ -61,7 +62,7 @@ func TestServerRestart(t *testing.T) {
 		changed(changed(changed(ipv4, 0, 1), 13, 3), 8, 0), ending(1, 7, 5)))
 }
 
-// A server without data saves nothing, and a file that isn't there or isn't whole is refused.
+// A server without data saves nothing, and a missing or incomplete file is refused.
 func TestServerTorn(t *testing.T) {
 	noLeaks(t)
 	path := t.TempDir() + "/kept"
@@ -96,8 +97,7 @@ func TestServerTorn(t *testing.T) {
 	}
 }
 
-// Data are saved before they are served. Where they can't be saved, or stay the same, nothing
-// changes.
+// Data are saved before they are served. If they can't be saved, or are the same, nothing changes.
 func TestUpdateSaved(t *testing.T) {
 	noLeaks(t)
 	folder := t.TempDir()
@@ -122,7 +122,33 @@ func TestUpdateSaved(t *testing.T) {
 	}
 }
 
-// watched is a watcher of a file that isn't there yet, and what it told last.
+// A failed rename is an error: the old file stays, and nothing new is served.
+func TestRenameFails(t *testing.T) {
+	noLeaks(t)
+	all := sequences(1, 1, 1)
+	for name, taken := range map[string]string{"a folder": "/kept", "a folder with files": "/kept/a"} {
+		path := t.TempDir() + "/kept"
+		if err := os.MkdirAll(strings.TrimSuffix(path, "/kept")+taken, 0o700); err != nil {
+			t.Fatal(err)
+		}
+		server := NewServer()
+		if err := server.Update(parsed(t, all[0])); err != nil {
+			t.Fatal(err)
+		}
+		if err := server.Save(path); !errors.As(err, new(*os.LinkError)) {
+			t.Errorf("%s: %v", name, err)
+		}
+		err := server.UpdateSaved(parsed(t, all[1]), path)
+		if !errors.As(err, new(*os.LinkError)) || server.present.Load().data.Serial() != 1 {
+			t.Errorf("%s: %v, serial %d", name, err, server.present.Load().data.Serial())
+		}
+		if info, err := os.Stat(path); err != nil || !info.IsDir() {
+			t.Errorf("%s: %v", name, err)
+		}
+	}
+}
+
+// watched is a watcher of a missing file, and its last message.
 func watched(t *testing.T) (w *watcher, last *error) {
 	last = new(error)
 	w = newWatcher(NewServer(), t.TempDir()+"/data", func(_ Data, err error) { *last = err })
@@ -130,7 +156,7 @@ func watched(t *testing.T) (w *watcher, last *error) {
 	return w, last
 }
 
-// overwrite puts bytes in the place of those that a file has, at the same time.
+// overwrite replaces the content of a file, and keeps its time.
 func overwrite(t *testing.T, path string, input []byte) {
 	t.Helper()
 	if err := os.WriteFile(path, input, 0o600); err != nil {
@@ -141,7 +167,7 @@ func overwrite(t *testing.T, path string, input []byte) {
 	}
 }
 
-// A file with other bytes, of the same length and the same time, is taken; one that stays isn't
+// A file with other bytes, of the same length and the same time, is taken; an unchanged one isn't
 // read again.
 func TestWatchSameTime(t *testing.T) {
 	w, last := watched(t)
@@ -159,8 +185,8 @@ func TestWatchSameTime(t *testing.T) {
 	}
 }
 
-// withoutDescriptors takes all descriptors that the process may have, until the function is called
-// that it answers.
+// withoutDescriptors uses up all descriptors of the process; call the returned function to release
+// them.
 func withoutDescriptors(t *testing.T) (release func()) {
 	t.Helper()
 	var usual syscall.Rlimit
@@ -190,8 +216,8 @@ func withoutDescriptors(t *testing.T) (release func()) {
 	}
 }
 
-// Where no descriptor is left a file is taken by the one that was kept for it. Where that isn't
-// there it is told once, and the file tried again.
+// Without free descriptors a file is read by the one that is kept in reserve. Without that, an
+// error is reported once, and the file retried.
 func TestWatchFull(t *testing.T) {
 	w, last := watched(t)
 	all := sequences(1, 1)
@@ -221,7 +247,7 @@ func TestWatchFull(t *testing.T) {
 	}
 }
 
-// A server that watches a file goes on where the one before it was.
+// A server that watches a file continues where the former one stopped.
 func TestWatchRestart(t *testing.T) {
 	noLeaks(t)
 	path := t.TempDir() + "/data"

@@ -1,11 +1,11 @@
-//go:build cgo && linux && (amd64 || arm64)
+//go:build cgo && linux
 
 package rtr
 
 import "time"
 
-// ClientLimits bound what a cache can ask of a Client in time and memory. Each that is zero stands
-// for the one that NewClient gives.
+// ClientLimits limit what a cache can cost a Client in time and memory. Zero stands for the
+// default.
 type ClientLimits struct {
 	Dial     time.Duration // to connect
 	Response time.Duration // from a query to the end of data that answers it
@@ -15,8 +15,8 @@ type ClientLimits struct {
 	Report   time.Duration // to send a report on a fault, and to let the cache read it
 }
 
-// usualClientLimits are the machine's, for a cache of some million payloads, and two seconds for a
-// report.
+// usualClientLimits returns the machine's defaults, for a cache of some million payloads, and two
+// seconds for a report.
 func usualClientLimits() ClientLimits {
 	usual := usualSettings(highestVersion)
 	return ClientLimits{
@@ -29,7 +29,7 @@ func usualClientLimits() ClientLimits {
 	}
 }
 
-// orUsual are the limits, with the usual one in the place of each that is zero.
+// orUsual returns the limits, with the default for each that is zero.
 func (l ClientLimits) orUsual() ClientLimits {
 	usual := usualClientLimits()
 	return ClientLimits{
@@ -42,7 +42,7 @@ func (l ClientLimits) orUsual() ClientLimits {
 	}
 }
 
-// unlessZero is the limit that was set, or the usual one where none was.
+// unlessZero returns a limit, or its default if it is zero.
 func unlessZero[T time.Duration | int | uint64](set, usual T) T {
 	if set == 0 {
 		return usual

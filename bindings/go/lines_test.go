@@ -1,4 +1,4 @@
-//go:build cgo && linux && (amd64 || arm64)
+//go:build cgo && linux
 
 package rtr
 
@@ -8,7 +8,7 @@ import (
 	"testing"
 )
 
-// A line for which there isn't room at once, and units that aren't whole or have no line.
+// A line that doesn't fit the first buffer, and units that are incomplete or have no line.
 func TestLongLines(t *testing.T) {
 	long := append([]byte{1, 10, 0, 0, 0, 0, 4, 16, 0, 0, 0, 0, 0, 0, 4, 0}, make([]byte, 1024)...)
 	line, _, err := UnitLine(nil, long, 0)

@@ -1,4 +1,4 @@
-//go:build cgo && linux && (amd64 || arm64)
+//go:build cgo && linux
 
 package rtr
 
@@ -30,7 +30,7 @@ func (l *lines) log(level Level, message string, fields ...any) {
 	l.all = append(l.all, line)
 }
 
-// text is what was collected.
+// text returns the collected lines.
 func (l *lines) text() string {
 	l.lock.Lock()
 	defer l.lock.Unlock()
@@ -48,7 +48,7 @@ func (l *lines) has(t *testing.T, all ...string) {
 	}
 }
 
-// Both ends tell a log what they do, each line with its fields.
+// Both ends log what they do, each line with its fields.
 func TestLog(t *testing.T) {
 	noLeaks(t)
 	var ours, theirs lines
@@ -69,12 +69,13 @@ func TestLog(t *testing.T) {
 		"0 data session=7 serial=2 version=1 payloads=1")
 	theirs.has(t, "0 data session=7 serial=1 version=1 payloads=1",
 		"0 data session=7 serial=2 version=1 payloads=1", "0 listening", "-4 connected",
-		"-4 answers unit=cache response version=1", "0 ended error=<nil>")
+		"-4 answers unit=cache response version=1", "-4 answered session=7 serial=2",
+		"0 ended error=<nil>")
 	server.Close()
 	<-done
 }
 
-// A failure is told, and data that are dropped are.
+// Failures and dropped data are logged.
 func TestLogOfFailures(t *testing.T) {
 	noLeaks(t)
 	var ours lines

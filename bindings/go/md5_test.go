@@ -1,4 +1,4 @@
-//go:build cgo && linux && (amd64 || arm64)
+//go:build cgo && linux
 
 package rtr_test
 
@@ -15,8 +15,8 @@ import (
 	"fishreef/rtr"
 )
 
-// md5Signed has a socket sign by a key what it sends to this peer, and take from it only what is
-// signed so (RFC 2385; RFC 8210 section 9.3). It is a Control of net.Dialer and net.ListenConfig.
+// md5Signed makes a socket sign its segments to this peer with a key, and accept only signed ones
+// (RFC 2385; RFC 8210 section 9.3). It is a Control of net.Dialer and net.ListenConfig.
 func md5Signed(peer netip.Addr, key string) func(string, string, syscall.RawConn) error {
 	return func(_, _ string, socket syscall.RawConn) (err error) {
 		const option = 14 // TCP_MD5SIG of Linux, with its struct tcp_md5sig
@@ -40,7 +40,7 @@ func md5Signed(peer netip.Addr, key string) func(string, string, syscall.RawConn
 	}
 }
 
-// overMD5 is a client of a cache with whom it has a key.
+// overMD5 returns a client that shares a key with its cache.
 func overMD5(cache netip.AddrPort, key string) *rtr.Client {
 	dialer := &net.Dialer{Control: md5Signed(cache.Addr(), key)}
 	client := rtr.NewClient(cache.String())

@@ -1,4 +1,4 @@
-//go:build cgo && linux && (amd64 || arm64)
+//go:build cgo && linux
 
 package rtr
 
@@ -12,21 +12,24 @@ import (
 )
 
 // peer is the cache of a follower: a clock, and at most one connection. Times are in milliseconds
-// of the clock, which doesn't go back. Where a time is over, the error is a timeout.
+// of the clock, which doesn't go back. When a time has passed, the error is a timeout.
 type peer interface {
 	now() uint64
-	// ended is why nothing more is wanted, if that is so.
+	// ended returns why the follower has to end; nil if it hasn't.
 	ended() error
-	// rest waits without a connection until the time.
+	// rest waits without a connection until a time, or until the caller asks for data.
 	rest(until uint64) error
 	connect(until uint64) error
+	// read reads until a time, or until the caller asks for data: then its error is a timeout too.
 	read(buffer []byte, until uint64) (int, error)
-	write(bytes []byte, until uint64) error
-	// close sends a last unit, if there is one, and ends the connection, if there is one.
-	close(last []byte)
+	// write writes until a time, and returns how many bytes it wrote, also with an error.
+	write(bytes []byte, until uint64) (int, error)
+	// close sends the last units, if there are some, and closes the connection, if there is one. A
+	// report is the last of them if `reports`.
+	close(last []byte, reports bool)
 }
 
-// clock has times in milliseconds since it began.
+// clock measures milliseconds since it was made.
 type clock struct {
 	begun time.Time
 	time  func() time.Time
@@ -38,7 +41,7 @@ func (c clock) now() uint64 {
 	return uint64(c.time().Sub(c.begun).Milliseconds())
 }
 
-// at is a time of the clock.
+// at converts a time of the clock.
 func (c clock) at(until uint64) time.Time {
 	if most := uint64(math.MaxInt64 / time.Millisecond); until > most {
 		until = most
@@ -46,14 +49,14 @@ func (c clock) at(until uint64) time.Time {
 	return c.begun.Add(time.Duration(until) * time.Millisecond)
 }
 
-// network is a peer over connections. Its context ends what it waits for.
+// network is a peer over connections. Its context interrupts waits.
 type network struct {
 	clock
 	wish       *wish
 	ctx        context.Context
 	dial       func(ctx context.Context, network, address string) (net.Conn, error)
 	address    string
-	patience   time.Duration // for the last unit
+	patience   time.Duration // for the last units
 	connection net.Conn
 	release    func() // the context closes the connection no longer
 }
@@ -63,14 +66,12 @@ func (n *network) ended() error {
 }
 
 func (n *network) rest(until uint64) error {
-	timer := time.NewTimer(time.Until(n.at(until)))
-	defer timer.Stop()
-	select {
-	case <-n.ctx.Done():
-		return n.ctx.Err()
-	case <-timer.C:
-		return nil
-	}
+	ctx, cancel := context.WithDeadline(n.ctx, n.at(until))
+	defer cancel()
+	n.wish.waits(cancel)
+	defer n.wish.waits(nil)
+	<-ctx.Done()
+	return n.ctx.Err()
 }
 
 func (n *network) connect(until uint64) error {
@@ -89,35 +90,47 @@ func (n *network) connect(until uint64) error {
 
 func (n *network) read(buffer []byte, until uint64) (int, error) {
 	count, err := n.readUntil(n.at(until), buffer)
-	if count == 0 && err == nil {
-		err = io.ErrNoProgress
+	switch {
+	case count < 0 || count > len(buffer):
+		return 0, errCount
+	case count > 0:
+		return count, nil
+	case err == nil:
+		return 0, io.ErrNoProgress
 	}
-	if count > 0 {
-		err = nil
+	return 0, err
+}
+
+func (n *network) write(bytes []byte, until uint64) (int, error) {
+	if err := n.connection.SetWriteDeadline(n.at(until)); err != nil {
+		return 0, err
+	}
+	count, err := n.connection.Write(bytes)
+	switch {
+	case count < 0 || count > len(bytes):
+		return 0, errCount
+	case count < len(bytes) && err == nil:
+		return count, io.ErrShortWrite
 	}
 	return count, err
 }
 
-func (n *network) write(bytes []byte, until uint64) error {
-	if err := n.connection.SetWriteDeadline(n.at(until)); err != nil {
-		return err
-	}
-	_, err := n.connection.Write(bytes)
-	return err
-}
-
-func (n *network) close(last []byte) {
+func (n *network) close(last []byte, reports bool) {
 	if n.connection == nil {
 		return
 	}
-	sendLast(n.connection, last, n.patience)
+	if reports {
+		sendLast(n.connection, last, n.patience)
+	} else if len(last) > 0 && n.connection.SetWriteDeadline(time.Now().Add(n.patience)) == nil {
+		// The connection ends anyway.
+		_, _ = n.connection.Write(last)
+	}
 	n.release()
 	n.connection.Close()
 	n.connection = nil
 }
 
-// closeAtEnd closes a connection when the context ends, until the function is called that it
-// answers.
+// closeAtEnd closes a connection when the context is done; call the returned function to stop that.
 func closeAtEnd(ctx context.Context, connection net.Conn) func() {
 	done, ended := make(chan struct{}), make(chan struct{})
 	go func() {

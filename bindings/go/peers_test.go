@@ -1,20 +1,22 @@
-//go:build cgo && linux && (amd64 || arm64)
+//go:build cgo && linux
 
 package rtr
 
 import (
 	"bytes"
+	"fmt"
 	"io"
 	"net"
 	"runtime"
+	"syscall"
 	"testing"
 	"time"
 )
 
-// Longer than any step takes that these tests wait for, on a machine that is busy.
+// Longer than any step takes that these tests wait for, on a busy machine.
 const patience = 60 * time.Second
 
-// noLeaks says at the end of a test that no goroutine is left of it.
+// noLeaks checks at the end of a test that none of its goroutines is left.
 func noLeaks(t *testing.T) {
 	t.Helper()
 	before := runtime.NumGoroutine()
@@ -34,7 +36,7 @@ func noLeaks(t *testing.T) {
 	})
 }
 
-// listen is a listener on this machine.
+// listen returns a listener on this machine.
 func listen(t testing.TB, address string) net.Listener {
 	t.Helper()
 	listener, err := net.Listen("tcp", address)
@@ -44,7 +46,29 @@ func listen(t testing.TB, address string) net.Listener {
 	return listener
 }
 
-// started is a server on 127.0.0.1 with these data, and its address. Its limits are as a test
+// reserved returns an address at which only the test may listen. A socket that doesn't listen holds
+// the port until the test ends, so that no other process gets it.
+func reserved(t testing.TB) string {
+	t.Helper()
+	socket, err := syscall.Socket(syscall.AF_INET, syscall.SOCK_STREAM|syscall.SOCK_CLOEXEC, 0)
+	if err != nil {
+		t.Fatal(err)
+	}
+	t.Cleanup(func() { syscall.Close(socket) })
+	if err := syscall.SetsockoptInt(socket, syscall.SOL_SOCKET, syscall.SO_REUSEADDR, 1); err != nil {
+		t.Fatal(err)
+	}
+	if err := syscall.Bind(socket, &syscall.SockaddrInet4{Addr: [4]byte{127, 0, 0, 1}}); err != nil {
+		t.Fatal(err)
+	}
+	name, err := syscall.Getsockname(socket)
+	if err != nil {
+		t.Fatal(err)
+	}
+	return fmt.Sprintf("127.0.0.1:%d", name.(*syscall.SockaddrInet4).Port)
+}
+
+// started returns a server on 127.0.0.1 with these data, and its address. Its limits are as a test
 // changes them.
 func started(t *testing.T, change func(*ServerLimits), all ...Data) (*Server, string) {
 	t.Helper()
@@ -70,7 +94,7 @@ func started(t *testing.T, change func(*ServerLimits), all ...Data) (*Server, st
 	return server, listener.Addr().String()
 }
 
-// dial is a connection to a server, with a limit of time for all of the test.
+// dial returns a connection to a server, with a deadline for the whole test.
 func dial(t testing.TB, address string) *net.TCPConn {
 	t.Helper()
 	connection, err := net.Dial("tcp", address)
@@ -90,7 +114,7 @@ func send(t testing.TB, connection net.Conn, bytes []byte) {
 	}
 }
 
-// expect reads what has to come from a server.
+// expect reads the expected bytes from a server.
 func expect(t testing.TB, connection net.Conn, expected []byte) {
 	t.Helper()
 	got := make([]byte, len(expected))
@@ -101,7 +125,7 @@ func expect(t testing.TB, connection net.Conn, expected []byte) {
 	}
 }
 
-// expectEnd reads until a server closes the connection, which has to come after these bytes.
+// expectEnd reads until a server closes the connection, after exactly these bytes.
 func expectEnd(t testing.TB, connection net.Conn, expected []byte) {
 	t.Helper()
 	got, err := io.ReadAll(connection)

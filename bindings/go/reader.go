@@ -1,4 +1,4 @@
-//go:build cgo && linux && (amd64 || arm64)
+//go:build cgo && linux
 
 package rtr
 
@@ -7,7 +7,7 @@ import (
 	"io"
 )
 
-// Reader reads units of all kinds from an io.Reader, and keeps one at a time. It takes a unit's
+// Reader reads units of all kinds from an io.Reader, that of NewReader, and keeps one at a time. It takes a unit's
 // header, and then exactly the unit's bytes: it never reads ahead. So give it a bufio.Reader where
 // reads are dear, as on a socket or a file.
 //
@@ -28,7 +28,10 @@ const firstBuffer = 64
 // An io.Reader that reads nothing and gives no error is asked so many times.
 const emptyReads = 100
 
-var errCount = errors.New("rtr: the io.Reader answered an impossible count of bytes")
+// ErrNoReader is of a Reader without an io.Reader, as the zero one is.
+var ErrNoReader = errors.New("rtr: the Reader has no io.Reader: NewReader makes one that has")
+
+var errCount = errors.New("rtr: the io.Reader or the connection returned an impossible count of bytes")
 
 // NewReader makes a Reader of an io.Reader.
 func NewReader(reader io.Reader) *Reader {
@@ -46,13 +49,17 @@ func NewReader(reader io.Reader) *Reader {
 //   - a Fault with PrefixRule if the lengths of a prefix break their rule. The next call goes on
 //     after that unit;
 //   - that of the io.Reader, as it is. What was read is kept, so that the next call goes on where
-//     this one stopped, after a deadline for instance.
+//     this one stopped, after a deadline for instance;
+//   - ErrNoReader of the zero Reader.
 func (r *Reader) Next() (*Unit, error) {
 	return r.next(false)
 }
 
 // next is Next, and if the units of a sequence are wanted it refuses the types that none has.
 func (r *Reader) next(inSequence bool) (*Unit, error) {
+	if r == nil || r.reader == nil {
+		return nil, ErrNoReader
+	}
 	if r.size > 0 {
 		r.offset += int64(r.size)
 		r.filled, r.size = 0, 0
@@ -182,6 +189,9 @@ func (s *Sequence) Scan() bool {
 
 // next is the next unit, which there has to be.
 func (s *Sequence) next() (*Unit, error) {
+	if s.reader == nil {
+		return nil, ErrNoReader
+	}
 	if s.limit == 0 {
 		return nil, &Fault{Status: TooMany, Offset: s.reader.Offset()}
 	}

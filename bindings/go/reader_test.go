@@ -1,4 +1,4 @@
-//go:build cgo && linux && (amd64 || arm64)
+//go:build cgo && linux
 
 package rtr
 
@@ -7,12 +7,13 @@ import (
 	"encoding/binary"
 	"errors"
 	"io"
+	"math"
 	"reflect"
 	"testing"
 	"testing/iotest"
 )
 
-// asRead is the ways in which an io.Reader gives its bytes.
+// asRead is the ways in which an io.Reader may return its bytes.
 var asRead = map[string]func(io.Reader) io.Reader{
 	"whole":           func(r io.Reader) io.Reader { return r },
 	"one byte a read": iotest.OneByteReader,
@@ -75,8 +76,9 @@ func TestReader(t *testing.T) {
 	}
 }
 
-// A session that is cut at each of its bytes: whole units come, and then io.EOF between two units,
-// or else a fault that is an io.ErrUnexpectedEOF, and has the place and the bytes of the unit.
+// A session that is truncated at each of its bytes: whole units come, and then io.EOF between two
+// units, or else a fault that is an io.ErrUnexpectedEOF, and has the offset and the bytes of the
+// unit.
 func TestCut(t *testing.T) {
 	all := session()
 	for cut := range all {
@@ -106,8 +108,8 @@ func TestCut(t *testing.T) {
 	}
 }
 
-// A sequence that ends without an end of data ends with an io.ErrUnexpectedEOF, between two units
-// too.
+// A sequence that ends without an end of data ends with an io.ErrUnexpectedEOF, even between two
+// units.
 func TestCutSequence(t *testing.T) {
 	all := join(ipv4, key, end)
 	for cut := 0; cut <= len(all); cut++ {
@@ -129,7 +131,7 @@ func TestCutSequence(t *testing.T) {
 	}
 }
 
-// A sequence begins where the Reader stands, ends after its end of data, and has no other units.
+// A sequence begins at the Reader's position, ends after its end of data, and has no other units.
 func TestSequenceInSession(t *testing.T) {
 	reader := NewReader(bytes.NewReader(join(cacheResponse, ipv4, end, serialNotify)))
 	if unit, err := reader.Next(); err != nil || unit.Kind != CacheResponse {
@@ -158,7 +160,7 @@ func TestSequenceInSession(t *testing.T) {
 	}
 }
 
-// failing gives an error at each second of its reads, and the bytes in between one by one.
+// failing returns an error at every second read, and the bytes in between one by one.
 type failing struct {
 	rest   []byte
 	failed bool
@@ -177,7 +179,7 @@ func (f *failing) Read(b []byte) (int, error) {
 	return n, nil
 }
 
-// An io.Reader that fails at each byte: its error is given as it is, and nothing is lost.
+// An io.Reader that fails at each byte: its error is returned unchanged, and nothing is lost.
 func TestFailing(t *testing.T) {
 	reader := NewReader(&failing{rest: session()})
 	failures := 0
@@ -203,13 +205,13 @@ func TestFailing(t *testing.T) {
 	}
 }
 
-// io.Readers that read nothing for ever, or answer what can't be.
+// io.Readers that read nothing forever, or return impossible results.
 func TestOddReaders(t *testing.T) {
 	stuck := readerFunc(func([]byte) (int, error) { return 0, nil })
 	if _, err := NewReader(stuck).Next(); err != io.ErrNoProgress {
 		t.Fatal(err)
 	}
-	for _, n := range []int{-1, 9, 1 << 40} {
+	for _, n := range []int{-1, 9, math.MaxInt} {
 		n := n
 		wrong := readerFunc(func([]byte) (int, error) { return n, nil })
 		if _, err := NewReader(wrong).Next(); err != errCount {
@@ -306,7 +308,7 @@ func TestNothingReadAhead(t *testing.T) {
 	}
 }
 
-// A Sequence ends where its io.Reader fails, and another goes on.
+// A Sequence ends when its io.Reader fails, and another continues.
 func TestSequenceFails(t *testing.T) {
 	reader := NewReader(&failing{rest: join(ipv4, end)})
 	var kinds []Kind
@@ -330,7 +332,7 @@ func TestSequenceFails(t *testing.T) {
 	}
 }
 
-// A prefix that breaks its rule is refused with its bytes, and the next call goes on after it.
+// A prefix that breaks its rule is refused with its bytes, and the next call skips it.
 func TestGoingOn(t *testing.T) {
 	refused := []byte{1, 4, 0, 0, 0, 0, 0, 20, 1, 33, 33, 0, 192, 0, 2, 0, 0, 1, 0, 15}
 	reader := NewReader(bytes.NewReader(join(ipv6, refused, ipv4)))

@@ -1,4 +1,4 @@
-//go:build cgo && linux && (amd64 || arm64)
+//go:build cgo && linux
 
 // Package rtr reads and writes the units of the RPKI to Router protocol (RFC 6810, RFC 8210), of
 // all eleven types, over the proved library rtr_c. What the library's functions promise is proved;
@@ -351,14 +351,23 @@ func changeJSON(input, output []byte) (length int, status Status) {
 
 // What name has names of.
 const (
-	namedStatus = C.RTR_NAMED_STATUS
-	namedKind   = C.RTR_NAMED_KIND
-	namedCause  = C.RTR_NAMED_CAUSE
-	namedReason = C.RTR_NAMED_REASON
-	namedCode   = C.RTR_NAMED_CODE
+	namedStatus   = C.RTR_NAMED_STATUS
+	namedKind     = C.RTR_NAMED_KIND
+	namedCause    = C.RTR_NAMED_CAUSE
+	namedReason   = C.RTR_NAMED_REASON
+	namedCode     = C.RTR_NAMED_CODE
+	namedTimeRule = C.RTR_NAMED_TIME_RULE
 )
 
-// name is that of a number: of a status, a kind, a cause, a reason or an error code.
+// brokenTimeRule is the first rule of RFC 8210 section 6 that the times of a cache break, and
+// whether they break one.
+func brokenTimeRule(t Timing) (rule uint16, broken bool) {
+	number := C.rtr_times_rule(C.uint32_t(t.Refresh), C.uint32_t(t.Retry), C.uint32_t(t.Expire))
+	return uint16(number), number != C.RTR_TIME_RULE_NONE
+}
+
+// name is that of a number: of a status, a kind, a cause, a reason or an error code; or the text of
+// a rule on times.
 func name(named uint8, number uint16) string {
 	said := C.name_of(C.uint8_t(named), C.uint16_t(number))
 	return C.GoStringN((*C.char)(unsafe.Pointer(&said.text)), C.int(said.length))

@@ -1,4 +1,4 @@
-//go:build cgo && linux && (amd64 || arm64)
+//go:build cgo && linux
 
 package rtr
 
@@ -14,7 +14,7 @@ import (
 	"testing"
 )
 
-// sample is a unit of the file tests/samples, which says what it has.
+// sample is a unit of the file tests/samples, which describes its rows.
 type sample struct {
 	unit        string
 	bytes, form []byte
@@ -67,7 +67,7 @@ func readSamples() []sample {
 	return all
 }
 
-// unspaced are the bytes of hex digits.
+// unspaced decodes hex digits.
 func unspaced(row string) []byte {
 	digits, err := hex.DecodeString(strings.ReplaceAll(row, " ", ""))
 	if err != nil {
@@ -76,7 +76,7 @@ func unspaced(row string) []byte {
 	return digits
 }
 
-// sampleOf are the bytes of the sample of this name.
+// sampleOf returns the bytes of the sample of this name.
 func sampleOf(name string) []byte {
 	for _, one := range samples {
 		if one.unit == name {
@@ -86,7 +86,7 @@ func sampleOf(name string) []byte {
 	panic("there is no sample " + name)
 }
 
-// Each sample is shown and written as the file says, or refused.
+// Each sample is shown and encoded as the file says, or refused.
 func TestSamples(t *testing.T) {
 	if len(samples) < 50 {
 		t.Fatalf("%d samples", len(samples))
@@ -121,13 +121,13 @@ func (s sample) check(t *testing.T) {
 		!bytes.Equal(form, wanted) {
 		t.Fatalf("%x, %x, %v, %v, but expected is %x", form, rest, err, failed, wanted)
 	}
-	// What has another form makes the change of that.
+	// A unit with another form makes the change of its form.
 	if s.form == nil && (ChangeLine(&unit) != s.change || ChangeJSON(&unit) != s.object) {
 		t.Errorf("%s, %s", ChangeLine(&unit), ChangeJSON(&unit))
 	}
 }
 
-// written is what is written of the sample.
+// written returns the form of the sample.
 func (s sample) written() []byte {
 	if s.form == nil {
 		return s.bytes

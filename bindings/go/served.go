@@ -1,4 +1,4 @@
-//go:build cgo && linux && (amd64 || arm64)
+//go:build cgo && linux
 
 package rtr
 
@@ -14,18 +14,18 @@ import (
 	"time"
 )
 
-// How much of an answer the system buffers at least.
+// The least size of a connection's send buffer.
 const chunk = 1 << 16
 
-// How much is written in one call where it isn't known what was taken of it at a deadline: as much
-// as a record of TLS has.
+// How much is written in one call if the connection can't report a partial write at a deadline: the
+// size of a TLS record.
 const tlsRecord = 1 << 14
 
-// A deadline that has passed: it ends a read or a write that waits.
+// A deadline in the past: it interrupts a read or a write.
 var passed = time.Unix(1, 0)
 
-// served is a client of a Server: its connection, and the proved machine of rtr.h, which says what
-// to answer. It has no bytes of data, but its place in an edition.
+// served is a client of a Server: its connection, and the proved machine of rtr.h, which decides
+// the answers. It holds no data, only its offset in an edition.
 type served struct {
 	server     *Server
 	connection net.Conn
@@ -49,12 +49,11 @@ type served struct {
 	shaking func() // ends a handshake, as long as there is one
 }
 
-// Counter is a connection that gives the socket under it, by SyscallConn, to be written to in its
-// place, and is told what was taken of it: so many bytes, and those that were to be written, unless
-// they stand in a file.
+// Counter is a connection over a socket that is written to directly, by SyscallConn. Wrote is called
+// with the number of bytes sent, and with the bytes that were to be sent, unless they are a file's.
 type Counter interface{ Wrote(bytes []byte, taken int) }
 
-// usualCacheSettings are the usual ones.
+// usualCacheSettings returns the defaults.
 func usualCacheSettings() (usual C.struct_rtr_cache_settings) {
 	C.rtr_cache_settings_usual(&usual)
 	return usual
@@ -79,7 +78,7 @@ func newServed(server *Server, connection net.Conn) *served {
 	return c
 }
 
-// wake says that there is a newer edition, or that the server ends. It never waits.
+// wake signals a newer edition, or the end of the server. It doesn't block.
 func (c *served) wake(present mark) {
 	c.lock.Lock()
 	defer c.lock.Unlock()
@@ -100,7 +99,7 @@ func (c *served) wake(present mark) {
 	}
 }
 
-// look goes to the present edition, and answers it.
+// look takes the present edition, and returns it.
 func (c *served) look() *edition {
 	c.lock.Lock()
 	defer c.lock.Unlock()
@@ -111,7 +110,7 @@ func (c *served) look() *edition {
 	return e
 }
 
-// serve answers queries until the connection ends, and says why it did.
+// serve answers queries until the connection ends, and returns why it did.
 func (c *served) serve() error {
 	if err := c.shake(); err != nil {
 		return err
@@ -138,13 +137,13 @@ func (c *served) serve() error {
 	return c.why()
 }
 
-// refuse has the connection end, since there are as many as there may be.
+// refuse ends the connection: the limit is reached.
 func (c *served) refuse() {
 	C.rtr_cache_full(&c.cache, C.uint64_t(c.server.clock.now()), &c.present, &c.serving)
 }
 
-// tell tells the machine of a unit that came, or that the connection is gone, or of the time; and
-// the serial numbers that are known.
+// tell gives the machine an event (a unit, the end of the connection, the time), with the known
+// serial numbers.
 func (c *served) tell(known []C.uint32_t) {
 	now := C.uint64_t(c.server.clock.now())
 	if len(c.input) > 0 {
@@ -161,7 +160,7 @@ func (c *served) tell(known []C.uint32_t) {
 	C.rtr_cache_tick(&c.cache, now, &c.present, &c.serving)
 }
 
-// answer sends what the machine says, and is done with the unit that it is about.
+// answer carries out the machine's action, and consumes the unit that it is about.
 func (c *served) answer(e *edition) (err error) {
 	var body piece
 	switch version := uint8(c.serving.version); {
@@ -178,13 +177,17 @@ func (c *served) answer(e *edition) (err error) {
 		c.logs(LevelDebug, "answers", "unit", Kind(opening[1]), "version", opening[0])
 		err = c.write(piece{bytes: opening}, body)
 	}
+	data := c.serving.kind == C.RTR_SERVE_ALL || c.serving.kind == C.RTR_SERVE_CHANGES
+	if err == nil && data {
+		c.logs(LevelDebug, "answered", "session", e.session, "serial", e.data.Serial())
+	}
 	taken := int(c.serving.taken)
 	c.input, c.offset = append(c.buffer[:0], c.input[taken:]...), c.offset+int64(taken)
 	c.began = c.server.clock.now()
 	return err
 }
 
-// opening is the unit that an answer begins with, or the report that is owed.
+// opening returns the first unit of an answer, or the report that is owed.
 func (c *served) opening() []byte {
 	if !c.serving.reports {
 		output := make([]byte, serialSize)
@@ -199,7 +202,7 @@ func (c *served) opening() []byte {
 	return output[:written]
 }
 
-// receive waits until something comes, or it is woken, or it is time.
+// receive waits until bytes come, it is woken, or a deadline has passed.
 func (c *served) receive() {
 	until := uint64(C.rtr_cache_wakes(&c.cache, &c.present))
 	late := c.began + uint64(c.server.Limits.Unit.Milliseconds())
@@ -228,7 +231,7 @@ func (c *served) receive() {
 	}
 }
 
-// write writes parts, as long as some of them is taken now and then, in the time of a response.
+// write writes parts within the time limit of an answer, as long as the client goes on receiving.
 func (c *served) write(parts ...piece) error {
 	last := c.server.clock.time().Add(c.server.Limits.Response)
 	for i := range parts {
@@ -250,10 +253,10 @@ func (c *served) write(parts ...piece) error {
 	return nil
 }
 
-// writeSome writes some of a part. It is a timeout where nothing was taken until the deadline.
+// writeSome writes some of a part. It returns a timeout if nothing was sent until the deadline.
 func (c *served) writeSome(one *piece) (taken int, err error) {
 	if c.raw == nil {
-		// What met its deadline may have been taken in part, but TLS can't go on after it.
+		// A write that met its deadline may have been sent in part, but TLS can't continue it.
 		bytes := one.bytes
 		if len(bytes) > tlsRecord {
 			bytes = bytes[:tlsRecord]
@@ -276,7 +279,7 @@ func (c *served) writeSome(one *piece) (taken int, err error) {
 	return taken, nil
 }
 
-// allow gives a write its time, or says why no more of the place is to be written.
+// allow sets the deadline of a write, or returns why the rest isn't to be written.
 func (c *served) allow(last time.Time, long bool) error {
 	c.lock.Lock()
 	defer c.lock.Unlock()
@@ -290,7 +293,7 @@ func (c *served) allow(last time.Time, long bool) error {
 	return c.cut
 }
 
-// why is the error that the reason is told by; none where the client closed the connection.
+// why returns the error for a reason; nil if the client closed the connection.
 func (c *served) why() error {
 	switch c.serving.reason {
 	case C.RTR_REASON_LOST:

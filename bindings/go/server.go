@@ -1,4 +1,4 @@
-//go:build cgo && linux && (amd64 || arm64)
+//go:build cgo && linux
 
 package rtr
 
@@ -12,8 +12,9 @@ import (
 	"time"
 )
 
-// ServerLimits are what a Server allows its clients, and what it keeps for them. Nothing is pending
-// for a client but what the system buffers of its connection: all clients share the data.
+// ServerLimits limit what a Server allows its clients, and what it keeps for them. All clients
+// share the data; for each of them only the system buffers bytes. If no number is set, the limits
+// are those of NewServer; if one is set, a zero among the others allows nothing.
 type ServerLimits struct {
 	Connections int           // at once; a client above them gets a report, and is closed
 	First       time.Duration // from the connection to the first query
@@ -24,24 +25,26 @@ type ServerLimits struct {
 	Notify      time.Duration // between two notifies to a client, at least
 	Keep        time.Duration // how long deltas lead from data after newer ones came, at least
 	KeepBytes   int           // what is kept for this, at most, and as much for deltas made of it
-	// Whether a serial query from other data than these is answered by a report of code 0, in place
-	// of a cache reset: for routers that wait after one, as BIRD 2.0 does.
+	// Whether to answer a serial query from other data by a report of code 0, instead of a cache
+	// reset: for routers that wait after a reset, as BIRD 2.0 does.
 	Refuse bool
 }
 
 // Server is a cache: it serves Data to clients of versions 0 to 2 (RFC 8210 sections 5 to 8).
-// NewServer makes one. Several goroutines may call at once. Each client has a goroutine of its own,
-// so that none hinders another; what it is answered is decided by the proved machine of rtr.h.
+// NewServer makes one, and the zero Server is the same. Several goroutines may call it at once.
+// Each client has a goroutine of its own, so that none delays another; the proved machine of rtr.h
+// decides the answers.
 type Server struct {
 	// The limits; set them before the first call of Serve, Update or Restore.
 	Limits ServerLimits
-	// Ended is told why each connection ended, unless the client closed it between two units. It
-	// may be nil; else several goroutines may call it at once.
+	// Ended is called with the reason when a connection ends, unless the client closed it between
+	// two units. It may be nil; otherwise several goroutines may call it at once.
 	Ended func(client net.Addr, err error)
-	// Log has a line of each connection, answer, end and new data. It may be nil; else several
-	// goroutines may call it at once.
+	// Log is called with a line for each connection, answer, end and new data. It may be nil;
+	// otherwise several goroutines may call it at once.
 	Log Log
 
+	made     sync.Once
 	clock    clock
 	present  atomic.Pointer[edition]
 	updating sync.Mutex
@@ -58,55 +61,86 @@ type Server struct {
 // asks at least once a day (RFC 8210 section 6), and gets a notify at most once a minute (section
 // 8.2); it holds data for two hours, if their expire time is the usual one.
 func NewServer() *Server {
-	usual := usualCacheSettings()
-	s := &Server{
-		Limits: ServerLimits{
-			Connections: 1024,
-			First:       span(usual.first_limit),
-			Unit:        10 * time.Second,
-			Idle:        span(usual.idle_limit),
-			Write:       30 * time.Second,
-			Response:    10 * time.Minute,
-			Notify:      span(usual.pause),
-			Keep:        usualExpire * time.Second,
-			KeepBytes:   1 << 26,
-		},
-		clock:     newClock(),
-		listeners: map[net.Listener]bool{},
-		clients:   map[*served]bool{},
-	}
-	s.present.Store(new(edition))
+	s := new(Server)
+	s.ready()
 	return s
 }
 
-// Update gives the server new data, and notifies its clients. Those that had data of another
-// session are closed. Where the data are those that it has, nothing happens.
+// ready initialises a zero Server.
+func (s *Server) ready() {
+	s.made.Do(func() {
+		if s.Limits.areUnset() {
+			refuse := s.Limits.Refuse
+			s.Limits = usualServerLimits()
+			s.Limits.Refuse = refuse
+		}
+		s.clock = newClock()
+		s.listeners, s.clients = map[net.Listener]bool{}, map[*served]bool{}
+		s.present.Store(new(edition))
+	})
+}
+
+// areUnset reports whether all numbers of the limits are zero.
+func (l ServerLimits) areUnset() bool {
+	l.Refuse = false
+	return l == ServerLimits{}
+}
+
+// usualServerLimits returns the defaults.
+func usualServerLimits() ServerLimits {
+	usual := usualCacheSettings()
+	return ServerLimits{
+		Connections: 1024,
+		First:       span(usual.first_limit),
+		Unit:        10 * time.Second,
+		Idle:        span(usual.idle_limit),
+		Write:       30 * time.Second,
+		Response:    10 * time.Minute,
+		Notify:      span(usual.pause),
+		Keep:        usualExpire * time.Second,
+		KeepBytes:   1 << 26,
+	}
+}
+
+// Update gives the server new data, and notifies its clients. Connections of clients that have data
+// of another session are closed. If the data are the present ones, nothing happens.
 //
-// Errors: ErrSameSerial or ErrNewTiming; a Fault with Short for the zero Data.
+// Serial number 0 is logged as a warning: after a cut in the first answer BIRD 2.0 asks for the
+// changes since serial number 0, and keeps the part of the data that it has.
+//
+// Errors: ErrSameSerial or ErrNewTiming; ErrTiming for times that RFC 8210 section 6 doesn't allow;
+// a Fault with Short for the zero Data; ErrServerClosed after Close or Shutdown.
 func (s *Server) Update(data Data) error {
 	return s.update(data, nothingSaved, func() {})
 }
 
-// UpdateSaved gives the server new data as Update does, but first saves to a file what Save writes
-// once it has them. So the file knows each serial number that a client may have data of, whenever
-// the process ends: after a restart no other data get one of these.
+// UpdateSaved is Update, but saves the new data to a file first, as Save would. So whenever the
+// process ends, the file has each serial number that a client may have data of, and none of them is
+// given to other data after a restart.
 //
 // Errors: those of Update, and those of the file; then nothing changes.
 func (s *Server) UpdateSaved(data Data, path string) error {
 	return s.update(data, func(next *edition) error { return next.save(path) }, func() {})
 }
 
-// nothingSaved is how an edition is saved by a server that saves none.
+// nothingSaved saves nothing.
 func nothingSaved(*edition) error { return nil }
 
-// update is Update, which saves the next edition before it is served, does something once the data
-// before are gone, and then tells clients.
+// update is Update with two hooks: save, before the next edition is served, and one that runs when
+// the data before aren't served any more, before clients are notified.
 func (s *Server) update(data Data, save func(*edition) error, before func()) error {
 	if data.IsZero() {
 		return &Fault{Status: Short, Offset: -1}
 	}
+	if err := data.servable(); err != nil {
+		return err
+	}
+	s.ready()
 	s.updating.Lock()
 	defer s.updating.Unlock()
+	if s.closed.Load() {
+		return ErrServerClosed
+	}
 	present := s.present.Load()
 	next, err := present.next(data, s.Limits)
 	if err != nil || next == present {
@@ -119,12 +153,30 @@ func (s *Server) update(data Data, save func(*edition) error, before func()) err
 	s.present.Store(next)
 	present.replaced()
 	before()
-	s.Log.write(LevelInfo, "data", data.fields()...)
+	s.logs(data)
 	s.wake()
 	return nil
 }
 
-// wake has all clients look at the present edition, and whether the server is closed.
+// servable returns an error if a cache may not serve the data. Data of version 0 have no times;
+// clients of later versions get the default ones with them.
+func (d Data) servable() error {
+	if d.Version() == 0 {
+		return nil
+	}
+	return d.Timing().Check()
+}
+
+// logs logs new data, and warns of serial number 0.
+func (s *Server) logs(data Data) {
+	s.Log.write(LevelInfo, "data", data.fields()...)
+	if data.Serial() == 0 {
+		s.Log.write(LevelWarn, "serial number 0: a router that lost its first answer may ask with it, "+
+			"and keep a part of the data", "session", data.Session())
+	}
+}
+
+// wake makes all clients check for a new edition, and whether the server is closed.
 func (s *Server) wake() {
 	s.lock.Lock()
 	defer s.lock.Unlock()
@@ -133,18 +185,19 @@ func (s *Server) wake() {
 	}
 }
 
-// How many failures of a listener are taken in a row, and the pause after one.
+// How many errors of a listener in a row are tolerated, and the pause after one.
 const (
 	mostFailures = 10
 	pause        = 20 * time.Millisecond
 )
 
-// Serve takes the clients of a listener until the server is closed, and closes the listener.
+// Serve accepts the clients of a listener until the server is closed, and closes the listener.
 //
-// Errors: ErrServerClosed; that of the listener, after it failed ten times in a row for another
-// reason than that the system has no place for one more connection.
+// Errors: ErrServerClosed; that of the listener, after ten in a row. While the system has no
+// descriptor for one more connection, errors don't count.
 func (s *Server) Serve(listener net.Listener) (err error) {
 	defer listener.Close()
+	s.ready()
 	s.lock.Lock()
 	if s.closed.Load() {
 		s.lock.Unlock()
@@ -178,21 +231,20 @@ func (s *Server) Serve(listener net.Listener) (err error) {
 	return err
 }
 
-// isFull says whether the system has no place for one more connection.
+// isFull reports whether the system has no descriptor for one more connection.
 func isFull(err error) bool {
 	var why syscall.Errno
 	return errors.As(err, &why) && (why == syscall.EMFILE || why == syscall.ENFILE ||
 		why == syscall.ENOBUFS || why == syscall.ENOMEM)
 }
 
-// How many clients above the limit are sent a report at once; those above them are closed.
+// How many clients above the limit are sent a report at once; further ones are closed.
 const mostRefused = 64
 
-// How much of what is written to a client the system buffers: with less of it a goroutine waits more
-// often.
+// The size of a connection's send buffer: with a smaller one a goroutine waits more often.
 const writeBuffer = 1 << 17
 
-// take serves a client in a goroutine of its own, or refuses it.
+// take serves a client in its own goroutine, or refuses it.
 func (s *Server) take(connection net.Conn) {
 	if tcp, ok := connection.(*net.TCPConn); ok {
 		tcp.SetWriteBuffer(writeBuffer)
@@ -227,7 +279,7 @@ func (s *Server) take(connection net.Conn) {
 	}()
 }
 
-// Close closes all listeners and connections, and answers when all goroutines of the server have
+// Close closes all listeners and connections, and returns when all goroutines of the server have
 // ended. The server can't be used again.
 func (s *Server) Close() {
 	now, end := context.WithCancel(context.Background())
@@ -235,11 +287,12 @@ func (s *Server) Close() {
 	s.Shutdown(now)
 }
 
-// Shutdown ends the server as Close does, but first lets the answers that have begun come to their
-// end. Connections without one are closed at once.
+// Shutdown closes the server as Close does, but first completes the answers that have begun.
+// Connections without one are closed at once.
 //
-// Errors: that of the context if it ends first; then the other connections are closed, too.
+// Errors: that of the context if it is done first; then the other connections are closed too.
 func (s *Server) Shutdown(ctx context.Context) error {
+	s.ready()
 	s.lock.Lock()
 	s.closed.Store(true)
 	for listener := range s.listeners {

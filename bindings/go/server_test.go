@@ -1,4 +1,4 @@
-//go:build cgo && linux && (amd64 || arm64)
+//go:build cgo && linux
 
 package rtr
 
@@ -7,15 +7,17 @@ import (
 	"context"
 	"encoding/binary"
 	"errors"
+	"io"
 	"math/rand"
 	"net"
 	"os"
+	"strings"
 	"syscall"
 	"testing"
 	"time"
 )
 
-// asked is a query of a version: a serial query, or without a serial number a reset query.
+// asked returns a query of a version: a serial query, or without a serial number a reset query.
 func asked(version byte, session uint16, serial ...uint32) []byte {
 	if len(serial) == 0 {
 		return []byte{version, 2, 0, 0, 0, 0, 0, 8}
@@ -23,7 +25,7 @@ func asked(version byte, session uint16, serial ...uint32) []byte {
 	return numbered(version, 1, session, serial[0])
 }
 
-// numbered is a unit of a session and a serial number: a serial notify or a serial query.
+// numbered returns a unit of a session and a serial number: a serial notify or a serial query.
 func numbered(version, kind byte, session uint16, serial uint32) []byte {
 	unit := []byte{version, kind, 0, 0, 0, 0, 0, 12, 0, 0, 0, 0}
 	binary.BigEndian.PutUint16(unit[2:], session)
@@ -31,14 +33,14 @@ func numbered(version, kind byte, session uint16, serial uint32) []byte {
 	return unit
 }
 
-// response is a cache response.
+// response returns a cache response.
 func response(version byte, session uint16) []byte {
 	unit := []byte{version, 3, 0, 0, 0, 0, 0, 8}
 	binary.BigEndian.PutUint16(unit[2:], session)
 	return unit
 }
 
-// versionOf are those of the records that a version has.
+// versionOf returns those of the records that a version has.
 func (rs records) versionOf(version byte) records {
 	some := records{}
 	for name, one := range rs {
@@ -83,7 +85,8 @@ func TestServerAnswers(t *testing.T) {
 	}
 }
 
-// sequences are the data of serial numbers 1, 2, .., each with another prefix, in these versions.
+// sequences returns the data of serial numbers 1, 2, .., each with another prefix, in these
+// versions.
 func sequences(of ...byte) (all [][]byte) {
 	for i, version := range of {
 		prefix := changed(changed(ipv4, 0, version), 13, byte(i))
@@ -92,8 +95,8 @@ func sequences(of ...byte) (all [][]byte) {
 	return all
 }
 
-// stepsBack says how many data before the present ones a client gets the changes from: it asks by
-// the serial numbers below the present one, downwards.
+// stepsBack returns from how many earlier data a client gets the changes: it asks by the serial
+// numbers below the present one, downwards.
 func stepsBack(t *testing.T, connection net.Conn, serial uint32) (count uint32) {
 	t.Helper()
 	for ; count < serial; count++ {
@@ -138,7 +141,7 @@ func TestServerKeeps(t *testing.T) {
 	}
 }
 
-// Data of other versions than those before them: changes are told in each.
+// Data of other versions than the earlier ones: changes are sent in each.
 func TestServerVersions(t *testing.T) {
 	noLeaks(t)
 	all := sequences(1, 0, 1, 2, 0, 2, 1)
@@ -163,7 +166,7 @@ func TestServerVersions(t *testing.T) {
 	}
 }
 
-// A cache that is told so answers by a report of code 0 what it can't tell changes for (RFC 8210
+// With Refuse a cache answers queries whose changes it doesn't have by a report of code 0 (RFC 8210
 // section 5.1).
 func TestServerRefuse(t *testing.T) {
 	noLeaks(t)
@@ -224,7 +227,69 @@ func TestServerUpdate(t *testing.T) {
 	expect(t, again, []byte{1, 8, 0, 0, 0, 0, 0, 8})
 }
 
-// A client that is slow to take its answer keeps an edition until three have come after it, and
+// Times that RFC 8210 section 6 doesn't allow are refused with their rule, and the cache keeps its
+// data; in version 0 data have no times.
+func TestServerTimes(t *testing.T) {
+	noLeaks(t)
+	server, address := started(t, nil, parsed(t, join(ipv4, ending(1, 7, 1))))
+	for _, row := range []struct {
+		times Timing
+		says  string
+	}{
+		{Timing{0, 600, 7200}, "the refresh time has to be 1 to 86400 seconds"},
+		{Timing{86401, 600, 172800}, "the refresh time has to be 1 to 86400 seconds"},
+		{Timing{3600, 0, 7200}, "the retry time has to be 1 to 7200 seconds"},
+		{Timing{3600, 7201, 172800}, "the retry time has to be 1 to 7200 seconds"},
+		{Timing{1, 1, 599}, "the expire time has to be 600 to 172800 seconds"},
+		{Timing{3600, 600, 172801}, "the expire time has to be 600 to 172800 seconds"},
+		{Timing{3600, 600, 3600}, "the expire time has to be longer than the refresh time"},
+		{Timing{600, 3600, 3600}, "the expire time has to be longer than the retry time"},
+	} {
+		for _, version := range []uint8{1, 2} {
+			data, err := NewData(version, 7, 2, row.times)
+			if err != nil {
+				t.Fatal(err)
+			}
+			err = server.Update(data)
+			if !errors.Is(err, ErrTiming) || !strings.HasSuffix(err.Error(), ": "+row.says) {
+				t.Fatal(version, row.times, err)
+			}
+		}
+	}
+	for _, times := range []Timing{{1, 1, 600}, {86400, 7200, 172800}, RecommendedTiming} {
+		if err := times.Check(); err != nil {
+			t.Fatal(times, err)
+		}
+	}
+	connection := dial(t, address)
+	send(t, connection, asked(1, 0))
+	expect(t, connection, join(response(1, 7), ipv4, ending(1, 7, 1)))
+	if err := server.Update(parsed(t, ending(0, 7, 2))); err != nil {
+		t.Fatal(err)
+	}
+	expect(t, connection, numbered(1, 0, 7, 2))
+}
+
+// Data of serial number 0 are served, with a warning.
+func TestServerSerialZero(t *testing.T) {
+	noLeaks(t)
+	var said lines
+	server := NewServer()
+	server.Log = said.log
+	for _, serial := range []uint32{0, 1} {
+		if err := server.Update(parsed(t, ending(1, 7, serial))); err != nil {
+			t.Fatal(err)
+		}
+	}
+	server.Close()
+	said.has(t,
+		"0 data session=7 serial=0 version=1 payloads=0",
+		"4 serial number 0: a router that lost its first answer may ask with it, and keep a part of "+
+			"the data session=7",
+		"0 data session=7 serial=1 version=1 payloads=0")
+}
+
+// A client that is slow to read its answer keeps an edition until three have come after it, and
 // none of another session.
 func TestServerBehind(t *testing.T) {
 	noLeaks(t)
@@ -239,6 +304,10 @@ func TestServerBehind(t *testing.T) {
 		slow := dial(t, address)
 		send(t, slow, asked(1, 0))
 		expect(t, slow, response(1, 7))
+		// The server is in the middle of the data once some of them have come.
+		if _, err := io.CopyN(io.Discard, slow, 1<<16); err != nil {
+			t.Fatal(err)
+		}
 		for i, session := range sessions {
 			time.Sleep(50 * time.Millisecond)
 			if len(errs) > 0 {
@@ -254,14 +323,14 @@ func TestServerBehind(t *testing.T) {
 	}
 }
 
-// why gives the errors with which the connections of a server end.
+// why returns the errors with which the connections of a server end.
 func why(server *Server) <-chan error {
 	errs := make(chan error, 1000)
 	server.Ended = func(_ net.Addr, err error) { errs <- err }
 	return errs
 }
 
-// megabytes are data that no buffer of a connection holds.
+// megabytes returns data that no buffer of a connection holds.
 func megabytes(t *testing.T) Data {
 	t.Helper()
 	large := make([][]byte, 0, 200000)
@@ -274,8 +343,8 @@ func megabytes(t *testing.T) Data {
 	return parsed(t, join(join(large...), ending(1, 7, 1)))
 }
 
-// A client that says nothing, stops inside of a unit, or reads nothing is closed, with the reason
-// named, and another one is served in the meantime.
+// A client that is silent, stops inside of a unit, or doesn't read is closed, with the reason, and
+// another one is served in the meantime.
 func TestServerLimits(t *testing.T) {
 	noLeaks(t)
 	data := megabytes(t)
@@ -300,7 +369,7 @@ func TestServerLimits(t *testing.T) {
 			t.Fatalf("%x: %v", input, err)
 		}
 	}
-	// It asks for megabytes again and again, and reads none of them.
+	// It asks for megabytes repeatedly, and reads none of them.
 	greedy := dial(t, address)
 	send(t, greedy, bytes.Repeat(asked(1, 0), 1000))
 	other := dial(t, address)
@@ -311,7 +380,7 @@ func TestServerLimits(t *testing.T) {
 	}
 }
 
-// A client above the limit gets a report at once, and when another has gone its place is free.
+// A client above the limit gets a report at once, and when another has left a new one is accepted.
 func TestServerConnections(t *testing.T) {
 	noLeaks(t)
 	server, address := started(t, func(limits *ServerLimits) { limits.Connections = 2 })
@@ -344,7 +413,7 @@ func TestServerConnections(t *testing.T) {
 	}
 }
 
-// Close ends connections in each of their states, and all goroutines.
+// Close closes connections in each of their states, and ends all goroutines.
 func TestServerClose(t *testing.T) {
 	noLeaks(t)
 	server := NewServer()
@@ -383,7 +452,7 @@ func TestServerClose(t *testing.T) {
 	}
 }
 
-// Shutdown lets an answer that has begun come to its end, and closes those that wait for queries.
+// Shutdown completes an answer that has begun, and closes connections that wait for queries.
 func TestServerShutdown(t *testing.T) {
 	noLeaks(t)
 	data := megabytes(t)
@@ -431,7 +500,7 @@ func TestServerShutdownLimit(t *testing.T) {
 	}
 }
 
-// failingListener is one that fails so many times, and then takes a connection.
+// failingListener fails this many times, and then accepts a connection.
 type failingListener struct {
 	net.Listener
 	err   error
@@ -445,7 +514,7 @@ func (f *failingListener) Accept() (net.Conn, error) {
 	return f.Listener.Accept()
 }
 
-// A server goes on when there was no place for a connection, and ends when a listener is broken.
+// A server continues after a temporary failure of Accept, and ends when a listener is broken.
 func TestServerListener(t *testing.T) {
 	noLeaks(t)
 	server, _ := started(t, nil, parsed(t, ending(1, 7, 1)))
@@ -470,7 +539,7 @@ func TestServerListener(t *testing.T) {
 	}
 }
 
-// A file of data in any order, with or without a cache response, and one that isn't data.
+// A file of a recording or a list, and one that is neither.
 func TestLoadData(t *testing.T) {
 	path := t.TempDir() + "/data"
 	ordered := join(ipv4, announced6, end)
@@ -482,13 +551,15 @@ func TestLoadData(t *testing.T) {
 		"in order":       {ordered, ordered, OK, 0},
 		"not in order":   {join(announced6, ipv4, end), ordered, OK, 0},
 		"recorded":       {join(cacheResponse, announced6, ipv4, end, end), ordered, OK, 0},
-		"withdrawn":      {join(cacheResponse, ipv6, ipv4, end), nil, NotCanonical, 8},
+		"changed":        {join(cacheResponse, ipv4, end, cacheResponse, announced6, end), ordered, OK, 0},
+		"withdrawn":      {join(cacheResponse, ipv6, ipv4, end), nil, Unknown, 8},
 		"twice":          {join(cacheResponse, ipv4, ipv4, end), nil, Duplicate, 28},
 		"cut":            {join(ipv4, end[:5]), nil, Short, 20},
-		"of two sorts":   {join(ipv4, withdrawn, end), nil, NotCanonical, 20},
-		"of a query":     {resetQuery, nil, UnitType, 0},
+		"of versions":    {join(ipv4, withdrawn, end), nil, OtherVersion, 20},
+		"of a query":     {resetQuery, nil, Short, 8},
 		"of nothing":     {nil, nil, Short, 0},
-		"one withdrawal": {join(ipv4, ipv6, end), nil, NotCanonical, 20},
+		"one withdrawal": {join(ipv4, ipv6, end), nil, Unknown, 20},
+		"more":           {join(ordered, ipv4[:7]), nil, Short, int64(len(ordered))},
 	} {
 		if err := os.WriteFile(path, one.input, 0o600); err != nil {
 			t.Fatal(err)
@@ -508,7 +579,7 @@ func TestLoadData(t *testing.T) {
 	}
 }
 
-// A file is taken up when it changes; one that isn't data is told once, and the data stay.
+// A file is reloaded when it changes; one that isn't data is reported once, and the data stay.
 func TestServerWatch(t *testing.T) {
 	noLeaks(t)
 	server, address := started(t, nil)

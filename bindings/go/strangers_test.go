@@ -1,4 +1,4 @@
-//go:build cgo && linux && (amd64 || arm64)
+//go:build cgo && linux
 
 package rtr_test
 
@@ -20,7 +20,7 @@ import (
 	"fishreef/rtr"
 )
 
-// fetchedTLS is what a router with these certificates has of a cache over TLS.
+// fetchedTLS returns the data of a router with these certificates from a cache over TLS.
 func fetchedTLS(
 	t *testing.T, address string, trusted *authority, router ...tls.Certificate,
 ) (rtr.Data, error) {
@@ -30,8 +30,8 @@ func fetchedTLS(
 	return overTLS(address, cacheName, trusted.pool(), router...).Fetch(ctx)
 }
 
-// A cache of another name, of nobody, or with a certificate that has ended: no data are shown, and
-// the reason is told.
+// A cache with another name, even if its common name is right (RFC 8210 section 9.2), with a
+// self-signed certificate, or with an expired one: no data are shown, and the reason is reported.
 func TestStrangeCachesOverTLS(t *testing.T) {
 	trusted, nobody := newAuthority(t), newAuthority(t)
 	for name, row := range map[string]struct {
@@ -40,6 +40,7 @@ func TestStrangeCachesOverTLS(t *testing.T) {
 	}{
 		"another name": {trusted.issue("other.example", time.Hour), "not " + cacheName},
 		"an address":   {trusted.issue(here, time.Hour), cacheName},
+		"common name":  {trusted.issueWithCommonName(cacheName, "other.example", time.Hour), "not " + cacheName},
 		"nobody":       {nobody.issue(cacheName, time.Hour), "unknown authority"},
 		"itself":       {selfSigned(t, cacheName), "unknown authority"},
 		"ended":        {trusted.issue(cacheName, -time.Minute), "expired"},
@@ -54,37 +55,54 @@ func TestStrangeCachesOverTLS(t *testing.T) {
 	}
 }
 
-// endings collects why a server ended connections.
+// endings collects the reasons for which a server ended connections.
 func endings(server *rtr.Server) <-chan error {
 	ended := make(chan error, 1000)
 	server.Ended = func(_ net.Addr, err error) { ended <- err }
 	return ended
 }
 
-// awaitEnding waits until a connection was ended for a reason with this text.
+// awaitEnding waits until a connection is ended, whose reason has to have this text.
 func awaitEnding(t *testing.T, ended <-chan error, says string) {
 	t.Helper()
-	var others []error
-	for late := time.After(tlsWait); ; {
-		select {
-		case err := <-ended:
-			if strings.Contains(err.Error(), says) {
-				return
-			}
-			others = append(others, err)
-		case <-late:
-			t.Fatalf("%q was never said, but %v", says, others)
+	select {
+	case err := <-ended:
+		if !strings.Contains(err.Error(), says) {
+			t.Errorf("ended by %q, not by %q", err, says)
 		}
+	case <-time.After(tlsWait):
+		t.Fatalf("no connection was ended by %q", says)
 	}
 }
 
-// A router without a certificate, or with one of another address, of nobody, or that has ended: it
-// gets no data, the cache tells why, and others are served on.
+// insistent is a router over TLS that presents its certificate to every cache. By default
+// crypto/tls presents none that isn't by an authority that the cache names. It counts its
+// connections.
+func insistent(
+	address string, trusted *authority, router []tls.Certificate,
+) (client *rtr.Client, connections *int) {
+	config := &tls.Config{ServerName: cacheName, RootCAs: trusted.pool()}
+	if len(router) > 0 {
+		config.GetClientCertificate = func(*tls.CertificateRequestInfo) (*tls.Certificate, error) {
+			return &router[0], nil
+		}
+	}
+	client, connections = rtr.NewClient(address), new(int)
+	client.Dial = func(ctx context.Context, network, address string) (net.Conn, error) {
+		connection, err := new(net.Dialer).DialContext(ctx, network, address)
+		if err != nil {
+			return nil, err
+		}
+		*connections++
+		return tls.Client(connection, config), nil
+	}
+	return client, connections
+}
+
+// A router without a certificate, or with one of another address, a self-signed or an expired one:
+// it gets no data, the cache reports why it ended each of its connections, and still serves others.
 func TestStrangeRoutersOverTLS(t *testing.T) {
 	trusted, nobody := newAuthority(t), newAuthority(t)
-	server := rtr.NewServer()
-	ended := endings(server)
-	address := servedTLS(t, server, trusted.issue(cacheName, time.Hour), trusted.pool())
 	for name, row := range map[string]struct {
 		router []tls.Certificate
 		says   string
@@ -97,18 +115,29 @@ func TestStrangeRoutersOverTLS(t *testing.T) {
 		"itself": {[]tls.Certificate{selfSigned(t, here)}, "unknown authority"},
 		"ended":  {[]tls.Certificate{trusted.issue(here, -time.Minute)}, "expired"},
 	} {
-		if data, err := fetchedTLS(t, address, trusted, row.router...); err == nil || !data.IsZero() {
-			t.Errorf("%s: %d payloads, %v", name, data.Len(), err)
-		}
-		awaitEnding(t, ended, row.says)
-		data, err := fetchedTLS(t, address, trusted, trusted.issue(here, time.Hour))
-		if err != nil || data.Len() != 2 {
-			t.Errorf("%s, and then one that is known: %v", name, err)
-		}
+		t.Run(name, func(t *testing.T) {
+			server := rtr.NewServer()
+			ended := endings(server)
+			address := servedTLS(t, server, trusted.issue(cacheName, time.Hour), trusted.pool())
+			client, connections := insistent(address, trusted, row.router)
+			ctx, cancel := context.WithTimeout(context.Background(), tlsWait)
+			defer cancel()
+			if data, err := client.Fetch(ctx); err == nil || !data.IsZero() || *connections == 0 {
+				t.Errorf("%d payloads by %d connections, %v", data.Len(), *connections, err)
+			}
+			for i := 0; i < *connections; i++ {
+				awaitEnding(t, ended, row.says)
+			}
+			data, err := fetchedTLS(t, address, trusted, trusted.issue(here, time.Hour))
+			if err != nil || data.Len() != 2 {
+				t.Errorf("then one that is known: %v", err)
+			}
+		})
 	}
 }
 
-// A cache that takes the connection and never shakes hands is left after the time for a connection.
+// A cache that accepts the connection and never completes the handshake is abandoned after the time
+// limit for connecting.
 func TestStalledHandshake(t *testing.T) {
 	listener, err := net.Listen("tcp", here+":0")
 	if err != nil {
@@ -124,8 +153,8 @@ func TestStalledHandshake(t *testing.T) {
 	}
 }
 
-// Routers that say nothing, or the front of a handshake, are left after the time for a first query;
-// another one is served meanwhile.
+// Routers that send nothing, or the start of a handshake, are closed after the time limit of a
+// first query; another one is served meanwhile.
 func TestStalledRouters(t *testing.T) {
 	trusted := newAuthority(t)
 	server := rtr.NewServer()
@@ -148,7 +177,7 @@ func TestStalledRouters(t *testing.T) {
 	awaitEnding(t, ended, rtr.ErrTooSlow.Error())
 }
 
-// connectedLog is a log that has a value for each connection.
+// connectedLog is a log that sends a value for each connection.
 func connectedLog() (rtr.Log, <-chan bool) {
 	connected := make(chan bool, 100)
 	return func(_ rtr.Level, message string, _ ...any) {
@@ -213,7 +242,7 @@ func TestShutdownInAHandshake(t *testing.T) {
 	awaitEnding(t, ended, rtr.ErrServerClosed.Error())
 }
 
-// openssl is a program of OpenSSL that runs, as one end of TLS.
+// openssl is a running program of OpenSSL, as one end of TLS.
 type openssl struct {
 	t       *testing.T
 	command *exec.Cmd
@@ -268,7 +297,7 @@ func startedOpenSSL(
 	return o
 }
 
-// await waits until the output has these bytes, and gives what follows them.
+// await waits until the output has these bytes, and returns what follows them.
 func (o *openssl) await(wanted string) string {
 	o.t.Helper()
 	for until := time.Now().Add(tlsWait); ; time.Sleep(5 * time.Millisecond) {
@@ -285,7 +314,7 @@ func (o *openssl) await(wanted string) string {
 	}
 }
 
-// A cache that renegotiates in place of an answer is left, and its answer isn't shown.
+// A cache that renegotiates instead of answering is abandoned, and its answer isn't shown.
 func TestRenegotiatingCache(t *testing.T) {
 	trusted := newAuthority(t)
 	cache := startedOpenSSL(t, trusted.issue(cacheName, time.Hour), trusted, "s_server",
@@ -296,7 +325,7 @@ func TestRenegotiatingCache(t *testing.T) {
 	}
 	address := strings.TrimSpace(strings.SplitN(rest, "\n", 2)[0])
 	client := overTLS(address, cacheName, trusted.pool(), trusted.issue(here, time.Hour))
-	client.Version = 0 // it can't fall to a lower one
+	client.AskIn(0) // it can't fall back to a lower one
 	ctx, cancel := context.WithTimeout(context.Background(), tlsWait)
 	defer cancel()
 	failed := make(chan error, 1)
@@ -320,7 +349,7 @@ func TestRenegotiatingCache(t *testing.T) {
 	}
 }
 
-// A router that renegotiates is left, and others are served on.
+// A router that renegotiates is closed, and others are still served.
 func TestRenegotiatingRouter(t *testing.T) {
 	trusted := newAuthority(t)
 	server := rtr.NewServer()

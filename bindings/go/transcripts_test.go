@@ -1,4 +1,4 @@
-//go:build cgo && linux && (amd64 || arm64)
+//go:build cgo && linux
 
 package rtr
 
@@ -20,11 +20,11 @@ import (
 // step is a line of a scene that the cache or the clock does (tests/transcripts/README.md).
 type step struct {
 	time uint64
-	what string // accepts, refuses, closes, breaks, > for bytes, or at
+	what string // accepts, refuses, closes, breaks, > for bytes, asks, or at
 	data []byte
 }
 
-// steps are what a client and a cache have in common that play one, with a made clock.
+// steps is the common part of a client and a cache that play a scene, with a simulated clock.
 type steps struct {
 	name         string
 	given        []step
@@ -34,12 +34,12 @@ type steps struct {
 	more         func(s *steps, wakes uint64) // takes further steps, if not nil
 }
 
-// notes puts down what the end does that plays.
+// notes records what the playing end does.
 func (s *steps) notes(format string, values ...any) {
 	s.seen = append(s.seen, fmt.Sprintf("%d ", s.clock)+fmt.Sprintf(format, values...))
 }
 
-// has says whether a further step is given to an end that acts by itself at this time.
+// has reports whether a further step is given to an end that acts by itself at this time.
 func (s *steps) has(wakes uint64) bool {
 	if len(s.given) == 0 && !s.over && s.more != nil {
 		s.more(s, wakes)
@@ -48,7 +48,7 @@ func (s *steps) has(wakes uint64) bool {
 	return !s.over
 }
 
-// differs is what was done otherwise than the scene says.
+// differs returns the difference from the scene.
 func (s *steps) differs() error {
 	wanted, seen := strings.Join(s.wanted, "\n"), strings.Join(s.seen, "\n")
 	if s.more == nil && wanted != seen {
@@ -57,12 +57,13 @@ func (s *steps) differs() error {
 	return nil
 }
 
-// played is a scene: a peer with a made clock, and what the client does.
+// played is a scene: a peer with a simulated clock, and what the client does.
 type played struct {
 	steps
 	client       Client
 	chance       uint16
 	open, broken bool // open from a connect to a close
+	wish         *wish
 }
 
 func newPlayed(of steps) transcript { return &played{steps: of} }
@@ -76,7 +77,7 @@ func (p *played) ended() error {
 	return nil
 }
 
-// next is the next step, if it comes before the time; else the clock comes to the time.
+// next returns the next step, if it comes before the time; else it advances the clock to the time.
 func (p *played) next(until uint64) (step, error) {
 	if !p.has(until) {
 		return step{}, errDone
@@ -93,10 +94,15 @@ func (p *played) next(until uint64) (step, error) {
 
 func (p *played) rest(until uint64) error {
 	for {
-		if _, err := p.next(until); errors.Is(err, os.ErrDeadlineExceeded) {
+		one, err := p.next(until)
+		switch {
+		case errors.Is(err, os.ErrDeadlineExceeded):
 			return nil
-		} else if err != nil {
+		case err != nil:
 			return err
+		case one.what == "asks":
+			p.wish.make()
+			return nil
 		}
 	}
 }
@@ -115,6 +121,8 @@ func (p *played) connect(until uint64) error {
 			return nil
 		case one.what == "refuses":
 			return errBroken
+		case one.what == "asks":
+			p.wish.make()
 		}
 	}
 }
@@ -132,24 +140,21 @@ func (p *played) read(buffer []byte, until uint64) (int, error) {
 		case one.what == "breaks":
 			p.broken = true
 			return 0, errBroken
+		case one.what == "asks":
+			p.wish.make()
+			return 0, os.ErrDeadlineExceeded
 		}
 	}
 }
 
-func (p *played) write(bytes []byte, until uint64) error {
-	p.notes("router> %x", bytes)
-	return nil
+func (p *played) write(bytes []byte, until uint64) (int, error) {
+	p.sends(bytes)
+	return len(bytes), nil
 }
 
-func (p *played) close(last []byte) {
-	if p.more != nil && len(last) > 0 && !p.broken {
-		p.notes("router> %x", last)
-	} else if unit, _, err := Next(last); err == nil && !p.broken {
-		about := "-"
-		if len(unit.Enclosed) > 0 {
-			about = hex.EncodeToString(unit.Enclosed)
-		}
-		p.notes("router> report %d %d %s %s", unit.Version, unit.Code, about, unit.Text)
+func (p *played) close(last []byte, reports bool) {
+	if !p.broken {
+		p.sends(last)
 	}
 	if p.open && !p.over {
 		p.notes("closes")
@@ -157,17 +162,38 @@ func (p *played) close(last []byte) {
 	p.open = false
 }
 
-// play has a client do what the scene asks for, and says what it does otherwise.
+// sends notes units that the client sends.
+func (p *played) sends(bytes []byte) {
+	for len(bytes) > 0 {
+		unit, rest, err := Next(bytes)
+		if err != nil {
+			panic(err)
+		}
+		if unit.Kind != ErrorReport || p.more != nil {
+			p.notes("router> %x", bytes[:len(bytes)-len(rest)])
+		} else {
+			about := "-"
+			if len(unit.Enclosed) > 0 {
+				about = hex.EncodeToString(unit.Enclosed)
+			}
+			p.notes("router> report %d %d %s %s", unit.Version, unit.Code, about, unit.Text)
+		}
+		bytes = rest
+	}
+}
+
+// play runs a client through the scene, and returns the difference.
 func (p *played) play() error {
-	client := p.client
-	client.Limits = client.Limits.orUsual()
-	client.Failed = func(err error) {
+	f := &follower{
+		peer: p, link: newLink(settingsOf(&p.client, p.client.Limits.orUsual(), p.chance)),
+	}
+	p.wish = &f.wish
+	f.told = func(err error) {
 		var report *Reported
 		if p.open && errors.As(err, &report) {
 			p.notes("no data")
 		}
 	}
-	f := &follower{client: &client, peer: p, machine: newMachine(&client, p.chance)}
 	f.changed = func(update Update) error {
 		if update.Data.IsZero() {
 			p.notes("drops")
@@ -188,7 +214,7 @@ func (p *played) play() error {
 	return p.differs()
 }
 
-// take takes a line of the scene.
+// take reads a line of the scene.
 func (p *played) take(line string) error {
 	words := strings.Fields(line)
 	if words[0] == "router" {
@@ -206,7 +232,7 @@ func (p *played) take(line string) error {
 		data, err := hex.DecodeString(strings.Join(words[2:], ""))
 		p.given = append(p.given, step{time, ">", data})
 		return err
-	case words[1] == "cache":
+	case words[1] == "cache" || words[1] == "caller":
 		p.given = append(p.given, step{time, words[2], nil})
 	case words[1] == "router>" && words[2] != "report":
 		p.wanted = append(p.wanted, words[0]+" router> "+strings.Join(words[2:], ""))
@@ -216,13 +242,13 @@ func (p *played) take(line string) error {
 	return nil
 }
 
-// set takes a setting of the scene.
+// set reads a setting of the scene.
 func (p *played) set(name, value string) error {
 	number, err := strconv.ParseUint(value, 10, 32)
 	span := time.Duration(number) * time.Millisecond
 	switch name {
 	case "version":
-		p.client.Version = uint8(number)
+		p.client.AskIn(uint8(number))
 	case "chance":
 		p.chance = uint16(number)
 	case "pause":
@@ -247,13 +273,13 @@ func (p *played) set(name, value string) error {
 	return err
 }
 
-// A transcript is a scene that is played.
+// A transcript is a scene to play.
 type transcript interface {
 	take(line string) error // a line without its comment
-	play() error            // what is done otherwise than the scene says
+	play() error            // returns the difference from the scene
 }
 
-// scenesOf are the scenes of a file.
+// scenesOf returns the scenes of a file.
 func scenesOf(t *testing.T, path string, begin func(of steps) transcript) []transcript {
 	file, err := os.Open(path)
 	if err != nil {
@@ -274,7 +300,7 @@ func scenesOf(t *testing.T, path string, begin func(of steps) transcript) []tran
 	return all
 }
 
-// playAll plays the scenes that are kept in a folder, and those that are made by these options.
+// playAll plays the scenes in a folder, and those that are generated with these options.
 func playAll(t *testing.T, folder string, begin func(of steps) transcript, options ...string) {
 	const transcripts = "../../tests/transcripts/"
 	made := t.TempDir()
@@ -304,7 +330,7 @@ func playAll(t *testing.T, folder string, begin func(of steps) transcript, optio
 	}
 }
 
-// A client does in each scene what the scene says.
+// A client does what each scene says.
 func TestTranscripts(t *testing.T) {
 	playAll(t, "scenes", newPlayed)
 }

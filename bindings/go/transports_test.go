@@ -1,4 +1,4 @@
-//go:build cgo && linux && (amd64 || arm64)
+//go:build cgo && linux
 
 package rtr_test
 
@@ -21,8 +21,8 @@ import (
 	"fishreef/rtr"
 )
 
-// overTLS is a client of a cache at an address, which has to prove that it has this name, and which
-// sees the router's certificate (RFC 8210 section 9.2).
+// overTLS returns a client of a cache at an address, which has to prove that it has this name, and
+// which gets the router's certificate (RFC 8210 section 9.2).
 func overTLS(address, name string, trusted *x509.CertPool, router ...tls.Certificate) *rtr.Client {
 	dialer := &tls.Dialer{Config: &tls.Config{
 		ServerName: name, RootCAs: trusted, Certificates: router,
@@ -32,8 +32,8 @@ func overTLS(address, name string, trusted *x509.CertPool, router ...tls.Certifi
 	return client
 }
 
-// cacheOverTLS serves routers whose certificates are by an authority that it trusts, and name the
-// address that the router has.
+// cacheOverTLS serves routers whose certificates are by a trusted authority, and name the router's
+// address.
 func cacheOverTLS(
 	server *rtr.Server, listener net.Listener, cache tls.Certificate, trusted *x509.CertPool,
 ) error {
@@ -52,7 +52,7 @@ func cacheOverTLS(
 	return server.Serve(tls.NewListener(listener, config))
 }
 
-// The name of the cache, and how long a test waits at most.
+// The name of the cache, and the longest time that a test waits.
 const (
 	cacheName = "cache.example"
 	tlsWait   = 120 * time.Second
@@ -90,22 +90,28 @@ func newAuthority(t *testing.T) *authority {
 	return &authority{t, parsed, key}
 }
 
-// pool has this authority alone.
+// pool returns a pool with only this authority.
 func (a *authority) pool() *x509.CertPool {
 	pool := x509.NewCertPool()
 	pool.AddCert(a.self)
 	return pool
 }
 
-// issue makes a certificate for a name or an address, which ends after this time.
+// issue returns a certificate for a name or an address, which expires after this time.
 func (a *authority) issue(name string, lasts time.Duration) tls.Certificate {
+	a.t.Helper()
+	return a.issueWithCommonName(name, name, lasts)
+}
+
+// issueWithCommonName returns one whose common name may differ from the name that it is for.
+func (a *authority) issueWithCommonName(common, name string, lasts time.Duration) tls.Certificate {
 	a.t.Helper()
 	key, err := ecdsa.GenerateKey(elliptic.P256(), rand.Reader)
 	if err != nil {
 		a.t.Fatal(err)
 	}
 	template := &x509.Certificate{
-		SerialNumber: big.NewInt(2), Subject: pkix.Name{CommonName: name},
+		SerialNumber: big.NewInt(2), Subject: pkix.Name{CommonName: common},
 		NotBefore: time.Now().Add(-time.Hour), NotAfter: time.Now().Add(lasts),
 		KeyUsage: x509.KeyUsageDigitalSignature,
 		ExtKeyUsage: []x509.ExtKeyUsage{
@@ -124,7 +130,7 @@ func (a *authority) issue(name string, lasts time.Duration) tls.Certificate {
 	return tls.Certificate{Certificate: [][]byte{made}, PrivateKey: key}
 }
 
-// selfSigned is a certificate for a name or an address that is its own authority.
+// selfSigned returns a self-signed certificate for a name or an address.
 func selfSigned(t *testing.T, name string) tls.Certificate {
 	t.Helper()
 	nobody := newAuthority(t)
@@ -142,7 +148,7 @@ func selfSigned(t *testing.T, name string) tls.Certificate {
 	return tls.Certificate{Certificate: [][]byte{made}, PrivateKey: own.PrivateKey}
 }
 
-// twoPayloads are data of version 1: 192.0.2.0/24 and 198.51.100.0/24 of AS 64496.
+// twoPayloads returns data of version 1: 192.0.2.0/24 and 198.51.100.0/24 of AS 64496.
 func twoPayloads(t *testing.T) rtr.Data {
 	t.Helper()
 	data, err := rtr.ParseData([]byte{
@@ -156,13 +162,14 @@ func twoPayloads(t *testing.T) rtr.Data {
 	return data
 }
 
-// startedTLS serves data over TLS with this certificate until the test ends, and gives the address.
+// startedTLS serves data over TLS with this certificate until the test ends, and returns the
+// address.
 func startedTLS(t *testing.T, cache tls.Certificate, trusted *x509.CertPool) string {
 	t.Helper()
 	return servedTLS(t, rtr.NewServer(), cache, trusted)
 }
 
-// servedTLS has a server do so.
+// servedTLS makes a server do so.
 func servedTLS(
 	t *testing.T, server *rtr.Server, cache tls.Certificate, trusted *x509.CertPool,
 ) string {
@@ -183,7 +190,7 @@ func servedTLS(
 	return listener.Addr().String()
 }
 
-// Both ends have certificates by an authority that the other one trusts.
+// Both ends have certificates by an authority that the other trusts.
 func TestOverTLS(t *testing.T) {
 	trusted := newAuthority(t)
 	address := startedTLS(t, trusted.issue(cacheName, time.Hour), trusted.pool())
@@ -196,7 +203,7 @@ func TestOverTLS(t *testing.T) {
 	}
 }
 
-// manyPayloads are data of so many bytes, or some more.
+// manyPayloads returns data of at least this many bytes.
 func manyPayloads(t *testing.T, size int) rtr.Data {
 	t.Helper()
 	var vrps []rtr.VRP
@@ -222,7 +229,7 @@ func (l smallBuffers) Accept() (net.Conn, error) {
 	return connection, err
 }
 
-// slowWrite is what a write to a slowConn has, of which 256 reads take more.
+// slowWrite is the time limit of a write to a slowConn; 256 reads take longer.
 const slowWrite = 2 * time.Second
 
 // slowConn reads little at a time, with pauses.
@@ -236,8 +243,8 @@ func (c slowConn) Read(buffer []byte) (int, error) {
 	return c.Conn.Read(buffer)
 }
 
-// A router that takes some of an answer now and then gets all of it over TLS, too, in more time
-// than a write has.
+// A router that reads some of an answer now and then gets all of it over TLS, too, in more time
+// than the limit of a write.
 func TestSlowRouterOverTLS(t *testing.T) {
 	trusted := newAuthority(t)
 	listener, err := net.Listen("tcp", "127.0.0.1:0")
@@ -280,7 +287,7 @@ func TestSlowRouterOverTLS(t *testing.T) {
 	}
 }
 
-// A connection that is there already is the only one of its client: Run ends with it.
+// An existing connection is the only one of its client: Run ends with it.
 func TestClientOfAConnection(t *testing.T) {
 	listener, err := net.Listen("tcp", "127.0.0.1:0")
 	if err != nil {
@@ -311,7 +318,7 @@ func TestClientOfAConnection(t *testing.T) {
 	}
 }
 
-// An error of Dial is that of the failure, and the client goes on.
+// An error of Dial is that of the failure, and the client continues.
 func TestDialFails(t *testing.T) {
 	refused := errors.New("refused")
 	ctx, cancel := context.WithCancel(context.Background())

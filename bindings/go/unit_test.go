@@ -1,4 +1,4 @@
-//go:build cgo && linux && (amd64 || arm64)
+//go:build cgo && linux
 
 package rtr
 
@@ -36,7 +36,7 @@ var (
 	withdrawn     = sampleOf("withdrawn ASPA")
 )
 
-// What each of them shows.
+// The fields of each of them.
 var shownUnits = []struct {
 	bytes []byte
 	unit  Unit
@@ -80,12 +80,12 @@ var shownUnits = []struct {
 	{withdrawn, Unit{Kind: ASPA, Version: 2, Customer: 65000, Providers: Providers{}}},
 }
 
-// join is one slice after the other.
+// join returns the concatenated slices.
 func join(all ...[]byte) []byte {
 	return bytes.Join(all, nil)
 }
 
-// session is one unit after the other.
+// session returns the concatenated units.
 func session() []byte {
 	var all []byte
 	for _, one := range shownUnits {
@@ -94,7 +94,7 @@ func session() []byte {
 	return all
 }
 
-// What Next shows, and that AppendBinary writes it back after what was there.
+// Next decodes each unit, and AppendBinary encodes it again after existing bytes.
 func TestFields(t *testing.T) {
 	for _, one := range shownUnits {
 		unit, rest, err := Next(join(one.bytes, []byte{7}))
@@ -122,7 +122,7 @@ func TestFields(t *testing.T) {
 	}
 }
 
-// What is free is written as zero: host bits, sessions that mean nothing, flags but the lowest, and
+// Free bits are written as zero: host bits, sessions without a meaning, flags but the lowest, and
 // the providers of a withdrawal.
 func TestForms(t *testing.T) {
 	for _, one := range []struct{ bytes, form []byte }{
@@ -149,7 +149,7 @@ func TestForms(t *testing.T) {
 	}
 }
 
-// A report whose inner lengths don't fit shows no parts.
+// A report whose inner lengths don't fit has no parts.
 func TestReportsThatDontFit(t *testing.T) {
 	for _, lengths := range [][2]uint32{
 		{9, 2}, {7, 2}, {8, 3}, {8, 1}, {0xffffffff, 2}, {8, 0xffffffff}, {11, 0},
@@ -237,7 +237,7 @@ var formless = []struct {
 	{Unit{Kind: EndOfData, Version: 3}, UnitVersion, 3},
 }
 
-// What has no form is refused, nothing is appended or written, and no report is owed.
+// A unit without a form is refused, nothing is appended or written, and no report is owed.
 func TestNoForm(t *testing.T) {
 	for _, one := range formless {
 		form, err := one.unit.AppendBinary([]byte("front"))
@@ -383,7 +383,7 @@ func BenchmarkNext(b *testing.B) {
 	}
 }
 
-// Many units at once are those that Next gives one after the other, in any number of places.
+// Many units at once are those that Next returns one after the other, in a slice of any length.
 func TestNextMany(t *testing.T) {
 	var input []byte
 	for i := 0; i < 30; i++ {
@@ -425,7 +425,7 @@ func TestNextMany(t *testing.T) {
 	}
 }
 
-// A table costs few calls of C: Go takes longer for one than the library does for a unit.
+// Reading data makes few calls of C: a call takes Go longer than a unit takes the library.
 func TestNextManyCrossings(t *testing.T) {
 	input := bytes.Repeat(ipv4, 64000)
 	units := make([]Unit, 256)
@@ -441,7 +441,7 @@ func TestNextManyCrossings(t *testing.T) {
 	}
 }
 
-// A table of 100,000 prefixes.
+// Data of 100,000 prefixes.
 func BenchmarkNextMany(b *testing.B) {
 	b.ReportAllocs()
 	input := bytes.Repeat(ipv4, 100000)
@@ -532,6 +532,8 @@ func TestTextRows(t *testing.T) {
 			said = name(namedReason, uint16(number))
 		case "code":
 			said = ErrorCode(number).String()
+		case "time_rule":
+			said = name(namedTimeRule, uint16(number))
 		}
 		if said != text {
 			t.Fatalf("%s: %q", row, said)
@@ -586,13 +588,14 @@ func TestStatus(t *testing.T) {
 		"withdrawal of an unknown record",
 		"an ASPA is announced and then withdrawn",
 		"no room in the index",
+		"too many members",
 	} {
 		var err error = Status(status)
 		if err.Error() != text || Status(status).String() != text {
 			t.Fatalf("%d: %v", status, err)
 		}
 		fault := fmt.Errorf("wrapped: %w", &Fault{Status: Status(status)})
-		for other := OK; other < 18; other++ {
+		for other := OK; other < 19; other++ {
 			if errors.Is(fault, other) != (other == Status(status)) {
 				t.Fatalf("%v: %v", fault, other)
 			}
@@ -604,7 +607,7 @@ func TestStatus(t *testing.T) {
 	}
 }
 
-// Each reason of a breach is found in it, and no other; one of a cause has the text of the cause.
+// errors.Is finds the reason of a breach, and no other; the reason of a cause has the cause's text.
 func TestBreaches(t *testing.T) {
 	reasons := []error{
 		ErrOtherVersion, ErrHigherVersion, ErrNoVersion, ErrOtherSession, ErrSerialBack,
@@ -638,8 +641,8 @@ func TestReports(t *testing.T) {
 	for _, one := range []struct {
 		input []byte
 		text  string
-		code  int // -1 where no report is owed
-		about int // so many bytes of the input
+		code  int // -1 if no report is owed
+		about int // the enclosed bytes of the input
 	}{
 		{[]byte{1, 4}, "unexpected end of input", 0, 2},
 		{ipv4[:19], "unexpected end of input", 0, 19},
@@ -649,7 +652,7 @@ func TestReports(t *testing.T) {
 		{[]byte{2, 2, 0, 0, 0, 0, 0, 9, 9, 9}, "invalid unit length", 0, 8},
 		{[]byte{2, 11, 1, 0, 0, 0, 0, 12, 9, 9}, "ASPA unit has no providers", 9, 8},
 		{join(prefix, key), "max-length smaller than prefix length", 0, 20},
-		// None about a report.
+		// No report is owed about a report.
 		{[]byte{1, 10, 0, 0, 0, 0, 0, 15, 9, 9}, "invalid unit length", -1, 0},
 		{[]byte{1, 10, 0, 0, 0, 1, 0, 0, 9, 9}, "unit is longer than 65535 bytes", -1, 0},
 		{[]byte{1, 10, 0, 0, 0, 0, 0, 16, 9, 9}, "unexpected end of input", -1, 0},
@@ -679,7 +682,8 @@ func TestReports(t *testing.T) {
 	}
 }
 
-// What a report encloses, and then its text, is cut so that the report has 65535 bytes.
+// The unit that a report encloses, and then its text, is truncated so that the report has 65535
+// bytes.
 func TestReportsCut(t *testing.T) {
 	for length, text := range map[int]string{
 		65534: "", 65519: "", 65518: "u", 65497: "unexpected end of inpu", 65496: "unexpected end of input",
@@ -722,7 +726,7 @@ func TestSerials(t *testing.T) {
 	}
 }
 
-// The text of each fault is one line, with its place.
+// The text of each fault is one line, with its offset.
 func TestTexts(t *testing.T) {
 	for status := Status(0); status < 12; status++ {
 		for detail := 0; detail < 256; detail++ {

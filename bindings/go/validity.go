@@ -1,4 +1,4 @@
-//go:build cgo && linux && (amd64 || arm64)
+//go:build cgo && linux
 
 package rtr
 
@@ -11,18 +11,27 @@ struct covered {
 	bool found;
 };
 
-static uint8_t validate(const uint8_t *data, size_t length, const struct rtr_tables *tables,
+// The data's bytes are Go's, so that no struct of Go may point at them: the calls take them beside
+// the lookup, in place of a struct rtr_data.
+static void look_up(const uint8_t *data, size_t length, struct rtr_lookup *lookup)
+{
+	struct rtr_data_answer answer;
+	rtr_check_data_nonnull(data, length, lookup, &answer);
+}
+
+static uint8_t validate(const uint8_t *data, size_t length, const struct rtr_lookup *lookup,
                         struct rtr_route route)
 {
-	return rtr_validate(data, length, tables, &route);
+	return rtr_validate_nonnull(data, length, lookup, &route);
 }
 
 static struct covered covering(const uint8_t *data, size_t length,
-                               const struct rtr_tables *tables, struct rtr_route route,
+                               const struct rtr_lookup *lookup, struct rtr_route route,
                                size_t from)
 {
 	struct covered covered;
-	covered.found = rtr_covering(data, length, tables, &route, from, &covered.vrp);
+	covered.found =
+	    rtr_covering_nonnull(data, length, lookup, &route, from, &covered.vrp) == RTR_COVERS_ONE;
 	return covered;
 }
 */
@@ -72,17 +81,17 @@ func (m Mismatch) String() string {
 
 // lookup has where the prefixes of data lie. It is made once, when it is first asked for.
 type lookup struct {
-	once   sync.Once
-	tables C.struct_rtr_tables
+	once sync.Once
+	made C.struct_rtr_lookup
 }
 
-// tables are those of the data.
-func (d Data) tables() *C.struct_rtr_tables {
+// lookedUp is the lookup of the data, which aren't zero.
+func (d Data) lookedUp() *C.struct_rtr_lookup {
 	d.lookup.once.Do(func() {
 		first, n := place(d.bytes)
-		C.rtr_tables(first, n, &d.lookup.tables)
+		C.look_up(first, n, &d.lookup.made)
 	})
-	return &d.lookup.tables
+	return &d.lookup.made
 }
 
 // routeOf is the route of this prefix and this AS, and whether it is one.
@@ -121,7 +130,7 @@ func (d Data) Validate(prefix netip.Prefix, asn uint32) Validity {
 		return NotFound
 	}
 	first, n := place(d.bytes)
-	return Validity(C.validate(first, n, d.tables(), route))
+	return Validity(C.validate(first, n, d.lookedUp(), route))
 }
 
 // Covering is a loop over the VRPs of the data that cover the route of this prefix with this origin
@@ -152,7 +161,7 @@ func (c *Covering) Scan() bool {
 		return false
 	}
 	first, n := place(c.data.bytes)
-	covered := C.covering(first, n, c.data.tables(), c.route, c.from)
+	covered := C.covering(first, n, c.data.lookedUp(), c.route, c.from)
 	if !covered.found {
 		c.ended = true
 		return false

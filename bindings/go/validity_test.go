@@ -1,4 +1,4 @@
-//go:build cgo && linux && (amd64 || arm64)
+//go:build cgo && linux
 
 package rtr
 
@@ -33,7 +33,7 @@ type validityTable struct {
 	routes []validityRow
 }
 
-// validityTables are those of the file that RTR_VALIDITY names, or else those that validity.py
+// validityTables returns those of the file that RTR_VALIDITY names, or else those that validity.py
 // makes.
 func validityTables(t *testing.T) (tables []validityTable) {
 	var rest []byte
@@ -137,7 +137,7 @@ func TestNoRoute(t *testing.T) {
 	}
 }
 
-// An IPv4 prefix that is written as one of IPv6 is one of IPv6, to which no VRP of IPv4 belongs.
+// An IPv4-mapped IPv6 prefix is an IPv6 prefix, which no IPv4 VRP covers.
 func TestMappedRoute(t *testing.T) {
 	data, err := ParseData([]byte{
 		1, 4, 0, 0, 0, 0, 0, 20, 1, 0, 32, 0, 0, 0, 0, 0, 0, 1, 0, 15,
@@ -152,7 +152,7 @@ func TestMappedRoute(t *testing.T) {
 	}
 }
 
-// Several goroutines may be the first to ask.
+// Several goroutines may do the first lookup.
 func TestValidityAtOnce(t *testing.T) {
 	tables := validityTables(t)
 	table := tables[len(tables)-1]
@@ -198,7 +198,7 @@ func BenchmarkValidate(b *testing.B) {
 		b.Fatal(err)
 	}
 	prefix := netip.MustParsePrefix("192.0.2.0/24")
-	data.Validate(prefix, 1) // makes the tables
+	data.Validate(prefix, 1) // makes the index
 	b.ReportAllocs()
 	b.ResetTimer()
 	for i := 0; i < b.N; i++ {

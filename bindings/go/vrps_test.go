@@ -1,4 +1,4 @@
-//go:build cgo && linux && (amd64 || arm64)
+//go:build cgo && linux
 
 package rtr
 
@@ -48,7 +48,7 @@ func TestNewDataOf(t *testing.T) {
 	}
 }
 
-// Of data with other payloads the VRPs alone are there, in their order.
+// VRPs returns only the VRPs of data with other payloads, in order.
 func TestVRPs(t *testing.T) {
 	vrps := parsed(t, join(ipv4, changed(announced6, 0, 1), key, ending(1, 7, 9))).VRPs()
 	if len(vrps) != 2 || vrps[0] != vrp("192.0.2.0/23", 26) || vrps[1].Prefix.Addr().Is4() {
@@ -59,7 +59,7 @@ func TestVRPs(t *testing.T) {
 	}
 }
 
-// VRPs that no unit has, each with a good one before it.
+// VRPs that no unit has, each with a valid one before it.
 func TestNewDataOfRefused(t *testing.T) {
 	for text, one := range map[string]struct {
 		vrp     VRP

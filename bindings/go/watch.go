@@ -1,4 +1,4 @@
-//go:build cgo && linux && (amd64 || arm64)
+//go:build cgo && linux
 
 package rtr
 
@@ -20,12 +20,11 @@ const KeptSuffix = ".kept"
 // MostDataBytes is how long a file of data may be.
 const MostDataBytes = 1 << 28
 
-// LoadData reads data from a file: a sequence, with or without a cache response before it, that
-// only announces. What isn't in canonical form is put in order. What follows the end of data
-// doesn't count.
+// LoadData loads the data of a file: a recording or a list, as Load takes it. An answer that the
+// next one cuts off is left out.
 //
-// Errors: those of the file; a Fault with the offset of the unit, as ParseData and Order give it,
-// and NoRoom for a file of more than MostDataBytes.
+// Errors: those of the file; those of Load, and a Fault with NoRoom for a file of more than
+// MostDataBytes.
 func LoadData(path string) (Data, error) {
 	file, err := os.Open(path)
 	if err != nil {
@@ -48,42 +47,11 @@ func LoadData(path string) (Data, error) {
 	if info.Size() > MostDataBytes || len(input) > MostDataBytes {
 		return Data{}, fmt.Errorf("%s: %w", path, &Fault{Status: NoRoom, Offset: MostDataBytes})
 	}
-	data, err := orderedData(input)
+	data, _, err := Load(input)
 	if err != nil {
 		return Data{}, fmt.Errorf("%s: %w", path, err)
 	}
 	return data, nil
-}
-
-// orderedData are the data of a sequence in any order.
-func orderedData(input []byte) (Data, error) {
-	skipped := 0
-	if unit, rest, err := Next(input); err == nil && unit.Kind == CacheResponse {
-		skipped = len(input) - len(rest)
-	}
-	data, err := ParseData(input[skipped:])
-	if !errors.Is(err, NotCanonical) {
-		return data, moved(err, skipped)
-	}
-	ordered, failed := Order(input[skipped:])
-	if failed != nil {
-		return Data{}, moved(failed, skipped)
-	}
-	data, failed = ParseData(ordered)
-	if failed != nil {
-		// Something is withdrawn, of which the first place out of order is known.
-		return Data{}, moved(err, skipped)
-	}
-	return data, nil
-}
-
-// moved is the error with its offset so many bytes on.
-func moved(err error, by int) error {
-	var fault *Fault
-	if errors.As(err, &fault) && fault.Offset >= 0 {
-		fault.Offset += int64(by)
-	}
-	return err
 }
 
 // Watch looks at a file of data in this interval, until the context ends. It gives the data to the
@@ -96,6 +64,7 @@ func moved(err error, by int) error {
 func (s *Server) Watch(
 	ctx context.Context, path string, every time.Duration, told func(Data, error),
 ) {
+	s.ready()
 	ticks := time.NewTicker(every)
 	defer ticks.Stop()
 	w := newWatcher(s, path, told)

@@ -1,8 +1,11 @@
-//go:build cgo && linux && (amd64 || arm64)
+//go:build cgo && linux
 
 package rtr
 
-import "io"
+import (
+	"errors"
+	"io"
+)
 
 // Writer writes units to an io.Writer, each with one call of its Write. It keeps nothing back: give
 // it a bufio.Writer where writes are dear, and flush that.
@@ -10,6 +13,9 @@ type Writer struct {
 	writer io.Writer
 	buffer []byte
 }
+
+// ErrNoWriter is of a Writer without an io.Writer, as the zero one is.
+var ErrNoWriter = errors.New("rtr: the Writer has no io.Writer: NewWriter makes one that has")
 
 // NewWriter makes a Writer of an io.Writer.
 func NewWriter(writer io.Writer) *Writer {
@@ -20,8 +26,11 @@ func NewWriter(writer io.Writer) *Writer {
 // unless the buffer has to grow or there is an error.
 //
 // Errors: those of AppendBinary, and then nothing is written; that of the io.Writer, as it is, or
-// io.ErrShortWrite.
+// io.ErrShortWrite; ErrNoWriter of the zero Writer.
 func (w *Writer) Write(unit *Unit) error {
+	if w.writer == nil {
+		return ErrNoWriter
+	}
 	form, err := unit.AppendBinary(w.buffer[:0])
 	w.buffer = form[:0]
 	if err != nil {

@@ -1,4 +1,4 @@
-//go:build cgo && linux && (amd64 || arm64)
+//go:build cgo && linux
 
 package rtr
 
@@ -14,7 +14,8 @@ import (
 	"time"
 )
 
-// stalled is a connection that takes some of each of the first writes before it meets its deadline.
+// stalled is a connection that accepts a part of each of the first writes before the deadline
+// passes.
 type stalled struct {
 	net.Conn
 	takes     []int
@@ -35,7 +36,7 @@ func (s *stalled) Write(bytes []byte) (int, error) {
 	return taken, os.ErrDeadlineExceeded
 }
 
-// A write that met its deadline gets no second one, whatever was taken of it before.
+// A write whose deadline passed gets no second one, whatever part was written before.
 func TestWriteTakenInPart(t *testing.T) {
 	for name, takes := range map[string][]int{
 		"nothing":                {0},
@@ -53,8 +54,8 @@ func TestWriteTakenInPart(t *testing.T) {
 	}
 }
 
-// A socket says at once what it took, so that the time of a write begins anew then, and not at the
-// deadline.
+// A socket reports progress at once, so that the time limit of a write restarts then, and not at
+// the deadline.
 func TestWriteToASocket(t *testing.T) {
 	noLeaks(t)
 	bytes := piece{bytes: make([]byte, 1<<26)}
@@ -92,7 +93,7 @@ func writeToASocket(t *testing.T, one piece) {
 	}
 }
 
-// Many bytes lie in a file, unless files may have fewer bytes than these.
+// Many bytes are stored in a file, unless the file size limit is lower.
 func TestFiled(t *testing.T) {
 	all := make([]byte, 5*hugePage/2+1)
 	for i := range all {
@@ -129,7 +130,7 @@ func TestFiled(t *testing.T) {
 	}
 }
 
-// The file of an edition stays while it is the newest or a client is sent it.
+// The file of an edition stays while it is the newest or a client receives it.
 func TestFiledEdition(t *testing.T) {
 	vrps := make([]VRP, chunk/20)
 	for i := range vrps {
@@ -162,7 +163,7 @@ func TestFiledEdition(t *testing.T) {
 	if e.sent(); isOpen(one) {
 		t.Fatal("still open")
 	}
-	one = file() // for a client that came late
+	one = file() // for a late client
 	if e.sent(); isOpen(one) {
 		t.Fatal("open again")
 	}

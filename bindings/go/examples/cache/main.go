@@ -124,10 +124,22 @@ func run(ctx context.Context, wanted options) error {
 	return err
 }
 
-// sayTaken says which data of a file the server has.
+// sayTaken says which data of a file the server has, and warns of serial number 0.
 func sayTaken(path string, data rtr.Data) {
-	say(fmt.Sprintf("%s: session %d serial %d: %d payloads",
-		path, data.Session(), data.Serial(), data.Len()))
+	say(fmt.Sprintf("%s: session %d serial %d: %s",
+		path, data.Session(), data.Serial(), payloads(data.Len())))
+	if data.Serial() == 0 {
+		say(path, ": serial number 0: a router that lost its first answer may ask with it, and "+
+			"keep a part of the data")
+	}
+}
+
+// payloads is a number of them.
+func payloads(count int) string {
+	if count == 1 {
+		return "1 payload"
+	}
+	return fmt.Sprintf("%d payloads", count)
 }
 
 // say writes a line on standard error, with the time before it.

@@ -1,5 +1,5 @@
 // Client follows the data of an RTR cache, and prints what is announced and withdrawn. With
-// --prefer it has the data of the first of several caches that has some.
+// --prefer it has the data of the first of several caches that answers.
 package main
 
 import (
@@ -17,7 +17,7 @@ import (
 	"fishreef/rtr"
 )
 
-const usage = "usage: client (HOST:PORT | --prefer HOST:PORT ..) " +
+const usage = "usage: client (HOST:PORT | (--prefer HOST:PORT)..) " +
 	"[--version 0|1|2] [--once] [--json]"
 
 // options are what the command line asks for.
@@ -82,17 +82,20 @@ var errEnough = errors.New("enough")
 
 // run prints changes until the context ends or the output fails, or after the first data.
 func run(ctx context.Context, wanted options, output io.Writer) error {
-	shown := &show{once: wanted.once, line: rtr.ChangeLine, output: bufio.NewWriter(output)}
+	shown := &show{
+		once: wanted.once, line: rtr.ChangeLine, output: bufio.NewWriter(output),
+		failed: make(map[*rtr.Client]bool),
+	}
 	if wanted.json {
 		shown.line = rtr.ChangeJSON
 	}
 	var sources []rtr.Source
 	for _, address := range wanted.addresses {
 		client := rtr.NewClient(address)
-		client.Version = wanted.version
+		client.AskIn(wanted.version)
 		sources = append(sources, rtr.Source{Name: address, Client: client})
-		shown.last = client
 	}
+	shown.left = len(sources)
 	if err := rtr.Follow(ctx, sources, shown); err != errEnough {
 		return err
 	}
@@ -104,14 +107,23 @@ type show struct {
 	once   bool
 	line   func(*rtr.Unit) string
 	output *bufio.Writer
-	last   *rtr.Client // the one that is preferred least
+	left   int                  // how many of the caches didn't fail
+	failed map[*rtr.Client]bool // the others
+}
+
+// payloads is a number of them.
+func payloads(count int) string {
+	if count == 1 {
+		return "1 payload"
+	}
+	return fmt.Sprintf("%d payloads", count)
 }
 
 // Data prints what leads from the data before to these.
 func (s *show) Data(_ rtr.Source, update rtr.Update) error {
 	if data := update.Data; !data.IsZero() {
-		fmt.Fprintf(os.Stderr, "session %d serial %d version %d: %d payloads\n",
-			data.Session(), data.Serial(), data.Version(), data.Len())
+		fmt.Fprintf(os.Stderr, "session %d serial %d version %d: %s\n",
+			data.Session(), data.Serial(), data.Version(), payloads(data.Len()))
 	}
 	for changes := update.Changes(); changes.Scan(); {
 		s.output.WriteString(s.line(changes.Unit()))
@@ -123,11 +135,15 @@ func (s *show) Data(_ rtr.Source, update rtr.Update) error {
 	return errEnough
 }
 
-// Failed says why a connection ended. Where data are wanted once, it ends the client after the last
-// cache.
+// Failed says why a connection ended. If data are wanted once, it ends the client after the last
+// cache to fail.
 func (s *show) Failed(source rtr.Source, err error) error {
 	err = fmt.Errorf("%s: %w", source.Name, err)
-	if s.once && source.Client == s.last {
+	if !s.failed[source.Client] {
+		s.failed[source.Client] = true
+		s.left--
+	}
+	if s.once && s.left == 0 {
 		return err
 	}
 	fmt.Fprintln(os.Stderr, err)

@@ -1,4 +1,4 @@
-// Units prints the units of the sequence on standard input, and how long its form is.
+// Units prints the units of the sequence on standard input, and the length of its form.
 package main
 
 import (
@@ -27,5 +27,5 @@ func main() {
 	if err != nil {
 		log.Fatal(err)
 	}
-	fmt.Printf("%d payload units, form of %d bytes\n", progress.Units, progress.Written)
+	fmt.Printf("payload units: %d, bytes of their form: %d\n", progress.Units, progress.Written)
 }
