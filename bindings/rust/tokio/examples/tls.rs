@@ -3,8 +3,8 @@
 //! usage: tls cache FILE ADDRESS CERTIFICATE KEY AUTHORITY
 //!        tls client ADDRESS NAME CERTIFICATE KEY AUTHORITY
 //!
-//! FILE has a sequence that only announces, NAME is that of the cache in its certificate, and the
-//! last three are files in PEM: one's own certificate and key, and who signed those of the other.
+//! FILE is a list or a recording, NAME is that of the cache in its certificate, and the last three
+//! are files in PEM: one's own certificate and key, and who signed those of the other.
 //!
 //! It is over OpenSSL: a cache has to ask routers for certificates and to see the addresses in them
 //! (section 9.2). The crate native-tls 0.2 can't ask, and rustls 0.20, of Debian 12, takes a
@@ -14,7 +14,7 @@ use openssl::error::ErrorStack;
 use openssl::ssl::{Ssl, SslAcceptor, SslConnector, SslContextBuilder, SslFiletype};
 use openssl::ssl::{SslMethod, SslOptions, SslVerifyMode};
 use openssl::x509::verify::X509CheckFlags;
-use rtr_wire::{ClientOptions, Data, Event, ServerOptions};
+use rtr_wire::{load_data, ClientOptions, Data, Event, ServerOptions};
 use rtr_wire_tokio::{AsyncClient, AsyncServer};
 use std::error::Error;
 use std::io::{self, ErrorKind};
@@ -129,9 +129,12 @@ async fn main() -> Result<(), Box<dyn Error>> {
     let words: Vec<&str> = arguments.iter().map(String::as_str).collect();
     match words.as_slice() {
         ["cache", file, address, files @ ..] if files.len() == 3 => {
-            let data = Data::from_sequence(&std::fs::read(file)?)?;
+            let loaded = load_data(&std::fs::read(file)?)?;
+            if loaded.has_cut {
+                eprintln!("{file}: left out: an answer without an end of data");
+            }
             let files = [files[0], files[1], files[2]].map(Path::new);
-            serve(data, address, acceptor(files)?).await
+            serve(loaded.data, address, acceptor(files)?).await
         }
         ["client", address, name, files @ ..] if files.len() == 3 => {
             let files = [files[0], files[1], files[2]].map(Path::new);

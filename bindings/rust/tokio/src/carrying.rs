@@ -1,4 +1,4 @@
-//! A connection of a server.
+//! Carries the bytes of a server's connection.
 
 use rtr_wire::{Moment, Served, ServedStep};
 use std::future::Future;
@@ -10,22 +10,22 @@ use tokio::io::{AsyncRead, AsyncWrite, ReadBuf};
 /// How many bytes are read at once.
 const CHUNK: usize = 4096;
 
-/// A stream, and what is to be done with it.
+/// A connection: its stream, and the cache's end of the session.
 pub(crate) struct Carried<S> {
     stream: S,
     served: Served,
-    /// Whether the stream may hold bytes that it took.
+    /// Whether the stream may hold written bytes, so that it has to be flushed.
     holds: bool,
-    /// Whether nothing more is sent, which the client isn't told of yet.
+    /// Whether the stream has to be shut down for writing.
     is_finishing: bool,
 }
 
-/// What is waited for.
+/// What a connection waits for.
 #[derive(Clone, Copy)]
 pub(crate) enum Wanted {
-    /// That bytes come.
+    /// Bytes of the client.
     Bytes,
-    /// That the stream takes bytes.
+    /// Room in the stream for bytes to be sent.
     Room,
 }
 
@@ -39,12 +39,12 @@ impl<S: AsyncRead + AsyncWrite + Unpin> Carried<S> {
         }
     }
 
-    /// When [`Carried::next`] is to be called, if nothing comes before.
+    /// Returns when to call [`Carried::next`], if nothing comes before.
     pub(crate) fn wakes(&self, moment: &Moment) -> u64 {
         self.served.wakes(moment)
     }
 
-    /// What is to be done now; the client is told that nothing more is sent by and by.
+    /// Returns the next step. The stream is shut down for writing while bytes are awaited.
     pub(crate) fn next(&mut self, moment: &Moment) -> ServedStep {
         match self.served.next(moment) {
             ServedStep::Finish => {
@@ -55,7 +55,7 @@ impl<S: AsyncRead + AsyncWrite + Unpin> Carried<S> {
         }
     }
 
-    /// Waits for bytes or for room for them, and carries them at the moment when they are there.
+    /// Waits for bytes or for room, and carries them at the moment when the wait ends.
     pub(crate) fn carry<M: Fn() -> Moment>(
         &mut self,
         wanted: Wanted,
@@ -95,7 +95,7 @@ impl<S: AsyncRead + AsyncWrite + Unpin> Carried<S> {
         })
     }
 
-    /// Has the stream send what it holds, and tell that it was the last where it was.
+    /// Flushes the stream, or shuts it down for writing after the last bytes.
     fn poll_end_of_sending(&mut self, cx: &mut Context<'_>) -> Poll<io::Result<()>> {
         let stream = Pin::new(&mut self.stream);
         let done = match (self.is_finishing, self.holds) {
@@ -111,7 +111,7 @@ impl<S: AsyncRead + AsyncWrite + Unpin> Carried<S> {
     }
 }
 
-/// A connection that waits for bytes or for room for them.
+/// The wait of a connection for bytes or for room.
 pub(crate) struct Carrying<'s, S, M> {
     carried: &'s mut Carried<S>,
     wanted: Wanted,

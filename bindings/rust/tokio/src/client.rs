@@ -1,6 +1,7 @@
-//! A router's end of a session.
+//! A client.
 
 use crate::closing::Closing;
+use crate::timer::Timer;
 use rtr_wire::{ClientError, ClientOptions, Data, Event, Router, Step};
 use rtr_wire::{Log, LogFields, LogLevel};
 use std::collections::hash_map::RandomState;
@@ -8,26 +9,24 @@ use std::fmt;
 use std::future::Future;
 use std::hash::{BuildHasher, Hasher};
 use std::io::{self, ErrorKind};
+use std::net::SocketAddr;
 use std::pin::Pin;
 use std::task::{Context, Poll};
 use std::time::Duration;
 use tokio::io::{AsyncRead, AsyncWrite, ReadBuf};
-use tokio::net::TcpStream;
-use tokio::time::{sleep_until, Instant, Sleep};
-
-/// How many bytes are read at once.
-const CHUNK: usize = 1 << 16;
+use tokio::net::{lookup_host, TcpStream};
+use tokio::time::{timeout, Instant};
 
 /// A connection that is being made.
 type Dialed<S> = Pin<Box<dyn Future<Output = io::Result<S>> + Send>>;
 
-/// A router's end: it asks a cache for data, and follows their changes, over connections that the
+/// A client: it queries a cache for data, and follows their changes, over connections that its
 /// caller opens. Its rules are those of [`rtr_wire::Client`].
 ///
-/// It goes on while [`next`](AsyncClient::next) or [`fetch`](AsyncClient::fetch) is awaited, and
-/// wakes for bytes and for the times of its options and of the cache alone. Such a future may be
-/// dropped at any time: all that was read and sent, and a connection that is being made, are kept
-/// for the next call. A client that is dropped closes its connection.
+/// It runs while [`next`](AsyncClient::next) or [`fetch`](AsyncClient::fetch) is awaited, and wakes
+/// only for bytes and for its time limits and the cache's. Such a future may be dropped at any
+/// time: the client keeps what was read and sent, and a connection that is being made, for the next
+/// call. A client that is dropped closes its connection.
 ///
 /// ```no_run
 /// use rtr_wire::{ClientOptions, Event};
@@ -50,17 +49,16 @@ pub struct AsyncClient<S> {
     router: Router,
     dial: Box<dyn FnMut() -> Dialed<S> + Send>,
     options: ClientOptions,
-    /// When the router's clock began, from the first call on.
+    /// When the router's clock began: at the first call.
     begun: Option<Instant>,
     link: Link<S>,
-    timer: Option<Pin<Box<Sleep>>>,
-    buffer: Box<[u8]>,
-    /// What was told last.
+    timer: Timer,
+    /// The last step with an event.
     told: Option<Step>,
     log: Option<Box<Log>>,
 }
 
-/// What there is of a connection.
+/// The state of the connection.
 enum Link<S> {
     None,
     Dialed(Dialed<S>),
@@ -68,48 +66,41 @@ enum Link<S> {
     Closing(Closing<S>),
 }
 
-/// A connection that is there.
+/// An open connection.
 struct Open<S> {
     stream: S,
-    /// Whether nothing comes any more.
+    /// Whether the stream has ended for reading.
     has_ended: bool,
-    /// Whether nothing can be sent any more.
+    /// Whether the stream failed, so that nothing can be sent.
     is_broken: bool,
-    /// Whether the stream may hold bytes that it took.
+    /// Whether the stream may hold written bytes, so that it has to be flushed.
     holds: bool,
 }
 
 impl AsyncClient<TcpStream> {
-    /// A client over TCP of the cache at this address: a name or an IPv4 address, a colon and a
-    /// port, or an IPv6 address in brackets, a colon and a port. Neither is anything encrypted nor
-    /// is the cache authenticated (RFC 8210 section 9).
+    /// Returns a client of the cache at this address over TCP: a name or an IPv4 address, a colon
+    /// and a port, or an IPv6 address in brackets, a colon and a port. It tries each address of a
+    /// name. TCP doesn't encrypt, nor authenticate the cache (RFC 8210 section 9).
     pub fn tcp(address: impl Into<String>, options: ClientOptions) -> Self {
-        let address = address.into();
-        AsyncClient::new(options, move || {
-            let address = address.clone();
-            async move {
-                let stream = TcpStream::connect(&address).await?;
-                stream.set_nodelay(true)?;
-                Ok(stream)
-            }
-        })
+        let (address, limit) = (address.into(), options.dial);
+        AsyncClient::new(options, move || dial(address.clone(), limit))
     }
 }
 
 impl<S: AsyncRead + AsyncWrite + Unpin> AsyncClient<S> {
-    /// A client that has each of its connections made by this function, in the time of
+    /// Returns a client whose connections this function makes, each within
     /// [`ClientOptions::dial`].
     pub fn new<F>(options: ClientOptions, dial: impl FnMut() -> F + Send + 'static) -> Self
     where
         F: Future<Output = io::Result<S>> + Send + 'static,
     {
-        // A hasher is the one source of random numbers in the standard library.
+        // A hasher is the only source of random numbers in the standard library.
         let random = RandomState::new().build_hasher().finish().to_be_bytes();
         let random = u16::from_be_bytes([random[0], random[1]]);
         AsyncClient::with_random(options, random, dial)
     }
 
-    /// The same with this random number, by which the waits of many clients differ.
+    /// Like [`AsyncClient::new`], with this random number, which varies the waits of many clients.
     pub fn with_random<F>(
         options: ClientOptions,
         random: u16,
@@ -124,15 +115,14 @@ impl<S: AsyncRead + AsyncWrite + Unpin> AsyncClient<S> {
             options,
             begun: None,
             link: Link::None,
-            timer: None,
-            buffer: vec![0; CHUNK].into(),
+            timer: Timer::default(),
             told: None,
             log: None,
         }
     }
 
-    /// The same with a log, which is told of each connection, change of data and failure: a
-    /// message, and fields by their names.
+    /// Sets a log, which gets each connection, change of data and failure: a message, and fields by
+    /// their names.
     #[must_use]
     pub fn with_log(
         self,
@@ -144,34 +134,36 @@ impl<S: AsyncRead + AsyncWrite + Unpin> AsyncClient<S> {
         }
     }
 
-    /// Has the next call of [`next`](AsyncClient::next) ask the cache at once, before the refresh
-    /// time has passed: [`Router::ask_now`].
+    /// Requests the present data: the next call of [`next`](AsyncClient::next) queries the cache,
+    /// or connects, before it is time ([`Router::ask_now`]).
     pub fn ask_now(&mut self) {
         self.router.ask_now();
     }
 
-    /// All data of the cache, whole, if there are some.
+    /// Returns all data of the cache, if there are some that haven't expired.
     pub fn data(&self) -> Option<&Data> {
-        self.router.data()
+        let now = self.begun.map_or(0, since);
+        self.router.data().filter(|_| self.router.has_data(now))
     }
 
-    /// Waits until the data have changed, or a connection or a query has failed. The client goes on
-    /// with the next call.
-    #[allow(clippy::missing_panics_doc)] // It can't: what is told is an event.
+    /// Waits until the data changed, or a connection or a query failed, and returns that event. The
+    /// next call goes on.
+    #[allow(clippy::missing_panics_doc)] // It can't: each such step has an event.
     pub async fn next(&mut self) -> Event<'_> {
+        self.told = None; // which frees the data before the last ones
         Going(self).await;
         let event = self.told.as_ref().and_then(|step| self.router.event(step));
-        event.expect("that is what it goes on until")
+        event.expect("such a step has an event")
     }
 
-    /// Waits until there are data, or a failure.
+    /// Waits until there are data, and returns them, or until a failure.
     ///
     /// # Errors
     ///
     /// Any but `Stopped`.
     pub async fn fetch(&mut self) -> Result<Data, ClientError> {
         loop {
-            if let Some(data) = self.router.data() {
+            if let Some(data) = self.data() {
                 return Ok(data.clone());
             }
             Going(self).await;
@@ -181,8 +173,22 @@ impl<S: AsyncRead + AsyncWrite + Unpin> AsyncClient<S> {
         }
     }
 
-    /// Goes on until there is something to tell.
-    fn poll(&mut self, cx: &mut Context<'_>) -> Poll<()> {
+    /// Closes the connection, and drops the data. The next call begins again with the same cache.
+    pub(crate) fn stop(&mut self) {
+        self.link = Link::None;
+        self.told = None;
+        self.router.again();
+    }
+
+    /// Takes the last step with an event, and the data after it.
+    pub(crate) fn take_told(&mut self) -> Option<(Step, Option<&Data>)> {
+        let told = self.told.take()?;
+        Some((told, self.router.data()))
+    }
+
+    /// Runs until a step has an event.
+    pub(crate) fn poll(&mut self, cx: &mut Context<'_>) -> Poll<()> {
+        let begun = *self.begun.get_or_insert_with(Instant::now);
         loop {
             if let Link::Closing(closing) = &mut self.link {
                 match closing.poll(cx) {
@@ -190,10 +196,10 @@ impl<S: AsyncRead + AsyncWrite + Unpin> AsyncClient<S> {
                     Poll::Pending => return Poll::Pending,
                 }
             }
-            let now = self.now();
+            let now = since(begun);
             match self.router.next(now) {
                 Step::Wait if self.carry(cx, now) => {}
-                Step::Wait => match self.poll_time(cx) {
+                Step::Wait => match self.timer.poll(begun, self.router.wakes(), cx) {
                     Poll::Ready(()) => {}
                     Poll::Pending => return Poll::Pending,
                 },
@@ -210,32 +216,7 @@ impl<S: AsyncRead + AsyncWrite + Unpin> AsyncClient<S> {
         }
     }
 
-    /// The time by the router's clock.
-    fn now(&mut self) -> u64 {
-        let begun = self.begun.get_or_insert_with(Instant::now);
-        u64::try_from(begun.elapsed().as_millis()).unwrap_or(u64::MAX)
-    }
-
-    /// Waits for the time when the router goes on.
-    fn poll_time(&mut self, cx: &mut Context<'_>) -> Poll<()> {
-        let wakes = Duration::from_millis(self.router.wakes());
-        let time = match self.begun.and_then(|begun| begun.checked_add(wakes)) {
-            Some(time) => time,
-            None => return Poll::Pending,
-        };
-        let timer = &mut self.timer;
-        let timer = timer.get_or_insert_with(|| Box::pin(sleep_until(time)));
-        if timer.deadline() != time {
-            timer.as_mut().reset(time);
-        }
-        let came = timer.as_mut().poll(cx);
-        if came.is_ready() {
-            self.timer = None;
-        }
-        came
-    }
-
-    /// Carries what the connection takes and gives; answers whether it did.
+    /// Sends and reads what the connection can; reports whether anything happened.
     fn carry(&mut self, cx: &mut Context<'_>, now: u64) -> bool {
         match &mut self.link {
             Link::Dialed(dialed) => match dialed.as_mut().poll(cx) {
@@ -244,7 +225,7 @@ impl<S: AsyncRead + AsyncWrite + Unpin> AsyncClient<S> {
             },
             Link::Open(open) => {
                 let sent = open.send(&mut self.router, cx, now);
-                let received = open.receive(&mut self.router, &mut self.buffer, cx, now);
+                let received = open.receive(&mut self.router, cx, now);
                 return sent || received;
             }
             Link::None | Link::Closing(_) => return false,
@@ -252,7 +233,7 @@ impl<S: AsyncRead + AsyncWrite + Unpin> AsyncClient<S> {
         true
     }
 
-    /// A connection was made, or not.
+    /// A connection was made, or couldn't be.
     fn dialed(&mut self, made: io::Result<S>, now: u64) {
         self.link = match made {
             Ok(stream) => {
@@ -274,7 +255,7 @@ impl<S: AsyncRead + AsyncWrite + Unpin> AsyncClient<S> {
         };
     }
 
-    /// Closes the connection, after what is left to be sent.
+    /// Closes the connection, after the unsent bytes.
     fn close(&mut self) {
         let link = std::mem::replace(&mut self.link, Link::None);
         let rest = self.router.output();
@@ -288,7 +269,7 @@ impl<S: AsyncRead + AsyncWrite + Unpin> AsyncClient<S> {
 }
 
 impl<S: AsyncRead + AsyncWrite + Unpin> Open<S> {
-    /// Sends what the stream takes; answers whether it took something, or failed.
+    /// Sends what the stream takes; reports whether it took something, or failed.
     fn send(&mut self, router: &mut Router, cx: &mut Context<'_>, now: u64) -> bool {
         if self.is_broken {
             return false;
@@ -314,22 +295,17 @@ impl<S: AsyncRead + AsyncWrite + Unpin> Open<S> {
         true
     }
 
-    /// Reads what came; answers whether something did, or reading failed.
-    fn receive(
-        &mut self,
-        router: &mut Router,
-        buffer: &mut [u8],
-        cx: &mut Context<'_>,
-        now: u64,
-    ) -> bool {
+    /// Reads what came; reports whether something did, or reading failed.
+    fn receive(&mut self, router: &mut Router, cx: &mut Context<'_>, now: u64) -> bool {
         if self.has_ended {
             return false;
         }
-        let mut room = ReadBuf::new(buffer);
+        let mut room = ReadBuf::new(router.room());
         match Pin::new(&mut self.stream).poll_read(cx, &mut room) {
             Poll::Ready(Ok(())) => {
-                self.has_ended = room.filled().is_empty();
-                router.received(room.filled());
+                let count = room.filled().len();
+                self.has_ended = count == 0;
+                router.filled(count);
             }
             Poll::Ready(Err(error)) => self.fail(router, error, now),
             Poll::Pending => return false,
@@ -352,7 +328,34 @@ impl<S> fmt::Debug for AsyncClient<S> {
     }
 }
 
-/// A client that goes on. What it has done is in the client, so nothing is lost with this.
+/// Connects by TCP to the first of the addresses that accepts it. Each has an equal share of the
+/// time that is left.
+async fn dial(address: String, limit: Duration) -> io::Result<TcpStream> {
+    let begun = Instant::now();
+    let addresses: Vec<SocketAddr> = lookup_host(address).await?.collect();
+    let mut last = ErrorKind::NotFound.into();
+    for (count, address) in (1..=addresses.len()).rev().zip(&addresses) {
+        let left = limit.saturating_sub(begun.elapsed());
+        let share = left / u32::try_from(count).unwrap_or(u32::MAX);
+        match timeout(share, TcpStream::connect(address)).await {
+            Ok(Ok(stream)) => {
+                stream.set_nodelay(true)?;
+                return Ok(stream);
+            }
+            Ok(Err(error)) => last = error,
+            Err(_) => last = ErrorKind::TimedOut.into(),
+        }
+    }
+    Err(last)
+}
+
+/// Returns the milliseconds since this time.
+pub(crate) fn since(begun: Instant) -> u64 {
+    u64::try_from(begun.elapsed().as_millis()).unwrap_or(u64::MAX)
+}
+
+/// The run of a client until its next event. Its state is in the client, so dropping this loses
+/// nothing.
 struct Going<'c, S>(&'c mut AsyncClient<S>);
 
 impl<S: AsyncRead + AsyncWrite + Unpin> Future for Going<'_, S> {

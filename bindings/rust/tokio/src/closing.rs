@@ -1,4 +1,4 @@
-//! The end of a client's connection.
+//! Closes a client's connection.
 
 use std::future::Future;
 use std::pin::Pin;
@@ -7,37 +7,37 @@ use std::time::Duration;
 use tokio::io::{AsyncRead, AsyncWrite, ReadBuf};
 use tokio::time::{sleep, Sleep};
 
-/// How long bytes are waited for that the peer still sends: such as weren't read would have the
-/// connection reset, and what was sent last be lost.
+/// How long to read what the peer still sends: closing with unread bytes would reset the
+/// connection, and the peer might lose what was sent last.
 const LINGER: Duration = Duration::from_millis(200);
-/// How many of them are read.
+/// The most bytes that are read so.
 const MOST_BYTES: usize = 1 << 18;
 
-/// A connection on which some bytes are still sent before it is closed.
+/// A connection that sends its last bytes and is then closed.
 pub(crate) struct Closing<S> {
     stream: S,
     rest: Vec<u8>,
-    /// How many of them were sent.
+    /// How many of the bytes were sent.
     sent: usize,
     is_shut: bool,
-    passed_over: usize,
+    discarded: usize,
     time: Pin<Box<Sleep>>,
 }
 
 impl<S: AsyncRead + AsyncWrite + Unpin> Closing<S> {
-    /// These bytes are sent in this time, or not at all.
+    /// Sends these bytes, for at most this time.
     pub(crate) fn new(stream: S, rest: &[u8], time: Duration) -> Self {
         Closing {
             stream,
             rest: rest.to_vec(),
             sent: 0,
             is_shut: false,
-            passed_over: 0,
+            discarded: 0,
             time: Box::pin(sleep(time)),
         }
     }
 
-    /// Goes on until the connection can be closed.
+    /// Sends and reads until the connection can be closed.
     pub(crate) fn poll(&mut self, cx: &mut Context<'_>) -> Poll<()> {
         if !self.is_shut {
             match self.poll_send(cx) {
@@ -49,13 +49,13 @@ impl<S: AsyncRead + AsyncWrite + Unpin> Closing<S> {
                 Poll::Pending => {}
             }
         }
-        if self.is_shut && self.poll_pass_over(cx).is_ready() {
+        if self.is_shut && self.poll_discard(cx).is_ready() {
             return Poll::Ready(());
         }
         self.time.as_mut().poll(cx)
     }
 
-    /// Sends what is left, and that it was the last; answers whether it could.
+    /// Sends the rest, and shuts the stream down for writing; reports whether it could.
     fn poll_send(&mut self, cx: &mut Context<'_>) -> Poll<bool> {
         while self.sent < self.rest.len() {
             let rest = &self.rest[self.sent..];
@@ -69,14 +69,14 @@ impl<S: AsyncRead + AsyncWrite + Unpin> Closing<S> {
         shut.map(|done| done.is_ok())
     }
 
-    /// Reads what still comes, until nothing does.
-    fn poll_pass_over(&mut self, cx: &mut Context<'_>) -> Poll<()> {
-        while self.passed_over < MOST_BYTES {
+    /// Reads and discards what still comes.
+    fn poll_discard(&mut self, cx: &mut Context<'_>) -> Poll<()> {
+        while self.discarded < MOST_BYTES {
             let mut bytes = [0; 4096];
             let mut room = ReadBuf::new(&mut bytes);
             match Pin::new(&mut self.stream).poll_read(cx, &mut room) {
                 Poll::Ready(Ok(())) if !room.filled().is_empty() => {
-                    self.passed_over += room.filled().len();
+                    self.discarded += room.filled().len();
                 }
                 Poll::Ready(_) => break,
                 Poll::Pending => return Poll::Pending,

@@ -2,9 +2,9 @@
 //! that is [`AsyncRead`](tokio::io::AsyncRead) and [`AsyncWrite`](tokio::io::AsyncWrite): TCP, TLS,
 //! or a channel of SSH.
 //!
-//! [`AsyncClient`] follows a cache, and [`AsyncServer`] is one. They carry bytes for
-//! [`rtr_wire::Router`] and [`rtr_wire::Served`], as the clients and caches in threads of
-//! [`rtr_wire`] do, and decide nothing themselves.
+//! [`AsyncClient`] follows a cache, [`AsyncGroup`] several by preference; [`AsyncServer`] is one.
+//! They carry bytes for [`rtr_wire::Router`] and [`rtr_wire::Served`], as the clients and caches in
+//! threads of [`rtr_wire`] do, and decide nothing themselves.
 //!
 //! ```
 //! use rtr_wire::{ClientOptions, Data, ServerOptions};
@@ -32,7 +32,10 @@
 mod carrying;
 mod client;
 mod closing;
+mod group;
 mod server;
+mod timer;
 
 pub use client::AsyncClient;
+pub use group::AsyncGroup;
 pub use server::AsyncServer;

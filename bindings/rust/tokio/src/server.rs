@@ -17,21 +17,22 @@ use tokio::sync::watch;
 use tokio::task::JoinSet;
 use tokio::time::{sleep, sleep_until, timeout_at, Instant};
 
-/// How many connections may be closing beside those that are served.
+/// The most connections that are being closed, beside those that are served.
 const MOST_CLOSING: usize = 64;
-/// How long no client is taken in after the system had no place for one.
+/// How long to accept no connection after the system refused one.
 const PAUSE: Duration = Duration::from_millis(100);
 
-/// What is told of each connection that the server ends.
+/// Gets the reason of each connection that the server ends.
 type Ended = dyn Fn(SocketAddr, &ServerError) + Send + Sync;
 
-/// A cache (RFC 8210), for clients of versions 0 to 2, over connections that the caller takes, or
-/// TCP. Its rules and limits are those of [`rtr_wire::Server`]. A clone is the same cache.
+/// A cache (RFC 8210), for clients of versions 0 to 2, over TCP, or over connections that the
+/// caller accepts. Its rules and limits are those of [`rtr_wire::Server`]. A clone is the same
+/// cache.
 ///
-/// A client has a task, no thread, which wakes for bytes, new data and its limits alone. Work on
-/// data, for the first client that asks for their form or their changes, is done in its task.
+/// Each client has a task, no thread, which wakes only for bytes, new data and its limits. The task
+/// of the first client that asks for a version or for changes encodes them, for all.
 ///
-/// Here clients come over TLS:
+/// Clients that connect over TLS:
 ///
 /// ```no_run
 /// use openssl::ssl::{Ssl, SslAcceptor};
@@ -66,13 +67,13 @@ struct Shared {
     ended: Box<Ended>,
     log: Option<Arc<Log>>,
     begun: Instant,
-    /// Changes with the data; whether the server was stopped.
+    /// Notifies of new data; its value says whether the server was stopped.
     changes: watch::Sender<bool>,
-    /// How many clients are served.
+    /// The number of clients that are served.
     clients: AtomicUsize,
 }
 
-/// A client that is counted as long as this is there.
+/// Counts a client until it is dropped.
 struct Counted(Arc<Shared>);
 
 impl Drop for Counted {
@@ -82,13 +83,13 @@ impl Drop for Counted {
 }
 
 impl AsyncServer {
-    /// A server that has no data yet.
+    /// Returns a server without data.
     #[must_use]
     pub fn new(options: ServerOptions) -> Self {
         AsyncServer::telling(options, |_, _| {})
     }
 
-    /// The same, of a server that tells why it ended the connection of a client.
+    /// Returns a server without data that reports why it ended the connection of a client.
     pub fn telling(
         options: ServerOptions,
         ended: impl Fn(SocketAddr, &ServerError) + Send + Sync + 'static,
@@ -96,8 +97,8 @@ impl AsyncServer {
         AsyncServer::of(options, Box::new(ended), None)
     }
 
-    /// A server that tells a log each connection and why it ended, and new data: a message, and
-    /// fields by their names.
+    /// Returns a server without data that logs each connection, why it ended, and new data: a
+    /// message, and fields by their names.
     pub fn logging(
         options: ServerOptions,
         log: impl Fn(LogLevel, &str, &LogFields<'_>) + Send + Sync + 'static,
@@ -127,26 +128,28 @@ impl AsyncServer {
         }
     }
 
-    /// Has clients get these data from now on, in the session and with the serial number of their
-    /// end of data. Answers whether they aren't those that the server has already.
+    /// Serves these data from now on, with the session and the serial number of their end of data.
+    /// Returns whether they differ from the present ones.
     ///
     /// # Errors
     ///
-    /// `NewTimings`; `SerialNotAfter`, also for the same payloads under an earlier serial number.
+    /// `NewTimings`; `SerialNotAfter`, also for the same payloads with an earlier serial number;
+    /// `Times` if RFC 8210 section 6 doesn't allow their times.
     pub fn update(&self, data: Data) -> Result<bool, UpdateError> {
         let told = self.shared.log.as_ref().map(|log| (log, data.clone()));
         let is_new = self.shared.cache.update(data)?;
         if is_new {
             if let Some((log, data)) = told {
-                data.log(&**log, &[]);
+                data.log_served(&**log);
             }
             self.shared.changes.send_modify(|_| {});
         }
         Ok(is_new)
     }
 
-    /// Writes the data, and what leads back to those before them, to a file: by another one beside
-    /// it, which then gets its name. Without data it writes nothing. It waits for the file system.
+    /// Saves the data, and the deltas that lead back to earlier ones, to a file: it writes another
+    /// file beside it and renames that. Without data it writes nothing. It blocks on the file
+    /// system.
     ///
     /// # Errors
     ///
@@ -155,47 +158,46 @@ impl AsyncServer {
         self.shared.cache.save(path)
     }
 
-    /// Takes what [`AsyncServer::save`] or [`rtr_wire::Server::save`] wrote, if the server has no
-    /// data yet, and answers the data that it then has. It waits for the file system.
+    /// Loads what [`AsyncServer::save`] or [`rtr_wire::Server::save`] wrote, if the server has no
+    /// data yet, and returns the data that it then has. It blocks on the file system.
     ///
     /// # Errors
     ///
-    /// Those of reading, of which `InvalidData` is for a file that isn't as it was written.
+    /// Those of reading; `InvalidData` for a file that was changed or damaged.
     pub fn restore(&self, path: impl AsRef<Path>) -> io::Result<Data> {
         let data = self.shared.cache.restore(path)?;
         self.shared.changes.send_modify(|_| {});
         Ok(data)
     }
 
-    /// How many clients are served.
+    /// Returns the number of clients that are served.
     #[must_use]
     pub fn clients(&self) -> usize {
         self.shared.clients.load(Ordering::Relaxed)
     }
 
-    /// Has all that serves clients end, and close their connections.
+    /// Ends all calls that serve clients, and closes their connections.
     pub fn stop(&self) {
         self.shared.changes.send_modify(|stops| *stops = true);
     }
 
-    /// Serves clients over TCP, until the server is stopped. Neither is anything encrypted nor is a
-    /// client authenticated (RFC 8210 section 9). Where this is dropped, their connections are
-    /// closed.
+    /// Serves clients over TCP until the server is stopped. TCP doesn't encrypt, nor authenticate a
+    /// client (RFC 8210 section 9). Dropping the future closes their connections.
     ///
     /// # Errors
     ///
-    /// Those of a listener that isn't one.
+    /// Those of a socket that doesn't listen.
     pub async fn serve(&self, listener: TcpListener) -> io::Result<()> {
         self.serve_with(listener, |stream| async { Ok(stream) })
             .await
     }
 
-    /// The same, where each connection is made ready by this function, such as a handshake of TLS.
-    /// That has the time of [`ServerOptions::first_query`], and no other client waits for it.
+    /// The same, with a function that prepares each connection, such as by a handshake of TLS. It
+    /// has the time of [`ServerOptions::first_query`], and no other client waits for it.
     ///
     /// # Errors
     ///
-    /// Those of a listener that isn't one.
+    /// Those of a socket that doesn't listen.
     pub async fn serve_with<S, F>(
         &self,
         listener: TcpListener,
@@ -219,7 +221,7 @@ impl AsyncServer {
                 Some(_) = connections.join_next() => {}
                 accepted = listener.accept(), if takes => match accepted {
                     Ok((stream, from)) => {
-                        // The last descriptor that the system has isn't for a client.
+                        // The last free descriptor isn't used for a client.
                         let has_room = descriptor.try_clone().is_ok();
                         let _ = stream.set_nodelay(true);
                         let shared = Arc::clone(&self.shared);
@@ -232,7 +234,7 @@ impl AsyncServer {
         Ok(())
     }
 
-    /// Serves a client over a connection from there, until it ends or the server is stopped.
+    /// Serves a client over a connection from this address, until it ends or the server is stopped.
     pub async fn serve_connection<S>(&self, stream: S, from: SocketAddr)
     where
         S: AsyncRead + AsyncWrite + Unpin,
@@ -251,13 +253,13 @@ impl fmt::Debug for AsyncServer {
 }
 
 impl Shared {
-    /// What the cache has now.
+    /// Returns the present data of the cache.
     fn moment(&self) -> Moment {
         let now = self.begun.elapsed().as_millis();
         self.cache.at(u64::try_from(now).unwrap_or(u64::MAX))
     }
 
-    /// Waits until this time by the server's clock.
+    /// Sleeps until this time of the server's clock.
     async fn sleep_until(&self, time: u64) {
         match self.begun.checked_add(Duration::from_millis(time)) {
             Some(time) => sleep_until(time).await,
@@ -265,7 +267,7 @@ impl Shared {
         }
     }
 
-    /// One client more, if there may be one.
+    /// Counts one client more, unless there are as many as allowed.
     fn count(self: &Arc<Self>) -> Option<Counted> {
         let most = self.cache.options().connections;
         let more = |count| (count < most).then_some(count + 1);
@@ -275,7 +277,7 @@ impl Shared {
         counted.ok().map(|_| Counted(Arc::clone(self)))
     }
 
-    /// Serves a client whose connection is made ready by this.
+    /// Serves a client, once this future has prepared its connection.
     async fn serve<S>(
         self: Arc<Self>,
         ready: impl Future<Output = io::Result<S>>,
@@ -302,7 +304,7 @@ impl Shared {
             .await;
     }
 
-    /// Carries what the connection takes and gives, until it ends.
+    /// Sends and reads on the connection until it ends.
     async fn carry<S>(
         &self,
         mut carried: Carried<S>,

@@ -56,6 +56,48 @@ async fn a_client_that_waits() {
     drop(playing.await.unwrap());
 }
 
+/// Where connections can't be made, it makes the next one after a pause, not when its time comes,
+/// which grows.
+#[tokio::test(start_paused = true)]
+async fn a_client_that_is_refused() {
+    let options = ClientOptions {
+        pause: milliseconds(1000),
+        ..ClientOptions::default()
+    };
+    let mut client = AsyncClient::<DuplexStream>::new(options, || async {
+        Err(std::io::ErrorKind::ConnectionRefused.into())
+    });
+    let began = tokio::time::Instant::now();
+    for _ in 0..10 {
+        assert!(matches!(client.next().await, Event::Failed(_)));
+        client.ask_now();
+    }
+    assert!(began.elapsed() <= milliseconds(10_000));
+}
+
+/// Nobody sees data that have expired (RFC 8210 section 6), also where the client didn't go on.
+#[tokio::test(start_paused = true)]
+async fn data_that_have_expired() {
+    let (ours, mut cache) = duplex(1 << 16);
+    let mut ours = Some(ours);
+    let options = ClientOptions {
+        version: 2,
+        ..ClientOptions::default()
+    };
+    let mut client = AsyncClient::new(options, move || {
+        let stream = ours.take().expect("it connects once");
+        async { Ok(stream) }
+    });
+    cache.write_all(&answer(data(1).as_bytes())).await.unwrap();
+    assert_eq!(client.fetch().await.unwrap(), data(1));
+    tokio::time::advance(milliseconds(7_199_000)).await;
+    assert_eq!(client.data(), Some(&data(1)));
+    assert_eq!(client.fetch().await.unwrap(), data(1));
+    tokio::time::advance(milliseconds(1_000)).await;
+    assert_eq!(client.data(), None);
+    assert!(matches!(client.fetch().await, Err(ClientError::Expired)));
+}
+
 /// The lines of a log, without addresses.
 #[derive(Clone, Default)]
 struct Lines(Arc<Mutex<Vec<String>>>);

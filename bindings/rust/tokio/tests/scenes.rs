@@ -151,7 +151,7 @@ impl Scene {
         match words {
             ["router", name, value] => self.set(name, value.parse().unwrap()),
             ["at", time] => given(time, &[]),
-            [time, "cache>", ..] | [time, "cache", _] => given(time, &words[1..]),
+            [time, "cache>", ..] | [time, "cache" | "caller", _] => given(time, &words[1..]),
             [_, "router>", first, ..] if *first != "report" => {
                 writeln!(self.wanted, "{} router> {}", words[0], words[2..].concat()).unwrap();
             }
@@ -187,7 +187,10 @@ impl Scene {
         for (time, words) in &self.given {
             pass(&mut client, &world, *time).await;
             if let [step, rest @ ..] = words.as_slice() {
-                gives(&world, step, rest);
+                match step.as_str() {
+                    "caller" => client.ask_now(),
+                    step => gives(&world, step, rest),
+                }
                 pass(&mut client, &world, *time).await;
             }
         }

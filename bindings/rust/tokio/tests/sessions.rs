@@ -23,6 +23,7 @@ use tokio::io::{AsyncRead, AsyncReadExt, AsyncWrite, AsyncWriteExt};
 use tokio::io::{BufStream, DuplexStream, ReadBuf};
 use tokio::net::TcpListener;
 use tokio::runtime::{Builder, Runtime};
+use tokio::sync::oneshot;
 use tokio::time::timeout;
 
 fn runtime() -> Runtime {
@@ -521,11 +522,11 @@ fn answers_that_are_cut() {
     ] {
         let (server, told) = telling(server_options());
         let host = Host::new(server);
-        host.server.update(data_of(SESSION, 1, u16::MAX)).unwrap();
+        host.server.update(unbuffered()).unwrap();
+        // It is in the middle of an answer, most of which waits for the client.
         let mut slow = Peer::connect(host.address);
-        (0..40).for_each(|_| slow.try_send(&reset_query(2)));
-        slow.is_sent_to();
-        sleep(milliseconds(200));
+        slow.send(&reset_query(2));
+        slow.bytes(1 << 16);
         for serial in 2..=3 {
             host.server.update(data(serial)).unwrap();
         }
@@ -659,6 +660,7 @@ fn no_thread_wakes() {
         before
     );
     let address = host.address.to_string();
+    let (end, ended) = oneshot::channel();
     let client = std::thread::Builder::new().name("rtr waiting".to_string());
     let client = client.spawn(move || {
         runtime().block_on(async {
@@ -668,20 +670,15 @@ fn no_thread_wakes() {
             };
             let mut client = AsyncClient::tcp(address, options);
             client.fetch().await.unwrap();
-            let next = client.next();
-            let waited = timeout(Duration::from_secs(4), next).await;
-            assert!(waited.is_err(), "{waited:?}");
+            tokio::select! {
+                _ = ended => {}
+                step = client.next() => panic!("{step:?}"),
+            }
         });
     });
     let client = client.unwrap();
     assert!(holds(|| host.server.clients() == 21));
-    sleep(Duration::from_secs(1));
-    let names = ["rtr async", "rtr waiting"];
-    let before = names.map(waits);
-    sleep(Duration::from_secs(2));
-    for (name, before) in names.into_iter().zip(before) {
-        let woken = waits(name) - before;
-        assert!(woken <= 2, "{name}: woken {woken} times");
-    }
+    assert!(stay_asleep(&["rtr async", "rtr waiting"]));
+    end.send(()).unwrap();
     client.join().unwrap();
 }

@@ -1,0 +1,221 @@
+//! Caches by preference in one task, by a clock that stands while there is something to do.
+
+#[path = "../../tests/peers/mod.rs"]
+mod peers;
+
+use peers::*;
+use rtr_wire::{Changes, ClientError, ClientOptions, Data, Event, Group, GroupSettings};
+use rtr_wire::{ServerOptions, TooManyMembers};
+use rtr_wire_tokio::{AsyncClient, AsyncGroup, AsyncServer};
+use std::future::{pending, Future};
+use std::io::{self, ErrorKind};
+use std::net::{Ipv4Addr, SocketAddr};
+use std::pin::Pin;
+use std::sync::{Arc, Mutex};
+use std::task::{Context, Poll};
+use std::time::Duration;
+use tokio::io::{duplex, DuplexStream};
+use tokio::time::{timeout, Instant};
+
+/// How a cache answers a client that connects.
+#[derive(Clone)]
+enum Place {
+    Refuses,
+    /// No connection is made.
+    Stalls,
+    Serves(AsyncServer),
+}
+
+type Shared = Arc<Mutex<Place>>;
+
+fn place(place: Place) -> Shared {
+    Arc::new(Mutex::new(place))
+}
+
+fn cache(data: Data) -> AsyncServer {
+    let server = AsyncServer::new(ServerOptions::default());
+    server.update(data).unwrap();
+    server
+}
+
+async fn dial(place: Place) -> io::Result<DuplexStream> {
+    match place {
+        Place::Refuses => Err(ErrorKind::ConnectionRefused.into()),
+        Place::Stalls => pending().await,
+        Place::Serves(server) => {
+            let (client, stream) = duplex(100);
+            let from = SocketAddr::from((Ipv4Addr::LOCALHOST, 0));
+            tokio::spawn(async move { server.serve_connection(stream, from).await });
+            Ok(client)
+        }
+    }
+}
+
+fn client(place: &Shared) -> AsyncClient<DuplexStream> {
+    let place = Arc::clone(place);
+    let options = ClientOptions {
+        version: 2,
+        ..ClientOptions::default()
+    };
+    AsyncClient::with_random(options, 0, move || dial(place.lock().unwrap().clone()))
+}
+
+/// The next event that tells of data: the member, the data and what changed. Failures are counted.
+async fn shown(
+    group: &mut AsyncGroup<DuplexStream>,
+    failures: &mut Vec<usize>,
+) -> (usize, Data, Changes) {
+    loop {
+        match group.next().await {
+            (member, Event::Data { data, changes }) => {
+                return (member, data.clone(), changes.clone())
+            }
+            (member, Event::Failed(_)) => failures.push(member),
+            other => panic!("{other:?}"),
+        }
+    }
+}
+
+/// The first cache of two comes and goes: the second's data are shown while it is away, and what
+/// changed leads from the ones to the others, also of another session.
+#[tokio::test(start_paused = true)]
+async fn the_first_that_answers() {
+    let (first, second) = (place(Place::Refuses), data_of(9, 3, 25));
+    let backup = cache(second.clone());
+    let places = [&first, &place(Place::Serves(backup.clone()))];
+    let mut group = AsyncGroup::new(places.map(client)).unwrap();
+    assert_eq!(group.data(), None);
+    let mut failures = Vec::new();
+    let (member, data, changes) = shown(&mut group, &mut failures).await;
+    assert_eq!((member, &data), (1, &second));
+    let none = Data::new(2, 9, 3, None).unwrap();
+    assert_eq!(changes, none.delta_to(&second).unwrap());
+    assert_eq!(
+        (failures.first(), group.data()),
+        (Some(&0), Some((1, &second)))
+    );
+    for serial in [7, 8] {
+        let server = cache(data_of(SESSION, serial, 30));
+        *first.lock().unwrap() = Place::Serves(server.clone());
+        let (member, data, changes) = shown(&mut group, &mut failures).await;
+        assert_eq!((member, data.end().serial), (0, serial));
+        let old = second.numbered(SESSION, serial);
+        assert_eq!(changes, old.delta_to(&data).unwrap());
+        // The second isn't needed any more: it is told so by the next call.
+        assert_eq!(backup.clients(), 1);
+        assert!(timeout(Duration::from_secs(1), group.next()).await.is_err());
+        assert_eq!((backup.clients(), server.clients()), (0, 1));
+        *first.lock().unwrap() = Place::Refuses;
+        server.stop();
+        let (member, data, changes) = shown(&mut group, &mut failures).await;
+        assert_eq!((member, &data), (1, &second));
+        let old = data_of(SESSION, serial, 30).numbered(9, 3);
+        assert_eq!(changes, old.delta_to(&second).unwrap());
+    }
+    assert!(failures.iter().all(|member| *member == 0));
+    drop(group);
+    tokio::time::sleep(Duration::from_secs(1)).await;
+    assert_eq!(backup.clients(), 0);
+}
+
+/// A cache that is silent costs the patience.
+#[tokio::test(start_paused = true)]
+async fn a_silent_cache() {
+    let second = data_of(9, 3, 25);
+    let places = [
+        place(Place::Stalls),
+        place(Place::Serves(cache(second.clone()))),
+    ];
+    let settings = GroupSettings {
+        patience: Duration::from_millis(700),
+        ..GroupSettings::default()
+    };
+    let mut group = AsyncGroup::with_settings(settings, places.iter().map(client)).unwrap();
+    let began = Instant::now();
+    let (member, data, _) = shown(&mut group, &mut Vec::new()).await;
+    assert_eq!((member, data), (1, second));
+    assert_eq!(began.elapsed(), settings.patience);
+}
+
+/// An empty answer is a failure, but data of the only cache.
+#[tokio::test(start_paused = true)]
+async fn empty_answers() {
+    let empty = Data::new(2, SESSION, 7, None).unwrap();
+    let second = data_of(9, 3, 25);
+    let places = [empty.clone(), second.clone()].map(|data| place(Place::Serves(cache(data))));
+    let mut group = AsyncGroup::new(places.iter().map(client)).unwrap();
+    assert!(matches!(
+        group.next().await,
+        (0, Event::Failed(ClientError::Empty))
+    ));
+    let (member, data, _) = shown(&mut group, &mut Vec::new()).await;
+    assert_eq!((member, data), (1, second));
+    let mut alone = AsyncGroup::new([client(&places[0])]).unwrap();
+    let (member, data, changes) = shown(&mut alone, &mut Vec::new()).await;
+    assert_eq!((member, data, changes.len()), (0, empty, 0));
+}
+
+/// Data that expire while no cache answers are dropped.
+#[tokio::test(start_paused = true)]
+async fn expired() {
+    let (first, data) = (place(Place::Refuses), data(5));
+    let server = cache(data.clone());
+    *first.lock().unwrap() = Place::Serves(server.clone());
+    let places = [first, place(Place::Refuses)];
+    let mut group = AsyncGroup::new(places.iter().map(client)).unwrap();
+    shown(&mut group, &mut Vec::new()).await;
+    let began = Instant::now();
+    *places[0].lock().unwrap() = Place::Refuses;
+    server.stop();
+    loop {
+        match group.next().await {
+            (_, Event::Failed(_)) => {}
+            (0, Event::Dropped { changes }) => {
+                let none = Data::new(2, SESSION, 5, None).unwrap();
+                assert_eq!(*changes, data.delta_to(&none).unwrap());
+                break;
+            }
+            other => panic!("{other:?}"),
+        }
+    }
+    assert_eq!((began.elapsed().as_secs(), group.data()), (7200, None));
+}
+
+/// Asks for the next event, with a future that is dropped each time when it has to wait.
+struct Dropping<'g>(&'g mut AsyncGroup<DuplexStream>);
+
+impl Future for Dropping<'_> {
+    type Output = Option<u32>;
+
+    fn poll(mut self: Pin<&mut Self>, cx: &mut Context<'_>) -> Poll<Option<u32>> {
+        let next = self.0.next();
+        tokio::pin!(next);
+        next.poll(cx).map(|(_, event)| match event {
+            Event::Data { data, .. } => Some(data.end().serial),
+            _ => None,
+        })
+    }
+}
+
+/// A group whose futures are all dropped where they wait loses nothing.
+#[tokio::test(start_paused = true)]
+async fn futures_that_are_dropped() {
+    let server = cache(data_of(9, 1, 500));
+    let places = [place(Place::Refuses), place(Place::Serves(server.clone()))];
+    let mut group = AsyncGroup::new(places.iter().map(client)).unwrap();
+    for serial in 1..=5 {
+        server.update(data_of(9, serial, 500)).unwrap();
+        group.ask_now();
+        while Dropping(&mut group).await != Some(serial) {}
+        assert_eq!(group.data(), Some((1, &data_of(9, serial, 500))));
+    }
+}
+
+/// Too many caches are refused; without any nothing happens.
+#[tokio::test(start_paused = true)]
+async fn how_many() {
+    let clients = (0..=Group::MOST).map(|_| client(&place(Place::Refuses)));
+    assert_eq!(AsyncGroup::new(clients).err(), Some(TooManyMembers));
+    let mut none = AsyncGroup::new(std::iter::empty::<AsyncClient<DuplexStream>>()).unwrap();
+    assert!(timeout(HOUR, none.next()).await.is_err());
+}
