@@ -2,20 +2,19 @@
 //!
 //! usage: cache FILE [--listen ADDRESS]... [--max-clients N] [--refuse]
 //!
-//! It listens at `[::]:3323` if no address is named, and serves 1024 clients at once if not said
-//! otherwise.
+//! By default it listens at `[::]:3323`, and serves 1024 clients at once.
 //!
-//! The file holds a sequence that only announces, in whatever order, with or without a cache
-//! response before it. It is looked at four times a second, and read again when it has changed: put
-//! another in its place by renaming that one. A file that can't be taken is named, and the data
-//! before it stay; one that can't be read is tried again. With `--refuse` a report of code 0
+//! The file holds a list or a recording, whose data are served; what is left out of it is said. It
+//! is looked at four times a second, and read again when it has changed: put another in its place
+//! by renaming that one. A file that can't be taken is named, and the data before it stay; one that
+//! can't be read is tried again. With `--refuse` a report of code 0
 //! answers a client whose data aren't known any more, in place of a cache reset. What has to be
 //! known after a restart is in a file beside it, with `.kept` behind its name. SIGINT and SIGTERM
 //! end the program.
 //!
-//! Ends with status 0 after a signal, 1 where it can't serve, 2 for other arguments.
+//! Exits with status 0 after a signal, 1 if it can't serve, 2 for wrong arguments.
 
-use rtr_wire::{Data, Server, ServerOptions, Unit};
+use rtr_wire::{load_data, Data, Loaded, Server, ServerOptions};
 use std::error::Error;
 use std::fmt::Display;
 use std::fs::File;
@@ -25,10 +24,10 @@ use std::process::ExitCode;
 use std::sync::atomic::{AtomicBool, Ordering};
 use std::time::{Duration, SystemTime, UNIX_EPOCH};
 
-/// The bytes of a file, at most.
+/// The most bytes that a file may have.
 const LARGEST: u64 = 1 << 28;
 const EVERYWHERE: &str = "[::]:3323";
-/// How long it is between two looks at the file.
+/// The time between two checks of the file.
 const LOOK: Duration = Duration::from_millis(250);
 
 struct Arguments {
@@ -63,7 +62,7 @@ fn arguments(words: impl Iterator<Item = String>) -> Option<Arguments> {
     })
 }
 
-/// Whether a signal has come that ends the program.
+/// Whether a signal to end the program has come.
 static ENDED: AtomicBool = AtomicBool::new(false);
 
 mod signals {
@@ -89,8 +88,8 @@ mod signals {
     }
 }
 
-/// Has the allocator give a table back to the system once it is free: else memory stays with the
-/// program for data that were replaced.
+/// Makes the allocator return a freed table to the system: else the program keeps the memory of
+/// data that were replaced.
 #[cfg(target_env = "gnu")]
 fn give_back() {
     const MMAP_THRESHOLD: i32 = -3;
@@ -107,7 +106,7 @@ fn give_back() {
 #[cfg(not(target_env = "gnu"))]
 fn give_back() {}
 
-/// The time in UTC, as RFC 3339 has it.
+/// The time in UTC, in the form of RFC 3339.
 fn time() -> String {
     let since = SystemTime::now().duration_since(UNIX_EPOCH);
     let seconds = since.unwrap_or_default().as_secs();
@@ -137,8 +136,8 @@ fn say(line: impl Display) {
     eprintln!("{} {line}", time());
 }
 
-/// What shows that a file is another than before: its device and inode, its size, and when its
-/// content and its inode changed.
+/// What differs in a changed file: its device and inode, its size, and the times when its content
+/// and its inode changed.
 type Mark = (u64, u64, u64, [i64; 4]);
 
 fn mark(file: &str) -> io::Result<Mark> {
@@ -155,16 +154,16 @@ fn mark(file: &str) -> io::Result<Mark> {
 /// The file that is served.
 struct Watched<'f> {
     file: &'f str,
-    /// Where the server keeps what it has to know after a restart.
+    /// The path of the server's state for a restart.
     kept: String,
-    /// That of the file that was read last.
+    /// The mark of the file that was read last.
     mark: Option<Mark>,
-    /// What was said last, if it was a failure.
+    /// The last line, if it was a failure.
     failure: Option<String>,
 }
 
 impl Watched<'_> {
-    /// Has the server go on where it was before a restart.
+    /// Restores the server's state from before a restart.
     fn restore(&self, server: &Server) {
         match server.restore(&self.kept) {
             Ok(data) => say_taken(&self.kept, &data),
@@ -173,7 +172,7 @@ impl Watched<'_> {
         }
     }
 
-    /// Has the server take what the file holds if it has changed, and says what comes of it.
+    /// Loads the file into the server if it has changed, and prints the result.
     fn look(&mut self, server: &Server) {
         let failure = self.take(server).err().map(|error| error.to_string());
         if let Some(text) = failure.as_ref().filter(|_| failure != self.failure) {
@@ -184,7 +183,7 @@ impl Watched<'_> {
         }
     }
 
-    /// Takes the file if it has changed. One that can't be read is tried again.
+    /// Loads the file if it has changed. A file that can't be read is tried again.
     fn take(&mut self, server: &Server) -> Result<(), Box<dyn Error>> {
         let found = mark(self.file)?;
         if self.mark == Some(found) {
@@ -192,9 +191,15 @@ impl Watched<'_> {
         }
         let bytes = read(self.file)?;
         (self.mark, self.failure) = (Some(found), None);
-        let data = data(&bytes)?;
-        server.update(data.clone())?;
-        say_taken(self.file, &data);
+        let loaded = loaded(&bytes)?;
+        server.update(loaded.data.clone())?;
+        say_taken(self.file, &loaded.data);
+        if loaded.has_cut {
+            say(format_args!(
+                "{}: left out: an answer without an end of data",
+                self.file
+            ));
+        }
         if let Err(error) = server.save(&self.kept) {
             say(format_args!("{}: {error}", self.kept));
         }
@@ -202,16 +207,23 @@ impl Watched<'_> {
     }
 }
 
-/// Says which data were taken from a file.
+/// Prints which data were loaded from a file, and warns of serial number 0.
 fn say_taken(file: &str, data: &Data) {
     let (end, count) = (data.end(), data.len());
     let (session, serial) = (end.session, end.serial);
+    let plural = if count == 1 { "" } else { "s" };
     say(format_args!(
-        "{file}: session {session} serial {serial}: {count} payloads"
+        "{file}: session {session} serial {serial}: {count} payload{plural}"
     ));
+    if serial == 0 {
+        say(format_args!(
+            "{file}: serial number 0: a router that lost its first answer may ask with it, and \
+             keep a part of the data"
+        ));
+    }
 }
 
-/// The bytes of a file, one more than are allowed at most.
+/// The bytes of a file, at most one more than are allowed.
 fn read(file: &str) -> io::Result<Vec<u8>> {
     let file = File::open(file)?;
     let mut bytes = Vec::with_capacity(file.metadata()?.len().min(LARGEST) as usize + 1);
@@ -220,15 +232,11 @@ fn read(file: &str) -> io::Result<Vec<u8>> {
 }
 
 /// The data that a file holds.
-fn data(bytes: &[u8]) -> Result<Data, Box<dyn Error>> {
+fn loaded(bytes: &[u8]) -> Result<Loaded, Box<dyn Error>> {
     if bytes.len() as u64 > LARGEST {
         return Err(format!("more than {LARGEST} bytes").into());
     }
-    let sequence = match Unit::first(bytes) {
-        Ok((Unit::CacheResponse(_), rest)) => rest,
-        _ => bytes,
-    };
-    Ok(Data::from_sequence(sequence)?)
+    Ok(load_data(bytes)?)
 }
 
 /// Serves until a signal comes.

@@ -1,16 +1,16 @@
 //! A router's end: asks a cache for its data, and prints what changes as it comes (RFC 8210).
 //!
-//! usage: client (HOST:PORT | --prefer HOST:PORT ..) [--version 0|1|2] [--once] [--json]
+//! usage: client (HOST:PORT | (--prefer HOST:PORT)..) [--version 0|1|2] [--once] [--json]
 //!
-//! With `--prefer`, up to 16 times, it has the data of the first of these caches that has some
-//! (section 10), and prints what leads from one's data to another's.
+//! With `--prefer`, up to 16 times, it uses the data of the first of these caches that answers
+//! (section 10), and prints the changes from one cache's data to another's.
 //!
 //! The lines are those of `rtr_diff`, with `--json` those of `rtr_diff --json`. On standard error
-//! it says what data it has at each end of data, and what fails. With `--once` it ends after all
-//! data have come.
+//! it prints a line on its data at each end of data, and on each failure. With `--once` it ends
+//! after all data have come.
 //!
-//! Ends with status 0 where that succeeds, or without it at SIGINT or SIGTERM, 1 where it or
-//! writing fails, 2 for other arguments.
+//! Exits with status 0 if that succeeds, or without it at SIGINT or SIGTERM, 1 if it or writing
+//! fails, 2 for wrong arguments.
 
 use rtr_wire::{
     change_json, change_line, follow, Client, ClientOptions, Data, Event, Group, UnitRef,
@@ -71,11 +71,12 @@ fn print<'a>(units: impl Iterator<Item = UnitRef<'a>>, as_json: bool) -> io::Res
 fn say(data: &Data) {
     let (end, count) = (data.end(), data.len());
     let (session, serial, version) = (end.session, end.serial, end.version);
-    eprintln!("session {session} serial {serial} version {version}: {count} payloads");
+    let plural = if count == 1 { "" } else { "s" };
+    eprintln!("session {session} serial {serial} version {version}: {count} payload{plural}");
 }
 
-/// The client of the first cache, which a signal stops, once there is one. It is never freed, nor
-/// changed through this.
+/// The client of the first cache, once it exists; a signal stops it. It is never freed, nor changed
+/// through this pointer.
 static CLIENT: AtomicPtr<Client> = AtomicPtr::new(ptr::null_mut());
 
 mod signals {
@@ -104,7 +105,7 @@ mod signals {
     }
 }
 
-/// What is printed of an event of a cache, and whether it is a failure.
+/// The line on an event of a cache, and whether it is a failure.
 fn tell(address: &str, event: &Event<'_>, arguments: &Arguments) -> io::Result<bool> {
     match event {
         Event::Data { data, changes, .. } => {
@@ -121,7 +122,7 @@ fn tell(address: &str, event: &Event<'_>, arguments: &Arguments) -> io::Result<b
     Ok(false)
 }
 
-/// The client of a cache. The first one is never left, and a signal stops it.
+/// The client of a cache. The first one is never freed, and a signal stops it.
 fn client(member: usize, arguments: &Arguments) -> Arc<Client> {
     let options = ClientOptions {
         version: arguments.version,
@@ -138,19 +139,19 @@ fn client(member: usize, arguments: &Arguments) -> Arc<Client> {
     client
 }
 
-/// Follows the caches until a signal comes; with `--once` until there are data, or the last one
-/// has failed. Whether it, or writing, has.
+/// Follows the caches until a signal comes; with `--once` until there are data, or each cache has
+/// failed. Returns whether they, or writing, failed.
 fn run(arguments: &Arguments) -> io::Result<bool> {
     let (addresses, once) = (&arguments.addresses, arguments.once);
-    let mut fails = false;
+    let (mut fails, mut failed) = (false, vec![false; addresses.len()]);
     let clients = |member| client(member, arguments);
     follow(addresses.len(), clients, |member, event| {
         let told = tell(&addresses[member], &event, arguments);
         if let Err(error) = &told {
             eprintln!("standard output: {error}");
         }
-        let is_last = member + 1 == addresses.len();
-        fails = told.map_or(true, |failed| failed && once && is_last);
+        failed[member] |= matches!(told, Ok(true));
+        fails = told.is_err() || (once && failed.iter().all(|failed| *failed));
         if fails || (once && matches!(event, Event::Data { .. })) {
             ControlFlow::Break(())
         } else {
@@ -166,7 +167,7 @@ fn main() -> ExitCode {
         Some(arguments) => run(&arguments),
         None => {
             eprintln!(
-                "usage: client (HOST:PORT | --prefer HOST:PORT ..) \
+                "usage: client (HOST:PORT | (--prefer HOST:PORT)..) \
                  [--version 0|1|2] [--once] [--json]"
             );
             return ExitCode::from(2);

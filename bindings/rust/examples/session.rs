@@ -16,7 +16,7 @@ fn main() -> Result<(), Box<dyn std::error::Error>> {
     Ok(output.flush()?)
 }
 
-/// What a unit of this type has.
+/// The content of a unit of this type.
 fn fields(unit: &UnitRef) -> Result<String, std::fmt::Error> {
     let action = |announce| if announce { "announce" } else { "withdraw" };
     let mut line = String::new();

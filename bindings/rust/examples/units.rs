@@ -1,4 +1,4 @@
-//! Prints the units of the sequence on standard input, and how long its form is.
+//! Prints the units of the sequence on standard input, and the length of its canonical form.
 
 use rtr_wire::{normalise, Units};
 use std::io::Read;
@@ -12,7 +12,7 @@ fn main() -> Result<(), Box<dyn std::error::Error>> {
     let mut form = vec![0; input.len()];
     let progress = normalise(&input, &mut form, u32::MAX.into())?;
     println!(
-        "{} payload units, form of {} bytes",
+        "payload units: {}, bytes of their form: {}",
         progress.units, progress.written
     );
     Ok(())

@@ -1,35 +1,35 @@
 //! What `rtr.h` declares. `generate` made this file of it: don't edit it.
 #![allow(dead_code)]
 
-/// versions are 0 to this one
+/// The highest protocol version; the lowest is 0.
 pub(crate) const HIGHEST_VERSION: u8 = 2;
-/// of a header alone, as a reset query is
+/// The size of a header, which is a whole reset query.
 pub(crate) const HEADER_SIZE: usize = 8;
-/// of a serial notify or a serial query
+/// The size of a serial notify or a serial query.
 pub(crate) const SERIAL_SIZE: usize = 12;
-/// of an IPv4 prefix
+/// The size of an IPv4 prefix.
 pub(crate) const IPV4_SIZE: usize = 20;
-/// of an IPv6 prefix
+/// The size of an IPv6 prefix.
 pub(crate) const IPV6_SIZE: usize = 32;
-/// of a router key, without its key info
+/// The size of a router key without its key info.
 pub(crate) const KEY_SIZE: usize = 32;
-/// of an ASPA, without its providers
+/// The size of an ASPA without its providers.
 pub(crate) const ASPA_SIZE: usize = 12;
-/// of an error report, without its unit and its text
+/// The size of an error report without unit and text.
 pub(crate) const REPORT_SIZE: usize = 16;
-/// the end of data of version 0
+/// The size of an end of data in version 0.
 pub(crate) const SHORTEST_END: usize = 12;
-/// that of versions 1 and 2
+/// The size of an end of data in versions 1 and 2.
 pub(crate) const LONGEST_END: usize = 24;
-/// an ASPA without providers
+/// The shortest payload unit: an ASPA without providers.
 pub(crate) const SHORTEST_PAYLOAD: usize = 12;
-/// a unit that is read or written
+/// The size of the longest unit that is read or written.
 pub(crate) const LONGEST_UNIT: usize = 65535;
-/// of a router key
+/// The most bytes of key info in a router key.
 pub(crate) const MOST_KEY_INFO: usize = 65503;
-/// of an ASPA
+/// The most bytes of providers in an ASPA.
 pub(crate) const MOST_PROVIDER_BYTES: usize = 65520;
-/// of a report: its unit and its text together
+/// The most bytes of a report's unit and text together.
 pub(crate) const MOST_REPORT_PARTS: usize = 65519;
 pub(crate) const USUAL_REFRESH: u32 = 3600;
 pub(crate) const LEAST_REFRESH: u32 = 1;
@@ -40,138 +40,169 @@ pub(crate) const MOST_RETRY: u32 = 7200;
 pub(crate) const USUAL_EXPIRE: u32 = 7200;
 pub(crate) const LEAST_EXPIRE: u32 = 600;
 pub(crate) const MOST_EXPIRE: u32 = 172800;
-/// rtr_text and rtr_name, and a 0 behind the text
+pub(crate) const MOST_MEMBERS: usize = 16;
+/// For rtr_text and rtr_name, with a 0 after the text.
 pub(crate) const TEXT_ROOM: usize = 64;
-/// rtr_check_name
+/// For rtr_check_name.
 pub(crate) const NAME_ROOM: usize = 65528;
-/// rtr_line of most units: not of long keys, ASPAs and reports
+/// For rtr_line of most units: not of long keys, ASPAs and reports.
 pub(crate) const LINE_ROOM: usize = 160;
-/// rtr_finding_line
+/// For rtr_finding_line.
 pub(crate) const FINDING_ROOM: usize = 128;
 
-/// How a call ended; each call below names the statuses that it can answer. The faults of a
-/// unit are 1 to 7, and are checked in the order of docs/PROTOCOL.md.
+/// The result of a call; each call below lists the statuses that it returns. The faults of a
+/// unit are 1 to 7, checked in the order of docs/PROTOCOL.md.
 pub(crate) mod status {
-    /// the call succeeded
+    /// The call succeeded.
     pub(crate) const OK: u8 = 0;
-    /// the input ends inside a unit, or before one
+    /// The input ends inside a unit, or before one.
     pub(crate) const SHORT: u8 = 1;
-    /// `detail` is a type that is not allowed here
+    /// `detail` is a type that is not allowed here.
     pub(crate) const UNIT_TYPE: u8 = 2;
-    /// `detail` is a version that is not allowed here
+    /// `detail` is a version that is not allowed here.
     pub(crate) const UNIT_VERSION: u8 = 3;
-    /// a router key, an ASPA or a report of more than 65535 bytes
+    /// A router key, an ASPA or a report of more than 65535 bytes.
     pub(crate) const TOO_LONG: u8 = 4;
-    /// a length that doesn't suit the type
+    /// The length is wrong for the type.
     pub(crate) const UNIT_LENGTH: u8 = 5;
-    /// an ASPA that is announced without providers
+    /// An ASPA is announced without providers.
     pub(crate) const EMPTY_PROVIDERS: u8 = 6;
-    /// `detail`, an rtr_prefix_rule, is broken by a prefix
+    /// A prefix breaks the rule `detail`, an rtr_prefix_rule.
     pub(crate) const PREFIX: u8 = 7;
-    /// `limit` units were taken, and no end of data was among them
+    /// `limit` units were read, none of them an end of data.
     pub(crate) const TOO_MANY: u8 = 8;
-    /// the output is too short for what comes next
+    /// The output is too short for the next unit or text.
     pub(crate) const NO_ROOM: u8 = 9;
-    /// rtr_write_unit: no such action, family or part
+    /// rtr_write_unit: no such action, family or part.
     pub(crate) const NO_FORM: u8 = 10;
-    /// a unit or an end of data that may not stand there in data or changes in canonical
-    /// form
+    /// A unit or an end of data breaks the canonical form of data or changes.
     pub(crate) const NOT_CANONICAL: u8 = 12;
-    /// the second input is of another session than the first
+    /// The second input is of another session than the first, or an end of data of another
+    /// session than its answer.
     pub(crate) const OTHER_SESSION: u8 = 13;
-    /// a payload other than an ASPA is announced that is there already
+    /// A payload other than an ASPA is announced that is already present.
     pub(crate) const DUPLICATE: u8 = 14;
-    /// a payload is withdrawn that isn't there
+    /// A payload is withdrawn that isn't present.
     pub(crate) const UNKNOWN: u8 = 15;
-    /// rtr_order: an ASPA is announced and then withdrawn, so that what the changes come
-    /// to depends on the data
+    /// rtr_order: an ASPA is announced and then withdrawn, so the net change depends on
+    /// the data.
     pub(crate) const UNDECIDED: u8 = 16;
-    /// the index has fewer places than there are units
+    /// The index has fewer entries than there are units.
     pub(crate) const NO_INDEX: u8 = 17;
+    /// A group would have more than RTR_MOST_MEMBERS members.
+    pub(crate) const TOO_MANY_MEMBERS: u8 = 18;
+    /// A recorded unit has version `detail`, and the units before it in its answer, or the
+    /// data that it changes, have another.
+    pub(crate) const OTHER_VERSION: u8 = 19;
+    /// The serial number of a recorded answer comes before that of the data that it
+    /// changes.
+    pub(crate) const OLD_SERIAL: u8 = 20;
+    /// A recording has a cache reset inside an answer.
+    pub(crate) const RESET_INSIDE: u8 = 21;
+    /// A recording has an error report inside an answer.
+    pub(crate) const REPORT_INSIDE: u8 = 22;
 }
 
 /// The numbers of enum rtr_prefix_rule.
 pub(crate) mod prefix_rule {
-    /// the prefix length is above 32 for IPv4 or 128 for IPv6
+    /// The prefix length is above 32 for IPv4 or 128 for IPv6.
     pub(crate) const LENGTH_OVER: u8 = 1;
-    /// the max length is above that
+    /// The max length is above 32 for IPv4 or 128 for IPv6.
     pub(crate) const MAX_LENGTH_OVER: u8 = 2;
-    /// the max length is below the prefix length
+    /// The max length is below the prefix length.
     pub(crate) const MAX_LENGTH_UNDER: u8 = 3;
 }
 
-/// The kinds of units, by their type.
+/// The kinds of units, numbered by PDU type.
 pub(crate) mod kind {
-    /// RFC 8210 section 5.2
+    /// RFC 8210 section 5.2.
     pub(crate) const SERIAL_NOTIFY: u8 = 0;
-    /// RFC 8210 section 5.3
+    /// RFC 8210 section 5.3.
     pub(crate) const SERIAL_QUERY: u8 = 1;
-    /// RFC 8210 section 5.4
+    /// RFC 8210 section 5.4.
     pub(crate) const RESET_QUERY: u8 = 2;
-    /// RFC 8210 section 5.5
+    /// RFC 8210 section 5.5.
     pub(crate) const CACHE_RESPONSE: u8 = 3;
-    /// RFC 8210 section 5.6
+    /// RFC 8210 section 5.6.
     pub(crate) const IPV4_PREFIX: u8 = 4;
-    /// RFC 8210 section 5.7
+    /// RFC 8210 section 5.7.
     pub(crate) const IPV6_PREFIX: u8 = 6;
-    /// RFC 6810 and RFC 8210 section 5.8
+    /// RFC 6810 and RFC 8210 section 5.8.
     pub(crate) const END_OF_DATA: u8 = 7;
-    /// RFC 8210 section 5.9
+    /// RFC 8210 section 5.9.
     pub(crate) const CACHE_RESET: u8 = 8;
-    /// RFC 8210 section 5.10
+    /// RFC 8210 section 5.10.
     pub(crate) const ROUTER_KEY: u8 = 9;
-    /// RFC 8210 section 5.11
+    /// RFC 8210 section 5.11.
     pub(crate) const ERROR_REPORT: u8 = 10;
     pub(crate) const ASPA: u8 = 11;
 }
 
 /// The codes of error reports (RFC 8210 section 12); those above 8 are the Rust crate rpki's.
 pub(crate) mod code {
-    /// what came can't be read, or contradicts itself
+    /// The data can't be parsed, or contradict themselves.
     pub(crate) const CORRUPT_DATA: u16 = 0;
-    /// the peer failed for a reason of its own
+    /// The peer failed for a reason of its own.
     pub(crate) const INTERNAL_ERROR: u16 = 1;
-    /// the cache has no data yet
+    /// The cache has no data yet.
     pub(crate) const NO_DATA_AVAILABLE: u16 = 2;
-    /// the request makes no sense to the cache
+    /// The request makes no sense to the cache.
     pub(crate) const INVALID_REQUEST: u16 = 3;
     pub(crate) const UNSUPPORTED_PROTOCOL_VERSION: u16 = 4;
     pub(crate) const UNSUPPORTED_PDU_TYPE: u16 = 5;
     pub(crate) const WITHDRAWAL_OF_UNKNOWN_RECORD: u16 = 6;
     pub(crate) const DUPLICATE_ANNOUNCEMENT_RECEIVED: u16 = 7;
-    /// another one than was agreed on
+    /// Not the negotiated version.
     pub(crate) const UNEXPECTED_PROTOCOL_VERSION: u16 = 8;
-    /// an ASPA may not have these providers
+    /// An ASPA may not have these providers.
     pub(crate) const ASPA_PROVIDER_LIST_ERROR: u16 = 9;
-    /// the connection failed
+    /// The connection failed.
     pub(crate) const TRANSPORT_ERROR: u16 = 10;
-    /// units came in the wrong order
+    /// Units came in the wrong order.
     pub(crate) const ORDERING_ERROR: u16 = 11;
 }
 
 /// The order of two serial numbers (RFC 1982 section 3.2).
 pub(crate) mod order {
     pub(crate) const EQUAL: u8 = 0;
-    /// the left one is less
+    /// The left one is less.
     pub(crate) const LESS: u8 = 1;
-    /// the left one is greater
+    /// The left one is greater.
     pub(crate) const GREATER: u8 = 2;
-    /// they are 2^31 apart
+    /// They are 2^31 apart.
     pub(crate) const NO_ORDER: u8 = 3;
 }
 
-/// What rtr_name has names of.
+/// The kinds of numbers that rtr_name names.
 pub(crate) mod named {
-    /// an rtr_status, without its detail: "unit type is not allowed here"
+    /// An rtr_status, without its detail: "unit type is not allowed here".
     pub(crate) const STATUS: u8 = 0;
-    /// an rtr_kind: "IPv4 prefix"
+    /// An rtr_kind: "IPv4 prefix".
     pub(crate) const KIND: u8 = 1;
-    /// an rtr_cause: "the cache is too slow"
+    /// An rtr_cause: "the cache is too slow".
     pub(crate) const CAUSE: u8 = 2;
-    /// an rtr_reason: "the router is too slow"
+    /// An rtr_reason: "the router is too slow".
     pub(crate) const REASON: u8 = 3;
-    /// an error code (RFC 8210 section 12): "Corrupt Data"
+    /// An error code (RFC 8210 section 12): "Corrupt Data".
     pub(crate) const CODE: u8 = 4;
+    /// An rtr_time_rule: "the retry time has to be 1 to 7200 seconds".
+    pub(crate) const TIME_RULE: u8 = 5;
+}
+
+/// The rules on the times that a cache sends, in seconds (RFC 8210 section 6);
+/// rtr_time_rule_text returns their texts.
+pub(crate) mod time_rule {
+    pub(crate) const NONE: u8 = 0;
+    /// The refresh time is 1 to 86400.
+    pub(crate) const REFRESH: u8 = 1;
+    /// The retry time is 1 to 7200.
+    pub(crate) const RETRY: u8 = 2;
+    /// The expire time is 600 to 172800.
+    pub(crate) const EXPIRE: u8 = 3;
+    /// The expire time is longer than the refresh time.
+    pub(crate) const ABOVE_REFRESH: u8 = 4;
+    /// The expire time is longer than the retry time.
+    pub(crate) const ABOVE_RETRY: u8 = 5;
 }
 
 /// The two inputs of a comparison.
@@ -180,83 +211,99 @@ pub(crate) mod side {
     pub(crate) const RIGHT: u8 = 2;
 }
 
-/// What origin validation says of a route (RFC 6811 section 2).
+/// The validation state of a route (RFC 6811 section 2).
 pub(crate) mod validity {
-    /// no VRP covers the route
+    /// No VRP covers the route.
     pub(crate) const NOT_FOUND: u8 = 0;
-    /// a VRP matches it
+    /// A VRP matches it.
     pub(crate) const VALID: u8 = 1;
-    /// VRPs cover it, and none matches
+    /// VRPs cover it, and none matches.
     pub(crate) const INVALID: u8 = 2;
-    /// the family is neither 4 nor 6, or the prefix length is above 32 or 128
+    /// The family is neither 4 nor 6, or the prefix length is above 32 or 128.
     pub(crate) const NO_ROUTE: u8 = 3;
+    /// The struct rtr_data wasn't filled by rtr_check_data.
+    pub(crate) const UNCHECKED: u8 = 4;
+}
+
+/// Whether a VRP covers a route.
+pub(crate) mod covers {
+    /// No VRP covers it, or no further one.
+    pub(crate) const NONE: u8 = 0;
+    /// A VRP covers it.
+    pub(crate) const ONE: u8 = 1;
+    /// As RTR_NO_ROUTE.
+    pub(crate) const NO_ROUTE: u8 = 2;
+    /// As RTR_UNCHECKED.
+    pub(crate) const UNCHECKED: u8 = 3;
 }
 
 /// Why a VRP that covers a route doesn't match it: the first of these that holds.
 pub(crate) mod mismatch {
-    /// it matches
+    /// It matches.
     pub(crate) const MATCHES: u8 = 0;
-    /// it is one of AS 0, which says that no route is valid
+    /// Its AS is 0, which no route may match.
     pub(crate) const AS_ZERO: u8 = 1;
-    /// the route isn't from its AS
+    /// The route's origin is another AS.
     pub(crate) const OTHER_AS: u8 = 2;
-    /// the route's prefix is longer than its max length
+    /// The route's prefix is longer than its max length.
     pub(crate) const LONGER: u8 = 3;
 }
 
 /// A rule that a unit breaks.
 pub(crate) mod rule {
     pub(crate) const RULE_NONE: u8 = 0;
-    /// the byte at `value` has to be zero
+    /// The byte at `value` has to be zero.
     pub(crate) const RULE_RESERVED: u8 = 1;
-    /// all bits of the flags but the lowest have to be zero
+    /// All bits of the flags but the lowest have to be zero.
     pub(crate) const RULE_FLAGS: u8 = 2;
-    /// the prefix length is at most 32 or 128
+    /// The prefix length is at most 32 or 128.
     pub(crate) const RULE_PREFIX_LENGTH: u8 = 3;
-    /// the max length is at most 32 or 128
+    /// The max length is at most 32 or 128.
     pub(crate) const RULE_MAX_LENGTH: u8 = 4;
-    /// the max length is no less than the prefix length
+    /// The max length is no less than the prefix length.
     pub(crate) const RULE_MAX_BELOW: u8 = 5;
-    /// a prefix has no bits after its length
+    /// A prefix has no bits after its length.
     pub(crate) const RULE_HOST_BITS: u8 = 6;
-    /// the version, `value`, is that of the sequence, `begun`
+    /// The version, `value`, is that of the sequence, `begun`.
     pub(crate) const RULE_VERSION: u8 = 7;
-    /// the session, `value`, is that of the answer, `begun`
+    /// The session, `value`, is that of the answer, `begun`.
     pub(crate) const RULE_SESSION: u8 = 8;
-    /// an answer ends with an end of data
+    /// An answer ends with an end of data.
     pub(crate) const RULE_CUT_OFF: u8 = 9;
-    /// a recording has an end of data
+    /// A recording has an end of data.
     pub(crate) const RULE_NO_ANSWER: u8 = 10;
-    /// the version, `value`, has such units
+    /// The version, `value`, has such units.
     pub(crate) const RULE_LACKS: u8 = 11;
-    /// a withdrawn ASPA has no providers; with `value` 1 the unit reads as one of an older
-    /// draft
+    /// A withdrawn ASPA has no providers; with `value` 1 the unit reads as one of an older
+    /// draft.
     pub(crate) const RULE_WITHDRAWN_PROVIDERS: u8 = 12;
-    /// a payload is announced once
+    /// A payload is announced once.
     pub(crate) const RULE_TWICE: u8 = 13;
-    /// providers ascend
+    /// Providers ascend.
     pub(crate) const RULE_PROVIDER_ORDER: u8 = 14;
-    /// the lengths inside an error report make it up
+    /// The lengths inside an error report add up to its length.
     pub(crate) const RULE_REPORT_PARTS: u8 = 15;
-    /// the text of an error report is UTF-8
+    /// The text of an error report is UTF-8.
     pub(crate) const RULE_REPORT_TEXT: u8 = 16;
-    /// no error report is about an error report
+    /// No error report is about an error report.
     pub(crate) const RULE_REPORT_OF_REPORT: u8 = 17;
+    /// A cache may send the times: the rule that they break is `value`, an rtr_time_rule.
+    pub(crate) const RULE_TIMES: u8 = 18;
 }
 
-/// Where a router is: the `phase` of its struct.
+/// The states of a router, in `phase` of its struct.
 pub(crate) mod phase {
-    /// there is no connection
+    /// There is no connection.
     pub(crate) const OFFLINE: u8 = 0;
-    /// one is made
+    /// A connection is being made.
     pub(crate) const CONNECTING: u8 = 1;
-    /// an answer is awaited
+    /// Waiting for an answer.
     pub(crate) const ASKED: u8 = 2;
-    /// in a response
+    /// Reading a response.
     pub(crate) const READING: u8 = 3;
-    /// its changes are made
+    /// Its changes are being applied.
     pub(crate) const APPLYING: u8 = 4;
-    /// it waits for a notify, or for its time
+    /// Idle until a notify comes or it is time to ask.
     pub(crate) const WAITING: u8 = 5;
 }
 
@@ -274,13 +321,13 @@ pub(crate) mod action {
     pub(crate) const END: u8 = 9;
 }
 
-/// Why a connection ends; rtr_cause_text says it in words.
+/// Why a connection ends; rtr_cause_text returns the text.
 pub(crate) mod cause {
     pub(crate) const LOST: u8 = 0;
     pub(crate) const SLOW: u8 = 1;
-    /// a unit is refused, for `status`
+    /// A unit is refused, for `status`.
     pub(crate) const FAULTY: u8 = 2;
-    /// by the unit between `start` and `taken`
+    /// The cache reports an error, in the unit from `start` to `taken`.
     pub(crate) const REPORTED: u8 = 3;
     pub(crate) const OUT_OF_PLACE: u8 = 4;
     pub(crate) const NO_SUCH_PAYLOAD: u8 = 5;
@@ -290,14 +337,50 @@ pub(crate) mod cause {
     pub(crate) const OLD_SERIAL: u8 = 9;
     pub(crate) const OTHER_DATA: u8 = 10;
     pub(crate) const TOO_LONG: u8 = 11;
-    /// changes are refused, for `status`
+    /// Changes are refused, for `status`.
     pub(crate) const NOT_APPLIED: u8 = 12;
     pub(crate) const EXPIRED: u8 = 13;
-    /// no failure: it connects again at once, in a lower version
+    /// No failure: it reconnects at once, in a lower version.
     pub(crate) const LOWER: u8 = 14;
+    /// No failure: it reconnects at once, in the highest version.
+    pub(crate) const HIGHER: u8 = 15;
 }
 
-/// What becomes of what is shown.
+/// How a call for a router's end ended.
+pub(crate) mod link_status {
+    pub(crate) const OK: u8 = 0;
+    /// No call leaves the struct like this.
+    pub(crate) const NOT_BEGUN: u8 = 1;
+    /// A buffer is shorter than what it holds; for rtr_link_give_up, the output is shorter
+    /// than RTR_LONGEST_UNIT.
+    pub(crate) const SHORT_BUFFER: u8 = 2;
+    /// The time is before that of an earlier call, or not below 2^63.
+    pub(crate) const BAD_TIME: u8 = 3;
+    /// No connection is there, or being opened, to which this happens.
+    pub(crate) const OUT_OF_TURN: u8 = 4;
+    /// More bytes than there is room for, or than are to be sent.
+    pub(crate) const TOO_LONG: u8 = 5;
+}
+
+/// The numbers of enum rtr_todo_kind.
+pub(crate) mod todo_kind {
+    /// The call was refused.
+    pub(crate) const NOTHING: u8 = 0;
+    pub(crate) const GO: u8 = 1;
+    pub(crate) const WAIT: u8 = 2;
+    pub(crate) const CONNECT: u8 = 3;
+    pub(crate) const CLOSE: u8 = 4;
+    pub(crate) const DATA: u8 = 5;
+    pub(crate) const DROPPED: u8 = 6;
+    pub(crate) const NO_DATA: u8 = 7;
+    pub(crate) const INPUT_ROOM: u8 = 8;
+    pub(crate) const FIRST_ROOM: u8 = 9;
+    pub(crate) const SECOND_ROOM: u8 = 10;
+    pub(crate) const INDEX_ROOM: u8 = 11;
+    pub(crate) const OUTPUT_ROOM: u8 = 12;
+}
+
+/// How the shown data change.
 pub(crate) mod group_shown {
     pub(crate) const SAME: u8 = 0;
     pub(crate) const DATA: u8 = 1;
@@ -315,14 +398,14 @@ pub(crate) mod serving {
     pub(crate) const END: u8 = 6;
 }
 
-/// Why a cache ends a connection; rtr_reason_text says it in words.
+/// Why a cache ends a connection; rtr_reason_text returns the text.
 pub(crate) mod reason {
     pub(crate) const LOST: u8 = 0;
     pub(crate) const SLOW: u8 = 1;
     pub(crate) const FULL: u8 = 2;
-    /// a unit is refused, for `status`
+    /// A unit is refused, for `status`.
     pub(crate) const FAULTY: u8 = 3;
-    /// by the first `taken` bytes of the input
+    /// The router reports an error, in `taken` bytes of input.
     pub(crate) const REPORTED: u8 = 4;
     pub(crate) const NO_QUERY: u8 = 5;
     pub(crate) const OTHER_VERSION: u8 = 6;
@@ -350,6 +433,23 @@ pub(crate) struct DataAnswer {
     pub(crate) offset: usize,
     pub(crate) status: u8,
     pub(crate) side: u8,
+    pub(crate) detail: u8,
+}
+
+#[repr(C)]
+#[derive(Clone, Copy, Debug, Default, PartialEq, Eq, Hash)]
+pub(crate) struct Loaded {
+    pub(crate) length: usize,
+    pub(crate) offset: usize,
+    pub(crate) wanted: usize,
+    pub(crate) serial: u32,
+    pub(crate) refresh: u32,
+    pub(crate) retry: u32,
+    pub(crate) expire: u32,
+    pub(crate) session: u16,
+    pub(crate) version: u8,
+    pub(crate) has_cut: bool,
+    pub(crate) status: u8,
     pub(crate) detail: u8,
 }
 
@@ -437,6 +537,14 @@ impl Default for Tables {
 
 #[repr(C)]
 #[derive(Clone, Copy, Debug, Default, PartialEq, Eq, Hash)]
+pub(crate) struct Lookup {
+    pub(crate) length: usize,
+    pub(crate) seal: usize,
+    pub(crate) tables: Tables,
+}
+
+#[repr(C)]
+#[derive(Clone, Copy, Debug, Default, PartialEq, Eq, Hash)]
 pub(crate) struct Covering {
     pub(crate) place: usize,
     pub(crate) asn: u32,
@@ -516,12 +624,16 @@ pub(crate) struct Known {
 pub(crate) struct Router {
     pub(crate) settings: Settings,
     pub(crate) expires: u64,
+    pub(crate) came: u64,
     pub(crate) asked: u64,
+    pub(crate) tried: u64,
     pub(crate) due: u64,
+    pub(crate) rises: u64,
     pub(crate) bytes: u64,
     pub(crate) known: Known,
     pub(crate) answer: Known,
     pub(crate) wait: u32,
+    pub(crate) rise_wait: u32,
     pub(crate) units: u32,
     pub(crate) note: u32,
     pub(crate) session: u16,
@@ -530,6 +642,7 @@ pub(crate) struct Router {
     pub(crate) floor: u8,
     pub(crate) agreed: bool,
     pub(crate) fell: bool,
+    pub(crate) silent: bool,
     pub(crate) changes: bool,
     pub(crate) resync: bool,
     pub(crate) answered: bool,
@@ -558,10 +671,93 @@ pub(crate) struct Action {
 
 #[repr(C)]
 #[derive(Clone, Copy, Debug, Default, PartialEq, Eq, Hash)]
+pub(crate) struct Link {
+    pub(crate) settings: Settings,
+    pub(crate) expires: u64,
+    pub(crate) came: u64,
+    pub(crate) asked: u64,
+    pub(crate) tried: u64,
+    pub(crate) due: u64,
+    pub(crate) rises: u64,
+    pub(crate) bytes: u64,
+    pub(crate) latest: u64,
+    pub(crate) kept: usize,
+    pub(crate) end_size: usize,
+    pub(crate) filled: usize,
+    pub(crate) shown: usize,
+    pub(crate) unsent: usize,
+    pub(crate) known: Known,
+    pub(crate) answer: Known,
+    pub(crate) wait: u32,
+    pub(crate) rise_wait: u32,
+    pub(crate) units: u32,
+    pub(crate) note: u32,
+    pub(crate) mark: u32,
+    pub(crate) session: u16,
+    pub(crate) phase: u8,
+    pub(crate) version: u8,
+    pub(crate) floor: u8,
+    pub(crate) agreed: u8,
+    pub(crate) fell: u8,
+    pub(crate) silent: u8,
+    pub(crate) changes: u8,
+    pub(crate) resync: u8,
+    pub(crate) answered: u8,
+    pub(crate) noted: u8,
+    pub(crate) has_data: u8,
+    pub(crate) holding: u8,
+    pub(crate) since: u8,
+    pub(crate) shows: u8,
+    pub(crate) second: u8,
+    pub(crate) opened: u8,
+    pub(crate) closed: u8,
+}
+
+#[repr(C)]
+#[derive(Clone, Copy, Debug, Default, PartialEq, Eq, Hash)]
+pub(crate) struct Todo {
+    pub(crate) wakes: u64,
+    pub(crate) room: usize,
+    pub(crate) offset: usize,
+    pub(crate) code: u16,
+    pub(crate) kind: u8,
+    pub(crate) cause: u8,
+    pub(crate) status: u8,
+    pub(crate) detail: u8,
+    pub(crate) drops: bool,
+    pub(crate) reports: bool,
+}
+
+#[repr(C)]
+#[derive(Clone, Copy, Debug, Default, PartialEq, Eq, Hash)]
+pub(crate) struct LinkState {
+    pub(crate) wakes: u64,
+    pub(crate) filled: usize,
+    pub(crate) unsent: usize,
+    pub(crate) shown: usize,
+    pub(crate) answer: usize,
+    pub(crate) has_data: bool,
+    pub(crate) second: bool,
+    pub(crate) answers: bool,
+    pub(crate) since: bool,
+}
+
+#[repr(C)]
+#[derive(Clone, Copy, Debug, Default, PartialEq, Eq, Hash)]
+pub(crate) struct GroupSettings {
+    pub(crate) patience: u32,
+    pub(crate) empty_is_data: bool,
+}
+
+#[repr(C)]
+#[derive(Clone, Copy, Debug, Default, PartialEq, Eq, Hash)]
 pub(crate) struct Group {
+    pub(crate) settings: GroupSettings,
     pub(crate) count: usize,
     pub(crate) runs: usize,
+    pub(crate) due: u64,
     pub(crate) has: [bool; 16],
+    pub(crate) current: bool,
 }
 
 #[repr(C)]
@@ -604,6 +800,7 @@ pub(crate) struct Cache {
     pub(crate) live: bool,
     pub(crate) asked: bool,
     pub(crate) told: bool,
+    pub(crate) reset: bool,
 }
 
 #[repr(C)]
@@ -770,25 +967,37 @@ extern "C" {
         output_length: usize,
         answer: *mut DataAnswer,
     ) -> u8;
-    pub(crate) fn rtr_tables_nonnull(
+    pub(crate) fn rtr_load_nonnull(
+        input: *const u8,
+        input_length: usize,
+        index: *mut usize,
+        index_length: usize,
+        work: *mut u8,
+        work_length: usize,
+        output: *mut u8,
+        output_length: usize,
+        loaded: *mut Loaded,
+    ) -> u8;
+    pub(crate) fn rtr_check_data_nonnull(
         data: *const u8,
         data_length: usize,
-        tables: *mut Tables,
-    );
+        lookup: *mut Lookup,
+        answer: *mut DataAnswer,
+    ) -> u8;
     pub(crate) fn rtr_validate_nonnull(
         data: *const u8,
         data_length: usize,
-        tables: *const Tables,
+        lookup: *const Lookup,
         route: *const Route,
     ) -> u8;
     pub(crate) fn rtr_covering_nonnull(
         data: *const u8,
         data_length: usize,
-        tables: *const Tables,
+        lookup: *const Lookup,
         route: *const Route,
         from: usize,
         covering: *mut Covering,
-    ) -> bool;
+    ) -> u8;
     pub(crate) fn rtr_serial_order(
         left: u32,
         right: u32,
@@ -797,6 +1006,11 @@ extern "C" {
         version: u8,
         kind: u8,
     ) -> bool;
+    pub(crate) fn rtr_times_rule(
+        refresh: u32,
+        retry: u32,
+        expire: u32,
+    ) -> u8;
     pub(crate) fn rtr_wire_version(
     ) -> u32;
     pub(crate) fn rtr_check_name_nonnull(
@@ -831,7 +1045,19 @@ extern "C" {
         router: *mut Router,
         settings: *const Settings,
     );
+    pub(crate) fn rtr_router_again(
+        router: *mut Router,
+    );
+    pub(crate) fn rtr_router_has_data(
+        router: *const Router,
+        now: u64,
+    ) -> bool;
     pub(crate) fn rtr_router_tick(
+        router: *mut Router,
+        now: u64,
+        action: *mut Action,
+    );
+    pub(crate) fn rtr_router_asked(
         router: *mut Router,
         now: u64,
         action: *mut Action,
@@ -881,31 +1107,110 @@ extern "C" {
         output_length: usize,
         written: *mut usize,
     ) -> bool;
+    pub(crate) fn rtr_link_init(
+        link: *mut Link,
+        settings: *const Settings,
+    );
+    pub(crate) fn rtr_link_again(
+        link: *mut Link,
+    ) -> u8;
+    pub(crate) fn rtr_link_opened(
+        link: *mut Link,
+    ) -> u8;
+    pub(crate) fn rtr_link_lost(
+        link: *mut Link,
+    ) -> u8;
+    pub(crate) fn rtr_link_received_nonnull(
+        link: *mut Link,
+        input: *const u8,
+        input_length: usize,
+        size: usize,
+    ) -> u8;
+    pub(crate) fn rtr_link_sent_nonnull(
+        link: *mut Link,
+        output: *mut u8,
+        output_length: usize,
+        size: usize,
+    ) -> u8;
+    pub(crate) fn rtr_link_next_nonnull(
+        link: *mut Link,
+        now: u64,
+        input: *mut u8,
+        input_length: usize,
+        first: *mut u8,
+        first_length: usize,
+        second: *mut u8,
+        second_length: usize,
+        index: *mut usize,
+        index_length: usize,
+        output: *mut u8,
+        output_length: usize,
+        todo: *mut Todo,
+    ) -> u8;
+    pub(crate) fn rtr_link_ask_now_nonnull(
+        link: *mut Link,
+        now: u64,
+        input: *mut u8,
+        input_length: usize,
+        output: *mut u8,
+        output_length: usize,
+        todo: *mut Todo,
+    ) -> u8;
+    pub(crate) fn rtr_link_give_up_nonnull(
+        link: *mut Link,
+        now: u64,
+        input: *mut u8,
+        input_length: usize,
+        output: *mut u8,
+        output_length: usize,
+        todo: *mut Todo,
+    ) -> u8;
+    pub(crate) fn rtr_link_state_of(
+        link: *const Link,
+        now: u64,
+        input_length: usize,
+        first_length: usize,
+        second_length: usize,
+        output_length: usize,
+        state: *mut LinkState,
+    ) -> u8;
+    pub(crate) fn rtr_group_usual(
+        settings: *mut GroupSettings,
+    );
     pub(crate) fn rtr_group_init(
         group: *mut Group,
+        settings: *const GroupSettings,
         count: usize,
-    );
+        now: u64,
+    ) -> u8;
     pub(crate) fn rtr_group_best(
         group: *const Group,
         member: *mut usize,
     ) -> bool;
+    pub(crate) fn rtr_group_wakes(
+        group: *const Group,
+    ) -> u64;
+    pub(crate) fn rtr_group_tick(
+        group: *mut Group,
+        now: u64,
+        answer: *mut GroupAnswer,
+    );
     pub(crate) fn rtr_group_shows(
         group: *mut Group,
+        now: u64,
         member: usize,
+        payloads: usize,
         answer: *mut GroupAnswer,
     );
     pub(crate) fn rtr_group_drops(
         group: *mut Group,
+        now: u64,
         member: usize,
         answer: *mut GroupAnswer,
     );
     pub(crate) fn rtr_group_fails(
         group: *mut Group,
-        member: usize,
-        answer: *mut GroupAnswer,
-    );
-    pub(crate) fn rtr_group_well(
-        group: *mut Group,
+        now: u64,
         member: usize,
         answer: *mut GroupAnswer,
     );
@@ -995,6 +1300,20 @@ mod tests {
         assert_eq!(place!(value.status), 16);
         assert_eq!(place!(value.side), 17);
         assert_eq!(place!(value.detail), 18);
+        let value = super::Loaded::default();
+        assert_eq!(size_of::<super::Loaded>(), 48);
+        assert_eq!(place!(value.length), 0);
+        assert_eq!(place!(value.offset), 8);
+        assert_eq!(place!(value.wanted), 16);
+        assert_eq!(place!(value.serial), 24);
+        assert_eq!(place!(value.refresh), 28);
+        assert_eq!(place!(value.retry), 32);
+        assert_eq!(place!(value.expire), 36);
+        assert_eq!(place!(value.session), 40);
+        assert_eq!(place!(value.version), 42);
+        assert_eq!(place!(value.has_cut), 43);
+        assert_eq!(place!(value.status), 44);
+        assert_eq!(place!(value.detail), 45);
         let value = super::Comparison::default();
         assert_eq!(size_of::<super::Comparison>(), 24);
         assert_eq!(place!(value.offset), 0);
@@ -1049,6 +1368,11 @@ mod tests {
         assert_eq!(place!(value.shortest_ipv4), 2064);
         assert_eq!(place!(value.shortest_ipv6), 2065);
         assert_eq!(place!(value.shortest), 2066);
+        let value = super::Lookup::default();
+        assert_eq!(size_of::<super::Lookup>(), 2344);
+        assert_eq!(place!(value.length), 0);
+        assert_eq!(place!(value.seal), 8);
+        assert_eq!(place!(value.tables), 16);
         let value = super::Covering::default();
         assert_eq!(size_of::<super::Covering>(), 16);
         assert_eq!(place!(value.place), 0);
@@ -1105,28 +1429,33 @@ mod tests {
         assert_eq!(place!(value.session), 16);
         assert_eq!(place!(value.version), 18);
         let value = super::Router::default();
-        assert_eq!(size_of::<super::Router>(), 136);
+        assert_eq!(size_of::<super::Router>(), 168);
         assert_eq!(place!(value.settings), 0);
         assert_eq!(place!(value.expires), 40);
-        assert_eq!(place!(value.asked), 48);
-        assert_eq!(place!(value.due), 56);
-        assert_eq!(place!(value.bytes), 64);
-        assert_eq!(place!(value.known), 72);
-        assert_eq!(place!(value.answer), 92);
-        assert_eq!(place!(value.wait), 112);
-        assert_eq!(place!(value.units), 116);
-        assert_eq!(place!(value.note), 120);
-        assert_eq!(place!(value.session), 124);
-        assert_eq!(place!(value.phase), 126);
-        assert_eq!(place!(value.version), 127);
-        assert_eq!(place!(value.floor), 128);
-        assert_eq!(place!(value.agreed), 129);
-        assert_eq!(place!(value.fell), 130);
-        assert_eq!(place!(value.changes), 131);
-        assert_eq!(place!(value.resync), 132);
-        assert_eq!(place!(value.answered), 133);
-        assert_eq!(place!(value.noted), 134);
-        assert_eq!(place!(value.has_data), 135);
+        assert_eq!(place!(value.came), 48);
+        assert_eq!(place!(value.asked), 56);
+        assert_eq!(place!(value.tried), 64);
+        assert_eq!(place!(value.due), 72);
+        assert_eq!(place!(value.rises), 80);
+        assert_eq!(place!(value.bytes), 88);
+        assert_eq!(place!(value.known), 96);
+        assert_eq!(place!(value.answer), 116);
+        assert_eq!(place!(value.wait), 136);
+        assert_eq!(place!(value.rise_wait), 140);
+        assert_eq!(place!(value.units), 144);
+        assert_eq!(place!(value.note), 148);
+        assert_eq!(place!(value.session), 152);
+        assert_eq!(place!(value.phase), 154);
+        assert_eq!(place!(value.version), 155);
+        assert_eq!(place!(value.floor), 156);
+        assert_eq!(place!(value.agreed), 157);
+        assert_eq!(place!(value.fell), 158);
+        assert_eq!(place!(value.silent), 159);
+        assert_eq!(place!(value.changes), 160);
+        assert_eq!(place!(value.resync), 161);
+        assert_eq!(place!(value.answered), 162);
+        assert_eq!(place!(value.noted), 163);
+        assert_eq!(place!(value.has_data), 164);
         let value = super::Action::default();
         assert_eq!(size_of::<super::Action>(), 40);
         assert_eq!(place!(value.start), 0);
@@ -1143,11 +1472,82 @@ mod tests {
         assert_eq!(place!(value.changes), 37);
         assert_eq!(place!(value.drops), 38);
         assert_eq!(place!(value.reports), 39);
+        let value = super::Link::default();
+        assert_eq!(size_of::<super::Link>(), 224);
+        assert_eq!(place!(value.settings), 0);
+        assert_eq!(place!(value.expires), 40);
+        assert_eq!(place!(value.came), 48);
+        assert_eq!(place!(value.asked), 56);
+        assert_eq!(place!(value.tried), 64);
+        assert_eq!(place!(value.due), 72);
+        assert_eq!(place!(value.rises), 80);
+        assert_eq!(place!(value.bytes), 88);
+        assert_eq!(place!(value.latest), 96);
+        assert_eq!(place!(value.kept), 104);
+        assert_eq!(place!(value.end_size), 112);
+        assert_eq!(place!(value.filled), 120);
+        assert_eq!(place!(value.shown), 128);
+        assert_eq!(place!(value.unsent), 136);
+        assert_eq!(place!(value.known), 144);
+        assert_eq!(place!(value.answer), 164);
+        assert_eq!(place!(value.wait), 184);
+        assert_eq!(place!(value.rise_wait), 188);
+        assert_eq!(place!(value.units), 192);
+        assert_eq!(place!(value.note), 196);
+        assert_eq!(place!(value.mark), 200);
+        assert_eq!(place!(value.session), 204);
+        assert_eq!(place!(value.phase), 206);
+        assert_eq!(place!(value.version), 207);
+        assert_eq!(place!(value.floor), 208);
+        assert_eq!(place!(value.agreed), 209);
+        assert_eq!(place!(value.fell), 210);
+        assert_eq!(place!(value.silent), 211);
+        assert_eq!(place!(value.changes), 212);
+        assert_eq!(place!(value.resync), 213);
+        assert_eq!(place!(value.answered), 214);
+        assert_eq!(place!(value.noted), 215);
+        assert_eq!(place!(value.has_data), 216);
+        assert_eq!(place!(value.holding), 217);
+        assert_eq!(place!(value.since), 218);
+        assert_eq!(place!(value.shows), 219);
+        assert_eq!(place!(value.second), 220);
+        assert_eq!(place!(value.opened), 221);
+        assert_eq!(place!(value.closed), 222);
+        let value = super::Todo::default();
+        assert_eq!(size_of::<super::Todo>(), 32);
+        assert_eq!(place!(value.wakes), 0);
+        assert_eq!(place!(value.room), 8);
+        assert_eq!(place!(value.offset), 16);
+        assert_eq!(place!(value.code), 24);
+        assert_eq!(place!(value.kind), 26);
+        assert_eq!(place!(value.cause), 27);
+        assert_eq!(place!(value.status), 28);
+        assert_eq!(place!(value.detail), 29);
+        assert_eq!(place!(value.drops), 30);
+        assert_eq!(place!(value.reports), 31);
+        let value = super::LinkState::default();
+        assert_eq!(size_of::<super::LinkState>(), 48);
+        assert_eq!(place!(value.wakes), 0);
+        assert_eq!(place!(value.filled), 8);
+        assert_eq!(place!(value.unsent), 16);
+        assert_eq!(place!(value.shown), 24);
+        assert_eq!(place!(value.answer), 32);
+        assert_eq!(place!(value.has_data), 40);
+        assert_eq!(place!(value.second), 41);
+        assert_eq!(place!(value.answers), 42);
+        assert_eq!(place!(value.since), 43);
+        let value = super::GroupSettings::default();
+        assert_eq!(size_of::<super::GroupSettings>(), 8);
+        assert_eq!(place!(value.patience), 0);
+        assert_eq!(place!(value.empty_is_data), 4);
         let value = super::Group::default();
-        assert_eq!(size_of::<super::Group>(), 32);
-        assert_eq!(place!(value.count), 0);
-        assert_eq!(place!(value.runs), 8);
-        assert_eq!(place!(value.has), 16);
+        assert_eq!(size_of::<super::Group>(), 56);
+        assert_eq!(place!(value.settings), 0);
+        assert_eq!(place!(value.count), 8);
+        assert_eq!(place!(value.runs), 16);
+        assert_eq!(place!(value.due), 24);
+        assert_eq!(place!(value.has), 32);
+        assert_eq!(place!(value.current), 48);
         let value = super::GroupAnswer::default();
         assert_eq!(size_of::<super::GroupAnswer>(), 32);
         assert_eq!(place!(value.member), 0);
@@ -1178,6 +1578,7 @@ mod tests {
         assert_eq!(place!(value.live), 39);
         assert_eq!(place!(value.asked), 40);
         assert_eq!(place!(value.told), 41);
+        assert_eq!(place!(value.reset), 42);
         let value = super::Serving::default();
         assert_eq!(size_of::<super::Serving>(), 32);
         assert_eq!(place!(value.taken), 0);

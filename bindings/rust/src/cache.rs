@@ -5,8 +5,8 @@ use crate::editions::Edition;
 use crate::kept::{restore, save};
 use crate::options::ServerOptions;
 use crate::owned_data::Data;
-use crate::server_error::UpdateError;
-use std::io;
+use crate::server_error::{TimeRule, UpdateError};
+use std::io::{self, ErrorKind};
 use std::path::Path;
 use std::sync::{Arc, Mutex, MutexGuard, PoisonError};
 
@@ -61,8 +61,10 @@ impl Cache {
     ///
     /// # Errors
     ///
-    /// `NewTimings`; `SerialNotAfter`, also for the same payloads under an earlier serial number.
+    /// `NewTimings`; `SerialNotAfter`, also for the same payloads under an earlier serial number;
+    /// `Times` where no cache may name their times (RFC 8210 section 6).
     pub fn update(&self, data: Data) -> Result<bool, UpdateError> {
+        may_name(&data)?;
         let _alone = locked(&self.updating);
         let newest = locked(&self.newest).clone();
         let next = match newest {
@@ -92,9 +94,11 @@ impl Cache {
     ///
     /// # Errors
     ///
-    /// Those of reading, of which `InvalidData` is for a file that isn't as it was written.
+    /// Those of reading, of which `InvalidData` is for a file that isn't as it was written, or has
+    /// data that [`Cache::update`] doesn't take.
     pub fn restore(&self, path: impl AsRef<Path>) -> io::Result<Data> {
         let edition = restore(path.as_ref(), &self.options)?;
+        may_name(&edition.data()).map_err(|error| io::Error::new(ErrorKind::InvalidData, error))?;
         let _alone = locked(&self.updating);
         let mut newest = locked(&self.newest);
         Ok(newest.get_or_insert_with(|| Arc::new(edition)).data())
@@ -106,6 +110,14 @@ impl Moment {
     pub(crate) fn present(&self) -> Present {
         let newest = self.newest.as_ref();
         newest.map_or_else(Present::default, |newest| newest.present)
+    }
+}
+
+/// Whether a cache may name the times of these data; version 0 has none.
+fn may_name(data: &Data) -> Result<(), UpdateError> {
+    match data.end().timing.and_then(TimeRule::broken_by) {
+        Some(rule) => Err(UpdateError::Times(rule)),
+        None => Ok(()),
     }
 }
 

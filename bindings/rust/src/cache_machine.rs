@@ -1,21 +1,21 @@
-//! Safe calls of the proved machine of a cache's end. Times are in milliseconds.
+//! Safe wrappers of the proved machine of a cache's end. Times are in milliseconds.
 
 pub(crate) use crate::abi::{reason, serving, Cache, Present, Serving};
 
 use crate::abi::{self, named, CacheSettings};
-use crate::machine::{append_report, milliseconds};
 use crate::options::ServerOptions;
 use crate::sys;
+use crate::sys::milliseconds;
 use std::string::{String, ToString};
 use std::vec::Vec;
 
-/// What a report says of the reason for which a cache ends a connection.
+/// The text of the report for the reason why a cache ends a connection.
 pub(crate) fn reason_text(reason: u8) -> String {
     sys::name(named::REASON, reason.into()).to_string()
 }
 
 impl Cache {
-    /// A connection that was made now, with these options.
+    /// A new connection, with these options.
     pub(crate) fn new(now: u64, options: &ServerOptions) -> Cache {
         let settings = CacheSettings {
             first_limit: milliseconds(options.first_query),
@@ -40,8 +40,7 @@ impl Cache {
         serving
     }
 
-    /// A unit came; `ended` where nothing follows it. Changes can be told from these serial numbers
-    /// on.
+    /// A unit came; `ended` if nothing follows it. Deltas are known from these serial numbers on.
     pub(crate) fn read(
         &mut self,
         now: u64,
@@ -67,24 +66,34 @@ impl Cache {
         serving
     }
 
-    /// When a tick is wanted, if nothing comes before.
+    /// The time of the next tick, if nothing comes before.
     pub(crate) fn wakes(&self, present: Present) -> u64 {
         unsafe { abi::rtr_cache_wakes(self, &present) }
     }
 }
 
 impl Serving {
-    /// Appends the unit that an answer begins with, or the report that is owed about the unit that
-    /// the input begins with.
+    /// Appends the first unit of an answer, or the report that is owed about the first unit of the
+    /// input.
     pub(crate) fn append(&self, input: &[u8], output: &mut Vec<u8>) {
         if self.reports {
-            return append_report(output, |report, room, written| unsafe {
-                let (start, length) = (input.as_ptr(), input.len());
-                abi::rtr_cache_report_nonnull(self, start, length, report, room, written)
-            });
+            return self.append_report(input, output);
         }
         let mut unit = [0; abi::SERIAL_SIZE];
         let length = unsafe { abi::rtr_cache_unit_nonnull(self, unit.as_mut_ptr(), unit.len()) };
         output.extend_from_slice(&unit[..length]);
+    }
+
+    /// Appends the report that is owed about the first unit of the input.
+    fn append_report(&self, input: &[u8], output: &mut Vec<u8>) {
+        let (mut report, mut written) = (std::vec![0; abi::LONGEST_UNIT], 0);
+        let is_written = unsafe {
+            let (start, length) = (input.as_ptr(), input.len());
+            let (output, room) = (report.as_mut_ptr(), report.len());
+            abi::rtr_cache_report_nonnull(self, start, length, output, room, &mut written)
+        };
+        if is_written {
+            output.extend_from_slice(&report[..written]);
+        }
     }
 }

@@ -102,13 +102,14 @@ impl Client {
     }
 
     /// Follows the data of the cache until the client is stopped or told to break off, and answers
-    /// the data that it then has.
+    /// the data that it then has, if they haven't expired.
     pub fn run(&self, on: impl FnMut(Event<'_>) -> ControlFlow<()>) -> Option<Data> {
         Follower::new(self).run(on)
     }
 
-    /// Has [`run`](Client::run) ask the cache now, from any thread, before the refresh time has
-    /// passed: [`Router::ask_now`](crate::Router::ask_now). Where it doesn't run, nothing happens.
+    /// The caller wants the present data: has [`run`](Client::run), also under
+    /// [`follow`](crate::follow()), ask the cache or connect before it is time, from any thread:
+    /// [`Router::ask_now`](crate::Router::ask_now). Where it doesn't run, nothing happens.
     pub fn ask_now(&self) {
         self.askings.ask();
     }

@@ -1,16 +1,20 @@
 //! Why a client ends a connection.
 
-use crate::abi::HEADER_SIZE;
-use crate::data::DataError;
+use crate::abi::{cause, named, Todo, HEADER_SIZE};
+use crate::data::{DataError, Place, Side};
 use crate::error;
 use crate::fault::{ErrorCode, Fault};
-use crate::input::Input;
-use crate::machine::{cause, cause_text, Action};
 use crate::refusal::Refusal;
+use crate::sys;
 use crate::unit::{unit_size, ErrorReport, Unit};
 use alloc::string::String;
 use alloc::vec::Vec;
 use core::fmt;
+
+/// Writes the text of a cause.
+fn write_cause(f: &mut fmt::Formatter<'_>, cause: u8) -> fmt::Result {
+    f.write_str(&sys::name(named::CAUSE, cause.into()))
+}
 
 /// What a cache did that the rules of a session don't allow.
 #[derive(Clone, Copy, Debug, PartialEq, Eq)]
@@ -34,7 +38,7 @@ pub enum Breach {
 
 impl fmt::Display for Breach {
     fn fmt(&self, f: &mut fmt::Formatter<'_>) -> fmt::Result {
-        f.write_str(&cause_text(*self as u8))
+        write_cause(f, *self as u8)
     }
 }
 
@@ -53,6 +57,10 @@ pub enum ClientError {
     TooLong,
     /// The cache didn't refresh the data in time, and they were dropped (RFC 8210 section 6).
     Expired,
+    /// There is no memory for an answer. The data stay, and it is asked for again.
+    NoMemory,
+    /// The cache has no payloads, which is no data for a [`Group`](crate::Group).
+    Empty,
     /// The client was stopped.
     Stopped,
     /// A unit is refused.
@@ -82,10 +90,12 @@ impl fmt::Display for ClientError {
         match self {
             #[cfg(feature = "std")]
             ClientError::Io(error) => error.fmt(f),
-            ClientError::Closed => f.write_str(&cause_text(cause::LOST)),
-            ClientError::TooSlow => f.write_str(&cause_text(cause::SLOW)),
-            ClientError::TooLong => f.write_str(&cause_text(cause::TOO_LONG)),
-            ClientError::Expired => f.write_str(&cause_text(cause::EXPIRED)),
+            ClientError::Closed => write_cause(f, cause::LOST),
+            ClientError::TooSlow => write_cause(f, cause::SLOW),
+            ClientError::TooLong => write_cause(f, cause::TOO_LONG),
+            ClientError::Expired => write_cause(f, cause::EXPIRED),
+            ClientError::NoMemory => f.write_str("no memory"),
+            ClientError::Empty => f.write_str("the cache has no payloads"),
             ClientError::Stopped => f.write_str("the client was stopped"),
             ClientError::Refused(refusal) => refusal.fmt(f),
             ClientError::Data { error, .. } => error.fmt(f),
@@ -115,23 +125,23 @@ impl error::Error for ClientError {
 }
 
 impl ClientError {
-    /// Why an action ends a connection with this input.
-    pub(crate) fn of(action: &Action, input: &Input) -> ClientError {
-        let offset = input.offset() + action.start as u64;
-        let input = &input.bytes()[action.start..];
-        let reason = match action.cause {
+    /// Why a connection ends so. The input begins with the unit or the change that it is about, at
+    /// this offset of the connection.
+    pub(crate) fn of(todo: &Todo, input: &[u8], offset: u64) -> ClientError {
+        let reason = match todo.cause {
             cause::SLOW => return ClientError::TooSlow,
             cause::TOO_LONG => return ClientError::TooLong,
             cause::EXPIRED => return ClientError::Expired,
             cause::REPORTED => return ClientError::reported(input),
             cause::FAULTY => {
-                let fault = Fault::of(action.status, action.detail);
+                let fault = Fault::of(todo.status, todo.detail);
                 return ClientError::Refused(Refusal {
                     fault,
                     offset,
                     unit: fault.of_unit(input).to_vec(),
                 });
             }
+            cause::NOT_APPLIED => return ClientError::refused(todo, input),
             cause::OUT_OF_PLACE => Breach::Misplaced,
             cause::NO_SUCH_PAYLOAD => Breach::NoPayload,
             cause::OTHER_VERSION => Breach::OtherVersion,
@@ -143,7 +153,7 @@ impl ClientError {
         };
         ClientError::Breach {
             reason,
-            code: ErrorCode(action.code),
+            code: ErrorCode(todo.code),
             unit: whole(input).to_vec(),
         }
     }
@@ -152,16 +162,21 @@ impl ClientError {
     pub(crate) fn reported(input: &[u8]) -> ClientError {
         match Unit::first(input) {
             Ok((Unit::ErrorReport(report), _)) => ClientError::Reported(report.into_owned()),
-            _ => ClientError::Closed, // which the machine doesn't call a report
+            _ => ClientError::Closed, // which isn't called a report
         }
     }
 
-    /// The error with the bytes of the unit at fault.
-    pub(crate) fn refused(error: DataError, input: &[u8]) -> ClientError {
-        let unit = error.place.and_then(|place| input.get(place.offset..));
+    /// Why the changes of an answer are refused. The input begins with the one at fault.
+    fn refused(todo: &Todo, input: &[u8]) -> ClientError {
         ClientError::Data {
-            error,
-            unit: unit.map(|unit| whole(unit).to_vec()).unwrap_or_default(),
+            error: DataError {
+                fault: Fault::of(todo.status, todo.detail),
+                place: Some(Place {
+                    side: Side::Second,
+                    offset: todo.offset,
+                }),
+            },
+            unit: whole(input).to_vec(),
         }
     }
 }

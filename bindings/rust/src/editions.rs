@@ -1,11 +1,12 @@
-//! What a cache has now, and what leads back to what it had before.
+//! A cache's present data, and the steps back to earlier ones.
 
 use crate::body::Body;
 use crate::cache::locked;
 use crate::cache_machine::Present;
+use crate::changes::Changes;
 use crate::data::DataError;
 use crate::options::ServerOptions;
-use crate::owned_data::{Changes, Data};
+use crate::owned_data::Data;
 use crate::server_error::UpdateError;
 use crate::unit::compare_serials;
 use std::cmp::Ordering;
@@ -14,35 +15,35 @@ use std::sync::Mutex;
 use std::time::SystemTime;
 use std::vec::Vec;
 
-/// The versions of the protocol that there are.
+/// The versions of the protocol.
 const VERSIONS: usize = 3;
 
-/// Data, and what leads back to those of the same session before them.
+/// Data, and the steps back to earlier ones of the same session.
 #[derive(Debug)]
 pub(crate) struct Edition {
     /// How many editions the server had before.
     pub(crate) number: u64,
-    /// What names the data for the machine.
+    /// Session and serial number, for the machine.
     pub(crate) present: Present,
     data: Data,
-    /// What leads to the data before these, from there to those before them, and so on.
+    /// The step to the data before these, from there to those before them, and so on.
     back: Vec<Back>,
     /// The serial numbers that these lead to.
     pub(crate) known: Vec<u32>,
     made: Mutex<Made>,
 }
 
-/// What clients are sent, made when the first of them asks for it.
+/// Encoded answers, made when the first client asks.
 #[derive(Debug, Default)]
 struct Made {
     forms: [Option<Body>; VERSIONS],
-    /// What leads to the data, by the serial number that it begins at: whole, and for each version.
+    /// Deltas to the present data, by the serial number they start from: whole, and by version.
     changes: BTreeMap<u32, (Changes, [Option<Changes>; VERSIONS])>,
-    /// How many bytes these have.
+    /// Their size in bytes.
     size: usize,
 }
 
-/// What leads back from data to those before them, which were the newest until then.
+/// A step back from data to those before them, which were present until that time.
 #[derive(Clone, Debug)]
 pub(crate) struct Back {
     pub(crate) until: SystemTime,
@@ -50,7 +51,7 @@ pub(crate) struct Back {
 }
 
 impl Edition {
-    /// These data, and none before.
+    /// An edition of these data, without steps back.
     pub(crate) fn first(data: Data, number: u64) -> Edition {
         let end = data.end();
         let present = Present {
@@ -68,7 +69,7 @@ impl Edition {
         }
     }
 
-    /// These data after the present ones; none where nothing has changed.
+    /// The next edition, of these data; none if nothing has changed.
     pub(crate) fn next(
         &self,
         data: &Data,
@@ -97,15 +98,14 @@ impl Edition {
         let newest = [Back { until, changes }].into_iter();
         let back = newest.chain(self.back.iter().cloned());
         let next = Edition::first(new, self.number + 1).keeping(back, options);
-        // Most clients are going to ask for this, and none waits yet.
+        // Most clients will ask for this delta, and none waits yet.
         if !next.known.is_empty() {
             next.lead_from(&old, options);
         }
         Ok(Some(next))
     }
 
-    /// The same, which keeps what leads back to serial numbers before its own, as far as the
-    /// options allow.
+    /// The same, with the steps back to earlier serial numbers, as far as the options allow.
     fn keeping(mut self, back: impl IntoIterator<Item = Back>, options: &ServerOptions) -> Edition {
         let end = self.data.end();
         let mut room = options.keep_bytes;
@@ -124,7 +124,7 @@ impl Edition {
         self
     }
 
-    /// What was written of an edition, if it fits together.
+    /// The edition that was saved, if its parts fit together.
     pub(crate) fn restored(data: Data, back: Vec<Back>, options: &ServerOptions) -> Option<Self> {
         let edition = Edition::first(data, 0).keeping(back, options);
         let oldest = edition.known.last();
@@ -133,7 +133,7 @@ impl Edition {
             .then_some(edition)
     }
 
-    /// What is written of it: the data, and what leads back, each with when newer data came.
+    /// What is saved: the data, and the steps back, each with the time when newer data came.
     pub(crate) fn sequences(&self) -> impl Iterator<Item = (SystemTime, &[u8])> {
         let back = self
             .back
@@ -144,7 +144,7 @@ impl Edition {
             .chain(back)
     }
 
-    /// The data of a serial number that is known, else the present ones.
+    /// The data of a known serial number, else the present ones.
     fn at(&self, serial: u32) -> Result<Data, DataError> {
         let steps = self.known.iter().position(|known| *known == serial);
         let (last, others) = match steps.and_then(|at| self.back[..=at].split_last()) {
@@ -161,15 +161,15 @@ impl Edition {
         self.data.clone()
     }
 
-    /// The bytes of all data, for clients of a version that there is.
+    /// All data as encoded for clients of a version.
     pub(crate) fn all(&self, version: u8) -> Body {
         let form = &mut locked(&self.made).forms[usize::from(version)];
         form.get_or_insert_with(|| Body::filed(self.data.in_version(version).shared()))
             .clone()
     }
 
-    /// The bytes of what leads clients of a version from a serial number that is known, or from the
-    /// present one.
+    /// The delta from a known serial number, or from the present one, as encoded for clients of a
+    /// version.
     pub(crate) fn since(&self, version: u8, serial: u32, options: &ServerOptions) -> Body {
         if serial == self.present.serial {
             let end = self.data.without_payloads().in_version(version);
@@ -184,12 +184,12 @@ impl Edition {
         }
         let mut made = locked(&self.made);
         let (whole, forms) = made.changes.get_mut(&serial).expect("it was just made");
-        // A version has of changes what it has of the data.
+        // Changes are filtered by version as data are.
         let form = forms[usize::from(version)].get_or_insert_with(|| whole.in_version(version));
         Body::Allocated(form.shared())
     }
 
-    /// Makes what leads from these data, and keeps it.
+    /// Computes the delta from these data, and keeps it.
     fn lead_from(&self, old: &Data, options: &ServerOptions) {
         let changes = old
             .delta_to(&self.data)

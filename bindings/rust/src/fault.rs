@@ -33,7 +33,7 @@ pub enum Fault {
     NoForm,
     /// This unit or end of data may not stand there in data or changes in canonical form.
     NotCanonical,
-    /// The second input is of another session than the first.
+    /// The second input is of another session than the first, or an end of data than its answer.
     OtherSession,
     /// A payload is announced that is there already.
     Duplicate,
@@ -44,6 +44,15 @@ pub enum Fault {
     Undecided,
     /// The index has fewer places than there are units.
     NoIndex,
+    /// In a recording a unit of this version stands in an answer of another, or changes data of
+    /// another.
+    OtherVersion(u8),
+    /// In a recording the serial number of changes comes before that of the data.
+    OldSerial,
+    /// A cache reset stands inside an answer.
+    ResetInside,
+    /// An error report stands inside an answer.
+    ReportInside,
     /// A status that this version of the crate doesn't know.
     Unknown(u8),
 }
@@ -83,6 +92,10 @@ impl Fault {
             status::UNKNOWN => Fault::UnknownRecord,
             status::UNDECIDED => Fault::Undecided,
             status::NO_INDEX => Fault::NoIndex,
+            status::OTHER_VERSION => Fault::OtherVersion(detail),
+            status::OLD_SERIAL => Fault::OldSerial,
+            status::RESET_INSIDE => Fault::ResetInside,
+            status::REPORT_INSIDE => Fault::ReportInside,
             status => Fault::Unknown(status),
         }
     }
@@ -107,6 +120,10 @@ impl Fault {
             Fault::UnknownRecord => status::UNKNOWN,
             Fault::Undecided => status::UNDECIDED,
             Fault::NoIndex => status::NO_INDEX,
+            Fault::OtherVersion(_) => status::OTHER_VERSION,
+            Fault::OldSerial => status::OLD_SERIAL,
+            Fault::ResetInside => status::RESET_INSIDE,
+            Fault::ReportInside => status::REPORT_INSIDE,
             Fault::Unknown(status) => status,
         }
     }
@@ -114,7 +131,9 @@ impl Fault {
     /// The type, the version or the broken rule, as `rtr.h` numbers it, or 0.
     pub(crate) fn detail(self) -> u8 {
         match self {
-            Fault::UnitType(detail) | Fault::UnitVersion(detail) => detail,
+            Fault::UnitType(detail) | Fault::UnitVersion(detail) | Fault::OtherVersion(detail) => {
+                detail
+            }
             Fault::Prefix(PrefixRule::LengthOver) => prefix_rule::LENGTH_OVER,
             Fault::Prefix(PrefixRule::MaxLengthOver) => prefix_rule::MAX_LENGTH_OVER,
             Fault::Prefix(PrefixRule::MaxLengthUnder) => prefix_rule::MAX_LENGTH_UNDER,
@@ -161,7 +180,11 @@ impl Fault {
             | Fault::NotCanonical
             | Fault::Duplicate
             | Fault::UnknownRecord
-            | Fault::Undecided => sys::unit_size(bytes).unwrap_or(HEADER_SIZE),
+            | Fault::Undecided
+            | Fault::OtherVersion(_)
+            | Fault::OldSerial
+            | Fault::ResetInside
+            | Fault::ReportInside => sys::unit_size(bytes).unwrap_or(HEADER_SIZE),
             Fault::TooMany
             | Fault::NoRoom
             | Fault::NoForm

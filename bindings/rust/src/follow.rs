@@ -1,41 +1,53 @@
-//! Caches in an order of preference, each followed in a thread.
+//! Follows several caches by preference, each in a thread.
 
 use crate::client::Client;
-use crate::following::Follower;
-use crate::group::{Group, Shown};
-use crate::owned_data::{Changes, Data};
+use crate::following::{Follower, Timed};
+use crate::group::{Decision, GroupSettings};
+use crate::owned_data::Data;
+use crate::preferred::Preferred;
 use crate::router::{Event, Step};
+use crate::timed::milliseconds_since;
 use std::format;
 use std::io;
 use std::ops::ControlFlow;
-use std::sync::mpsc::{sync_channel, Receiver, SyncSender};
-use std::sync::Arc;
+use std::sync::mpsc::{sync_channel, Receiver, RecvTimeoutError, SyncSender};
+use std::sync::{Arc, Mutex, PoisonError};
 use std::thread;
+use std::time::{Duration, Instant};
 use std::vec::Vec;
 
-/// Follows the data of the first of some caches that has any (RFC 8210 section 10), as a [`Group`]
-/// of so many members decides, until the caller breaks off or a client that runs is stopped. It
-/// answers the data that are then shown.
+/// Follows the data of the most preferred of some caches that answers (RFC 8210 section 10), as a
+/// [`Group`](crate::Group) of this number of members decides, until the caller breaks off or a
+/// client that runs is stopped. It returns the data that are then shown. The group's settings are
+/// the default ones; an empty answer of the only member is data.
 ///
 /// A member is started with the client that the first function makes for its number each time, in
 /// a thread of its own. The other function is told what happens: [`Event::Data`] of the member
 /// whose data are shown, [`Event::Dropped`] of the last one that had data, and each
-/// [`Event::Failed`]. Where others' data are shown than before, the changes lead there from those,
-/// of whatever session and version they were.
+/// [`Event::Failed`], also [`ClientError::Empty`](crate::ClientError::Empty). If others' data are
+/// shown than before, the changes lead there from those, of whatever session and version they were.
 ///
-/// A client that is left is stopped, and so are all at the end. Their threads aren't waited for.
+/// Clients that aren't needed any more are stopped, and all are at the end, without waiting for
+/// their threads.
 ///
 /// # Errors
 ///
-/// Where the system has no thread for a member.
+/// For more than [`Group::MOST`](crate::Group::MOST) members, or if the system has no thread for
+/// one.
 ///
 /// ```
-/// use rtr_wire::{follow, Client, ClientOptions, Data, Event, Server, ServerOptions};
+/// use rtr_wire::{follow, Client, ClientOptions, Data, Event, RoaPayload, Server, ServerOptions};
 /// use std::ops::ControlFlow;
 /// use std::sync::Arc;
 ///
 /// let server = Server::new(ServerOptions::default());
-/// let data = Data::new(1, 4660, 1, None)?;
+/// let vrp = RoaPayload {
+///     address: [192, 0, 2, 0].into(),
+///     length: 24,
+///     max_length: None,
+///     asn: 64496,
+/// };
+/// let data = Data::of_vrps([vrp], 1, 4660, 1, None)?;
 /// server.update(data.clone())?;
 ///
 /// // Nothing listens at the first address.
@@ -57,15 +69,40 @@ use std::vec::Vec;
 pub fn follow(
     members: usize,
     client: impl FnMut(usize) -> Arc<Client>,
+    on: impl FnMut(usize, Event<'_>) -> ControlFlow<()>,
+) -> io::Result<Option<Data>> {
+    run(None, members, client, on)
+}
+
+/// [`follow`] with these settings.
+///
+/// # Errors
+///
+/// As [`follow`].
+pub fn follow_with(
+    settings: GroupSettings,
+    members: usize,
+    client: impl FnMut(usize) -> Arc<Client>,
+    on: impl FnMut(usize, Event<'_>) -> ControlFlow<()>,
+) -> io::Result<Option<Data>> {
+    run(Some(settings), members, client, on)
+}
+
+fn run(
+    settings: Option<GroupSettings>,
+    members: usize,
+    client: impl FnMut(usize) -> Arc<Client>,
     mut on: impl FnMut(usize, Event<'_>) -> ControlFlow<()>,
 ) -> io::Result<Option<Data>> {
-    let members = members.min(Group::MOST);
+    let preferred = Preferred::new(members, settings, 0)
+        .map_err(|error| io::Error::new(io::ErrorKind::InvalidInput, error))?;
     let (sender, receiver) = sync_channel(0);
     let mut followed = Followed {
-        group: Group::new(members),
+        begun: Instant::now(),
+        preferred,
         members: (0..members).map(|_| None).collect(),
+        kept: (0..members).map(|_| Kept::default()).collect(),
         turns: 0,
-        shown: None,
         client,
         sender,
     };
@@ -73,18 +110,22 @@ pub fn follow(
         followed.start(0)?;
         followed.run(&receiver, &mut on)?;
     }
-    Ok(followed.shown.map(|(_, data)| data))
+    Ok(followed.preferred.into_shown())
 }
 
-/// What the thread of a member tells.
+/// The router of a stopped member, with its clock, with which it continues when it is started
+/// again. A run holds the lock from its start to its end.
+type Kept = Arc<Mutex<Option<Timed>>>;
+
+/// A message of a member's thread.
 struct Told {
     member: usize,
     turn: u64,
-    /// The step, and the data after it; none where the client has ended.
+    /// The step and the data after it; none if the client has ended.
     step: Option<(Step, Option<Data>)>,
 }
 
-/// What a thread tells by. When it is dropped, it tells that the client has ended.
+/// The sending end of a member's thread. Dropping it reports that the client has ended.
 struct Teller {
     member: usize,
     turn: u64,
@@ -92,7 +133,7 @@ struct Teller {
 }
 
 impl Teller {
-    /// Tells it; breaks off where nobody listens any more.
+    /// Sends a message; breaks off if nobody receives any more.
     fn tell(&self, step: Option<(Step, Option<Data>)>) -> ControlFlow<()> {
         let (member, turn) = (self.member, self.turn);
         match self.sender.send(Told { member, turn, step }) {
@@ -108,12 +149,11 @@ impl Drop for Teller {
     }
 }
 
-/// A member that runs. When it is dropped, its client is stopped.
+/// A running member. Dropping it stops its client.
 struct Member {
-    /// Which start this is, of all: what an earlier one still tells is passed over.
+    /// The number of this start: messages of earlier starts are ignored.
     turn: u64,
     client: Arc<Client>,
-    data: Option<Data>,
 }
 
 impl Drop for Member {
@@ -124,11 +164,11 @@ impl Drop for Member {
 
 /// The members, and what is shown.
 struct Followed<C> {
-    group: Group,
+    begun: Instant,
+    preferred: Preferred,
     members: Vec<Option<Member>>,
+    kept: Vec<Kept>,
     turns: u64,
-    /// Whose data are shown, and the data.
-    shown: Option<(usize, Data)>,
     client: C,
     sender: SyncSender<Told>,
 }
@@ -141,8 +181,8 @@ impl<C: FnMut(usize) -> Arc<Client>> Followed<C> {
         self.members[member] = Some(Member {
             turn,
             client: Arc::clone(&client),
-            data: None,
         });
+        let kept = Arc::clone(&self.kept[member]);
         let thread = thread::Builder::new().name(format!("rtr client {member}"));
         thread.spawn(move || {
             let teller = Teller {
@@ -150,99 +190,80 @@ impl<C: FnMut(usize) -> Arc<Client>> Followed<C> {
                 turn,
                 sender,
             };
-            Follower::new(&client).steps(|step, data| teller.tell(Some((step, data.cloned()))));
+            let mut kept = kept.lock().unwrap_or_else(PoisonError::into_inner);
+            let follower = Follower::after(&client, kept.take());
+            let router = follower.steps(|step, data| teller.tell(Some((step, data.cloned()))));
+            *kept = Some(router);
         })?;
         Ok(())
     }
 
-    /// Takes what the threads tell, until the caller breaks off or a client has ended.
+    /// The group's time.
+    fn now(&self) -> u64 {
+        milliseconds_since(self.begun)
+    }
+
+    /// The next message of a thread; a timeout at the group's next tick.
+    fn next(&self, told: &Receiver<Told>) -> Result<Told, RecvTimeoutError> {
+        match self.preferred.wakes() {
+            u64::MAX => told.recv().map_err(RecvTimeoutError::from),
+            wakes => told.recv_timeout(Duration::from_millis(wakes.saturating_sub(self.now()))),
+        }
+    }
+
+    /// Handles messages until the caller breaks off or a client has ended.
     fn run(
         &mut self,
         told: &Receiver<Told>,
         on: &mut impl FnMut(usize, Event<'_>) -> ControlFlow<()>,
     ) -> io::Result<()> {
-        while let Ok(Told { member, turn, step }) = told.recv() {
-            let runs = match &mut self.members[member] {
-                Some(runs) if runs.turn == turn => runs,
-                _ => continue,
-            };
-            let step = match step {
-                Some((step, data)) => {
-                    runs.data = data;
-                    step
+        loop {
+            let decided = match self.next(told) {
+                Err(RecvTimeoutError::Disconnected) => return Ok(()),
+                Err(RecvTimeoutError::Timeout) => self.preferred.tick(self.now()),
+                Ok(Told { member, turn, step }) => {
+                    if !matches!(&self.members[member], Some(runs) if runs.turn == turn) {
+                        continue;
+                    }
+                    match step {
+                        Some((step, data)) => {
+                            let now = self.now();
+                            self.preferred.tell(now, member, step, data.as_ref())
+                        }
+                        None => return Ok(()),
+                    }
                 }
-                None => break,
             };
-            if self.obey(member, &step, on)?.is_break() {
-                break;
+            if self.tell(on).is_break() {
+                return Ok(());
             }
+            self.stop_and_start(&decided)?;
         }
-        Ok(())
     }
 
-    /// Does what the group decides on what happened to a member.
-    fn obey(
+    /// Tells the caller what happened.
+    fn tell(
         &mut self,
-        member: usize,
-        step: &Step,
         on: &mut impl FnMut(usize, Event<'_>) -> ControlFlow<()>,
-    ) -> io::Result<ControlFlow<()>> {
-        let (decided, flow) = match step {
-            Step::Data(_) => (self.group.shows(member), ControlFlow::Continue(())),
-            Step::Dropped(_) => (self.group.drops(member), ControlFlow::Continue(())),
-            Step::Failed(error) => (self.group.fails(member), on(member, Event::Failed(error))),
-            _ => return Ok(ControlFlow::Continue(())),
-        };
-        let flow = match (decided.shown, step) {
-            (Shown::Data(source), _) => self.show(source, step, on),
-            (Shown::Nothing, Step::Dropped(changes)) => {
-                self.shown = None;
-                on(member, Event::Dropped { changes })
+    ) -> ControlFlow<()> {
+        while let Some((member, step)) = self.preferred.take_step() {
+            if let Some(event) = self.preferred.event(&step) {
+                on(member, event)?;
             }
-            _ => flow,
-        };
+        }
+        ControlFlow::Continue(())
+    }
+
+    /// Stops and starts members.
+    fn stop_and_start(&mut self, decided: &Decision) -> io::Result<()> {
         if let Some(first) = decided.stop {
             self.members[first..]
                 .iter_mut()
                 .for_each(|left| *left = None);
         }
-        if let (Some(member), true) = (decided.start, flow.is_continue()) {
-            self.start(member)?;
+        match decided.start {
+            Some(member) => self.start(member),
+            None => Ok(()),
         }
-        Ok(flow)
-    }
-
-    /// Shows the data of a member. Its own changes lead there where none but it was shown before.
-    fn show(
-        &mut self,
-        source: usize,
-        step: &Step,
-        on: &mut impl FnMut(usize, Event<'_>) -> ControlFlow<()>,
-    ) -> ControlFlow<()> {
-        let data = match self.members[source]
-            .as_ref()
-            .and_then(|runs| runs.data.clone())
-        {
-            Some(data) => data,
-            None => return ControlFlow::Continue(()),
-        };
-        let made: Changes;
-        let changes = match (&self.shown, step) {
-            (Some((before, old)), _) if *before != source => {
-                made = old.difference_to(&data).expect("both are canonical");
-                &made
-            }
-            (_, Step::Data(changes)) => changes,
-            _ => return ControlFlow::Continue(()),
-        };
-        let flow = on(
-            source,
-            Event::Data {
-                data: &data,
-                changes,
-            },
-        );
-        self.shown = Some((source, data));
-        flow
     }
 }

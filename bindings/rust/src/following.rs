@@ -1,9 +1,10 @@
-//! A router over a socket, in one thread.
+//! The host of a router: its socket, in one thread.
 
 use crate::asking::Asking;
 use crate::client::Client;
 use crate::client_error::ClientError;
 use crate::log::LogLevel;
+use crate::options::ClientOptions;
 use crate::owned_data::Data;
 use crate::router::{Event, Router, Step};
 use crate::socket::Socket;
@@ -13,50 +14,72 @@ use std::boxed::Box;
 use std::collections::hash_map::RandomState;
 use std::hash::{BuildHasher, Hasher};
 use std::io::{self, ErrorKind};
-use std::net::{TcpStream, ToSocketAddrs};
+use std::net::{SocketAddr, TcpStream, ToSocketAddrs};
 use std::ops::ControlFlow;
 use std::sync::Arc;
 use std::time::{Duration, Instant};
 use std::vec::Vec;
 
-/// How many bytes are read at once.
-const CHUNK: usize = 1 << 16;
-/// How long a connection may take at least, also where little time is left.
+/// The least time for a connection attempt, even if less is left.
 const LEAST: Duration = Duration::from_millis(100);
 
-/// A router that runs, and its connection.
+/// A router, and the moment when its clock began.
+pub(crate) struct Timed {
+    router: Router,
+    begun: Instant,
+}
+
+impl Timed {
+    fn new(options: &ClientOptions) -> Timed {
+        // A hasher is the only source of random numbers in the standard library.
+        let random = RandomState::new().build_hasher().finish().to_be_bytes();
+        Timed {
+            router: Router::new(options, u16::from_be_bytes([random[0], random[1]])),
+            begun: Instant::now(),
+        }
+    }
+}
+
+/// A router and its connection.
 pub(crate) struct Follower<'c> {
     client: &'c Client,
     begun: Instant,
     router: Router,
     asking: Arc<Asking>,
-    /// What wakes it when it is to ask, if the system had descriptors for that.
+    /// Wakes it when the caller asks for data, if the system had descriptors for that.
     woken: Option<Woken>,
     socket: Option<Box<dyn Socket>>,
-    /// Whether the socket may hold bytes that it took.
+    /// Whether the socket has to be flushed.
     holds: bool,
-    buffer: Vec<u8>,
 }
 
 impl<'c> Follower<'c> {
     pub(crate) fn new(client: &'c Client) -> Self {
-        // A hasher is the one source of random numbers in the standard library.
-        let random = RandomState::new().build_hasher().finish().to_be_bytes();
-        let random = u16::from_be_bytes([random[0], random[1]]);
+        Follower::of(client, Timed::new(&client.options))
+    }
+
+    /// The same, which continues with the router of an earlier run, if there is one.
+    pub(crate) fn after(client: &'c Client, earlier: Option<Timed>) -> Self {
+        Follower::of(
+            client,
+            earlier.unwrap_or_else(|| Timed::new(&client.options)),
+        )
+    }
+
+    fn of(client: &'c Client, Timed { router, begun }: Timed) -> Self {
         let (asking, woken) = client.askings.add();
         Follower {
             client,
+            begun,
+            router,
             asking,
             woken,
-            begun: Instant::now(),
-            router: Router::new(&client.options, random),
             socket: None,
             holds: false,
-            buffer: std::vec![0; CHUNK],
         }
     }
 
-    /// Runs until there are data, or a failure.
+    /// Runs until there are data, or an error.
     pub(crate) fn fetch(mut self) -> Result<Data, ClientError> {
         match self.next() {
             Some(Step::Failed(error)) => Err(error),
@@ -75,20 +98,29 @@ impl<'c> Follower<'c> {
                 break;
             }
         }
-        self.router.into_data()
+        let has_data = self.router.has_data(self.now());
+        self.router.into_data().filter(|_| has_data)
     }
 
-    /// Runs until the client is stopped, or the caller breaks off, who is given each step and the
-    /// data after it.
-    pub(crate) fn steps(mut self, mut on: impl FnMut(Step, Option<&Data>) -> ControlFlow<()>) {
+    /// Runs until the client is stopped or the caller breaks off, and calls it with each step and
+    /// the data after it. Returns the router, without data, to continue with.
+    pub(crate) fn steps(
+        mut self,
+        mut on: impl FnMut(Step, Option<&Data>) -> ControlFlow<()>,
+    ) -> Timed {
         while let Some(step) = self.next() {
             if on(step, self.router.data()).is_break() {
                 break;
             }
         }
+        self.router.again();
+        Timed {
+            router: self.router,
+            begun: self.begun,
+        }
     }
 
-    /// Runs until there is something to tell, if the client isn't stopped before.
+    /// Runs until the next step for the caller, or until the client is stopped.
     fn next(&mut self) -> Option<Step> {
         while !self.client.stop.is_set() {
             if self.asking.take() {
@@ -107,14 +139,14 @@ impl<'c> Follower<'c> {
         None
     }
 
-    /// Tells the log of a step.
+    /// Logs a step.
     fn tell_log(&self, step: &Step) {
         if let (Some(log), Some(event)) = (&self.client.log, self.router.event(step)) {
             event.log(log);
         }
     }
 
-    /// Waits for the socket, if there is one, and until it is to ask.
+    /// Waits for the socket, if there is one, and until the caller asks for data.
     fn wait_for(&self, socket: Option<Awaited>, most: Duration) {
         let most = match &self.woken {
             Some(_) => most,
@@ -127,17 +159,17 @@ impl<'c> Follower<'c> {
         }
     }
 
-    /// The time by the router's clock.
+    /// The router's time.
     fn now(&self) -> u64 {
         milliseconds_since(self.begun)
     }
 
-    /// How long it is until the router wants to know the time.
+    /// The duration until the router's next tick.
     fn left(&self) -> Duration {
         Duration::from_millis(self.router.wakes().saturating_sub(self.now()))
     }
 
-    /// A connection, if one can be made before the router wants to know.
+    /// A connection, if one is made before the router's next tick.
     fn connect(&mut self) {
         match (self.client.dial)(self.left().max(LEAST)) {
             Ok(socket) => {
@@ -153,7 +185,7 @@ impl<'c> Follower<'c> {
         }
     }
 
-    /// Sends what is to be sent, or else reads, and waits where neither can be done.
+    /// Sends unsent bytes, or else reads; waits if it can do neither.
     fn wait(&mut self) {
         let left = self.left();
         let socket = match &mut self.socket {
@@ -164,8 +196,8 @@ impl<'c> Follower<'c> {
         let done = match self.router.output() {
             [] if sends => socket.flush().map(|()| self.holds = false),
             [] => {
-                let read = socket.read(&mut self.buffer);
-                read.map(|count| self.router.received(&self.buffer[..count]))
+                let read = socket.read(self.router.room());
+                read.map(|count| self.router.filled(count))
             }
             output => write(socket, output).map(|count| {
                 self.holds = true;
@@ -186,7 +218,7 @@ impl<'c> Follower<'c> {
         }
     }
 
-    /// Sends the report that is owed, if there is one, and closes the connection.
+    /// Sends the report that is owed, if one is, and closes the connection.
     fn close(&mut self) {
         let (socket, report) = (self.socket.take(), self.router.output());
         if let Some(socket) = socket.filter(|_| !report.is_empty()) {
@@ -196,13 +228,16 @@ impl<'c> Follower<'c> {
     }
 }
 
-/// A connection over TCP to the first of the addresses that gives one in this time.
+/// A TCP connection to the first of the addresses that accepts one within this time. Each has an
+/// equal share of the time that is left.
 pub(crate) fn dial(address: &str, time: Duration) -> io::Result<TcpStream> {
     let until = after(Instant::now(), time);
+    let addresses: Vec<SocketAddr> = address.to_socket_addrs()?.collect();
     let mut last = ErrorKind::NotFound.into();
-    for address in address.to_socket_addrs()? {
+    for (count, address) in (1..=addresses.len()).rev().zip(&addresses) {
         let left = until.saturating_duration_since(Instant::now());
-        match TcpStream::connect_timeout(&address, left.max(LEAST)) {
+        let share = left / u32::try_from(count).unwrap_or(u32::MAX);
+        match TcpStream::connect_timeout(address, share.max(LEAST)) {
             Ok(stream) => {
                 stream.set_nodelay(true)?;
                 stream.set_nonblocking(true)?;

@@ -1,73 +1,140 @@
-//! Caches in an order of preference.
+//! Caches by preference.
 
-use crate::abi::{self, group_shown, GroupAnswer};
+use crate::abi::{self, group_shown, status, GroupAnswer, MOST_MEMBERS};
+use crate::sys::{self, milliseconds};
+use core::fmt;
 use core::mem::MaybeUninit;
+use core::time::Duration;
 
-/// Decides whose data are shown, and who is asked, of some members by preference (RFC 8210 section
-/// 10): each is a `Router`, a `Client`, or what else follows a cache, and member 0 is preferred
+/// Decides whose data are shown and who is asked, of several members by preference (RFC 8210
+/// section 10). A member follows a cache, as a `Router` or a `Client` does; member 0 is preferred
 /// most.
 ///
-/// It has no data. Its caller starts member 0, calls a method for each thing that happens to a
-/// member, and does what is decided. What is said of a member that doesn't run is passed over.
+/// It holds no data. Its caller starts member 0, calls one method for each event of a member, and
+/// [`Group::tick`] at the time [`Group::wakes`]; and carries out each decision. Events of a member
+/// that doesn't run are ignored. Times are in milliseconds of a clock that doesn't go back.
 ///
-/// At each time the data of the first member that has some are shown, also while its connection is
-/// gone, until they expire. A member runs while each one before it has failed since it was started,
-/// or had a whole answer.
+/// A member is current from a whole answer until its next failure. The data of the most preferred
+/// current member are shown; while none is current, those of the member that had a whole answer
+/// last, until they expire. A member runs while each one before it, since it was started and since
+/// its last whole answer, failed or was silent for the patience.
 ///
 /// ```
-/// use rtr_wire::{Group, Shown};
+/// use rtr_wire::{Group, GroupSettings, Shown};
 ///
-/// let mut group = Group::new(2);
-/// assert_eq!(group.fails(0).start, Some(1)); // it can't be reached: the next one is asked
-/// assert_eq!(group.shows(1).shown, Shown::Data(1));
-/// let decided = group.shows(0); // it has data
+/// let mut group = Group::new(2, GroupSettings::default(), 0)?;
+/// assert_eq!(group.fails(10, 0).start, Some(1)); // it can't be reached: the next one is asked
+/// assert_eq!(group.shows(20, 1, 700).shown, Shown::Data(1)); // it has 700 payloads
+/// let decided = group.shows(30, 0, 700);
 /// assert_eq!((decided.shown, decided.stop), (Shown::Data(0), Some(1)));
 /// assert_eq!(group.best(), Some(0));
+/// # Ok::<(), rtr_wire::TooManyMembers>(())
 /// ```
 #[derive(Clone, Copy, Debug, PartialEq, Eq, Hash)]
 pub struct Group(abi::Group);
 
-/// What the caller of a [`Group`] does, in this order.
+/// The settings of a [`Group`].
+#[derive(Clone, Copy, Debug, PartialEq, Eq, Hash)]
+pub struct GroupSettings {
+    /// How long a member may have no whole answer before the next one is started too, while none is
+    /// current (default 5 seconds).
+    pub patience: Duration,
+    /// Whether a whole answer without payloads counts as data, and not as a failure that drops them
+    /// (default false).
+    pub empty_is_data: bool,
+}
+
+impl Default for GroupSettings {
+    fn default() -> Self {
+        let mut usual = MaybeUninit::uninit();
+        // SAFETY: the call writes all of the struct that the pointer points at.
+        let usual: abi::GroupSettings = unsafe {
+            abi::rtr_group_usual(usual.as_mut_ptr());
+            usual.assume_init()
+        };
+        GroupSettings {
+            patience: Duration::from_millis(usual.patience.into()),
+            empty_is_data: usual.empty_is_data,
+        }
+    }
+}
+
+/// A [`Group`] would have more than [`Group::MOST`] members.
+#[derive(Clone, Copy, Debug, PartialEq, Eq, Hash)]
+pub struct TooManyMembers;
+
+impl fmt::Display for TooManyMembers {
+    fn fmt(&self, f: &mut fmt::Formatter<'_>) -> fmt::Result {
+        f.write_str(&sys::name(
+            abi::named::STATUS,
+            status::TOO_MANY_MEMBERS.into(),
+        ))
+    }
+}
+
+#[cfg(feature = "std")]
+impl std::error::Error for TooManyMembers {}
+
+/// A decision of a [`Group`], which its caller carries out in this order.
 #[derive(Clone, Copy, Debug, PartialEq, Eq, Hash)]
 pub struct Decision {
-    /// What becomes of what is shown.
+    /// What to show.
     pub shown: Shown,
-    /// The first of the members that are left, if they run, and their data forgotten.
+    /// Stop this member and all after it, and forget their data.
     pub stop: Option<usize>,
-    /// The member that is started, without data.
+    /// Start this member, without data.
     pub start: Option<usize>,
 }
 
-/// What becomes of what a [`Group`] shows.
+/// What a [`Group`] shows.
 #[derive(Clone, Copy, Debug, PartialEq, Eq, Hash)]
 pub enum Shown {
-    /// It stays.
+    /// The same as before.
     Same,
-    /// It is the data of this member, as they are now.
+    /// The present data of this member.
     Data(usize),
-    /// There are no data any more.
+    /// No data.
     Nothing,
 }
 
 impl Group {
-    /// The most members that a group has.
-    pub const MOST: usize = abi::Group {
-        count: 0,
-        runs: 0,
-        has: [false; 16],
-    }
-    .has
-    .len();
+    /// The most members of a group.
+    pub const MOST: usize = MOST_MEMBERS;
 
-    /// A group of so many members without data, at most [`Group::MOST`].
-    #[must_use]
-    pub fn new(members: usize) -> Group {
+    /// A group of this number of members without data, whose first one is started now.
+    ///
+    /// # Errors
+    ///
+    /// For more than [`Group::MOST`].
+    pub fn new(members: usize, settings: GroupSettings, now: u64) -> Result<Group, TooManyMembers> {
+        let wanted = abi::GroupSettings {
+            patience: milliseconds(settings.patience),
+            empty_is_data: settings.empty_is_data,
+        };
         let mut group = MaybeUninit::uninit();
-        // SAFETY: the call writes all of the struct that the pointer points at.
-        Group(unsafe {
-            abi::rtr_group_init(group.as_mut_ptr(), members);
-            group.assume_init()
-        })
+        // SAFETY: the call writes all of the struct that the first pointer points at.
+        let (answer, group) = unsafe {
+            let answer = abi::rtr_group_init(group.as_mut_ptr(), &wanted, members, now);
+            (answer, group.assume_init())
+        };
+        match answer {
+            status::OK => Ok(Group(group)),
+            _ => Err(TooManyMembers),
+        }
+    }
+
+    /// When to call [`Group::tick`], if nothing happens before; `u64::MAX` for never.
+    #[must_use]
+    pub fn wakes(&self) -> u64 {
+        // SAFETY: the pointer is to a live group; so below.
+        unsafe { abi::rtr_group_wakes(&self.0) }
+    }
+
+    /// Time has passed: starts the next member if the patience is over.
+    pub fn tick(&mut self, now: u64) -> Decision {
+        let mut answer = GroupAnswer::default();
+        unsafe { abi::rtr_group_tick(&mut self.0, now, &mut answer) };
+        Decision::of(&answer)
     }
 
     /// The member whose data are shown.
@@ -79,31 +146,26 @@ impl Group {
         has.then_some(member)
     }
 
-    /// A member shows data, of a whole answer: its first ones, or others than before.
-    pub fn shows(&mut self, member: usize) -> Decision {
+    /// A member has data of a whole answer, with this number of payloads; they may be the same as
+    /// before.
+    pub fn shows(&mut self, now: u64, member: usize, payloads: usize) -> Decision {
         let mut answer = GroupAnswer::default();
-        unsafe { abi::rtr_group_shows(&mut self.0, member, &mut answer) };
+        unsafe { abi::rtr_group_shows(&mut self.0, now, member, payloads, &mut answer) };
         Decision::of(&answer)
     }
 
-    /// It has no data any more. This is a failure, too.
-    pub fn drops(&mut self, member: usize) -> Decision {
+    /// A member has no data any more. This is a failure too: if a connection ends so, don't call
+    /// [`Group::fails`] as well.
+    pub fn drops(&mut self, now: u64, member: usize) -> Decision {
         let mut answer = GroupAnswer::default();
-        unsafe { abi::rtr_group_drops(&mut self.0, member, &mut answer) };
+        unsafe { abi::rtr_group_drops(&mut self.0, now, member, &mut answer) };
         Decision::of(&answer)
     }
 
-    /// It failed, or its cache has no data. The data that it has stay.
-    pub fn fails(&mut self, member: usize) -> Decision {
+    /// A member failed, or its cache has no data. The data that it has stay.
+    pub fn fails(&mut self, now: u64, member: usize) -> Decision {
         let mut answer = GroupAnswer::default();
-        unsafe { abi::rtr_group_fails(&mut self.0, member, &mut answer) };
-        Decision::of(&answer)
-    }
-
-    /// It has a whole answer again, and its data are what they were.
-    pub fn well(&mut self, member: usize) -> Decision {
-        let mut answer = GroupAnswer::default();
-        unsafe { abi::rtr_group_well(&mut self.0, member, &mut answer) };
+        unsafe { abi::rtr_group_fails(&mut self.0, now, member, &mut answer) };
         Decision::of(&answer)
     }
 }
@@ -124,39 +186,78 @@ impl Decision {
 
 #[cfg(test)]
 mod tests {
-    use super::{Decision, Group, Shown};
+    use super::{Decision, Group, GroupSettings, Shown, TooManyMembers};
+    use core::time::Duration;
+    use std::string::ToString;
 
     fn decided(shown: Shown, stop: Option<usize>, start: Option<usize>) -> Decision {
         Decision { shown, stop, start }
     }
 
+    fn group(members: usize) -> Group {
+        Group::new(members, GroupSettings::default(), 0).unwrap()
+    }
+
     #[test]
-    fn the_first_that_has_data() {
+    fn the_current_one_or_the_last_whole_answer() {
         use Shown::{Data, Nothing, Same};
-        let mut group = Group::new(3);
-        assert_eq!(group.fails(0), decided(Same, None, Some(1)));
-        assert_eq!(group.shows(1), decided(Data(1), None, None));
-        assert_eq!(group.fails(1), decided(Same, None, Some(2)));
-        assert_eq!(group.shows(2), decided(Same, None, None));
-        assert_eq!(group.drops(1), decided(Data(2), None, None));
-        assert_eq!(group.shows(0), decided(Data(0), Some(1), None));
-        assert_eq!(group.shows(2), decided(Same, None, None));
-        assert_eq!(group.fails(0), decided(Same, None, Some(1)));
-        assert_eq!(group.well(1), decided(Same, None, None));
-        assert_eq!(group.well(0), decided(Same, Some(1), None));
-        assert_eq!(group.shows(usize::MAX), decided(Same, None, None));
+        let mut group = group(3);
+        assert_eq!(group.fails(0, 0), decided(Same, None, Some(1)));
+        assert_eq!(group.shows(0, 1, 5), decided(Data(1), None, None));
+        assert_eq!(group.fails(0, 1), decided(Same, None, Some(2)));
+        assert_eq!(group.shows(0, 2, 5), decided(Data(2), None, None));
+        assert_eq!(group.drops(0, 1), decided(Same, None, None));
+        assert_eq!(group.shows(0, 0, 5), decided(Data(0), Some(1), None));
+        assert_eq!(group.shows(0, 2, 5), decided(Same, None, None));
+        assert_eq!(group.fails(0, 0), decided(Same, None, Some(1)));
+        assert_eq!(group.shows(0, 0, 5), decided(Data(0), Some(1), None));
+        assert_eq!(group.shows(0, usize::MAX, 5), decided(Same, None, None));
         assert_eq!(group.best(), Some(0));
-        assert_eq!(group.drops(0), decided(Nothing, None, Some(1)));
+        assert_eq!(group.drops(0, 0), decided(Nothing, None, Some(1)));
         assert_eq!(group.best(), None);
     }
 
     #[test]
-    fn at_most_so_many() {
-        let mut group = Group::new(Group::MOST + 1);
-        for member in 0..Group::MOST - 1 {
-            assert_eq!(group.fails(member).start, Some(member + 1));
+    fn empty_answers() {
+        use Shown::{Data, Nothing};
+        let mut strict = group(2);
+        assert_eq!(strict.shows(0, 0, 1), decided(Data(0), None, None));
+        assert_eq!(strict.shows(0, 0, 0), decided(Nothing, None, Some(1)));
+        let settings = GroupSettings {
+            empty_is_data: true,
+            ..GroupSettings::default()
+        };
+        let mut lax = Group::new(2, settings, 0).unwrap();
+        assert_eq!(lax.shows(0, 0, 0), decided(Data(0), None, None));
+    }
+
+    #[test]
+    fn patience() {
+        let usual = GroupSettings::default();
+        assert_eq!(usual.patience, Duration::from_secs(5));
+        assert!(!usual.empty_is_data);
+        let mut group = Group::new(3, usual, 1000).unwrap();
+        assert_eq!(group.wakes(), 6000);
+        assert_eq!(group.tick(5999).start, None);
+        assert_eq!(group.tick(6000).start, Some(1));
+        assert_eq!(group.wakes(), 11000);
+        let _ = group.shows(7000, 1, 5);
+        assert_eq!(group.wakes(), u64::MAX);
+        assert_eq!(group.tick(20000).start, None);
+    }
+
+    #[test]
+    fn at_most_this_number() {
+        for members in [Group::MOST + 1, usize::MAX] {
+            let refused = Group::new(members, GroupSettings::default(), 0);
+            assert_eq!(refused, Err(TooManyMembers));
         }
-        assert_eq!(group.fails(Group::MOST - 1).start, None);
-        assert_eq!(Group::new(0).shows(0), decided(Shown::Same, None, None));
+        assert_eq!(TooManyMembers.to_string(), "too many members");
+        let mut most = group(Group::MOST);
+        for member in 0..Group::MOST - 1 {
+            assert_eq!(most.fails(0, member).start, Some(member + 1));
+        }
+        assert_eq!(most.fails(0, Group::MOST - 1).start, None);
+        assert_eq!(group(0).shows(0, 0, 5), decided(Shown::Same, None, None));
     }
 }

@@ -1,8 +1,8 @@
-//! The file in which a cache keeps its edition over a restart.
+//! The file in which a cache saves its edition over a restart.
 //!
-//! It begins with eight bytes that name its form, and the FNV-1a hash in 64 bits of what follows:
-//! the present data, and then each step back. Before each stand when newer data came, in
-//! milliseconds since 1970, and its length. Numbers have 64 bits, the highest first.
+//! It begins with eight bytes of magic and the 64-bit FNV-1a hash of what follows: the present
+//! data, then each step back, each after its time and its length. The time is when newer data came,
+//! in milliseconds since 1970. Numbers have 64 bits, in network byte order.
 
 use crate::editions::{Back, Edition};
 use crate::options::ServerOptions;
@@ -15,7 +15,7 @@ use std::vec::Vec;
 
 const FORM: &[u8; 8] = b"rtrkept1";
 
-/// How long the beginning is, and what stands before a sequence.
+/// Sizes of the head, and of the numbers before a sequence.
 const HEAD: usize = 16;
 
 /// The FNV-1a hash of no bytes.
@@ -34,7 +34,7 @@ fn head(numbers: [u64; 2]) -> [u8; HEAD] {
     u128::to_be_bytes(u128::from(numbers[0]) << 64 | u128::from(numbers[1]))
 }
 
-/// Writes an edition to a file: by another one beside it, which then gets its name.
+/// Saves an edition: writes a file beside the named one, then renames it.
 pub(crate) fn save(edition: &Edition, path: &Path) -> io::Result<()> {
     let mut new = path.as_os_str().to_os_string();
     new.push(".new");
@@ -55,13 +55,13 @@ pub(crate) fn save(edition: &Edition, path: &Path) -> io::Result<()> {
     rename(new, path)
 }
 
-/// The edition that was written to a file.
+/// Loads the edition that was saved to a file.
 pub(crate) fn restore(path: &Path, options: &ServerOptions) -> io::Result<Edition> {
     let torn = || io::Error::new(ErrorKind::InvalidData, "the file of editions is torn");
     parse(&read(path)?, options).ok_or_else(torn)
 }
 
-/// The edition of a file, if it is as it was written.
+/// The edition of a file's bytes, if they are as they were written.
 fn parse(input: &[u8], options: &ServerOptions) -> Option<Edition> {
     let mut rest = input.get(HEAD..)?;
     if input[..HEAD] != head([u64::from_be_bytes(*FORM), hashed(NOTHING, rest)]) {

@@ -1,5 +1,5 @@
-//! Units of the RPKI to Router protocol (RFC 6810, RFC 8210), of all eleven types, and sequences of
-//! them, over the proved library `rtr_c`.
+//! Units of the RPKI to Router protocol ([RFC 6810], [RFC 8210]), of all eleven types, and
+//! sequences of them, over the proved library `rtr_c`.
 //!
 //! What the archive's functions promise is proved; this crate is tested.
 //!
@@ -41,28 +41,36 @@
 //!
 //! # Data and deltas
 //!
-//! `Data` is what a cache has, or a router has of it, in canonical form. `Data::delta_to` makes
-//! what a serial query is answered by, `Data::apply_in_order` makes all changes that a cache sends,
-//! or none, and `Data::apply` those that `order` puts in canonical form. [`delta_into`],
-//! [`apply_in_order`], [`order_into`] and [`apply_into`] do the same over slices, and allocate
-//! nothing.
+//! [`Data`] is what a cache has, or a router has of it, in canonical form. [`load_data`] loads
+//! what a recording or a list leaves. [`Data::delta_to`] makes what a serial query is answered by,
+//! [`Data::apply_in_order`] makes all changes that a cache sends, or none, and [`Data::apply`]
+//! those that [`order`] puts in canonical form. [`delta_into`], [`apply_in_order`], [`order_into`] and
+//! [`apply_into`] do the same over slices, and allocate nothing.
 //!
 //! # Routes
 //!
-//! `Data::validate` says whether a route is valid by the data (RFC 6811), and `Data::covering`
-//! which VRPs cover it and why each doesn't match. [`Tables`] does the same over slices.
+//! [`Data::validate`] says whether a route is valid by the data ([RFC 6811]), and
+//! [`Data::covering`] which VRPs cover it and why each doesn't match. [`Tables`] does the same over slices.
 //!
 //! # Sessions
 //!
-//! `Client` follows a cache, and `Server` is one, each in a thread, over TCP or what else is a
-//! `Socket`; `follow` has several caches by preference. `Router` and `Served` are their ends of a connection without sockets and clock, for
-//! programs with a loop of their own; the crate `rtr-wire-tokio` has one.
+//! [`Client`] follows a cache, and [`Server`] is one, each in a thread, over TCP or what else is a
+//! [`Socket`]; [`follow`] has several caches by preference. [`Router`], [`Preferred`] and [`Served`]
+//! are the same without sockets and clock, for programs with a loop of their own; the crate
+//! [`rtr-wire-tokio`](https://docs.rs/rtr-wire-tokio) has one.
 //!
 //! # Features
 //!
 //! `std`, on by default, has readers, writers, and clients and caches in threads. Without it the
-//! crate is `no_std`, and `alloc` has units, data and changes that own their bytes, and `Router`.
+//! crate is `no_std`, and `alloc` has units, data and changes that own their bytes, [`Router`] and
+//! [`Preferred`].
+//!
+//! [RFC 6810]: https://www.rfc-editor.org/rfc/rfc6810
+//! [RFC 6811]: https://www.rfc-editor.org/rfc/rfc6811
+//! [RFC 8210]: https://www.rfc-editor.org/rfc/rfc8210
 #![no_std]
+// Without `std` some of what the page links isn't there.
+#![cfg_attr(not(feature = "std"), allow(rustdoc::broken_intra_doc_links))]
 #![deny(missing_docs, unsafe_op_in_unsafe_fn)]
 #![warn(clippy::pedantic)]
 
@@ -89,6 +97,10 @@ mod cache;
 #[cfg(feature = "std")]
 mod cache_machine;
 #[cfg(feature = "alloc")]
+mod canonical;
+#[cfg(feature = "alloc")]
+mod changes;
+#[cfg(feature = "alloc")]
 mod checking;
 #[cfg(feature = "std")]
 mod client;
@@ -103,7 +115,7 @@ mod follow;
 #[cfg(feature = "std")]
 mod following;
 mod group;
-#[cfg(feature = "alloc")]
+#[cfg(feature = "std")]
 mod input;
 #[cfg(feature = "std")]
 mod kept;
@@ -111,15 +123,19 @@ mod kind;
 #[cfg(feature = "alloc")]
 mod lines;
 #[cfg(feature = "alloc")]
-mod log;
+mod link;
 #[cfg(feature = "alloc")]
-mod machine;
+mod loading;
+#[cfg(feature = "alloc")]
+mod log;
 #[cfg(feature = "alloc")]
 mod options;
 #[cfg(feature = "std")]
 mod output;
 #[cfg(feature = "alloc")]
 mod owned_data;
+#[cfg(feature = "alloc")]
+mod preferred;
 #[cfg(feature = "std")]
 mod reader;
 #[cfg(feature = "alloc")]
@@ -153,6 +169,8 @@ mod writer;
 #[cfg(feature = "std")]
 pub use cache::{Cache, Moment};
 #[cfg(feature = "alloc")]
+pub use changes::Changes;
+#[cfg(feature = "alloc")]
 pub use checking::{Checker, Finding};
 #[cfg(feature = "std")]
 pub use client::Client;
@@ -161,17 +179,21 @@ pub use client_error::{Breach, ClientError};
 pub use data::{apply_in_order, apply_into, delta_into, order_into, DataError, Place, Side};
 pub use fault::{ErrorCode, Fault, PrefixRule};
 #[cfg(feature = "std")]
-pub use follow::follow;
-pub use group::{Decision, Group, Shown};
+pub use follow::{follow, follow_with};
+pub use group::{Decision, Group, GroupSettings, Shown, TooManyMembers};
 pub use kind::{Kind, UnknownKind};
 #[cfg(feature = "alloc")]
 pub use lines::{change_json, change_line, unit_json, unit_line};
+#[cfg(feature = "alloc")]
+pub use loading::{load_data, Loaded};
 #[cfg(feature = "alloc")]
 pub use log::{Log, LogFields, LogLevel};
 #[cfg(feature = "alloc")]
 pub use options::{ClientOptions, ServerOptions};
 #[cfg(feature = "alloc")]
-pub use owned_data::{order, Changes, Data};
+pub use owned_data::{order, Data};
+#[cfg(feature = "alloc")]
+pub use preferred::Preferred;
 #[cfg(feature = "std")]
 pub use reader::{Error, Reader, Sequence};
 #[cfg(feature = "alloc")]
@@ -184,7 +206,7 @@ pub use served::{Served, ServedStep};
 #[cfg(feature = "std")]
 pub use server::Server;
 #[cfg(feature = "std")]
-pub use server_error::{ServerError, UpdateError};
+pub use server_error::{ServerError, TimeRule, UpdateError};
 #[cfg(feature = "std")]
 pub use socket::Socket;
 #[cfg(feature = "alloc")]

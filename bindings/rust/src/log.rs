@@ -1,45 +1,63 @@
-//! What clients and caches tell a log.
+//! Log lines of clients and caches.
 
 use crate::owned_data::Data;
 use crate::router::Event;
 use core::fmt::Display;
 
-/// How much a line of a log matters.
+/// The level of a log line.
 #[derive(Clone, Copy, Debug, PartialEq, Eq, PartialOrd, Ord, Hash)]
 #[non_exhaustive]
 pub enum LogLevel {
-    /// For those who look for a fault.
+    /// Details, to look for a fault.
     Debug,
-    /// What goes as it should.
+    /// Normal operation.
     Info,
-    /// What doesn't.
+    /// Something went wrong.
     Warn,
 }
 
-/// The fields of a line, each with its name.
+/// The fields of a log line, by name.
 pub type LogFields<'a> = [(&'a str, &'a dyn Display)];
 
-/// What writes a line of a log: a message, and its fields.
+/// Writes a log line: a message, and its fields.
 pub type Log = dyn Fn(LogLevel, &str, &LogFields<'_>) + Send + Sync;
 
 impl Event<'_> {
-    /// Tells a log of it.
+    /// Logs it. Without memory for the changes their number is left out.
     pub fn log(&self, log: &Log) {
         match self {
-            Event::Data { data, changes } => {
-                data.log(log, &[("changes", &changes.len())]);
-            }
-            Event::Dropped { changes } => {
-                let withdrawn: &dyn Display = &changes.len();
-                log(LogLevel::Warn, "data dropped", &[("changes", withdrawn)]);
-            }
+            Event::Data { data, changes } => match changes.try_make() {
+                Ok(()) => data.log(log, &[("changes", &changes.len())]),
+                Err(_) => data.log(log, &[]),
+            },
+            Event::Dropped { changes } => match changes.try_make() {
+                Ok(()) => log(
+                    LogLevel::Warn,
+                    "data dropped",
+                    &[("changes", &changes.len())],
+                ),
+                Err(_) => log(LogLevel::Warn, "data dropped", &[]),
+            },
             Event::Failed(error) => log(LogLevel::Warn, "failed", &[("error", error)]),
         }
     }
 }
 
 impl Data {
-    /// Tells a log that these are the data now.
+    /// Logs that a cache serves these data now, and warns of serial number 0: after a cut in the
+    /// first answer BIRD 2.0 asks for the changes since serial number 0, and there are none.
+    #[doc(hidden)]
+    pub fn log_served(&self, log: &Log) {
+        self.log(log, &[]);
+        let end = self.end();
+        if end.serial == 0 {
+            let text = "serial number 0: a router that lost its first answer may ask with it, and \
+                        keep a part of the data";
+            log(LogLevel::Warn, text, &[("session", &end.session)]);
+        }
+    }
+
+    /// Logs that these are the data now.
     #[doc(hidden)]
     pub fn log(&self, log: &Log, others: &LogFields<'_>) {
         let (end, payloads) = (self.end(), self.len());

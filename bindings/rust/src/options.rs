@@ -1,10 +1,10 @@
 //! The limits of a client and of a cache.
 
-use crate::abi::{HIGHEST_VERSION, USUAL_EXPIRE};
-use crate::sys;
+use crate::abi::{Settings, HIGHEST_VERSION, USUAL_EXPIRE};
+use crate::sys::{self, milliseconds};
 use core::time::Duration;
 
-/// What a [`Client`](crate::Client) asks for, and what it allows a cache.
+/// The options of a [`Client`](crate::Client): what it asks for, and what it allows a cache.
 ///
 /// ```
 /// use rtr_wire::ClientOptions;
@@ -14,26 +14,26 @@ use core::time::Duration;
 /// ```
 #[derive(Clone, Debug)]
 pub struct ClientOptions {
-    /// The highest version that it asks in, 1 if not said: of ASPAs, which came with version 2,
-    /// caches in use have several layouts.
+    /// The highest version to ask for (default 1). Version 2 brings ASPAs, of which caches in use
+    /// have several layouts.
     pub version: u8,
-    /// How long a connection may take to be made, 30 seconds if not said.
+    /// The time limit for connecting (default 30 seconds).
     pub dial: Duration,
-    /// How long the cache has from a query to the end of data, 2 minutes if not said.
+    /// The time limit from a query to its end of data (default 2 minutes).
     pub response: Duration,
-    /// The bytes of an answer, at most: 128 MiB if not said.
+    /// The most bytes of an answer (default 128 MiB).
     pub bytes: usize,
-    /// The units of an answer, at most, the end of data included: four million if not said.
+    /// The most units of an answer, with its end of data (default four million).
     pub units: u64,
-    /// How long it is between two queries, and two connections, at least: a second if not said.
+    /// The least time between two queries, and between two connections (default 1 second).
     pub pause: Duration,
-    /// How long a report may take to be sent, 2 seconds if not said.
+    /// The time limit for sending a report (default 2 seconds).
     pub report: Duration,
-    /// How long it waits before it asks again; as the cache says if none is given.
+    /// The refresh time (default: the cache's).
     pub refresh: Option<Duration>,
-    /// How long it waits after a query that failed; as the cache says if none is given.
+    /// The retry time after a query that failed (default: the cache's).
     pub retry: Option<Duration>,
-    /// How long it keeps data that it can't refresh; as the cache says if none is given.
+    /// The expire time of data that can't be refreshed (default: the cache's).
     pub expire: Option<Duration>,
 }
 
@@ -55,6 +55,26 @@ impl Default for ClientOptions {
     }
 }
 
+impl ClientOptions {
+    /// The settings of a router's machine with these options and this random number.
+    pub(crate) fn settings(&self, chance: u16) -> Settings {
+        let span = |time: Option<Duration>| time.map_or(0, milliseconds);
+        Settings {
+            most_bytes: self.bytes as u64,
+            pause: milliseconds(self.pause),
+            connect_limit: milliseconds(self.dial),
+            response_limit: milliseconds(self.response),
+            refresh: span(self.refresh),
+            retry: span(self.retry),
+            expire: span(self.expire),
+            // Without the end of data.
+            most_units: u32::try_from(self.units.saturating_sub(1)).unwrap_or(u32::MAX),
+            chance,
+            ..sys::usual_settings(self.version)
+        }
+    }
+}
+
 /// The limits of a [`Server`](crate::Server).
 ///
 /// ```
@@ -65,30 +85,27 @@ impl Default for ClientOptions {
 /// ```
 #[derive(Clone, Debug)]
 pub struct ServerOptions {
-    /// How many clients are served at once, 1024 if not said. One more gets a report of code 1.
+    /// The most clients served at once (default 1024). One more gets a report of code 1.
     pub connections: usize,
-    /// How long it is known what leads from data to the present ones, after newer ones came: two
-    /// hours if not said.
+    /// How long deltas from earlier data are kept after newer data came (default 2 hours).
     pub keep: Duration,
-    /// How many bytes of what leads back are kept for that at most, and of what leads clients from
-    /// there: 64 MiB of each if not said.
+    /// The most bytes of steps back to earlier data, and of encoded deltas (default 64 MiB each).
     pub keep_bytes: usize,
-    /// Whether a client whose data aren't known any more is ended by a report of code 0, in place
-    /// of a cache reset: for routers that ask again soon after such a report alone, as BIRD 2.0.
+    /// Whether to close with a report of code 0, instead of sending a cache reset, where a client's
+    /// serial number isn't known any more: BIRD 2.0 asks again soon only after such a report.
     pub refuse: bool,
-    /// How long a client has for its first query, 30 seconds if not said.
+    /// The time limit for a client's first query (default 30 seconds).
     pub first_query: Duration,
-    /// How long a unit may take to come, 10 seconds if not said.
+    /// The time limit for receiving a unit (default 10 seconds).
     pub unit: Duration,
-    /// How long a client may ask nothing, 25 hours if not said: a router asks once a day at least
-    /// (RFC 8210 section 6).
+    /// The time limit between queries of a client (default 25 hours): a router asks at least once a
+    /// day (RFC 8210 section 6).
     pub idle: Duration,
-    /// How long a client may take no byte of what it is sent, 30 seconds if not said.
+    /// How long a client may receive no byte of an answer (default 30 seconds).
     pub write: Duration,
-    /// How long a client may take for all of an answer, 10 minutes if not said.
+    /// The time limit for a whole answer (default 10 minutes).
     pub response: Duration,
-    /// How long it is between two notifies to a client, at least: a minute if not said, which RFC
-    /// 8210 section 8.2 wants.
+    /// The least time between two notifies to a client (default 1 minute, RFC 8210 section 8.2).
     pub notify: Duration,
 }
 
@@ -110,7 +127,7 @@ impl Default for ServerOptions {
     }
 }
 
-/// So many milliseconds of the machine.
+/// A duration as the machine has it, in milliseconds.
 fn span(milliseconds: u32) -> Duration {
     Duration::from_millis(milliseconds.into())
 }

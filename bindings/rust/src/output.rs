@@ -1,23 +1,23 @@
-//! What is sent on a connection.
+//! The unsent bytes of a connection.
 
 use crate::body::Body;
 use std::fs::File;
 use std::vec::Vec;
 
-/// Bytes that are sent, and how many of them were. Times are those of the caller's clock.
+/// Bytes to send, and how many were sent. Times are those of the caller's clock.
 #[derive(Debug)]
 pub(crate) struct Output {
     head: Vec<u8>,
-    /// What comes behind the head, which others may be sent too.
+    /// The bytes after the head, which connections share.
     body: Body,
     sent: usize,
     pub(crate) began: u64,
-    /// When the stream took some last.
+    /// When bytes were last sent.
     pub(crate) went_on: u64,
 }
 
 impl Output {
-    /// These bytes, which begin to be sent now, if there are any.
+    /// Starts to send these bytes, if there are any.
     pub(crate) fn new(head: Vec<u8>, body: Body, now: u64) -> Option<Output> {
         let output = Output {
             head,
@@ -29,7 +29,7 @@ impl Output {
         output.sent(0, now)
     }
 
-    /// What is left of them.
+    /// The unsent bytes.
     pub(crate) fn parts(&self) -> [&[u8]; 2] {
         let head = &self.head[self.sent.min(self.head.len())..];
         [
@@ -38,13 +38,13 @@ impl Output {
         ]
     }
 
-    /// The file that has the body, and where the bytes begin there that are left.
+    /// The file that holds the body, and the offset of the first unsent byte there.
     pub(crate) fn file(&self) -> Option<(&File, usize)> {
         let file = self.body.file()?;
         Some((file, self.sent.saturating_sub(self.head.len())))
     }
 
-    /// The stream took so many now: what is left, if something is.
+    /// Takes note of `count` sent bytes; returns the rest, if any is left.
     pub(crate) fn sent(mut self, count: usize, now: u64) -> Option<Output> {
         self.sent += count;
         self.went_on = now;

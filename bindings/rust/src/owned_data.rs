@@ -1,75 +1,18 @@
-//! Data and changes that own their bytes.
+//! Data that own their bytes.
 
 use crate::abi::{LONGEST_END, SHORTEST_PAYLOAD};
+use crate::canonical::Canonical;
+use crate::changes::Changes;
 use crate::data::{apply_in_order, apply_into, delta_into, order_into, DataError, Place, Side};
 use crate::fault::Fault;
-use crate::sequence::normalise_for;
+use crate::sys;
 use crate::unit::{EndOfData, Timing, Unit, UnitRef};
 use crate::units::Units;
-use crate::validation::{Covering, Route, Tables, Validity};
+use crate::validation::{Covering, Route, Validity};
 use alloc::boxed::Box;
 use alloc::sync::Arc;
 use alloc::vec;
 use alloc::vec::Vec;
-
-/// Bytes in canonical form that end with an end of data. Copies share them.
-#[derive(Clone, Debug, PartialEq, Eq, Hash)]
-struct Canonical {
-    bytes: Arc<Vec<u8>>,
-    payloads: usize,
-    end: EndOfData,
-}
-
-impl Canonical {
-    /// These bytes, which are in canonical form.
-    fn new(mut bytes: Vec<u8>, length: usize) -> Self {
-        bytes.truncate(length);
-        bytes.shrink_to_fit();
-        let (mut payloads, mut last) = (0, None);
-        for unit in Units::sequence(&bytes, u64::MAX) {
-            match unit {
-                Ok(Unit::EndOfData(end)) => last = Some(end),
-                _ => payloads += 1,
-            }
-        }
-        let end = last.expect("the archive wrote an end of data");
-        Canonical {
-            bytes: Arc::new(bytes),
-            payloads,
-            end,
-        }
-    }
-
-    /// The bytes, which aren't copied unless they are shared.
-    fn into_bytes(self) -> Vec<u8> {
-        Arc::try_unwrap(self.bytes).unwrap_or_else(|shared| shared.to_vec())
-    }
-
-    /// The bytes of the payload units.
-    fn unit_bytes(&self) -> &[u8] {
-        let end: UnitRef = Unit::EndOfData(self.end);
-        &self.bytes[..self.bytes.len() - end.size()]
-    }
-
-    /// Without what a version doesn't have.
-    fn for_version(&self, version: u8) -> Result<Canonical, Fault> {
-        if version == self.end.version {
-            return Ok(self.clone());
-        }
-        let mut bytes = vec![0; self.bytes.len() + LONGEST_END];
-        match normalise_for(&self.bytes, &mut bytes, u64::MAX, version) {
-            Ok(progress) => Ok(Canonical::new(bytes, progress.written)),
-            Err(stopped) => Err(stopped.fault),
-        }
-    }
-
-    /// The payload units, without the end of data.
-    fn units(&self) -> impl Iterator<Item = UnitRef<'_>> + Clone + '_ {
-        Units::sequence(&self.bytes, u64::MAX)
-            .filter_map(Result::ok)
-            .take(self.payloads)
-    }
-}
 
 /// Data in canonical form: what a cache has, or a router has of it. It owns its bytes; clones share
 /// them.
@@ -102,22 +45,24 @@ impl Canonical {
 /// # Ok::<(), Box<dyn std::error::Error>>(())
 /// ```
 #[derive(Clone, Debug, PartialEq, Eq, Hash)]
-pub struct Data(Canonical, Box<Tables>);
-
-/// Changes in canonical form, made by [`order`] or [`Data::delta_to`]. They own their bytes; clones
-/// share them.
-///
-/// These are units that announce payloads, then units that withdraw some, each in the order that
-/// [`Data`] has, all of one version, no payload and no customer of an ASPA named twice, and then an
-/// end of data of that version.
-#[derive(Clone, Debug, PartialEq, Eq, Hash)]
-pub struct Changes(Canonical);
+pub struct Data(pub(crate) Canonical, Box<sys::Lookup>);
 
 impl Data {
     /// These, which withdraw nothing.
     fn of(canonical: Canonical) -> Data {
-        let tables = Tables::of(&canonical.bytes);
-        Data(canonical, Box::new(tables))
+        let lookup = sys::check_data(&canonical.bytes).expect("they are in canonical form");
+        Data(canonical, Box::new(lookup))
+    }
+
+    /// The data at the front of these bytes, which a call wrote in canonical form.
+    pub(crate) fn written(bytes: Vec<u8>, length: usize) -> Data {
+        Data::of(Canonical::new(bytes, length))
+    }
+
+    /// The data that these bytes are, which a call wrote in canonical form. Where they have much
+    /// unused room, they are moved if there is memory for that.
+    pub(crate) fn made(bytes: Vec<u8>) -> Data {
+        Data::of(Canonical::made(bytes))
     }
 
     /// Data without payloads. In versions 1 and 2 the intervals that RFC 8210 section 6 recommends
@@ -158,7 +103,8 @@ impl Data {
         Ok(Data::of(Canonical::new(form, length)))
     }
 
-    /// The data that a sequence makes which only announces, in whatever order.
+    /// The data that a sequence makes which only announces, in whatever order. What follows its end
+    /// of data doesn't count: [`load_data`](crate::load_data) takes whole recordings.
     ///
     /// # Errors
     ///
@@ -179,7 +125,7 @@ impl Data {
             }
             offset = units.offset();
         }
-        Ok(Data::of(changes.0))
+        Ok(Data::of(changes.into_canonical()))
     }
 
     /// The bytes: payload units, and the end of data.
@@ -234,13 +180,13 @@ impl Data {
     /// ```
     #[must_use]
     pub fn validate(&self, route: &Route) -> Validity {
-        self.1.validate(self.as_bytes(), route)
+        sys::validate(self.as_bytes(), &self.1, route)
     }
 
     /// The VRPs of the data that cover the route, in their order, each with why it doesn't match.
     #[must_use]
     pub fn covering(&self, route: &Route) -> Covering<'_> {
-        self.1.covering(self.as_bytes(), route)
+        Covering::new(self.as_bytes(), &self.1, route)
     }
 
     /// The changes that lead a router from this data to the new (RFC 8210 section 8.2). They have
@@ -257,22 +203,14 @@ impl Data {
             bytes = vec![0; most];
             length = delta_into(self.as_bytes(), new.as_bytes(), &mut bytes);
         }
-        Ok(Changes(Canonical::new(bytes, length?)))
+        Ok(Changes::of(Canonical::new(bytes, length?)))
     }
 
     /// Data without payloads that have the end of data of these.
+    #[cfg(feature = "std")]
     pub(crate) fn without_payloads(&self) -> Data {
         let end = self.end();
         Data::new(end.version, end.session, end.serial, end.timing).expect("its version has a form")
-    }
-
-    /// What leads from these to the new, of whatever versions and sessions: in the higher one of
-    /// the versions, so that what the lower one lacks is withdrawn.
-    pub(crate) fn difference_to(&self, new: &Data) -> Result<Changes, DataError> {
-        let end = new.end();
-        let version = self.end().version.max(end.version);
-        let old = self.in_version(version).numbered(end.session, end.serial);
-        old.delta_to(&new.in_version(version))
     }
 
     /// What the changes make of this data: all of them are made, or none. An ASPA that is announced
@@ -284,7 +222,7 @@ impl Data {
     /// `OtherSession`; `Duplicate` or `UnknownRecord`, with the place of the first of the changes
     /// that isn't allowed.
     pub fn apply(&self, changes: &Changes) -> Result<Data, DataError> {
-        let mut bytes = vec![0; self.0.bytes.len() + changes.0.bytes.len()];
+        let mut bytes = vec![0; self.0.bytes.len() + changes.as_bytes().len()];
         let length = apply_into(self.as_bytes(), changes.as_bytes(), &mut bytes)?;
         Ok(Data::of(Canonical::new(bytes, length)))
     }
@@ -304,8 +242,8 @@ impl Data {
         Ok(Data::of(Canonical::new(bytes, length)))
     }
 
-    /// The data for clients of a version, as [`normalise_for`] writes it: without what that version
-    /// doesn't have.
+    /// The data for clients of a version, as [`normalise_for`](crate::normalise_for) writes it:
+    /// without what that version doesn't have.
     ///
     /// # Errors
     ///
@@ -318,6 +256,7 @@ impl Data {
     }
 
     /// The same for a version that there is.
+    #[cfg(feature = "std")]
     pub(crate) fn in_version(&self, version: u8) -> Data {
         self.for_version(version).expect("there is this version")
     }
@@ -348,61 +287,6 @@ impl Data {
     }
 }
 
-impl Changes {
-    /// The bytes: payload units, and the end of data.
-    #[must_use]
-    pub fn as_bytes(&self) -> &[u8] {
-        &self.0.bytes
-    }
-
-    /// The bytes.
-    #[must_use]
-    pub fn into_bytes(self) -> Vec<u8> {
-        self.0.into_bytes()
-    }
-
-    /// The bytes, shared.
-    #[cfg(feature = "std")]
-    pub(crate) fn shared(&self) -> Arc<Vec<u8>> {
-        Arc::clone(&self.0.bytes)
-    }
-
-    /// The bytes of the payload units.
-    #[cfg(feature = "std")]
-    pub(crate) fn unit_bytes(&self) -> &[u8] {
-        self.0.unit_bytes()
-    }
-
-    /// Without what a version that there is doesn't have.
-    #[cfg(feature = "std")]
-    pub(crate) fn in_version(&self, version: u8) -> Changes {
-        Changes(self.0.for_version(version).expect("there is this version"))
-    }
-
-    /// The payload units, in their order: first those that announce, then those that withdraw.
-    pub fn units(&self) -> impl Iterator<Item = UnitRef<'_>> + Clone + '_ {
-        self.0.units()
-    }
-
-    /// The end of data, with the version, the session and the serial number.
-    #[must_use]
-    pub fn end(&self) -> EndOfData {
-        self.0.end
-    }
-
-    /// How many payloads are announced or withdrawn.
-    #[must_use]
-    pub fn len(&self) -> usize {
-        self.0.payloads
-    }
-
-    /// Whether no payload is announced or withdrawn.
-    #[must_use]
-    pub fn is_empty(&self) -> bool {
-        self.0.payloads == 0
-    }
-}
-
 /// What the changes of the sequence that the input begins with come to, made one after the other.
 /// [`Data::apply`] takes what this makes of them. What isn't compared or shown but only made onto
 /// data needs no order: [`Data::apply_in_order`] takes the sequence as it came.
@@ -427,5 +311,5 @@ pub fn order(input: &[u8]) -> Result<Changes, DataError> {
     let mut index = vec![0; input.len() / SHORTEST_PAYLOAD];
     let mut bytes = vec![0; input.len()];
     let length = order_into(input, &mut index, &mut bytes)?;
-    Ok(Changes(Canonical::new(bytes, length)))
+    Ok(Changes::of(Canonical::new(bytes, length)))
 }

@@ -1,13 +1,13 @@
 //! A router's end of a session without sockets and clock.
 
+use crate::abi::{cause, status, todo_kind, Todo};
+use crate::changes::Changes;
 use crate::client_error::ClientError;
-use crate::input::Input;
-use crate::machine::{action, cause, Action, Machine};
+use crate::link::Link;
 use crate::options::ClientOptions;
-use crate::owned_data::{Changes, Data};
+use crate::owned_data::Data;
 use alloc::collections::VecDeque;
-use alloc::vec::Vec;
-use core::mem::replace;
+use core::mem::take;
 
 /// What the program that carries a [`Router`] has to do next.
 #[derive(Debug)]
@@ -32,7 +32,7 @@ pub enum Step {
 #[non_exhaustive]
 pub enum Event<'a> {
     /// An end of data came: these are all data of the cache now, whole, and the changes lead there
-    /// from those before.
+    /// from those before. The changes are computed when they are first used.
     Data {
         /// The data.
         data: &'a Data,
@@ -49,30 +49,32 @@ pub enum Event<'a> {
 }
 
 /// A router's end of a session (RFC 8210) without sockets and clock: bytes and times are given to
-/// it, and it says what is to be done. The proved machine of `rtr_router` decides that.
+/// it, and it says what is to be done. The proved client of the archive decides that; this has its
+/// buffers and its data, and tells what it does in types.
 ///
-/// Times are in milliseconds of a clock that doesn't go back.
+/// Times are in milliseconds of a clock that doesn't go back: a method panics at an earlier time
+/// than that of the last call. Data stay as they are after the router has others: nothing is
+/// written to their bytes.
 #[derive(Debug)]
 pub struct Router {
-    machine: Machine,
-    data: Option<Data>,
+    link: Link,
     steps: VecDeque<Step>,
     connection: Connection,
-    /// Whether it is to ask before it is time.
+    /// Why the connection was lost, if the caller said so.
+    error: Option<ClientError>,
+    /// Whether the caller wants the present data, and the client doesn't know it yet.
     asks: bool,
 }
 
-/// What there is of a connection, if there is one.
-#[derive(Debug, Default)]
-struct Connection {
-    is_open: bool,
-    input: Input,
-    output: Vec<u8>,
-    /// The units of an answer.
-    kept: Vec<u8>,
-    /// What their changes made.
-    made: Option<Data>,
-    error: Option<ClientError>,
+/// The connection of a router.
+#[derive(Clone, Copy, Debug, PartialEq, Eq)]
+enum Connection {
+    None,
+    /// One is wanted, and the caller hasn't said what became of it.
+    Wanted,
+    Open,
+    /// It couldn't be made, or nothing comes any more; it isn't closed yet.
+    Lost,
 }
 
 impl Router {
@@ -81,33 +83,51 @@ impl Router {
     #[must_use]
     pub fn new(options: &ClientOptions, random: u16) -> Router {
         Router {
-            machine: Machine::new(options, random),
-            data: None,
+            link: Link::new(options, random),
             steps: VecDeque::new(),
-            connection: Connection::default(),
+            connection: Connection::None,
+            error: None,
             asks: false,
         }
     }
 
-    /// Has it ask the cache at the next call of [`Router::next`], before the refresh time has
-    /// passed. The proved machine is told of a notify with another serial number than that of its
-    /// data, after which it always asks (RFC 8210 section 8.2). So there is a pause between two
-    /// queries, and after an answer that is coming it asks again. Without a connection nothing
-    /// comes sooner: on the next one it asks anyway.
+    /// Begins again without data and connection, as one of several by preference that was stopped:
+    /// the waits for a failing cache continue to grow, and so does the clock.
+    pub fn again(&mut self) {
+        self.link.again();
+        self.steps.clear();
+        self.connection = Connection::None;
+        self.error = None;
+        self.asks = false;
+    }
+
+    /// The caller wants the present data: at the next call of [`Router::next`] a router that waits
+    /// asks the cache, or a pause after its last query; one without a connection connects, or does
+    /// so after a pause if the last query or connection is less than a pause ago. While a
+    /// connection is made or an answer is awaited this changes nothing.
     pub fn ask_now(&mut self) {
         self.asks = true;
     }
 
-    /// All data of the cache, whole, if there are some.
+    /// Whether it has data at this time, which is no earlier than that of the last call. They are
+    /// there until they expire (RFC 8210 section 6), also where [`Router::next`] hasn't dropped
+    /// them yet.
+    #[must_use]
+    pub fn has_data(&self, now: u64) -> bool {
+        self.link.has_data(now)
+    }
+
+    /// All data of the cache, whole, if there are some: those after the last call of
+    /// [`Router::next`]. [`Router::has_data`] says whether they have expired since.
     #[must_use]
     pub fn data(&self) -> Option<&Data> {
-        self.data.as_ref()
+        self.link.data()
     }
 
     /// The data, if there are some.
     #[must_use]
     pub fn into_data(self) -> Option<Data> {
-        self.data
+        self.link.into_data()
     }
 
     /// What a step tells of the data or of a failure; none for one that has something be done.
@@ -124,188 +144,160 @@ impl Router {
     /// When [`Router::next`] is to be called, if nothing comes before.
     #[must_use]
     pub fn wakes(&self) -> u64 {
-        self.machine.wakes()
+        self.link.wakes()
     }
 
-    /// The connection is there.
+    /// The connection is there, which [`Step::Connect`] wanted; nothing happens if none is wanted
+    /// any more.
     pub fn connected(&mut self, now: u64) {
-        self.connection = Connection {
-            is_open: true,
-            ..Connection::default()
-        };
-        let action = self.machine.connected(now);
-        self.perform(now, &action);
+        if self.connection == Connection::Wanted {
+            self.connection = Connection::Open;
+            self.link.opened();
+            self.go_on(now);
+        }
     }
 
-    /// No connection could be made, or it broke.
+    /// No connection could be made, or it broke. Nothing happens if it was closed before.
     #[cfg(feature = "std")]
     pub fn lost(&mut self, now: u64, error: std::io::Error) {
-        self.connection.error = Some(ClientError::Io(error));
+        if self.connection != Connection::None {
+            self.error = Some(ClientError::Io(error));
+        }
         self.disconnected(now);
     }
 
     /// The same, where no more is known of why.
     pub fn disconnected(&mut self, now: u64) {
-        self.connection.input.end();
-        if !self.connection.is_open {
-            let action = self.machine.lost(now);
-            self.perform(now, &action);
+        self.end_of_input();
+        self.go_on(now);
+    }
+
+    /// These bytes came. Without any, the cache sends no more. Nothing happens without a
+    /// connection, or behind the end of what the cache sends.
+    pub fn received(&mut self, bytes: &[u8]) {
+        if bytes.is_empty() {
+            self.end_of_input();
+        } else if self.connection == Connection::Open {
+            self.link.add(bytes);
         }
     }
 
-    /// These bytes came. Without any, the cache sends no more.
-    pub fn received(&mut self, bytes: &[u8]) {
-        self.connection.input.add(bytes);
+    /// Where bytes that come can be read to, without a copy: not empty while there is a connection
+    /// and [`Router::next`] returned [`Step::Wait`]. Then call [`Router::filled`].
+    pub fn room(&mut self) -> &mut [u8] {
+        self.link.room()
+    }
+
+    /// So many bytes were read to [`Router::room`], as by [`Router::received`]: without any, the
+    /// cache sends no more.
+    ///
+    /// # Panics
+    ///
+    /// If there is room for fewer.
+    pub fn filled(&mut self, count: usize) {
+        if count == 0 {
+            self.end_of_input();
+        } else if self.connection == Connection::Open {
+            self.link.received(count);
+        }
+    }
+
+    /// Nothing comes any more.
+    fn end_of_input(&mut self) {
+        if matches!(self.connection, Connection::Wanted | Connection::Open) {
+            self.connection = Connection::Lost;
+            self.link.lost();
+        }
     }
 
     /// What is to be sent.
     #[must_use]
     pub fn output(&self) -> &[u8] {
-        &self.connection.output
+        self.link.output()
     }
 
     /// So many bytes of it were sent.
+    ///
+    /// # Panics
+    ///
+    /// If there are fewer.
     pub fn sent(&mut self, count: usize) {
-        self.connection.output.drain(..count);
+        self.link.sent(count);
     }
 
     /// What is to be done now. After anything but [`Step::Wait`] call it again.
     pub fn next(&mut self, now: u64) -> Step {
-        loop {
-            if let Some(step) = self.steps.pop_front() {
-                return step;
-            }
-            let action = self.told_machine(now);
-            if action.kind == action::WAIT && action.taken == 0 {
-                return Step::Wait;
-            }
-            self.perform(now, &action);
-            self.connection.input.take(action.taken);
-        }
+        self.go_on(now);
+        self.steps.pop_front().unwrap_or(Step::Wait)
     }
 
-    /// Tells the machine what came, or the time.
-    fn told_machine(&mut self, now: u64) -> Action {
-        let connection = &mut self.connection;
-        let (input, ended) = (connection.input.bytes(), connection.input.has_ended());
-        if connection.is_open && ended && input.is_empty() {
-            connection.error.get_or_insert(ClientError::Closed);
-            return self.machine.lost(now);
-        }
-        if connection.is_open && !input.is_empty() {
-            let action = self.machine.read(now, input, ended);
-            if action.kind != action::WAIT || action.taken > 0 {
-                return action;
-            }
-        }
-        if replace(&mut self.asks, false) {
-            if self.machine.waits() {
-                return self.told_to_ask(now);
-            }
-            self.asks = true;
-        }
-        self.machine.tick(now)
+    /// Has the client go on until there is a step for the caller.
+    fn go_on(&mut self, now: u64) {
+        while self.steps.is_empty() && self.does(now) {}
     }
 
-    /// Tells the machine, which waits, that it is to ask; nothing of the input is done with then.
-    fn told_to_ask(&mut self, now: u64) -> Action {
-        let action = self.machine.read(now, &self.machine.other_serial(), false);
-        if action.kind == action::WAIT {
-            return self.machine.tick(now);
+    /// Does what is to be done next; false if that is to wait.
+    fn does(&mut self, now: u64) -> bool {
+        let mut todo = self.link.next(now);
+        if todo.kind == todo_kind::WAIT && take(&mut self.asks) {
+            todo = self.link.ask_now(now);
         }
-        Action {
-            start: 0,
-            taken: 0,
-            ..action
-        }
-    }
-
-    /// Does what an action says.
-    fn perform(&mut self, now: u64, action: &Action) {
-        let connection = &mut self.connection;
-        let input = connection.input.bytes();
-        match action.kind {
-            action::WAIT => {}
-            action::CONNECT => self.steps.push_back(Step::Connect),
-            action::ASK => {
-                self.asks = false;
-                action.append_query(&mut connection.output);
+        match todo.kind {
+            todo_kind::WAIT => return false,
+            todo_kind::CONNECT => {
+                self.connection = Connection::Wanted;
+                self.error = None;
+                self.steps.push_back(Step::Connect);
             }
-            action::BEGIN => connection.kept.clear(),
-            action::KEEP => connection.kept.extend_from_slice(&input[..action.taken]),
-            action::APPLY => {
-                let next = self.apply(now, action);
-                self.perform(now, &next);
-            }
-            action::SHOW => {
-                let made = connection.made.take();
-                self.set_data(made);
-            }
-            action::NO_DATA => {
-                let reported = ClientError::reported(&input[action.start..]);
-                self.steps.push_back(Step::Failed(reported));
-            }
-            action::DROP => {
-                self.set_data(None);
+            todo_kind::CLOSE => self.close(&todo),
+            todo_kind::DATA => self.tell_data(),
+            todo_kind::DROPPED => {
+                self.tell_data();
                 self.steps.push_back(Step::Failed(ClientError::Expired));
             }
-            _ => self.end(action),
-        }
-    }
-
-    /// Makes the changes of an answer, and tells the machine.
-    fn apply(&mut self, now: u64, action: &Action) -> Action {
-        let connection = &mut self.connection;
-        let end = &connection.input.bytes()[action.start..action.taken];
-        connection.kept.extend_from_slice(end);
-        let made = match self.data.as_ref().filter(|_| action.changes) {
-            Some(data) => data.apply_in_order(&connection.kept),
-            // An end of data alone is data without payloads.
-            None => Data::parse(end).and_then(|none| none.apply_in_order(&connection.kept)),
-        };
-        match made {
-            Ok(data) => {
-                connection.made = Some(data);
-                self.machine.applied(now)
+            todo_kind::NO_DATA => {
+                let reported = ClientError::reported(self.link.input_from(todo.offset));
+                self.steps.push_back(Step::Failed(reported));
             }
-            Err(error) => {
-                connection.error = Some(ClientError::refused(error, &connection.kept));
-                self.machine
-                    .not_applied(now, error.fault.status(), error.fault.detail())
-            }
+            _ => {}
         }
+        true
     }
 
-    /// These are the data from now on, if there are some.
-    fn set_data(&mut self, data: Option<Data>) {
-        let old = replace(&mut self.data, data);
-        let step = match (&old, &self.data) {
-            (Some(old), Some(new)) => old.difference_to(new).map(Step::Data),
-            (None, Some(new)) => new.without_payloads().difference_to(new).map(Step::Data),
-            (Some(old), None) => old.delta_to(&old.without_payloads()).map(Step::Dropped),
-            (None, None) => return,
+    /// Tells that there are other data, or none any more.
+    fn tell_data(&mut self) {
+        let (old, new) = (self.link.take_former(), self.link.data().cloned());
+        let step = if new.is_some() {
+            Step::Data
+        } else {
+            Step::Dropped
         };
-        self.steps.extend(step);
+        self.steps.extend(Changes::between(old, new).map(step));
     }
 
-    /// The connection ends, with the report that is owed.
-    fn end(&mut self, action: &Action) {
-        if action.drops {
-            self.set_data(None);
+    /// The connection ends.
+    fn close(&mut self, todo: &Todo) {
+        if todo.drops {
+            self.tell_data();
         }
-        let connection = &mut self.connection;
-        let error = match action.cause {
-            cause::LOWER => None,
-            cause::LOST | cause::NOT_APPLIED => connection.error.take(),
-            _ => Some(ClientError::of(action, &connection.input)),
-        };
-        let unit = match &error {
-            Some(ClientError::Data { unit, .. }) => unit.as_slice(),
-            _ => &connection.input.bytes()[action.start..],
-        };
-        action.append_report(unit, &mut connection.output);
-        connection.is_open = false;
+        self.connection = Connection::None;
         self.steps.push_back(Step::Close);
+        let error = self.ending(todo);
         self.steps.extend(error.map(Step::Failed));
+    }
+
+    /// Why the connection ends; none if it is made again at once, in another version.
+    fn ending(&mut self, todo: &Todo) -> Option<ClientError> {
+        let lost = self.error.take();
+        let is_memory = todo.cause == cause::NOT_APPLIED && todo.status == status::OK;
+        Some(match todo.cause {
+            cause::LOWER | cause::HIGHER => return None,
+            _ if is_memory || self.link.gave_up() => ClientError::NoMemory,
+            cause::LOST => lost.unwrap_or(ClientError::Closed),
+            _ => {
+                let input = self.link.input_from(todo.offset);
+                ClientError::of(todo, input, self.link.position(todo.offset))
+            }
+        })
     }
 }

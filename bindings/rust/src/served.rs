@@ -1,24 +1,24 @@
-//! A client of a cache, without sockets and clock.
+//! A cache's connection to a client, without sockets and clock.
 
 use crate::body::Body;
 use crate::cache::Moment;
 use crate::cache_machine::{serving, Cache as Machine, Serving};
 use crate::input::Input;
-use crate::machine::milliseconds;
 use crate::output::Output;
 use crate::server_error::ServerError;
+use crate::sys::milliseconds;
 use std::fs::File;
 use std::io;
 use std::time::Duration;
 use std::vec::Vec;
 
-/// How many editions may come while a client is sent one.
+/// How many newer data may come while a client is still being sent some.
 const MOST_BEHIND: u64 = 2;
-/// How long a client is read on after the last that it is sent, in milliseconds: it would be taken
-/// from it by a close with bytes unread.
+/// How long the server goes on reading after its last bytes, in milliseconds: closing with unread
+/// bytes would reset the connection, and the client could lose them.
 const LINGER: u64 = 200;
 
-/// What the program that carries a [`Served`] has to do next.
+/// What the host of a [`Served`] has to do next.
 #[derive(Debug)]
 #[non_exhaustive]
 pub enum ServedStep {
@@ -26,36 +26,36 @@ pub enum ServedStep {
     Receive,
     /// Send some of [`Served::output`], then call [`Served::sent`] or [`Served::lost`].
     Send,
-    /// Send no more: shut the connection down for writing, and read on.
+    /// Shut the connection down for writing, and go on reading.
     Finish,
-    /// Close the connection. It is over.
+    /// Close the connection.
     Close,
-    /// Why the connection ends. What is left to be sent is sent before it is closed.
+    /// The reason for which the connection ends. Unsent bytes are sent before it is closed.
     Ended(ServerError),
 }
 
-/// How far a connection has come.
+/// The phase of a connection.
 #[derive(Debug, PartialEq)]
 enum Phase {
     Served,
-    /// What is sent is the last.
+    /// The last bytes are being sent.
     Ending,
-    /// Nothing is sent any more, and what comes until then is passed over.
+    /// All is sent; what comes until this time is ignored.
     Over {
         until: u64,
     },
 }
 
 /// A connection of a client to a [`Cache`](crate::Cache) (RFC 8210) without sockets and clock:
-/// bytes and times are given to it, and it says what is to be done. The proved machine of
-/// `rtr_cache` decides what the client is answered.
+/// its host gives it bytes and times, and does what [`Served::next`] returns. The proved machine of
+/// `rtr_cache` decides the answers.
 ///
-/// It holds its place in bytes that all share, and no data.
+/// Connections share the encoded data.
 ///
 /// Call [`Served::next`] when something was read or sent, when the cache has new data, and when the
 /// time is [`Served::wakes`]; after [`ServedStep::Finish`] and [`ServedStep::Ended`] call it again.
 ///
-/// Here it is joined to a [`Router`](crate::Router), without a socket between them:
+/// Here a [`Router`](crate::Router) talks to it without a socket:
 ///
 /// ```
 /// use rtr_wire::{Cache, ClientOptions, Data, Router, Served, ServedStep, ServerOptions, Step};
@@ -85,18 +85,18 @@ enum Phase {
 pub struct Served {
     machine: Machine,
     input: Input,
-    /// When the unit began to come that the input begins with.
+    /// When the first byte of the incomplete unit in the input came.
     began: u64,
     output: Option<Output>,
-    /// The session and the number of the edition whose data are sent.
+    /// The session, and the number of the edition that is being sent.
     place: Option<(u16, u64)>,
     phase: Phase,
-    /// Why it ended, where that wasn't told.
+    /// Why it ended, until [`Served::next`] has returned that.
     ended: Option<ServerError>,
 }
 
 impl Served {
-    /// A connection that was just made.
+    /// A new connection.
     #[must_use]
     pub fn new(moment: &Moment) -> Self {
         Served {
@@ -110,19 +110,19 @@ impl Served {
         }
     }
 
-    /// Ends the connection, since it is one more than there may be.
+    /// Refuses the connection: the limit is reached.
     pub fn refuse(&mut self, moment: &Moment) {
         let serving = self.machine.full(moment.now, moment.present());
         self.perform(&serving, moment);
     }
 
-    /// Whether the connection hasn't ended.
+    /// Whether the connection is still open.
     #[must_use]
     pub fn is_served(&self) -> bool {
         self.phase == Phase::Served
     }
 
-    /// When [`Served::next`] is to be called, if nothing comes before.
+    /// When to call [`Served::next`], if nothing comes before.
     #[must_use]
     pub fn wakes(&self, moment: &Moment) -> u64 {
         match self.phase {
@@ -134,7 +134,7 @@ impl Served {
         }
     }
 
-    /// These bytes came. Without any, the client sends no more.
+    /// Takes bytes that came. No bytes mean that the client sends no more.
     pub fn received(&mut self, moment: &Moment, bytes: &[u8]) {
         let is_empty = self.input.bytes().is_empty();
         if bytes.is_empty() && is_empty {
@@ -148,17 +148,17 @@ impl Served {
         }
     }
 
-    /// What is to be sent: the second part behind the first.
+    /// The unsent bytes: the second part follows the first.
     pub fn output(&self) -> [&[u8]; 2] {
         self.output.as_ref().map_or([&[], &[]], Output::parts)
     }
 
-    /// The file that has the second part, and where that begins in it.
+    /// The file that holds the second part, and its offset there.
     pub(crate) fn file(&self) -> Option<(&File, usize)> {
         self.output.as_ref()?.file()
     }
 
-    /// So many bytes of it were sent.
+    /// Reports that `count` bytes were sent.
     pub fn sent(&mut self, moment: &Moment, count: usize) {
         let output = self.output.take();
         self.output = output.and_then(|output| output.sent(count, moment.now));
@@ -169,7 +169,7 @@ impl Served {
         self.lose(ServerError::Io(error));
     }
 
-    /// What is to be done now.
+    /// Returns what to do now.
     pub fn next(&mut self, moment: &Moment) -> ServedStep {
         if self.output.is_none() && self.is_served() && self.failure(moment).is_none() {
             let serving = self.tell(moment);
@@ -193,7 +193,7 @@ impl Served {
         }
     }
 
-    /// When the time is over for what is sent, or for the unit that comes.
+    /// The deadline of the bytes being sent, or of the incomplete unit.
     fn due(&self, moment: &Moment) -> u64 {
         let options = &moment.options;
         match &self.output {
@@ -205,7 +205,8 @@ impl Served {
         }
     }
 
-    /// Why the connection is given up, if it is: the time is over, or what is sent is too old.
+    /// Why the connection has to end, if it has: a deadline has passed, or the data being sent are
+    /// too old.
     fn failure(&self, moment: &Moment) -> Option<ServerError> {
         if matches!(self.phase, Phase::Over { .. }) {
             return None;
@@ -221,7 +222,7 @@ impl Served {
         }
     }
 
-    /// Tells the machine of a unit that came, or of the time.
+    /// Gives the machine a unit that came, or the time.
     fn tell(&mut self, moment: &Moment) -> Serving {
         let (now, present) = (moment.now, moment.present());
         let (input, ended) = (self.input.bytes(), self.input.has_ended());
@@ -236,7 +237,7 @@ impl Served {
         self.machine.tick(now, present)
     }
 
-    /// Begins to send what the machine says.
+    /// Starts to send what the machine returned.
     fn perform(&mut self, serving: &Serving, moment: &Moment) {
         let (version, serial) = (serving.version, serving.serial);
         let body = match (serving.kind, &moment.newest) {
@@ -259,7 +260,7 @@ impl Served {
         self.began = moment.now;
     }
 
-    /// The connection is over, for this reason.
+    /// Ends the connection, for this reason.
     fn lose(&mut self, error: ServerError) {
         if self.is_served() {
             self.ended = Some(error);
@@ -269,7 +270,7 @@ impl Served {
     }
 }
 
-/// The time so much later.
+/// The time after a duration.
 fn later(time: u64, span: Duration) -> u64 {
     time.saturating_add(milliseconds(span).into())
 }

@@ -26,22 +26,22 @@ use std::vec::Vec;
 #[path = "scenes.rs"]
 mod scenes;
 
-/// How many connections may be closing beside those that are served.
+/// How many connections may be closing, beside those that are served.
 const MOST_CLOSING: usize = 64;
-/// How many bytes the system keeps for a client at most.
+/// The size of a client's send buffer in the system, in bytes.
 const UNSENT: i32 = 1 << 17;
-/// How many clients are taken in before those that are served go on.
+/// How many clients are accepted in a row, before the others are served again.
 const MOST_TAKEN: usize = 64;
-/// How long no client is taken in, in milliseconds, after the system had no place for one.
+/// How long accepting pauses, in milliseconds, after the system had no descriptor left.
 const PAUSE: u64 = 100;
 
-/// What the thread of a server shares with its callers.
+/// The state that a server's thread shares with its callers.
 struct Shared {
     cache: Cache,
     ended: Box<Ended>,
     log: Option<Arc<Log>>,
     stop: Stop,
-    /// The listeners and the connections that the thread hasn't taken up.
+    /// Listeners and connections that the thread hasn't taken over yet.
     listeners: Mutex<Vec<Listener>>,
     given: Mutex<Vec<(Box<dyn Socket>, SocketAddr)>>,
     /// How many clients are served.
@@ -50,18 +50,18 @@ struct Shared {
 
 /// A cache (RFC 8210) over TCP or other sockets, for clients of versions 0 to 2, in one thread.
 ///
-/// The proved machine of `rtr_cache` decides what each client is answered: all data, the changes
-/// since a serial number, as [`Data::delta_to`] makes them, a cache reset where it isn't known what
-/// these are, or a report; and when it is notified of new data. Where these are of another session,
-/// clients that have data are disconnected at once.
+/// The proved machine of `rtr_cache` decides the answer to each client: all data, the changes since
+/// a serial number, as [`Data::delta_to`] makes them, a cache reset if these aren't known, or a
+/// report; and when to notify it of new data. When new data have another session, clients that have
+/// data are disconnected at once.
 ///
-/// No client waits for what another takes or sends. All wait while data get their form for a
-/// version, or while it is worked out what leads from earlier data, for the first that asks. A
-/// client holds its place in bytes that all share; one that is three data behind in the middle of
-/// an answer is ended, and a slow one by the limits of [`ServerOptions`].
+/// No client waits until another has received or sent something. All wait while data are encoded
+/// for a version, or a delta is computed, for the first client that asks. Clients share the encoded
+/// bytes. The connection of a client that is still receiving data when three newer ones have come
+/// is closed, and so is that of a slow one, by the limits of [`ServerOptions`].
 ///
-/// Over TCP alone neither is anything encrypted nor is a client authenticated (RFC 8210 section 9):
-/// [`listen_with`](Server::listen_with) takes what is.
+/// Plain TCP neither encrypts nor authenticates (RFC 8210 section 9):
+/// [`listen_with`](Server::listen_with) takes a transport that does.
 ///
 /// ```
 /// use rtr_wire::{Data, Server, ServerOptions};
@@ -78,24 +78,24 @@ pub struct Server {
     thread: Mutex<Option<(JoinHandle<()>, Waker)>>,
 }
 
-/// What takes clients.
+/// A listener and its transport.
 struct Listener {
     socket: TcpListener,
     ready: Box<Ready>,
 }
 
-/// What makes a connection of the one over TCP.
+/// Makes the connection to serve of an accepted TCP connection.
 type Ready = dyn Fn(TcpStream) -> io::Result<Box<dyn Socket>> + Send;
 
 impl Server {
-    /// A server that has no data yet and listens nowhere.
+    /// A server without data, which doesn't listen yet.
     #[must_use]
     pub fn new(options: ServerOptions) -> Self {
         Server::telling(options, |_, _| {})
     }
 
-    /// The same, of a server that tells why it ended the connection of a client. Until that returns
-    /// it serves nobody.
+    /// The same, with a callback that is called with the reason when a client's connection ends.
+    /// The server serves nobody until it returns.
     pub fn telling(
         options: ServerOptions,
         ended: impl Fn(SocketAddr, &ServerError) + Send + Sync + 'static,
@@ -103,8 +103,8 @@ impl Server {
         Server::of(options, Box::new(ended), None)
     }
 
-    /// A server that tells a log where it listens, each connection and why it ended, and new data:
-    /// a message, and fields by their names. Until the log returns it serves nobody.
+    /// A server that logs where it listens, each connection and why it ended, and new data: a
+    /// message, and fields by name. It serves nobody until the log returns.
     pub fn logging(
         options: ServerOptions,
         log: impl Fn(LogLevel, &str, &LogFields<'_>) + Send + Sync + 'static,
@@ -136,26 +136,27 @@ impl Server {
         }
     }
 
-    /// Has clients get these data from now on, in the session and with the serial number of their
-    /// end of data. Answers whether they aren't those that the server has already.
+    /// Serves these data from now on, with the session and serial number of their end of data.
+    /// Returns whether they differ from those that the server has.
     ///
     /// # Errors
     ///
-    /// `NewTimings`; `SerialNotAfter`, also for the same payloads under an earlier serial number.
+    /// `NewTimings`; `SerialNotAfter`, also for the same payloads with an earlier serial number;
+    /// `Times` if RFC 8210 section 6 doesn't allow their times.
     pub fn update(&self, data: Data) -> Result<bool, UpdateError> {
         let told = self.shared.log.as_ref().map(|log| (log, data.clone()));
         let is_new = self.shared.cache.update(data)?;
         if is_new {
             if let Some((log, data)) = told {
-                data.log(&**log, &[]);
+                data.log_served(&**log);
             }
             self.wake();
         }
         Ok(is_new)
     }
 
-    /// Writes the data, and what leads back to those before them, to a file: by another one beside
-    /// it, which then gets its name. Without data it writes nothing.
+    /// Saves the data, and the steps back to earlier ones, to a file: writes one beside it, then
+    /// renames that. Without data it writes nothing.
     ///
     /// # Errors
     ///
@@ -164,20 +165,19 @@ impl Server {
         self.shared.cache.save(path)
     }
 
-    /// Takes what [`Server::save`] wrote, if the server has no data yet, and answers the data that
-    /// it then has. So clients go on where they are; call it before [`Server::listen`].
+    /// Loads what [`Server::save`] wrote, if the server has no data yet, and returns the data that
+    /// it has then, so that clients get deltas after a restart. Call it before [`Server::listen`].
     ///
     /// # Errors
     ///
-    /// Those of reading, of which `InvalidData` is for a file that isn't as it was written.
+    /// Those of reading; `InvalidData` if the file isn't as it was written.
     pub fn restore(&self, path: impl AsRef<Path>) -> io::Result<Data> {
         let data = self.shared.cache.restore(path)?;
         self.wake();
         Ok(data)
     }
 
-    /// Listens at an address too, and answers which one it is: one with port 0 gets a port that is
-    /// free.
+    /// Listens at one more address, and returns it: for port 0 the system chooses a free port.
     ///
     /// # Errors
     ///
@@ -186,8 +186,8 @@ impl Server {
         self.listen_with(address, Ok)
     }
 
-    /// The same, where this function makes what carries bytes of each connection, for which no call
-    /// waits: over TLS, for example, whose handshake is part of the first calls, and has the time of
+    /// The same, with a function that wraps each connection in a transport, such as TLS. It must
+    /// not block: the handshake is part of the first reads and writes, and its time limit is
     /// [`ServerOptions::first_query`].
     ///
     /// # Errors
@@ -213,7 +213,7 @@ impl Server {
         Ok(address)
     }
 
-    /// Serves a client over a connection that was made from there.
+    /// Serves a client over a connection that came from this address.
     ///
     /// # Errors
     ///
@@ -225,7 +225,7 @@ impl Server {
         Ok(())
     }
 
-    /// Starts the thread, if it doesn't run.
+    /// Starts the thread if it isn't running.
     fn start(&self) -> io::Result<()> {
         let mut thread = locked(&self.thread);
         if thread.is_none() {
@@ -239,7 +239,7 @@ impl Server {
         self.shared.clients.load(Ordering::Relaxed)
     }
 
-    /// Closes all connections, and ends the thread. A server that is dropped is stopped.
+    /// Closes all connections and ends the thread. Dropping a server stops it.
     pub fn stop(&self) {
         self.shared.stop.set();
         self.wake();
@@ -249,7 +249,7 @@ impl Server {
         }
     }
 
-    /// Has the thread look for what is new.
+    /// Wakes the thread.
     fn wake(&self) {
         if let Some((_, waker)) = &*locked(&self.thread) {
             waker.wake();
@@ -258,7 +258,7 @@ impl Server {
 }
 
 impl Shared {
-    /// Tells the log, if there is one, of something that an address stands for.
+    /// Logs an event at an address, if there is a log.
     fn tell(&self, level: LogLevel, message: &str, (name, address): (&str, SocketAddr)) {
         if let Some(log) = &self.log {
             log(level, message, &[(name, &address)]);
@@ -279,26 +279,26 @@ fn start(shared: &Arc<Shared>) -> io::Result<(JoinHandle<()>, Waker)> {
     Ok((thread.spawn(move || host.run())?, waker))
 }
 
-/// The key of what wakes the thread, and that of the first listener; those of clients are below.
+/// The keys of the waker and of the first listener; keys of clients are below these.
 const WOKEN: u64 = u64::MAX;
 const LISTENERS: u64 = 1 << 63;
 
-/// A client, and what is waited for.
+/// A client, and what it waits for.
 struct Client {
     connection: Connection,
-    /// Whether it is room.
+    /// Whether it waits to write.
     wants_room: bool,
-    /// When the client goes on if that doesn't come before.
+    /// The deadline of that wait.
     wakes: u64,
 }
 
-/// What serves clients, in a thread.
+/// The loop that serves clients, in a thread.
 struct Host {
     begun: Instant,
     woken: Woken,
     poller: Poller,
     listeners: Vec<Listener>,
-    /// Whether clients are taken in, and when they are again.
+    /// Whether clients are accepted, and when accepting resumes.
     takes: bool,
     takes_from: u64,
     clients: BTreeMap<u64, Client>,
@@ -306,14 +306,14 @@ struct Host {
     next: u64,
     /// How many clients are served.
     served: usize,
-    /// When the first client goes on, or before that.
+    /// The earliest deadline of a client, or an earlier time.
     due: u64,
     moment: Moment,
     shared: Arc<Shared>,
 }
 
 impl Host {
-    /// One without clients, and what wakes it.
+    /// A loop without clients, and its waker.
     fn new(shared: &Arc<Shared>) -> io::Result<(Host, Waker)> {
         let (waker, woken) = waker()?;
         let poller = Poller::new()?;
@@ -350,7 +350,7 @@ impl Host {
         }
     }
 
-    /// Waits until something has come or is to be done: the keys of what is ready.
+    /// Waits until a socket is ready or a deadline has come; returns the keys of ready sockets.
     fn wait(&mut self) -> Vec<u64> {
         let now = milliseconds_since(self.begun);
         let pause = Some(self.takes_from).filter(|time| *time > now);
@@ -361,13 +361,13 @@ impl Host {
         ready
     }
 
-    /// Whether there may be more clients.
+    /// Whether the limit allows another client.
     fn has_place(&self) -> bool {
         let most = self.moment.options.connections;
         self.clients.len() < most.saturating_add(MOST_CLOSING)
     }
 
-    /// Has listeners be waited for, or not.
+    /// Starts or stops waiting for listeners.
     fn listen(&mut self, takes: bool) {
         if takes == self.takes {
             return;
@@ -382,7 +382,7 @@ impl Host {
         }
     }
 
-    /// Takes up the listeners and the data that are new; answers whether data are.
+    /// Takes over new listeners and data; returns whether there are new data.
     fn look(&mut self) -> bool {
         self.woken.clear(); // before it looks: who comes after that wakes it again
         let mut listeners = take(&mut *locked(&self.shared.listeners));
@@ -396,7 +396,7 @@ impl Host {
         newest.map(Arc::as_ptr) != known.as_ref().map(Arc::as_ptr)
     }
 
-    /// Goes on with all clients that can, and takes in new ones.
+    /// Serves all clients that are ready, and accepts new ones.
     fn go_on(&mut self, ready: &[u64]) {
         for key in ready {
             match key.checked_sub(LISTENERS).map(usize::try_from) {
@@ -411,7 +411,7 @@ impl Host {
         }
     }
 
-    /// Goes on with a client.
+    /// Serves a client.
     fn act(&mut self, key: u64, is_ready: bool) {
         let client = match self.clients.get_mut(&key) {
             Some(client) => client,
@@ -438,7 +438,7 @@ impl Host {
         self.due = self.due.min(client.wakes);
     }
 
-    /// Goes on with all clients that have to by now.
+    /// Serves all clients whose deadline has come.
     fn go_on_by_time(&mut self) {
         let (mut late, mut due) = (Vec::new(), u64::MAX);
         for (key, client) in &mut self.clients {
@@ -455,7 +455,7 @@ impl Host {
         }
     }
 
-    /// Takes in the clients that a listener has, but few at once.
+    /// Accepts the clients that wait at a listener, a few at a time.
     fn accept(&mut self, at: usize) {
         for _ in 0..MOST_TAKEN {
             if !self.has_place() {
@@ -472,7 +472,7 @@ impl Host {
         }
     }
 
-    /// Takes in a client of a listener.
+    /// Accepts a client.
     fn take_in(&mut self, at: usize, stream: TcpStream, from: SocketAddr) {
         let is_last = stream.try_clone().is_err();
         limit_unsent(&stream, UNSENT);
@@ -485,8 +485,8 @@ impl Host {
         }
     }
 
-    /// Serves a client, or refuses it: where there are as many as there may be, or the system has
-    /// no descriptor left beside that of its connection.
+    /// Serves a client, or refuses it if the limit is reached, or the system has no descriptor left
+    /// beside that of its connection.
     fn serve(&mut self, socket: Box<dyn Socket>, from: SocketAddr, is_last: bool) {
         self.shared
             .tell(LogLevel::Debug, "connected", ("client", from));

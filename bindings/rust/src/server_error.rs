@@ -1,8 +1,10 @@
 //! Why a cache ends a connection, or doesn't take data.
 
+use crate::abi::{named, time_rule};
 use crate::cache_machine::{reason, reason_text, Serving};
 use crate::fault::{ErrorCode, Fault};
-use crate::unit::{ErrorReport, Unit};
+use crate::sys;
+use crate::unit::{ErrorReport, Timing, Unit};
 use std::fmt;
 use std::io;
 use std::string::{String, ToString};
@@ -88,6 +90,55 @@ pub enum UpdateError {
     },
     /// The new data differ from those that the server has in the times of their end of data alone.
     NewTimings,
+    /// No cache may name the times of their end of data: they break this rule (RFC 8210 section 6).
+    Times(TimeRule),
+}
+
+/// A rule on the times that a cache names (RFC 8210 section 6).
+#[derive(Clone, Copy, Debug, PartialEq, Eq)]
+#[non_exhaustive]
+pub enum TimeRule {
+    /// The refresh time is 1 to 86400 seconds.
+    Refresh,
+    /// The retry time is 1 to 7200 seconds.
+    Retry,
+    /// The expire time is 600 to 172800 seconds.
+    Expire,
+    /// The expire time is longer than the refresh time.
+    AboveRefresh,
+    /// The expire time is longer than the retry time.
+    AboveRetry,
+}
+
+impl TimeRule {
+    /// The first rule that these times break.
+    pub(crate) fn broken_by(timing: Timing) -> Option<TimeRule> {
+        match sys::times_rule(timing) {
+            time_rule::NONE => None,
+            time_rule::REFRESH => Some(TimeRule::Refresh),
+            time_rule::RETRY => Some(TimeRule::Retry),
+            time_rule::EXPIRE => Some(TimeRule::Expire),
+            time_rule::ABOVE_REFRESH => Some(TimeRule::AboveRefresh),
+            _ => Some(TimeRule::AboveRetry),
+        }
+    }
+
+    /// The number of the rule.
+    fn number(self) -> u8 {
+        match self {
+            TimeRule::Refresh => time_rule::REFRESH,
+            TimeRule::Retry => time_rule::RETRY,
+            TimeRule::Expire => time_rule::EXPIRE,
+            TimeRule::AboveRefresh => time_rule::ABOVE_REFRESH,
+            TimeRule::AboveRetry => time_rule::ABOVE_RETRY,
+        }
+    }
+}
+
+impl fmt::Display for TimeRule {
+    fn fmt(&self, f: &mut fmt::Formatter<'_>) -> fmt::Result {
+        f.write_str(&sys::name(named::TIME_RULE, self.number().into()))
+    }
 }
 
 impl fmt::Display for UpdateError {
@@ -97,6 +148,7 @@ impl fmt::Display for UpdateError {
                 write!(f, "serial {new} of other data isn't after serial {present}")
             }
             UpdateError::NewTimings => f.write_str("new timings want a new serial number"),
+            UpdateError::Times(rule) => rule.fmt(f),
         }
     }
 }

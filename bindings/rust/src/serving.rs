@@ -13,7 +13,7 @@ use std::os::unix::io::{AsFd, BorrowedFd};
 /// How many bytes are read at once.
 const CHUNK: usize = 4096;
 
-/// What is told of each connection that the server ends.
+/// The callback for connections that the server ends.
 pub(crate) type Ended = dyn Fn(SocketAddr, &ServerError) + Send + Sync;
 
 /// The connection of a client.
@@ -21,23 +21,23 @@ pub(crate) struct Connection {
     socket: Box<dyn Socket>,
     from: SocketAddr,
     served: Served,
-    /// Whether it waits until the socket takes bytes.
+    /// Whether it waits to write.
     is_sending: bool,
     left: Left,
     is_over: bool,
 }
 
-/// What is left to be done for what was sent.
+/// What is left to do after sending.
 enum Left {
     Nothing,
-    /// The socket may hold bytes that it took.
+    /// Flush the socket.
     Bytes,
-    /// So, and the client isn't told that they are the last.
+    /// Flush it, then shut it down for writing.
     Last,
 }
 
 impl Connection {
-    /// A connection from there that was just made.
+    /// A new connection from this address.
     pub(crate) fn new(socket: Box<dyn Socket>, from: SocketAddr, moment: &Moment) -> Self {
         Connection {
             socket,
@@ -49,38 +49,38 @@ impl Connection {
         }
     }
 
-    /// Ends the connection, since it is one more than there may be. It has to go on.
+    /// Refuses the connection: the limit is reached. It still has to be served until it is closed.
     pub(crate) fn refuse(&mut self, moment: &Moment) {
         self.served.refuse(moment);
     }
 
-    /// Whether the connection hasn't ended.
+    /// Whether the connection is still open.
     pub(crate) fn is_served(&self) -> bool {
         self.served.is_served()
     }
 
-    /// Whether nothing is left to be done.
+    /// Whether nothing is left to do.
     pub(crate) fn is_over(&self) -> bool {
         self.is_over
     }
 
-    /// Whether it waits until the socket takes bytes, and not until it has some.
+    /// Whether it waits to write, not to read.
     pub(crate) fn is_sending(&self) -> bool {
         self.is_sending
     }
 
-    /// The socket that is waited for.
+    /// The socket to wait for.
     pub(crate) fn socket(&self) -> BorrowedFd<'_> {
         self.socket.socket()
     }
 
-    /// When it is to go on if what it waits for doesn't come before.
+    /// The deadline of its wait.
     pub(crate) fn wakes(&self, moment: &Moment) -> u64 {
         self.served.wakes(moment)
     }
 
-    /// Goes on without waiting, by one answer at most; it is ready if what it waited for has come.
-    /// To make an answer and to send it take their time, so the clock is asked after that again.
+    /// Serves the client without blocking, by at most one answer; `ready` reports whether what it
+    /// waited for has come. Making and sending an answer takes time, so it reads the clock again.
     pub(crate) fn go_on(
         &mut self,
         moment: &mut Moment,
@@ -110,7 +110,7 @@ impl Connection {
         }
     }
 
-    /// Takes some of what came.
+    /// Reads some bytes.
     fn receive(&mut self, moment: &Moment) {
         let mut buffer = [0; CHUNK];
         match self.socket.read(&mut buffer) {
@@ -119,7 +119,7 @@ impl Connection {
         }
     }
 
-    /// Sends on.
+    /// Sends unsent bytes.
     fn send(&mut self, moment: &mut Moment, clock: impl Fn() -> u64) {
         let written = self.write();
         moment.now = clock();
@@ -133,8 +133,8 @@ impl Connection {
         }
     }
 
-    /// Has the socket take some of what is to be sent, from a file if it can. What stands before
-    /// that goes alone, so that nothing of the file is copied.
+    /// Writes some unsent bytes, from a file if the socket can. The bytes before the file's go in a
+    /// write of their own, so that nothing of the file is copied.
     fn write(&mut self) -> io::Result<usize> {
         let [head, body] = self.served.output();
         if let Some((file, from)) = self.served.file() {
@@ -149,7 +149,7 @@ impl Connection {
         self.socket.write_vectored(&[head, body].map(IoSlice::new))
     }
 
-    /// Does what is left to be done; answers whether it needn't wait for room.
+    /// Does what is left to do; returns whether it needn't wait to write.
     fn flush(&mut self) -> bool {
         if matches!(self.left, Left::Nothing) {
             return true;
@@ -164,7 +164,7 @@ impl Connection {
         true
     }
 
-    /// A call of the system failed, unless it had to wait.
+    /// Handles an error of a system call; one that would block is none.
     fn lost(&mut self, error: io::Error) {
         if !has_to_wait(&error) {
             self.served.lost(error);
@@ -183,14 +183,14 @@ mod tests {
     use std::time::Duration;
     use std::vec::Vec;
 
-    /// The time for which a client may take nothing begins once an answer was made and sent.
+    /// The write deadline starts when an answer has been made and sent.
     #[test]
     fn the_time_of_an_answer_is_the_caches() {
         let cache = Cache::new(ServerOptions {
             write: Duration::from_millis(600),
             ..ServerOptions::default()
         });
-        // More than a socket takes that nobody reads.
+        // More than the buffers of a socket hold.
         let mut bytes = Vec::new();
         for number in 0..100_000_u32 {
             bytes.extend([2, 4, 0, 0, 0, 0, 0, 20, 1, 32, 32, 0]);

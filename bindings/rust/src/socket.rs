@@ -1,4 +1,4 @@
-//! What clients and caches in threads carry bytes over.
+//! The transport of clients and caches in threads.
 
 use crate::body::send_from;
 use std::boxed::Box;
@@ -7,12 +7,12 @@ use std::net::{Shutdown, TcpStream};
 use std::os::unix::io::{AsFd, BorrowedFd};
 use std::os::unix::net::UnixStream;
 
-/// A connection that a [`Client`](crate::Client) or a [`Server`](crate::Server) carries bytes over:
-/// a socket, or what encrypts them over one, such as TLS.
+/// A connection of a [`Client`](crate::Client) or a [`Server`](crate::Server): a socket, or a layer
+/// over one that encrypts, such as TLS.
 ///
-/// It mustn't block: where nothing is there, or no room is, a call fails with
-/// [`WouldBlock`](io::ErrorKind::WouldBlock). Then the thread waits on the socket below: for bytes
-/// after a read, for room after a write or a flush.
+/// It must not block: a call that would fails with [`WouldBlock`](io::ErrorKind::WouldBlock). Then
+/// the thread waits on the socket below: until it can be read after a read, until it can be written
+/// after a write or a flush.
 ///
 /// ```
 /// use rtr_wire::Socket;
@@ -20,7 +20,7 @@ use std::os::unix::net::UnixStream;
 /// use std::net::{Shutdown, TcpStream};
 /// use std::os::unix::io::{AsFd, BorrowedFd};
 ///
-/// /// Bytes that are hidden from who reads little.
+/// /// A toy transport: each byte is inverted.
 /// struct Hidden(TcpStream);
 ///
 /// impl Read for Hidden {
@@ -56,15 +56,15 @@ pub trait Socket: Read + Write + Send {
     /// The socket below.
     fn socket(&self) -> BorrowedFd<'_>;
 
-    /// Tells the peer that nothing more is sent.
+    /// Shuts the connection down for writing.
     ///
     /// # Errors
     ///
     /// Those of the socket.
     fn finish(&mut self) -> io::Result<()>;
 
-    /// Sends at most so many bytes of a file, from there on, if the socket takes them without a copy:
-    /// how many it took. What encrypts bytes can't, and then this isn't to be written.
+    /// Sends bytes of a file without a copy, as sendfile does, and returns how many were sent. A
+    /// transport that encrypts can't, and keeps the default.
     fn send_file(
         &mut self,
         file: BorrowedFd<'_>,

@@ -1,10 +1,10 @@
-//! Safe calls of the functions of the archive.
+//! Safe wrappers of the archive's functions.
 
 #[cfg(feature = "alloc")]
 pub(crate) use crate::abi::{Check, Finding as FindingNumbers};
-pub(crate) use crate::abi::{Covering as CoveringNumbers, Tables, Unit};
+pub(crate) use crate::abi::{Covering as CoveringNumbers, Lookup, Unit};
 
-use crate::abi::{self, kind, side, status, validity};
+use crate::abi::{self, covers, kind, side, status, validity};
 use crate::abi::{Answer, Comparison, DataAnswer, Route as RouteNumbers};
 use crate::data::{DataError, Place, Side};
 use crate::fault::{ErrorCode, Fault};
@@ -15,8 +15,9 @@ use crate::unit::{self, ErrorReport, Providers, ReportParts, Timing, UnitRef};
 use crate::validation::{Route, Validity};
 use core::ops::Deref;
 use core::str;
+use core::time::Duration;
 
-/// The usual settings of a router's machine, with this version, or 2 if it is higher.
+/// The default settings of a router's machine, with this version, or 2 if it is higher.
 #[cfg(feature = "alloc")]
 pub(crate) fn usual_settings(highest: u8) -> abi::Settings {
     let mut settings = abi::Settings::default();
@@ -25,7 +26,7 @@ pub(crate) fn usual_settings(highest: u8) -> abi::Settings {
     settings
 }
 
-/// The usual settings of a cache's machine.
+/// The default settings of a cache's machine.
 #[cfg(feature = "alloc")]
 pub(crate) fn usual_cache_settings() -> abi::CacheSettings {
     let mut settings = abi::CacheSettings::default();
@@ -144,7 +145,13 @@ pub(crate) fn status_text(status: u8, detail: u8) -> Said {
     })
 }
 
-/// The name of a number, of what `named` says.
+/// A duration in milliseconds; only zero becomes zero.
+pub(crate) fn milliseconds(span: Duration) -> u32 {
+    let whole = u32::try_from(span.as_millis()).unwrap_or(u32::MAX);
+    whole.max(u32::from(!span.is_zero()))
+}
+
+/// The name of a number of the sort that `named` says.
 pub(crate) fn name(named: u8, number: u16) -> Said {
     Said::by(|output, length| {
         // SAFETY: as in `status_text`.
@@ -152,8 +159,20 @@ pub(crate) fn name(named: u8, number: u16) -> Said {
     })
 }
 
-/// The length of the line of the unit that the input begins with, of which the output holds the
-/// front, and the size of the unit.
+/// The first rule of RFC 8210 section 6 that these times break, or 0.
+#[cfg(feature = "std")]
+pub(crate) fn times_rule(timing: Timing) -> u8 {
+    let Timing {
+        refresh,
+        retry,
+        expire,
+    } = timing;
+    // SAFETY: it reads and writes nothing but numbers.
+    unsafe { abi::rtr_times_rule(refresh, retry, expire) }
+}
+
+/// The length of the line of the first unit of the input, whose front is in the output, and the
+/// size of the unit.
 #[cfg(feature = "alloc")]
 pub(crate) fn line(input: &[u8], offset: u64, output: &mut [u8]) -> Result<(usize, usize), Fault> {
     let mut answer = abi::Line::default();
@@ -171,7 +190,7 @@ pub(crate) fn line(input: &[u8], offset: u64, output: &mut [u8]) -> Result<(usiz
     lined(answer)
 }
 
-/// As `line`, of the JSON object.
+/// Like `line`, for the JSON object.
 #[cfg(feature = "alloc")]
 pub(crate) fn json(input: &[u8], offset: u64, output: &mut [u8]) -> Result<(usize, usize), Fault> {
     let mut answer = abi::Line::default();
@@ -189,7 +208,7 @@ pub(crate) fn json(input: &[u8], offset: u64, output: &mut [u8]) -> Result<(usiz
     lined(answer)
 }
 
-/// As `line`, of the change that the unit makes.
+/// Like `line`, for the change that the unit makes.
 #[cfg(feature = "alloc")]
 pub(crate) fn change_line(input: &[u8], output: &mut [u8]) -> Result<(usize, usize), Fault> {
     let mut answer = abi::Line::default();
@@ -206,7 +225,7 @@ pub(crate) fn change_line(input: &[u8], output: &mut [u8]) -> Result<(usize, usi
     lined(answer)
 }
 
-/// As `change_line`, of the JSON object.
+/// Like `change_line`, for the JSON object.
 #[cfg(feature = "alloc")]
 pub(crate) fn change_json(input: &[u8], output: &mut [u8]) -> Result<(usize, usize), Fault> {
     let mut answer = abi::Line::default();
@@ -231,7 +250,7 @@ fn lined(answer: abi::Line) -> Result<(usize, usize), Fault> {
     }
 }
 
-/// The name is at the front of the output, which has room for any.
+/// Writes the name to the front of the output, which is long enough for any name.
 #[cfg(feature = "alloc")]
 pub(crate) fn check_name(input: &[u8], output: &mut [u8]) -> Result<abi::Naming, Fault> {
     let mut answer = abi::Naming::default();
@@ -251,7 +270,7 @@ pub(crate) fn check_name(input: &[u8], output: &mut [u8]) -> Result<abi::Naming,
     }
 }
 
-/// The unit is one that `check_name` takes.
+/// Takes the same units as `check_name`.
 #[cfg(feature = "alloc")]
 pub(crate) fn check_unit(check: &mut Check, input: &[u8], was_there: bool) -> abi::Checked {
     let mut answer = abi::Checked::default();
@@ -270,15 +289,15 @@ pub(crate) fn check_end(check: Check) -> FindingNumbers {
     finding
 }
 
-/// The length of the line, whose front is written; 0 for none.
+/// The length of the line, whose front is written; 0 if there is none.
 #[cfg(feature = "alloc")]
 pub(crate) fn finding_line(finding: FindingNumbers, offset: u64, output: &mut [u8]) -> usize {
     // SAFETY: the slice is live and of this length, and overlaps nothing.
     unsafe { abi::rtr_finding_line_nonnull(&finding, offset, output.as_mut_ptr(), output.len()) }
 }
 
-/// `part` is the key info, the providers, or the unit that a report is about. The fault comes
-/// without a version and without the broken rule.
+/// `part` is the key info, the providers, or the unit that a report is about. The fault has no
+/// version and no broken rule.
 pub(crate) fn write(unit: &Unit, part: &[u8], output: &mut [u8]) -> Result<usize, Fault> {
     let unit = Unit {
         part_length: part.len(),
@@ -331,7 +350,7 @@ pub(crate) fn same_meaning(left: &[u8], right: &[u8], limit: u64) -> Result<bool
     }
 }
 
-/// The bytes that were written, or why the call failed.
+/// The written bytes, or why the call failed.
 fn data_result(answer: DataAnswer) -> Result<usize, DataError> {
     let place = |side| Place {
         side,
@@ -365,6 +384,30 @@ pub(crate) fn delta(old: &[u8], new: &[u8], output: &mut [u8]) -> Result<usize, 
         )
     };
     data_result(answer)
+}
+
+/// Writes the delta to an empty vector's room.
+#[cfg(feature = "alloc")]
+pub(crate) fn append_delta(
+    old: &[u8],
+    new: &[u8],
+    output: &mut alloc::vec::Vec<u8>,
+) -> Result<(), DataError> {
+    let mut answer = DataAnswer::default();
+    // SAFETY: as in `normalise`; the call writes to the output, and as many bytes as it says.
+    unsafe {
+        abi::rtr_delta_nonnull(
+            old.as_ptr(),
+            old.len(),
+            new.as_ptr(),
+            new.len(),
+            output.as_mut_ptr(),
+            output.capacity(),
+            &mut answer,
+        );
+        output.set_len(answer.written);
+    };
+    data_result(answer).map(|_| ())
 }
 
 pub(crate) fn apply(data: &[u8], changes: &[u8], output: &mut [u8]) -> Result<usize, DataError> {
@@ -429,15 +472,45 @@ pub(crate) fn order(
     data_result(answer)
 }
 
-/// The tables of data.
-pub(crate) fn tables(data: &[u8]) -> Tables {
-    let mut tables = Tables::default();
-    // SAFETY: the slice is live and of this length, never null, and the tables overlap nothing.
-    unsafe { abi::rtr_tables_nonnull(data.as_ptr(), data.len(), &mut tables) };
-    tables
+/// Writes the data that the recording leaves. After `NO_INDEX` the answer has how many entries the
+/// index needs at least; after `NO_ROOM` the work or the output was too short.
+#[cfg(feature = "alloc")]
+pub(crate) fn load(
+    recording: &[u8],
+    index: &mut [usize],
+    work: &mut [u8],
+    output: &mut [u8],
+) -> abi::Loaded {
+    let mut loaded = abi::Loaded::default();
+    // SAFETY: as in `apply_in_order`; so is the work.
+    unsafe {
+        abi::rtr_load_nonnull(
+            recording.as_ptr(),
+            recording.len(),
+            index.as_mut_ptr(),
+            index.len(),
+            work.as_mut_ptr(),
+            work.len(),
+            output.as_mut_ptr(),
+            output.len(),
+            &mut loaded,
+        )
+    };
+    loaded
 }
 
-/// The route in numbers.
+/// What lookups need to know of the data at the front of the slice.
+pub(crate) fn check_data(data: &[u8]) -> Result<Lookup, DataError> {
+    let (mut lookup, mut answer) = (Lookup::default(), DataAnswer::default());
+    // SAFETY: the slice is live and of this length, never null, and the rest overlaps nothing.
+    unsafe {
+        abi::rtr_check_data_nonnull(data.as_ptr(), data.len(), &mut lookup, &mut answer);
+    }
+    data_result(answer)?;
+    Ok(lookup)
+}
+
+/// The route as the archive takes it.
 fn route_numbers(route: &Route) -> RouteNumbers {
     let mut numbers = RouteNumbers {
         asn: route.asn(),
@@ -455,34 +528,34 @@ fn route_numbers(route: &Route) -> RouteNumbers {
     numbers
 }
 
-/// The validity of a route, whose length is in its range.
-pub(crate) fn validate(data: &[u8], tables: &Tables, route: &Route) -> Validity {
+/// The validity of a route, whose length is in range, by the data of the lookup.
+pub(crate) fn validate(data: &[u8], lookup: &Lookup, route: &Route) -> Validity {
     let route = route_numbers(route);
     // SAFETY: the slice is live and of this length, never null, and the rest is borrowed.
-    match unsafe { abi::rtr_validate_nonnull(data.as_ptr(), data.len(), tables, &route) } {
+    match unsafe { abi::rtr_validate_nonnull(data.as_ptr(), data.len(), lookup, &route) } {
         validity::VALID => Validity::Valid,
         validity::INVALID => Validity::Invalid,
         _ => Validity::NotFound,
     }
 }
 
-/// The first VRP that covers a route among the payloads from this place on.
+/// The first VRP from this index on that covers a route.
 pub(crate) fn covering(
     data: &[u8],
-    tables: &Tables,
+    lookup: &Lookup,
     route: &Route,
     from: usize,
 ) -> Option<CoveringNumbers> {
     let route = route_numbers(route);
     let mut found = CoveringNumbers::default();
     // SAFETY: as in `validate`; what is found overlaps nothing.
-    unsafe {
-        abi::rtr_covering_nonnull(data.as_ptr(), data.len(), tables, &route, from, &mut found)
-    }
-    .then_some(found)
+    let answer = unsafe {
+        abi::rtr_covering_nonnull(data.as_ptr(), data.len(), lookup, &route, from, &mut found)
+    };
+    (answer == covers::ONE).then_some(found)
 }
 
-/// The code of the report that is owed for this status of the unit that the input begins with.
+/// The code of the report that is owed for this status of the first unit of the input.
 pub(crate) fn error_code(status: u8, input: &[u8]) -> Option<u16> {
     let mut code = 0;
     // SAFETY: the slice is live and of this length, and the code overlaps nothing.
@@ -501,7 +574,7 @@ pub(crate) fn version_has(version: u8, kind: u8) -> bool {
 }
 
 impl Unit {
-    /// The unit as it is typed, whose bytes these are.
+    /// The typed unit, whose bytes these are.
     pub(crate) fn typed<'a>(&self, bytes: &'a [u8]) -> UnitRef<'a> {
         let (version, session, serial) = (self.version, self.session, self.serial);
         let announce = self.action == 1;
@@ -560,7 +633,7 @@ impl Unit {
             _ => unit::Unit::ErrorReport(unit::ErrorReport {
                 version,
                 code: ErrorCode(self.code),
-                // Of a report whose inner lengths don't fit, no part is shown.
+                // A report whose inner lengths don't fit has no parts.
                 parts: (self.part_start > 0).then(|| ReportParts {
                     unit: part,
                     text: &bytes[self.text_start..][..self.text_length],
@@ -574,7 +647,7 @@ impl Unit {
         Ipv4Addr::new(a, b, c, d)
     }
 
-    /// The timings of an end of data, which version 0 doesn't have.
+    /// The timings of an end of data; version 0 has none.
     fn timing(&self) -> Option<Timing> {
         (self.version > 0).then_some(Timing {
             refresh: self.refresh,
@@ -583,7 +656,7 @@ impl Unit {
         })
     }
 
-    /// The unit in numbers, without the length of its part, and a report without its text.
+    /// The unit as the archive takes it, without the length of its part, a report without its text.
     pub(crate) fn of<B>(typed: &unit::Unit<B>) -> Self {
         let unit = Unit {
             kind: typed.kind().into(),
@@ -641,7 +714,7 @@ impl Unit {
         }
     }
 
-    /// The report in numbers, without its parts.
+    /// The report as the archive takes it, without its parts.
     pub(crate) fn of_report<B>(report: &ErrorReport<B>) -> Self {
         Unit {
             kind: Kind::ErrorReport.into(),
@@ -665,7 +738,7 @@ mod tests {
     use super::{write, Fault, Unit};
     use std::string::ToString;
 
-    /// What no unit of the crate can say.
+    /// Values that no unit of this crate can have.
     #[test]
     fn no_form() {
         let rows = [
@@ -693,7 +766,7 @@ mod tests {
         }
     }
 
-    /// The texts of the library, as in all languages.
+    /// The library's texts, the same in all languages.
     #[cfg(feature = "std")]
     #[test]
     fn texts() {
@@ -714,6 +787,7 @@ mod tests {
                 "cause" => named::CAUSE,
                 "reason" => named::REASON,
                 "code" => named::CODE,
+                "time_rule" => named::TIME_RULE,
                 _ => {
                     let (detail, after) = text.split_once(' ').unwrap();
                     text = after;
@@ -730,12 +804,12 @@ mod tests {
         assert!(rows > 80);
     }
 
-    /// A status that isn't known isn't said to be another.
+    /// An unknown status isn't mapped to another one.
     #[test]
     fn unknown_status() {
         assert_eq!(Fault::of(11, 0), Fault::Unknown(11));
-        assert_eq!(Fault::of(18, 0), Fault::Unknown(18));
-        assert_eq!(Fault::of(18, 0).to_string(), "unknown status 18");
+        assert_eq!(Fault::of(23, 0), Fault::Unknown(23));
+        assert_eq!(Fault::of(23, 0).to_string(), "unknown status 23");
         for status in 1..=255 {
             assert_eq!(Fault::of(status, 1).status(), status);
         }

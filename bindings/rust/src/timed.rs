@@ -1,4 +1,4 @@
-//! A client's connections, which never wait for ever.
+//! A client's connections; every wait has a deadline.
 
 use crate::cache::locked;
 use crate::socket::Socket;
@@ -11,22 +11,22 @@ use std::sync::Mutex;
 use std::time::{Duration, Instant};
 use std::vec::Vec;
 
-/// How long a thread waits at most that can't be woken, since the system has no descriptors left.
+/// How long a thread waits at most if it can't be woken: the system had no descriptor left.
 pub(crate) const TICK: Duration = Duration::from_millis(100);
 
-/// Whether threads have to stop, and what wakes them then.
+/// Whether threads have to stop, and their waker.
 #[derive(Debug, Default)]
 pub(crate) struct Stop {
     is_set: AtomicBool,
-    /// What a thread has waited for: its other end is shut down when threads have to stop.
+    /// The end that a thread waits for; its other end is shut down when threads have to stop.
     ends: Mutex<Option<(UnixStream, UnixStream)>>,
 }
 
 impl Stop {
-    /// Has all threads stop. It waits for nothing, so that a signal's handler may call it.
+    /// Stops all threads. It doesn't block, so a signal handler may call it.
     pub(crate) fn set(&self) {
         self.is_set.store(true, Ordering::SeqCst);
-        // Whoever has the lock looks whether this is set after that.
+        // Whoever holds the lock checks this flag after releasing it.
         if let Ok(ends) = self.ends.try_lock() {
             if let Some((end, _)) = &*ends {
                 let _ = end.shutdown(Shutdown::Both);
@@ -38,7 +38,7 @@ impl Stop {
         self.is_set.load(Ordering::SeqCst)
     }
 
-    /// Waits for one of these, for so long at most, and until threads have to stop.
+    /// Waits until one of these is ready, the time has passed, or threads have to stop.
     pub(crate) fn wait(&self, sockets: impl IntoIterator<Item = Awaited>, most: Duration) {
         let woken = {
             let mut ends = locked(&self.ends);
@@ -60,34 +60,34 @@ impl Stop {
     }
 }
 
-/// A span in milliseconds, none of which is left out.
+/// A duration in milliseconds, rounded up.
 fn in_milliseconds(span: Duration) -> u64 {
     let whole = u64::try_from(span.as_millis()).unwrap_or(u64::MAX);
     whole.saturating_add(u64::from(span.subsec_nanos() % 1_000_000 > 0))
 }
 
-/// A moment so much later; the far future where there is no such moment.
+/// The moment after a duration; the far future if there is none.
 pub(crate) fn after(start: Instant, time: Duration) -> Instant {
     const CENTURY: Duration = Duration::from_secs(100 * 365 * 24 * 60 * 60);
     start.checked_add(time).unwrap_or(start + CENTURY)
 }
 
-/// The time by a clock that began then.
+/// Milliseconds since this moment.
 pub(crate) fn milliseconds_since(begun: Instant) -> u64 {
     u64::try_from(begun.elapsed().as_millis()).unwrap_or(u64::MAX)
 }
 
-/// How long it is until a moment.
+/// The duration until a moment.
 fn left(until: Instant) -> Duration {
     until.saturating_duration_since(Instant::now())
 }
 
-/// Whether a call had nothing to give, or no room, or a signal came.
+/// Whether a call would have blocked, or was interrupted by a signal.
 pub(crate) fn has_to_wait(error: &io::Error) -> bool {
     matches!(error.kind(), ErrorKind::WouldBlock | ErrorKind::Interrupted)
 }
 
-/// Writes some of the bytes. A socket that takes none fails.
+/// Writes some of the bytes. Fails if the socket takes none.
 pub(crate) fn write(socket: &mut impl Socket, bytes: &[u8]) -> io::Result<usize> {
     match socket.write(bytes)? {
         0 => Err(ErrorKind::WriteZero.into()),
@@ -95,7 +95,7 @@ pub(crate) fn write(socket: &mut impl Socket, bytes: &[u8]) -> io::Result<usize>
     }
 }
 
-/// Sends the last bytes of a connection, until then at most, and closes it so that they arrive.
+/// Sends the last bytes of a connection until a deadline, and closes it so that they arrive.
 pub(crate) fn send_last(mut socket: impl Socket, bytes: &[u8], until: Instant, stop: &Stop) {
     let (mut rest, mut is_flushed) = (bytes, false);
     while !is_flushed {
@@ -117,8 +117,8 @@ pub(crate) fn send_last(mut socket: impl Socket, bytes: &[u8], until: Instant, s
     close(socket);
 }
 
-/// Closes the connection so that what was written still arrives: bytes of the peer that weren't
-/// read would have it reset. Few of them are waited for, and not for long.
+/// Closes the connection so that written bytes still arrive: closing with unread bytes would reset
+/// it. It reads a few bytes before, for a short time.
 fn close(mut socket: impl Socket) {
     const MOST_BYTES: usize = 1 << 18;
     const MOST_TIME: Duration = Duration::from_millis(200);

@@ -1,6 +1,7 @@
 //! Origin validation of routes (RFC 6811).
 
 use crate::abi::mismatch;
+use crate::data::DataError;
 use crate::error::Error;
 use crate::net::{IpAddr, Ipv4Addr, Ipv6Addr};
 use crate::sys;
@@ -156,8 +157,9 @@ impl fmt::Display for Vrp {
     }
 }
 
-/// Where the prefixes of data lie, so that routes are looked up by halving. They are made in one
-/// pass over these; nothing is allocated.
+/// Data in canonical form, as [`apply_into`](crate::apply_into) writes them, with where their
+/// prefixes lie, so that routes are looked up by halving. They are made in two passes over the data,
+/// which they borrow; nothing is allocated.
 ///
 /// ```
 /// use rtr_wire::{Mismatch, Route, Tables, Validity};
@@ -168,45 +170,46 @@ impl fmt::Display for Vrp {
 ///     0, 4, 0, 0, 0, 0, 0, 20, 1, 23, 26, 0, 192, 0, 2, 0, 0, 1, 0, 15, //
 ///     0, 7, 0, 1, 0, 0, 0, 12, 0, 0, 0, 2,
 /// ];
-/// let tables = Tables::of(&data);
+/// let tables = Tables::of(&data)?;
 /// let route = Route::new(Ipv4Addr::new(192, 0, 2, 0), 27, 65551)?;
-/// assert_eq!(tables.validate(&data, &route), Validity::Invalid);
-/// let mut covering = tables.covering(&data, &route);
+/// assert_eq!(tables.validate(&route), Validity::Invalid);
+/// let mut covering = tables.covering(&route);
 /// assert_eq!(covering.next().and_then(|vrp| vrp.mismatch), Some(Mismatch::TooLong));
 /// assert_eq!(covering.next(), None);
-/// # Ok::<(), rtr_wire::LengthError>(())
+/// # Ok::<(), Box<dyn std::error::Error>>(())
 /// ```
 #[derive(Clone, PartialEq, Eq, Hash)]
-pub struct Tables(sys::Tables);
+pub struct Tables<'a> {
+    data: &'a [u8],
+    lookup: sys::Lookup,
+}
 
-impl Tables {
-    /// The tables of data in canonical form, as [`apply_into`](crate::apply_into) writes it. Make
-    /// them anew after each delta.
-    #[must_use]
-    pub fn of(data: &[u8]) -> Tables {
-        Tables(sys::tables(data))
+impl<'a> Tables<'a> {
+    /// The tables of the data that these bytes begin with. What follows the end of data doesn't
+    /// count.
+    ///
+    /// # Errors
+    ///
+    /// `Short` to `Prefix` or `NotCanonical`, with the place of the first fault.
+    pub fn of(data: &'a [u8]) -> Result<Tables<'a>, DataError> {
+        let lookup = sys::check_data(data)?;
+        Ok(Tables { data, lookup })
     }
 
-    /// The validity of the route by the VRPs of the data that these are the tables of. With other
-    /// bytes there is some answer.
+    /// The validity of the route by the VRPs of the data (RFC 6811 section 2).
     #[must_use]
-    pub fn validate(&self, data: &[u8], route: &Route) -> Validity {
-        sys::validate(data, &self.0, route)
+    pub fn validate(&self, route: &Route) -> Validity {
+        sys::validate(self.data, &self.lookup, route)
     }
 
     /// The VRPs of the data that cover the route, in the order of payloads.
     #[must_use]
-    pub fn covering<'a>(&'a self, data: &'a [u8], route: &Route) -> Covering<'a> {
-        Covering {
-            data,
-            tables: self,
-            route: *route,
-            from: Some(0),
-        }
+    pub fn covering(&self, route: &Route) -> Covering<'_> {
+        Covering::new(self.data, &self.lookup, route)
     }
 }
 
-impl fmt::Debug for Tables {
+impl fmt::Debug for Tables<'_> {
     fn fmt(&self, f: &mut fmt::Formatter<'_>) -> fmt::Result {
         f.debug_struct("Tables").finish_non_exhaustive()
     }
@@ -216,16 +219,28 @@ impl fmt::Debug for Tables {
 #[derive(Clone, Debug)]
 pub struct Covering<'a> {
     data: &'a [u8],
-    tables: &'a Tables,
+    lookup: &'a sys::Lookup,
     route: Route,
     from: Option<usize>,
+}
+
+impl<'a> Covering<'a> {
+    /// Those of the data that the lookup was made of.
+    pub(crate) fn new(data: &'a [u8], lookup: &'a sys::Lookup, route: &Route) -> Covering<'a> {
+        Covering {
+            data,
+            lookup,
+            route: *route,
+            from: Some(0),
+        }
+    }
 }
 
 impl Iterator for Covering<'_> {
     type Item = Vrp;
 
     fn next(&mut self) -> Option<Vrp> {
-        let found = sys::covering(self.data, &self.tables.0, &self.route, self.from?);
+        let found = sys::covering(self.data, self.lookup, &self.route, self.from?);
         self.from = found.as_ref().map(|vrp| vrp.place + 1);
         found.map(|vrp| Vrp {
             place: vrp.place,

@@ -1,4 +1,4 @@
-//! Waiting for several sockets, and being woken from another thread.
+//! Waits for several sockets, and wakes a thread from another one.
 
 use std::io::{self, Read, Write};
 use std::os::raw::{c_int, c_short, c_uint, c_ulong};
@@ -6,7 +6,7 @@ use std::os::unix::io::{AsRawFd, FromRawFd, OwnedFd};
 use std::os::unix::net::UnixStream;
 use std::vec::Vec;
 
-/// A socket that is waited for, as the C library has it.
+/// A socket to wait for, as in the C library.
 #[repr(C)]
 #[derive(Clone, Copy, Debug)]
 pub(crate) struct Awaited {
@@ -16,9 +16,9 @@ pub(crate) struct Awaited {
 }
 
 extern "C" {
-    /// Of the C library, on Linux: the standard library has nothing that waits for several sockets.
+    /// Of Linux's C library: the standard library can't wait for several sockets.
     fn poll(awaited: *mut Awaited, count: c_ulong, milliseconds: c_int) -> c_int;
-    // The same for many, which are named once.
+    // The same for many sockets, which are registered once.
     fn epoll_create1(flags: c_int) -> c_int;
     fn epoll_ctl(poller: c_int, how: c_int, descriptor: c_int, event: *mut Event) -> c_int;
     fn epoll_wait(poller: c_int, events: *mut Event, most: c_int, milliseconds: c_int) -> c_int;
@@ -32,13 +32,13 @@ extern "C" {
     ) -> c_int;
 }
 
-/// Has the system keep as many connections as it may until they are accepted.
+/// Sets the longest queue of connections that aren't accepted yet.
 pub(crate) fn keep_waiting(listener: &impl AsRawFd) {
     // SAFETY: these are numbers.
     unsafe { listen(listener.as_raw_fd(), c_int::MAX) };
 }
 
-/// Has the system keep so many bytes at most until they are sent.
+/// Sets the size of the send buffer.
 pub(crate) fn limit_unsent(socket: &impl AsRawFd, bytes: c_int) {
     const SOCKET: c_int = 1;
     const UNSENT: c_int = 7;
@@ -66,21 +66,21 @@ impl Awaited {
         }
     }
 
-    /// Whether the socket needn't be waited for, or has failed.
+    /// Whether the socket is ready, or has failed.
     #[cfg(test)]
     pub(crate) fn is_ready(self) -> bool {
         self.came != 0
     }
 }
 
-/// Waits until a socket is ready, a signal comes, or so many milliseconds have passed.
+/// Waits until a socket is ready, a signal comes, or the milliseconds have passed.
 pub(crate) fn wait(sockets: &mut [Awaited], milliseconds: u64) {
     let most = c_int::try_from(milliseconds).unwrap_or(c_int::MAX);
     // SAFETY: the slice is live, borrowed mutably, and of this length.
     unsafe { poll(sockets.as_mut_ptr(), sockets.len() as c_ulong, most) };
 }
 
-/// What is waited for of a socket, and the key that it has.
+/// What to wait for, and the socket's key.
 #[cfg_attr(target_arch = "x86_64", repr(C, packed))]
 #[cfg_attr(not(target_arch = "x86_64"), repr(C))]
 #[derive(Clone, Copy)]
@@ -89,12 +89,12 @@ struct Event {
     key: u64,
 }
 
-/// What waits for many sockets, each of which has a key.
+/// Waits for many sockets, each with a key.
 #[derive(Debug)]
 pub(crate) struct Poller(OwnedFd);
 
 impl Poller {
-    /// How many sockets that are ready are told at once.
+    /// How many ready sockets are returned at once.
     const MOST: u8 = 250;
 
     pub(crate) fn new() -> io::Result<Poller> {
@@ -108,19 +108,19 @@ impl Poller {
         Ok(Poller(unsafe { OwnedFd::from_raw_fd(descriptor) }))
     }
 
-    /// Waits for a socket too, until it has something to be read, or room if that is wanted.
+    /// Registers a socket, to wait until it can be read, or written.
     pub(crate) fn add(&self, socket: &impl AsRawFd, key: u64, wants_room: bool) -> io::Result<()> {
         const ADD: c_int = 1;
         self.control(ADD, socket, key, wants_room)
     }
 
-    /// Waits for something else of it.
+    /// Changes what to wait for.
     pub(crate) fn change(&self, socket: &impl AsRawFd, key: u64, wants_room: bool) {
         const MODIFY: c_int = 3;
         let _ = self.control(MODIFY, socket, key, wants_room);
     }
 
-    /// Waits for it no more.
+    /// Unregisters a socket.
     pub(crate) fn remove(&self, socket: &impl AsRawFd) {
         const DELETE: c_int = 2;
         let _ = self.control(DELETE, socket, 0, false);
@@ -145,8 +145,8 @@ impl Poller {
         }
     }
 
-    /// Waits until a socket is ready, a signal comes, or so many milliseconds have passed: the keys
-    /// of those that are ready or have failed.
+    /// Waits until a socket is ready, a signal comes, or the milliseconds have passed; returns the
+    /// keys of sockets that are ready or have failed.
     pub(crate) fn wait(&self, milliseconds: u64) -> Vec<u64> {
         let limit = c_int::try_from(milliseconds).unwrap_or(c_int::MAX);
         let mut events = [Event { what: 0, key: 0 }; Poller::MOST as usize];
@@ -158,15 +158,15 @@ impl Poller {
     }
 }
 
-/// A thread that waits, and what wakes it.
+/// Wakes a thread that waits.
 #[derive(Debug)]
 pub(crate) struct Waker(UnixStream);
 
-/// What a thread waits for that a [`Waker`] wakes.
+/// The end that a thread waits for, to be woken by a [`Waker`].
 #[derive(Debug)]
 pub(crate) struct Woken(UnixStream);
 
-/// A waker, and what it wakes.
+/// A waker, and the end that it wakes.
 pub(crate) fn waker() -> std::io::Result<(Waker, Woken)> {
     let (waker, woken) = UnixStream::pair()?;
     waker.set_nonblocking(true)?;
@@ -176,7 +176,7 @@ pub(crate) fn waker() -> std::io::Result<(Waker, Woken)> {
 
 impl Waker {
     pub(crate) fn wake(&self) {
-        // Where there is no room it is woken already.
+        // If the pipe is full, the thread is woken already.
         let _ = (&self.0).write(&[0]);
     }
 }
@@ -190,7 +190,7 @@ impl Woken {
         &self.0
     }
 
-    /// What woke it is done with.
+    /// Clears the wake-up.
     pub(crate) fn clear(&self) {
         let _ = (&self.0).read(&mut [0; 64]);
     }

@@ -1,4 +1,5 @@
-//! No unit allocates memory, nor do the calls over slices of data and changes, nor lookups in them.
+//! Units don't allocate memory, nor do the calls over slices of data and changes, nor lookups in
+//! them.
 #![cfg(feature = "std")]
 #![deny(unsafe_op_in_unsafe_fn)]
 
@@ -10,8 +11,8 @@ use rtr_wire::{
 use std::alloc::{GlobalAlloc, Layout, System};
 use std::cell::Cell;
 
-/// The system's allocator, whose calls each thread counts apart, since the thread that waits for
-/// this test allocates too.
+/// The system's allocator. Each thread counts its own calls, since the thread that waits for this
+/// test allocates too.
 struct Counted;
 
 thread_local! {
@@ -58,10 +59,10 @@ fn allocations() {
         assert_eq!(apply_into(nothing, &data, &mut output), Ok(length));
         assert_eq!(delta_into(nothing, &data, &mut output), Ok(length));
     }
-    let tables = Tables::of(&data);
+    let tables = Tables::of(&data).expect("they are data");
     let route = Route::new([192, 0, 2, 0], 24, 65551).expect("its length is in range");
-    assert_eq!(tables.validate(&data, &route), Validity::Valid);
-    assert_eq!(tables.covering(&data, &route).count(), 1);
+    assert_eq!(tables.validate(&route), Validity::Valid);
+    assert_eq!(tables.covering(&route).count(), 1);
     assert_eq!(COUNT.with(Cell::get) - before, 0);
     assert_eq!(reader.offset(), session.len() as u64);
 }

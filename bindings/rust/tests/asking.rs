@@ -1,4 +1,4 @@
-//! Clients that ask before it is time.
+//! Clients that ask before their refresh time.
 #![cfg(feature = "std")]
 
 mod peers;
@@ -7,6 +7,7 @@ use peers::*;
 use rtr_wire::*;
 use std::net::TcpListener;
 use std::ops::ControlFlow;
+use std::sync::Arc;
 use std::thread::scope;
 use std::time::Duration;
 
@@ -33,10 +34,12 @@ fn changed(from: u32, to: u32) -> Vec<u8> {
 
 /// A router that is connected and has asked, with a pause of a second between queries, from time 0.
 fn asked() -> Router {
-    let options = ClientOptions {
-        pause: Duration::from_secs(1),
-        ..options()
-    };
+    asked_with(milliseconds(1000))
+}
+
+/// The same with this pause.
+fn asked_with(pause: Duration) -> Router {
+    let options = ClientOptions { pause, ..options() };
     let mut router = Router::new(&options, 0);
     assert!(matches!(router.next(0), Step::Connect));
     router.connected(0);
@@ -44,14 +47,14 @@ fn asked() -> Router {
     router
 }
 
-/// What the router sends.
+/// The bytes that the router sends.
 fn sent(router: &mut Router) -> Vec<u8> {
     let output = router.output().to_vec();
     router.sent(output.len());
     output
 }
 
-/// Has the router go on at a time until it waits, and answers how often it told of data.
+/// Runs the router at a time until it waits, and returns how often it reported data.
 fn goes_on(router: &mut Router, now: u64) -> usize {
     let mut data = 0;
     loop {
@@ -81,20 +84,24 @@ fn a_router_that_waits() {
     assert_eq!(router.wakes(), 5000 + 3_600_000);
 }
 
-/// While an answer comes, or a part of a unit is there, nothing is lost of it.
+/// While an answer is awaited or comes the wish changes nothing, and no byte of the answer or of a
+/// partial unit is lost.
 #[test]
 fn a_router_in_an_answer() {
     let answer = all(1);
-    for cut in 1..answer.len() {
+    for cut in 0..answer.len() {
         let mut router = asked();
-        router.received(&answer[..cut]);
+        if cut > 0 {
+            router.received(&answer[..cut]);
+        }
         goes_on(&mut router, 0);
         router.ask_now();
         assert_eq!(goes_on(&mut router, 2000), 0);
         assert_eq!(sent(&mut router), []);
         router.received(&answer[cut..]);
         assert_eq!(goes_on(&mut router, 3000), 1);
-        assert_eq!(sent(&mut router), serial_query(2, SESSION, 1), "{cut}");
+        assert_eq!(sent(&mut router), [], "{cut}");
+        assert_eq!(router.wakes(), 3000 + 3_600_000, "{cut}");
     }
     let mut router = asked();
     router.received(&answer);
@@ -116,33 +123,85 @@ fn a_router_without_data() {
     assert_eq!(sent(&mut router), reset_query(2));
 }
 
-/// Without a connection it asks once on the next one; data that have expired are dropped.
+/// Without a connection, less than a pause after its last query, it connects after a pause, where it
+/// would wait for a second; a wish doesn't have it connect later than that. Then it asks once.
 #[test]
 fn a_router_without_a_connection() {
-    let mut router = asked();
+    let mut router = asked_with(milliseconds(400));
     router.received(&all(1));
     goes_on(&mut router, 0);
     router.received(&[]);
     assert!(matches!(router.next(0), Step::Close));
     assert!(matches!(router.next(0), Step::Failed(ClientError::Closed)));
-    router.ask_now();
     assert!(matches!(router.next(0), Step::Wait));
-    let now = router.wakes();
-    assert!(matches!(router.next(now), Step::Connect));
-    router.connected(now);
+    for (now, wakes) in [(200, 600), (300, 600)] {
+        router.ask_now();
+        assert!(matches!(router.next(now), Step::Wait));
+        assert_eq!(router.wakes(), wakes, "{now}");
+    }
+    assert!(matches!(router.next(600), Step::Connect));
+    router.ask_now(); // it connects already
+    assert!(matches!(router.next(700), Step::Wait));
+    router.connected(700);
     assert_eq!(sent(&mut router), serial_query(2, SESSION, 1));
     router.received(&changed(1, 2));
-    assert_eq!(goes_on(&mut router, now + 5000), 1);
+    assert_eq!(goes_on(&mut router, 700), 1);
     assert_eq!(sent(&mut router), []);
+}
 
+/// Where connections can't be made it doesn't wait for its time, which grows.
+#[test]
+fn a_router_that_is_refused() {
+    let options = ClientOptions {
+        pause: Duration::from_secs(1),
+        ..ClientOptions::default()
+    };
+    let mut router = Router::new(&options, 0);
+    let mut now = 0;
+    for refused in 0..10 {
+        assert!(matches!(router.next(now), Step::Connect), "{refused}");
+        router.lost(now, std::io::ErrorKind::ConnectionRefused.into());
+        assert!(matches!(router.next(now), Step::Close));
+        assert!(matches!(router.next(now), Step::Failed(_)));
+        assert!(matches!(router.next(now), Step::Wait));
+        now += 1000;
+        router.ask_now();
+    }
+    assert!(matches!(router.next(now), Step::Connect));
+}
+
+/// Data are valid up to their expire time, and then aren't, also before they are dropped (RFC 8210
+/// section 6). The wish to ask doesn't keep them.
+#[test]
+fn data_that_have_expired() {
+    let mut router = asked();
+    assert!(!router.has_data(0));
+    router.received(&all(1));
+    goes_on(&mut router, 5000);
+    assert!(router.has_data(5000));
+    let late = 5000 + 7_200_000;
+    assert!(router.has_data(late - 1));
+    assert!(!router.has_data(late));
     router.ask_now();
-    let late = now + 5000 + 7_200_000;
     assert!(matches!(router.next(late), Step::Dropped(_)));
+    assert_eq!(router.data(), None);
     assert!(matches!(router.next(late), Step::Close));
     assert!(matches!(
         router.next(late),
         Step::Failed(ClientError::Expired)
     ));
+}
+
+/// A cache that answers twice, and does this in between; the second query is a wish.
+fn answers_twice(listener: &TcpListener, between: impl FnOnce()) {
+    let mut cache = Peer::of(listener.accept().unwrap().0);
+    cache.unit().unwrap();
+    cache.send(&all(1));
+    between();
+    let query = serial_query(2, SESSION, 1);
+    assert_eq!(cache.bytes(query.len()), query);
+    cache.send(&changed(1, 2));
+    assert!(cache.is_closed());
 }
 
 /// A client that waits is woken, by its own thread or another one.
@@ -157,23 +216,12 @@ fn a_client_that_waits() {
         scope(|scope| {
             let (client, listener) = (&client, &listener);
             scope.spawn(move || {
-                let mut cache = Peer::of(listener.accept().unwrap().0);
-                cache.unit().unwrap();
-                cache.send(&all(1));
-                if by_another {
-                    wanted.recv_timeout(PATIENCE).unwrap();
-                    client.ask_now();
-                }
-                let query = cache.unit().expect("it asks again");
-                let (session, serial) = (SESSION, 1);
-                let wanted = SerialQuery {
-                    version: 2,
-                    session,
-                    serial,
-                };
-                assert_eq!(query, Unit::SerialQuery(wanted));
-                cache.send(&changed(1, 2));
-                assert!(cache.is_closed());
+                answers_twice(listener, || {
+                    if by_another {
+                        wanted.recv_timeout(PATIENCE).unwrap();
+                        client.ask_now();
+                    }
+                });
             });
             let last = client.run(|event| match event {
                 Event::Data { data, .. } if data.end().serial == 2 => ControlFlow::Break(()),
@@ -191,4 +239,29 @@ fn a_client_that_waits() {
         });
         client.ask_now(); // nobody is there any more
     }
+}
+
+/// So is a member that is followed, by the client that the caller made for it.
+#[test]
+fn a_client_that_is_followed() {
+    let _alone = alone();
+    let listener = TcpListener::bind("127.0.0.1:0").unwrap();
+    let address = listener.local_addr().unwrap().to_string();
+    // Nothing listens at the first address.
+    let addresses = ["127.0.0.1:1".to_string(), address];
+    let clients = addresses.map(|address| Arc::new(Client::new(address, options())));
+    scope(|scope| {
+        scope.spawn(|| answers_twice(&listener, || {}));
+        let made = |member: usize| Arc::clone(&clients[member]);
+        let last = follow(2, made, |member, event| match event {
+            Event::Data { data, .. } if data.end().serial == 2 => ControlFlow::Break(()),
+            Event::Data { .. } => {
+                clients[member].ask_now();
+                ControlFlow::Continue(())
+            }
+            Event::Failed(_) if member == 0 => ControlFlow::Continue(()),
+            other => panic!("{member}: {other:?}"),
+        });
+        assert_eq!(last.unwrap(), Some(data(2)));
+    });
 }

@@ -60,7 +60,7 @@ impl Case {
         }
     }
 
-    /// How much room always suffices.
+    /// A length that always suffices for the output.
     fn room(&self) -> usize {
         self.input.len() + self.version.map_or(0, |_| 12)
     }
@@ -103,8 +103,8 @@ impl Case {
         assert_eq!(form, self.form);
     }
 
-    /// An output as long as the form suffices, and one that is a byte shorter doesn't. A limit of
-    /// as many units as there are doesn't suffice either.
+    /// An output as long as the canonical form suffices, and an output one byte shorter doesn't. A
+    /// limit of exactly the number of units doesn't suffice either.
     fn check_bounds(&self) {
         let mut output = vec![0; self.form.len()];
         let short = self.form.len() - 1;

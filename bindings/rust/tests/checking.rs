@@ -1,13 +1,13 @@
-//! The recordings of `tests/programs/listings --findings`, with the lines of what they break: from
-//! the file that `RTR_FINDINGS` names, or else made by python3. Where there is no python3, nothing
-//! is tested here.
+//! The recordings of `tests/programs/listings --findings`, with the lines on the rules they break:
+//! from the file that `RTR_FINDINGS` names, or else made by python3. Where there is no python3,
+//! nothing is tested here.
 #![cfg(feature = "alloc")]
 
 mod computed;
 
 use rtr_wire::{Checker, Fault, Finding};
 
-/// What the units of a recording break, up to one that is refused.
+/// The rules that the units of a recording break, up to a refused unit.
 fn check(recording: &[u8]) -> (Vec<Finding>, Option<Fault>) {
     let mut checker = Checker::new();
     let mut findings = Vec::new();

@@ -13,7 +13,7 @@ use std::ops::ControlFlow;
 use std::sync::Mutex;
 use std::time::{Duration, Instant};
 
-/// A cache that a test plays.
+/// A cache whose answers a test writes.
 struct Played {
     listener: TcpListener,
 }
@@ -74,7 +74,7 @@ fn options() -> ClientOptions {
     }
 }
 
-/// What a client told.
+/// The events of a client.
 #[derive(Clone, Debug, PartialEq)]
 enum Told {
     Data(Data),
@@ -82,7 +82,7 @@ enum Told {
     Failed(String),
 }
 
-/// What a client told, and the payloads that its changes made, as lines by their names.
+/// The events of a client, and the payloads after its changes, as lines by their names.
 #[derive(Default)]
 struct Log {
     told: Vec<Told>,
@@ -100,7 +100,7 @@ fn named(unit: &UnitRef) -> (String, String) {
 }
 
 impl Log {
-    /// The changes have to lead from what was there to what is.
+    /// The changes have to turn the payloads before into the present ones.
     fn add(&mut self, event: &Event<'_>) {
         let (changes, data) = match event {
             Event::Data { data, changes, .. } => (*changes, Some(*data)),
@@ -135,8 +135,8 @@ impl Drop for Stopping<'_> {
     }
 }
 
-/// Runs a client beside the script, which may look at the log, and answers what the client told.
-/// What the script answers, such as a connection, is there until the client is stopped.
+/// Runs a client beside the script, which may read the log, and returns the client's events. The
+/// script's result, such as a connection, lives until the client is stopped.
 fn follow<T>(
     address: SocketAddr,
     options: ClientOptions,
@@ -164,7 +164,7 @@ fn follow<T>(
     log.into_inner().unwrap().told
 }
 
-/// Whether the client has told this last.
+/// Whether this is the client's last event.
 fn told_last(log: &Mutex<Log>, wanted: &Told) -> bool {
     holds(|| log.lock().unwrap().told.last() == Some(wanted))
 }
@@ -182,7 +182,7 @@ fn all(version: u8, serial: u32) -> Vec<u8> {
     )
 }
 
-/// What has changed between two serial numbers.
+/// The changes between two serial numbers.
 fn changed(from: u32, to: u32) -> Vec<u8> {
     answer(2, data(from).delta_to(&data(to)).unwrap().as_bytes())
 }
@@ -251,7 +251,7 @@ fn follows_a_server() {
 }
 const UNSUPPORTED: ErrorCode = ErrorCode::UNSUPPORTED_PROTOCOL_VERSION;
 
-/// Where no version is left it says so.
+/// If no version is left it reports that.
 #[test]
 fn no_version() {
     let _alone = alone();
@@ -293,7 +293,7 @@ fn a_session() {
         peer.expect(&reset_query(2));
         peer.send(&all(2, 5));
         assert!(told_last(log, &Told::Data(data(5))));
-        // The session is another: all is dropped, and asked for anew.
+        // The session is another: the client drops all data, and asks for all.
         peer.expect(&serial_query(2, SESSION, 5));
         peer.send(&response(2, 7));
         let code = ErrorCode::CORRUPT_DATA;
@@ -316,7 +316,7 @@ fn a_session() {
     assert_eq!(told, wanted);
 }
 
-/// Before a cache has data it is asked again. Data that it can't refresh are kept until they
+/// While a cache has no data the client asks again. Data that it can't refresh are kept until they
 /// expire.
 #[test]
 fn no_data_and_expired_data() {
@@ -350,8 +350,8 @@ fn no_data_and_expired_data() {
     assert_eq!(told.get(place + 1), Some(&expired));
 }
 
-/// Ends an answer to a reset query after so many bytes: closes the connection, or resets it by
-/// leaving the query unread.
+/// Ends an answer to a reset query after this many bytes: closes the connection, or resets it by
+/// not reading the query.
 fn stops_after(cache: &Played, answer: &[u8], resets: bool) -> ClientError {
     let client = Client::new(cache.address().to_string(), options());
     std::thread::scope(|scope| {
@@ -364,7 +364,7 @@ fn stops_after(cache: &Played, answer: &[u8], resets: bool) -> ClientError {
         }
         peer.try_send(answer);
         drop(peer);
-        // Without a word a client asks in lower versions.
+        // If no byte came a client asks in lower versions.
         while !fetched.is_finished() {
             drop(cache.within(milliseconds(1)));
         }
@@ -372,8 +372,8 @@ fn stops_after(cache: &Played, answer: &[u8], resets: bool) -> ClientError {
     })
 }
 
-/// An answer to a reset query that ends after each of its bytes gives no data, and what has changed
-/// is applied whole or not at all.
+/// An answer to a reset query that ends after any of its bytes gives no data, and changes are
+/// applied whole or not at all.
 #[test]
 fn caches_that_stop() {
     let _alone = alone();
@@ -396,7 +396,7 @@ fn caches_that_stop() {
             peer.send(&delta[..length]);
             drop(peer);
             let serial = if length == delta.len() { 2 } else { 1 };
-            // Where the answer isn't whole it asks for all data.
+            // If the answer is incomplete it asks for all data.
             let query = if length == delta.len() {
                 serial_query(2, SESSION, serial)
             } else {
@@ -418,7 +418,7 @@ fn end_of(serial: u32) -> Vec<u8> {
     end.unwrap().into_bytes()
 }
 
-/// What comes after a query, what the client says of it, and the code of the report.
+/// The bytes after a query, the client's error, and the code of the report.
 type Refused = (Vec<u8>, &'static str, Option<ErrorCode>);
 
 /// Sequences that are refused.
@@ -443,7 +443,7 @@ fn refused_sequences() -> Vec<Refused> {
     ]
 }
 
-/// Units that may not stand where they come.
+/// Units that may not come at that point.
 fn misplaced() -> Vec<Refused> {
     let text = "unit is not allowed here";
     let code = Some(ErrorCode::UNSUPPORTED_PDU_TYPE);
@@ -476,7 +476,7 @@ fn misplaced() -> Vec<Refused> {
     rows
 }
 
-/// What a client says of an answer, and the code of the report that comes of it.
+/// The client's error on an answer, and the code of its report.
 fn fetch_refused(cache: &Played, bytes: &[u8]) -> (String, Option<ErrorCode>) {
     let client = Client::new(cache.address().to_string(), options());
     std::thread::scope(|scope| {
@@ -572,7 +572,8 @@ fn slow(bytes: Vec<u8>) -> Plays {
     })
 }
 
-/// A cache that stalls, is slow, or floods is left in a bounded time, with a name for it.
+/// A client leaves a cache that stalls, is slow, or floods within a bounded time, and names the
+/// reason.
 #[test]
 fn hostile_caches() {
     let _alone = alone();
@@ -614,8 +615,8 @@ fn hostile_caches() {
     assert!(matches!(error, ClientError::TooLong));
 }
 
-/// An answer of as many bytes of payload units, or units, as are allowed is taken, and one of one
-/// more isn't.
+/// An answer with as many bytes of payload units, or units, as are allowed is accepted, and one
+/// more is refused.
 #[test]
 fn limits() {
     let _alone = alone();
@@ -644,7 +645,7 @@ fn limits() {
     }
 }
 
-/// Why a client gets nothing of a cache, and how long it takes until then.
+/// Why a client gets nothing from a cache, and after how long it says so.
 fn fetch_played(plays: Plays, options: ClientOptions) -> (ClientError, Duration) {
     let cache = Played::new();
     let client = Client::new(cache.address().to_string(), options);
@@ -689,7 +690,7 @@ fn caches_that_stall() {
     });
 }
 
-/// A cache that says nothing gets one query, and nothing after it.
+/// A silent cache gets one query, and nothing after it.
 #[test]
 fn a_query_is_sent_once() {
     let _alone = alone();
@@ -708,7 +709,7 @@ fn a_query_is_sent_once() {
     });
 }
 
-/// A client that is stopped ends soon, whatever it is about.
+/// A stopped client ends soon, whatever it is doing.
 #[test]
 fn stopped() {
     let _alone = alone();
@@ -727,7 +728,7 @@ fn stopped() {
         peer.send(&all(2, 1));
         assert!(told_last(log, &Told::Data(data(1))));
     });
-    // It ends when it is told to, and answers the data.
+    // It ends when it is stopped, and returns the data.
     let cache = Played::new();
     let client = Client::new(cache.address().to_string(), options());
     std::thread::scope(|scope| {
@@ -742,8 +743,8 @@ fn stopped() {
 fn no_thread_wakes() {
     let _alone = alone();
     let cache = Played::new();
-    let nobody = TcpListener::bind("127.0.0.1:0").unwrap().local_addr();
-    let addresses = [cache.address(), nobody.unwrap()];
+    // Nothing listens at the second address.
+    let addresses = [cache.address(), SocketAddr::from(([127, 0, 0, 1], 1))];
     let patient = || ClientOptions {
         pause: PATIENCE,
         ..options()
@@ -759,11 +760,7 @@ fn no_thread_wakes() {
         let stopping: Vec<Stopping<'_>> = stopping.collect();
         let mut peer = cache.asked(&reset_query(2));
         peer.send(&all(2, 1));
-        std::thread::sleep(Duration::from_secs(1));
-        let before = waits("rtr client");
-        std::thread::sleep(Duration::from_secs(2));
-        let woken = waits("rtr client") - before;
-        assert!(woken <= 2, "woken {woken} times");
+        assert!(stay_asleep(&["rtr client"]));
         drop(stopping);
     });
 }

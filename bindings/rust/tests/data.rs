@@ -27,7 +27,7 @@ struct Payload {
     withdraw: Vec<u8>,
 }
 
-/// Of the units, by RFC 8210 sections 5.6, 5.7 and 5.10 and `docs/PROTOCOL.md`.
+/// Reads them from the units, by RFC 8210 sections 5.6, 5.7 and 5.10 and `docs/PROTOCOL.md`.
 fn header(kind: u8, field: [u8; 2], size: usize) -> Vec<u8> {
     let mut bytes = vec![2, kind, field[0], field[1]];
     bytes.extend((size as u32).to_be_bytes());
@@ -121,7 +121,7 @@ fn data(model: &Model, serial: u8) -> Vec<u8> {
     units.chain(end(5, serial)).collect()
 }
 
-/// What leads from one to the other.
+/// The changes from the first to the second.
 fn delta(old: &Model, new: &Model, serial: u8) -> Vec<u8> {
     let announced = new
         .values()
@@ -134,8 +134,8 @@ fn delta(old: &Model, new: &Model, serial: u8) -> Vec<u8> {
     announced.chain(withdrawn).chain(end(5, serial)).collect()
 }
 
-/// A call into an output of this length answers these bytes, and leaves the rest of the output;
-/// into a shorter one it has no room.
+/// A call with an output of this length returns these bytes, and leaves the rest of the output
+/// unchanged; a shorter output has no room.
 fn writes(wanted: &[u8], room: usize, mut call: impl FnMut(&mut [u8]) -> Result<usize, DataError>) {
     let mut output = vec![0xa5; room];
     assert_eq!(call(&mut output), Ok(wanted.len()));
@@ -158,7 +158,7 @@ fn deltas() {
         writes(&changes, room, |output| delta_into(&one, &two, output));
         let room = one.len() + changes.len();
         writes(&two, room, |output| apply_into(&one, &changes, output));
-        // What follows an end of data doesn't count.
+        // Bytes after an end of data are ignored.
         let longer = [&one[..], &[1, 2, 3]].concat();
         writes(&two, room, |output| apply_into(&longer, &changes, output));
     }
@@ -196,7 +196,7 @@ fn changes_in_any_order() {
         let (mut index, mut changes) = (vec![0; sent.len() / 12], vec![0; sent.len()]);
         let length = order_into(&sent, &mut index, &mut changes).expect("all is allowed");
         changes.truncate(length);
-        // In canonical form nothing is to be ordered.
+        // Changes in canonical form need no ordering.
         writes(&changes, length, |output| {
             order_into(&changes, &mut index, output)
         });
@@ -210,7 +210,7 @@ fn changes_in_any_order() {
     }
 }
 
-/// What a call answers that is refused: the output is as it was.
+/// The fault of a refused call, which leaves the output unchanged.
 fn refused(call: impl FnOnce(&mut [u8]) -> Result<usize, DataError>) -> (Fault, Option<Place>) {
     let mut output = [0xa5; 400];
     let error = call(&mut output).unwrap_err();
@@ -282,7 +282,7 @@ fn what_holds_no_data() {
         assert_eq!(refused(|out| apply_into(&bytes, &nothing, out)), first);
         assert_eq!(refused(|out| apply_into(&nothing, &bytes, out)), second);
     }
-    // What withdraws is no data, and in changes comes last.
+    // Withdrawals aren't data, and come last in changes.
     let withdraws = [ipv4(1).withdraw, nothing.clone()].concat();
     let mixed = [ipv4(1).withdraw, ipv4(2).announce, nothing.clone()].concat();
     let twice = [ipv4(1).announce, ipv4(1).withdraw, nothing.clone()].concat();
@@ -341,7 +341,7 @@ fn changes_that_the_rules_refuse() {
         let wanted = (fault, at(Side::Second, offset));
         assert_eq!(refused(|out| apply_into(&data, &changes, out)), wanted);
     }
-    // An ASPA takes the place of another.
+    // An ASPA replaces another.
     let changes = [aspa(3, &[7, 8]).announce, end.clone()].concat();
     let wanted = [ipv4(1).announce, aspa(3, &[7, 8]).announce, end].concat();
     writes(&wanted, 400, |output| apply_into(&data, &changes, output));
@@ -529,7 +529,7 @@ mod owned {
         assert_eq!(Data::new(3, 5, 0, None), Err(Fault::UnitVersion(3)));
     }
 
-    /// What only announces is data in whatever order.
+    /// Units that only announce are data in any order.
     #[test]
     fn from_sequences() {
         let (a, b, end) = (ipv4(1), ipv4(2), end(5, 1));

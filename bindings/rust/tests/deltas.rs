@@ -7,7 +7,7 @@ mod computed;
 use rtr_wire::{apply_in_order, apply_into, delta_into, order, order_into};
 use rtr_wire::{DataError, Fault, Side};
 
-/// One case: a call, and what is expected of it.
+/// One case: a call, and its expected result.
 struct Case<'a> {
     call: u8,
     status: u8,
@@ -21,7 +21,7 @@ struct Case<'a> {
 }
 
 impl<'a> Case<'a> {
-    /// The case that these bytes begin with, and what follows it.
+    /// The case at the front of these bytes, and the rest.
     fn first(bytes: &'a [u8]) -> (Self, &'a [u8]) {
         let (head, rest) = bytes.split_at(4);
         let (numbers, rest) = rest.split_at(40);

@@ -7,17 +7,17 @@ mod peers;
 use peers::*;
 use rtr_wire::*;
 use std::io::{self, ErrorKind};
-use std::net::{SocketAddr, TcpStream};
+use std::net::{SocketAddr, TcpListener, TcpStream};
 use std::ops::ControlFlow;
 use std::sync::mpsc::channel;
 use std::sync::{Arc, Mutex};
 use std::thread;
-use std::time::Duration;
+use std::time::{Duration, Instant};
 
-/// How long a scene may take, also where others use the machine.
+/// How long a scene may take, also on a busy machine.
 const ENOUGH: Duration = Duration::from_secs(300);
 
-/// Where a cache is, while it can be reached.
+/// The address of a cache while it can be reached.
 type Place = Arc<Mutex<Option<SocketAddr>>>;
 
 fn options() -> ClientOptions {
@@ -50,7 +50,7 @@ fn cache(place: &Place, data: Data) -> Server {
     server
 }
 
-/// Has a scene end in time.
+/// Fails a scene that doesn't end in time.
 fn in_time(scene: impl FnOnce() + Send + 'static) {
     let (sender, receiver) = channel();
     let running = thread::spawn(move || {
@@ -68,7 +68,7 @@ struct Scene {
     first: Place,
     server: Option<Server>,
     second: Data,
-    /// What was shown, in its order.
+    /// The data that were shown, in order.
     shown: Vec<(usize, u32)>,
     /// How often the first has failed since then.
     failed: usize,
@@ -81,10 +81,6 @@ impl Scene {
             Event::Failed(_) => {
                 assert_eq!(member, 0, "the second cache is always there");
                 self.failed += 1;
-                // Its data stay while it can't be reached: the second's aren't shown meanwhile.
-                if self.shown.len() == 2 && self.failed == 20 {
-                    self.server = Some(cache(&self.first, data_of(SESSION, 8, 30)));
-                }
                 ControlFlow::Continue(())
             }
             other => panic!("{other:?}"),
@@ -107,21 +103,27 @@ impl Scene {
                 *self.first.lock().unwrap() = None;
                 self.server.take().expect("it is there").stop();
             }
+            // The data of the first live, but the second has a whole answer.
+            3 => {
+                let old = data_of(SESSION, 7, 30).numbered(9, 3);
+                assert_eq!(*changes, old.delta_to(data).unwrap());
+                self.server = Some(cache(&self.first, data_of(SESSION, 8, 30)));
+            }
             _ => {
-                let old = data_of(SESSION, 7, 30).numbered(SESSION, 8);
+                let old = self.second.numbered(SESSION, 8);
                 assert_eq!(*changes, old.delta_to(data).unwrap());
             }
         }
         self.failed = 0;
         match count {
-            3 => ControlFlow::Break(()),
+            4 => ControlFlow::Break(()),
             _ => ControlFlow::Continue(()),
         }
     }
 }
 
 #[test]
-fn the_first_that_has_data() {
+fn the_first_that_answers() {
     in_time(|| {
         let places = [Place::default(), Place::default()];
         let second = data_of(9, 3, 25);
@@ -135,54 +137,82 @@ fn the_first_that_has_data() {
         };
         let clients = |member: usize| client(&places[member], options());
         let data = follow(2, clients, |member, event| scene.tell(member, &event)).unwrap();
-        assert_eq!(scene.shown, [(1, 3), (0, 7), (0, 8)]);
+        assert_eq!(scene.shown, [(1, 3), (0, 7), (1, 3), (0, 8)]);
         assert_eq!(data, Some(data_of(SESSION, 8, 30)));
     });
 }
 
-/// The data of the second cache are shown once those of the first have expired: by one change, or
-/// on a machine that is too busy after there were none.
+/// Follows caches until data of the second are shown.
+fn until_second(settings: GroupSettings, places: &[Place], on: impl FnMut(&Event<'_>)) -> Data {
+    let mut on = on;
+    let clients = |member: usize| client(&places[member], options());
+    let data = follow_with(settings, places.len(), clients, |member, event| {
+        on(&event);
+        match event {
+            Event::Data { .. } if member == 1 => ControlFlow::Break(()),
+            _ => ControlFlow::Continue(()),
+        }
+    });
+    data.unwrap().expect("there are data")
+}
+
+/// A cache that is silent costs the patience.
 #[test]
-fn data_that_expire() {
+fn a_silent_cache() {
     in_time(|| {
         let places = [Place::default(), Place::default()];
-        let first = cache(&places[0], data_of(SESSION, 7, 30));
+        let silent = TcpListener::bind("127.0.0.1:0").unwrap();
+        *places[0].lock().unwrap() = Some(silent.local_addr().unwrap());
         let _second = cache(&places[1], data_of(9, 3, 25));
-        let clients = |member: usize| {
-            let expire = (member == 0).then_some(milliseconds(2000));
-            let options = ClientOptions {
-                expire,
-                ..options()
-            };
-            client(&places[member], options)
+        let settings = GroupSettings {
+            patience: milliseconds(500),
+            ..GroupSettings::default()
         };
-        let (mut shown, mut old) = (Vec::new(), Data::new(2, SESSION, 7, None).unwrap());
-        let data = follow(2, clients, |member, event| match event {
-            Event::Data { data, changes } => {
-                let end = data.end();
-                let before = old.numbered(end.session, end.serial);
-                assert_eq!(*changes, before.delta_to(data).unwrap());
-                *places[0].lock().unwrap() = None;
-                first.stop();
-                old = data.clone();
-                shown.push((member, end.serial));
-                match member {
-                    0 => ControlFlow::Continue(()),
-                    _ => ControlFlow::Break(()),
-                }
-            }
-            Event::Dropped { changes } => {
-                old = old.apply(changes).unwrap();
-                ControlFlow::Continue(())
-            }
-            _ => ControlFlow::Continue(()),
+        let began = Instant::now();
+        let data = until_second(settings, &places, |event| {
+            assert!(matches!(event, Event::Data { .. }));
         });
-        assert_eq!(shown, [(0, 7), (1, 3)]);
-        assert_eq!(data.unwrap(), Some(data_of(9, 3, 25)));
+        assert_eq!(data, data_of(9, 3, 25));
+        assert!(began.elapsed() >= settings.patience);
     });
 }
 
-/// Who stops the client of the first cache ends it, and without members it ends at once.
+/// An empty answer is a failure, but data of the only cache.
+#[test]
+fn empty_answers() {
+    in_time(|| {
+        let places = [Place::default(), Place::default()];
+        let empty = Data::new(2, SESSION, 7, None).unwrap();
+        let _first = cache(&places[0], empty.clone());
+        let _second = cache(&places[1], data_of(9, 3, 25));
+        let mut failures = 0;
+        let data = until_second(GroupSettings::default(), &places, |event| match event {
+            Event::Failed(ClientError::Empty) => failures += 1,
+            Event::Data { .. } => {}
+            other => panic!("{other:?}"),
+        });
+        assert_eq!((data, failures), (data_of(9, 3, 25), 1));
+        let clients = |member: usize| client(&places[member], options());
+        let alone = follow(1, clients, |_, event| {
+            assert!(matches!(event, Event::Data { .. }));
+            ControlFlow::Break(())
+        });
+        assert_eq!(alone.unwrap().map(|data| data.is_empty()), Some(true));
+    });
+}
+
+/// Too many caches are refused.
+#[test]
+fn too_many() {
+    for members in [Group::MOST + 1, 1000] {
+        let clients = |_| panic!("no client is made");
+        let refused = follow(members, clients, |_, event| panic!("{event:?}")).unwrap_err();
+        assert_eq!(refused.kind(), ErrorKind::InvalidInput);
+        assert_eq!(refused.to_string(), TooManyMembers.to_string());
+    }
+}
+
+/// Stopping the client of the first cache ends it; without members it ends at once.
 #[test]
 fn stopped() {
     in_time(|| {

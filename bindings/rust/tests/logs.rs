@@ -1,4 +1,4 @@
-//! What a client and a cache tell their logs.
+//! The log lines of a client and a cache.
 #![cfg(feature = "std")]
 
 mod peers;
@@ -23,7 +23,7 @@ impl Lines {
         self.0.lock().unwrap().push(line);
     }
 
-    /// Whether these lines come, and no others.
+    /// Whether exactly these lines come.
     fn are(&self, wanted: &[&str]) {
         let are = holds(|| *self.0.lock().unwrap() == wanted);
         assert!(are, "{:#?}", self.0.lock().unwrap());
@@ -69,4 +69,25 @@ fn both_ends() {
     let lines = ours.0.lock().unwrap();
     let last = lines.last().unwrap();
     assert!(last.starts_with("Warn failed error="), "{last}");
+}
+
+/// Data of serial number 0 are served, with a warning.
+#[test]
+fn serial_zero() {
+    let _alone = alone();
+    let lines = Lines::default();
+    let told = lines.clone();
+    let server = Server::logging(ServerOptions::default(), move |level, message, fields| {
+        told.add(level, message, fields);
+    });
+    for serial in [0, 1] {
+        let data = Data::new(1, SESSION, serial, None).unwrap();
+        assert_eq!(server.update(data), Ok(true));
+    }
+    lines.are(&[
+        "Info data session=4660 serial=0 version=1 payloads=0",
+        "Warn serial number 0: a router that lost its first answer may ask with it, and keep a part \
+         of the data session=4660",
+        "Info data session=4660 serial=1 version=1 payloads=0",
+    ]);
 }

@@ -1,4 +1,4 @@
-//! What hostile peers cost a client and a server in memory. This is the only test of its program,
+//! How much memory hostile peers cost a client and a server. This is the only test of its program,
 //! so that no other allocates.
 #![cfg(feature = "std")]
 #![deny(unsafe_op_in_unsafe_fn)]
@@ -37,7 +37,7 @@ unsafe impl GlobalAlloc for Counted {
 #[global_allocator]
 static ALLOCATOR: Counted = Counted;
 
-/// How many bytes are held at most while this is done, beside those that are held before.
+/// The peak of allocated bytes while this runs, beyond those allocated before.
 fn most(done: impl FnOnce()) -> usize {
     let before = HELD.load(Ordering::Relaxed);
     MOST.store(before, Ordering::Relaxed);

@@ -1,15 +1,14 @@
-//! What `docs/RUST.md` shows of readers and writers, data, and clients.
+//! The examples of `docs/RUST.md` on readers and writers, data, and clients.
 #![cfg(feature = "std")]
 
 use rtr_wire::{change_line, Client, ClientOptions, Data, DataError, Event};
 use rtr_wire::{Error, Fault, Reader, ResetQuery, Unit, UnitRef, Writer};
-use rtr_wire::{LengthError, Route, Server, ServerOptions};
+use rtr_wire::{Server, ServerOptions};
 use std::io::{BufReader, ErrorKind, Read, Write};
-use std::net::Ipv4Addr;
 use std::ops::ControlFlow;
 
-/// Asks a cache for all of its data, and answers its prefixes and its serial number. If a unit is
-/// refused, the report that is owed goes to the cache. Both may be the same `&TcpStream`.
+/// Asks a cache for all of its data, and returns its prefixes and its serial number. If a unit is
+/// refused, sends the owed report to the cache. Both may be the same `&TcpStream`.
 fn fetch(input: impl Read, output: impl Write) -> Result<(Vec<String>, u32), Error> {
     let mut writer = Writer::new(output);
     let query: UnitRef = Unit::ResetQuery(ResetQuery { version: 1 });
@@ -51,26 +50,6 @@ fn after(data: &Data, sent: &[u8]) -> Result<Data, DataError> {
     data.apply_in_order(sent)
 }
 
-/// What is said of three routes by the data of a router: whether each is valid, and why not.
-fn states(data: &Data) -> Result<Vec<String>, LengthError> {
-    let routes = [
-        Route::new(Ipv4Addr::new(192, 0, 2, 0), 24, 65551)?,
-        Route::new(Ipv4Addr::new(192, 0, 2, 0), 27, 65551)?,
-        Route::new(Ipv4Addr::new(203, 0, 113, 0), 24, 65551)?,
-    ];
-    let mut lines = Vec::new();
-    for route in routes {
-        let validity = data.validate(&route);
-        lines.push(format!("{route} {validity}"));
-        for vrp in data.covering(&route) {
-            if let Some(mismatch) = vrp.mismatch {
-                lines.push(format!("  {vrp}: {mismatch}"));
-            }
-        }
-    }
-    Ok(lines)
-}
-
 /// Follows a cache until it has this serial number, and prints what changes.
 fn watch(address: &str, serial: u32) -> Option<Data> {
     let client = Client::new(address, ClientOptions::default());
@@ -93,8 +72,8 @@ fn watch(address: &str, serial: u32) -> Option<Data> {
     })
 }
 
-/// What a cache sends: a cache response, a prefix and an end of data (RFC 8210 sections 5.5, 5.6
-/// and 5.8).
+/// The bytes that a cache sends: a cache response, a prefix and an end of data (RFC 8210 sections
+/// 5.5, 5.6 and 5.8).
 const SENT: [u8; 52] = [
     1, 3, 0x12, 0x34, 0, 0, 0, 8, //
     1, 4, 0, 0, 0, 0, 0, 20, 1, 23, 26, 0, 192, 0, 2, 0, 0, 1, 0, 15, //
@@ -126,18 +105,6 @@ fn refused() {
     let error = fetch(&SENT[..20], Vec::new()).unwrap_err();
     assert_eq!(error.fault(), Some(Fault::Short));
     assert!(matches!(fetch(&QUERY[..], Vec::new()), Err(Error::Io(_))));
-}
-
-#[test]
-fn validated() {
-    let data = Data::parse(&SENT[8..]).expect("it is data");
-    let lines = [
-        "192.0.2.0/24 AS65551 valid",
-        "192.0.2.0/27 AS65551 invalid",
-        "  192.0.2.0/23-26 AS65551: longer than the max length",
-        "203.0.113.0/24 AS65551 not found",
-    ];
-    assert_eq!(states(&data).expect("their lengths are in range"), lines);
 }
 
 #[test]

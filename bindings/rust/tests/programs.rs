@@ -1,11 +1,12 @@
-//! The example programs `cache` and `client`, run.
+//! The example programs `cache`, `client` and `routes`, run.
 #![cfg(feature = "std")]
 
+mod common;
 mod peers;
 
 use peers::*;
 use rtr_wire::*;
-use std::io::{BufRead, BufReader, Read};
+use std::io::{BufRead, BufReader, Read, Write};
 use std::path::{Path, PathBuf};
 use std::process::{Child, Command, Output, Stdio};
 use std::sync::mpsc::{channel, Receiver};
@@ -19,7 +20,7 @@ fn program(name: &str) -> Command {
     Command::new(path.join("examples").join(name))
 }
 
-/// The lines of what a program says, as they come.
+/// The lines that a program prints, as they come.
 struct Lines(Receiver<String>);
 
 impl Lines {
@@ -84,14 +85,14 @@ impl Cache {
         kept.into()
     }
 
-    /// Puts other data in the place of those before.
+    /// Replaces the data in the file.
     fn replace(&self, bytes: &[u8]) {
         let new = self.file.with_extension("new");
         std::fs::write(&new, bytes).unwrap();
         std::fs::rename(&new, &self.file).unwrap();
     }
 
-    /// Sends a signal, and answers the status.
+    /// Sends a signal, and returns the exit status.
     fn end(mut self, signal: &str) -> Option<i32> {
         self.ends(signal)
     }
@@ -153,8 +154,8 @@ fn few_descriptors() {
     assert_eq!(cache.end("TERM"), Some(0));
 }
 
-/// A cache that is started again answers clients that have data of before by changes, unless what
-/// it kept isn't as it was written.
+/// A restarted cache answers clients that have earlier data with changes, unless its saved state
+/// was altered.
 #[test]
 fn restarts() {
     let file = std::env::temp_dir().join(format!("rtr-cache-4-{}", std::process::id()));
@@ -196,7 +197,7 @@ fn restarts() {
     std::fs::remove_file(file.with_extension("whole")).unwrap();
 }
 
-/// With `--refuse` a report comes in place of a cache reset.
+/// With `--refuse` a report comes instead of a cache reset.
 #[test]
 fn refuses() {
     let file = std::env::temp_dir().join(format!("rtr-cache-5-{}", std::process::id()));
@@ -240,13 +241,19 @@ fn cache_and_client() {
         cache.line(),
         format!("{name}: unexpected end of input, at byte 20")
     );
-    // Data in any order, after a cache response.
+    // Data in any order, after a cache response that was cut off.
     let prefixes = [prefix(1, 9), prefix(1, 8)].concat();
     let end = Data::new(2, SESSION, 1, None).unwrap().into_bytes();
-    let response = [2, 3, 0, 0, 0, 0, 0, 8];
-    cache.replace(&[&response[..], &prefixes, &end].concat());
+    let response = bytes_of(&Unit::CacheResponse(CacheResponse {
+        version: 2,
+        session: SESSION,
+    }));
+    let answer = [&response[..], &prefixes, &end].concat();
+    cache.replace(&[&response[..], &prefixes[..20], &answer].concat());
     let taken = format!("{name}: session {SESSION} serial 1: 2 payloads");
     assert_eq!(cache.line(), taken);
+    let left_out = format!("{name}: left out: an answer without an end of data");
+    assert_eq!(cache.line(), left_out);
     let got = client(&[address, "--once"]);
     let wanted = "+ IPv4 prefix 10.0.8.0/24-24 AS65551\n+ IPv4 prefix 10.0.9.0/24-24 AS65551\n";
     assert_eq!(String::from_utf8(got.stdout).unwrap(), wanted);
@@ -368,4 +375,49 @@ fn arguments() {
         .output()
         .unwrap();
     assert_eq!(got.status.code(), Some(1));
+}
+
+/// What the example `routes` prints of a recording, on standard output and error, and its status.
+fn routes(recording: &[u8]) -> (String, String, Option<i32>) {
+    let mut command = program("routes");
+    command.stdin(Stdio::piped()).stdout(Stdio::piped());
+    let mut child = command.stderr(Stdio::piped()).spawn().unwrap();
+    let mut input = child.stdin.take().unwrap();
+    input.write_all(recording).unwrap();
+    drop(input);
+    let output = child.wait_with_output().unwrap();
+    let text = |bytes| String::from_utf8(bytes).unwrap();
+    (
+        text(output.stdout),
+        text(output.stderr),
+        output.status.code(),
+    )
+}
+
+/// The example over the recording that `docs/OPERATORS.md` makes, and over what it refuses.
+#[test]
+fn routes_by_recordings() {
+    let loads = common::loads();
+    let recording = |name| loads.iter().find(|load| load.name == name).unwrap();
+    let recorded = recording("the recording of docs/OPERATORS.md").recording();
+    let printed = "192.0.2.0/24 AS65551 invalid\n  \
+                   192.0.2.0/24-24 AS64496: another AS\n\
+                   192.0.2.0/27 AS65551 invalid\n  \
+                   192.0.2.0/24-24 AS64496: another AS\n\
+                   203.0.113.0/24 AS65551 invalid\n  \
+                   203.0.113.0/24-24 AS64500: another AS\n";
+    assert_eq!(
+        routes(&recorded),
+        (printed.to_string(), String::new(), Some(0))
+    );
+    let cut = recording("an answer that the next cache response cuts off").recording();
+    let (_, said, status) = routes(&cut);
+    let left_out = "routes: left out: an answer without an end of data\n";
+    assert_eq!((said.as_str(), status), (left_out, Some(0)));
+    let (printed, said, status) = routes(&[]);
+    let refused = "routes: unexpected end of input, at byte 0\n";
+    assert_eq!(
+        (printed.as_str(), said.as_str(), status),
+        ("", refused, Some(1))
+    );
 }

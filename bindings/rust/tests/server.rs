@@ -10,7 +10,7 @@ use std::io::{ErrorKind, Read};
 use std::net::SocketAddr;
 use std::sync::mpsc::{channel, Receiver};
 use std::sync::Mutex;
-use std::time::{Duration, Instant};
+use std::time::Instant;
 
 /// A server on a port of the loopback interface, whose threads are gone after it.
 struct Cache {
@@ -18,7 +18,7 @@ struct Cache {
     address: SocketAddr,
 }
 
-/// Limits that no client comes to, however busy the machine is.
+/// Limits that no client reaches, however busy the machine is.
 fn options() -> ServerOptions {
     ServerOptions {
         first_query: PATIENCE,
@@ -31,7 +31,7 @@ fn options() -> ServerOptions {
     }
 }
 
-/// Limits that a test waits for, and that no client comes to that does at once what it can.
+/// Limits that a test waits for, and that a client which acts at once never reaches.
 fn limits() -> ServerOptions {
     ServerOptions {
         first_query: milliseconds(2000),
@@ -94,9 +94,9 @@ fn reset_queries() {
     }
 }
 
-/// A client that has data of these serial numbers is told what leads to the present data, in the
-/// order of payloads (RFC 8210 section 8.2), and at any other serial number it gets a cache reset
-/// (section 8.3).
+/// A client that has data of these serial numbers gets the changes to the present data, in the
+/// order of payloads (RFC 8210 section 8.2), and at any other serial number a cache reset (section
+/// 8.3).
 fn knows(cache: &Cache, version: u8, known: std::ops::RangeInclusive<u32>) {
     let mut client = cache.client();
     let present = *known.end();
@@ -126,7 +126,7 @@ fn serial_queries() {
     (0..=2).for_each(|version| knows(&cache, version, 1..=12));
 }
 
-/// What leads back is kept for a time, and within a limit of bytes.
+/// Changes are kept for a time, and within a limit of bytes.
 #[test]
 fn what_is_kept() {
     let _alone = alone();
@@ -178,8 +178,8 @@ fn serial_numbers_wrap() {
     assert!(matches!(client.unit(), Some(Unit::CacheReset(_))));
 }
 
-/// An ASPA that is there, gone and there again, and payloads that come and go: what leads from each
-/// of the data is what leads there at once.
+/// An ASPA that comes, goes and comes again, and payloads that come and go: the changes from each
+/// earlier data are the direct difference.
 #[test]
 fn many_steps() {
     let _alone = alone();
@@ -204,8 +204,8 @@ fn many_steps() {
     }
 }
 
-/// What was saved is taken by a server without data, and nothing else: not where a byte is another,
-/// or the end is missing.
+/// A server without data accepts its saved state, and nothing else: no state with a byte changed,
+/// or without its end.
 #[test]
 fn restarts() {
     let _alone = alone();
@@ -281,7 +281,7 @@ fn updates() {
     let again = data(3).numbered(SESSION, 1);
     let refused = UpdateError::SerialNotAfter { present: 3, new: 1 };
     assert_eq!(cache.server.update(again), Err(refused));
-    // Other times under the same serial number: the last four bytes are the expire time (RFC 8210
+    // Other timings under the same serial number: the last four bytes are the expire time (RFC 8210
     // section 5.8).
     let mut bytes = data(3).into_bytes();
     let length = bytes.len();
@@ -290,6 +290,29 @@ fn updates() {
     let refused = UpdateError::NewTimings;
     assert_eq!(cache.server.update(timed), Err(refused));
     assert_eq!(refused.to_string(), "new timings want a new serial number");
+    cache.serves(3);
+    // Times that RFC 8210 section 6 doesn't allow a cache.
+    for (rule, [refresh, retry, expire]) in [
+        (TimeRule::Refresh, [0, 600, 7200]),
+        (TimeRule::Refresh, [86_401, 600, 172_800]),
+        (TimeRule::Retry, [3600, 0, 7200]),
+        (TimeRule::Retry, [3600, 7201, 172_800]),
+        (TimeRule::Expire, [1, 1, 599]),
+        (TimeRule::Expire, [3600, 600, 172_801]),
+        (TimeRule::AboveRefresh, [3600, 600, 3600]),
+        (TimeRule::AboveRetry, [600, 3600, 3600]),
+    ] {
+        let timing = Timing {
+            refresh,
+            retry,
+            expire,
+        };
+        let data = Data::new(2, SESSION, 4, Some(timing)).unwrap();
+        assert_eq!(cache.server.update(data), Err(UpdateError::Times(rule)));
+    }
+    let refused = UpdateError::Times(TimeRule::Expire);
+    let text = "the expire time has to be 600 to 172800 seconds";
+    assert_eq!(refused.to_string(), text);
     cache.serves(3);
     // Those who have data of another session are disconnected.
     let mut client = cache.client();
@@ -318,7 +341,7 @@ fn sessions_that_end() {
     }
 }
 
-/// What a client sends that isn't a query, and the code of the report that it gets, if any.
+/// Input of a client that isn't a query, and the code of the report that it gets, if any.
 fn refused_units() -> Vec<(Vec<u8>, Option<ErrorCode>)> {
     let mut rows = Vec::new();
     for (bytes, unit) in common::rows() {
@@ -386,7 +409,7 @@ fn bad_units() {
     cache.serves(2);
 }
 
-/// A session that ends after each of its bytes.
+/// A session that ends after any of its bytes.
 #[test]
 fn clients_that_stop() {
     let _alone = alone();
@@ -413,7 +436,7 @@ fn clients_that_stop() {
     assert!(holds(|| cache.server.clients() == 0));
 }
 
-/// A session that stalls after each of its bytes, or whose connection is reset there.
+/// A session that stalls after any of its bytes, or whose connection is reset there.
 #[test]
 fn clients_that_stall_or_reset() {
     let _alone = alone();
@@ -436,7 +459,7 @@ fn clients_that_stall_or_reset() {
     assert!(holds(|| cache.server.clients() == 0));
 }
 
-/// A client that is too slow is disconnected, and no other notices.
+/// A client that is too slow is disconnected, and no other client notices.
 #[test]
 fn slow_clients() {
     let _alone = alone();
@@ -494,19 +517,12 @@ fn clients_that_do_not_read() {
     assert!(holds(|| cache.server.clients() == 0));
 }
 
-/// A client that reads slowly gets each byte of an answer that no buffer of a system holds.
+/// A client that reads slowly gets each byte of an answer that no buffer holds.
 #[test]
 fn a_slow_reader() {
     let _alone = alone();
     let cache = Cache::new(options());
-    let mut bytes = Vec::new();
-    for number in 0..1_000_000_u32 {
-        bytes.extend([2, 4, 0, 0, 0, 0, 0, 20, 1, 32, 32, 0]);
-        bytes.extend(number.to_be_bytes());
-        bytes.extend([0, 1, 0, 15]);
-    }
-    bytes.extend(Data::new(2, SESSION, 1, None).unwrap().into_bytes());
-    let data = Data::parse(&bytes).unwrap();
+    let data = unbuffered();
     let wanted = answer(&data, 2);
     assert_eq!(cache.server.update(data), Ok(true));
     let mut client = cache.client();
@@ -533,7 +549,7 @@ fn too_many_clients() {
     assert_eq!(cache.server.update(data(1)), Ok(true));
     let (mut one, two) = (cache.client(), cache.client());
     assert!(holds(|| cache.server.clients() == 2));
-    // A silent close would have routers fall to a lower version.
+    // A silent close would make routers try a lower version.
     let full = Some((ErrorCode::INTERNAL_ERROR, 2));
     assert_eq!(cache.client().report(), full);
     let mut asking = cache.client();
@@ -546,7 +562,7 @@ fn too_many_clients() {
     one.response();
 }
 
-/// What a hostile client does, by its number.
+/// The behaviour of a hostile client, by its number.
 fn attack(mut client: Peer, number: usize) {
     match number % 6 {
         0 => client.try_send(&[2, 9, 1, 0, 0xff, 0xff, 0xff, 0xff]),
@@ -637,11 +653,11 @@ fn answers_that_are_cut() {
     ] {
         let (server, told) = telling(options());
         let address = server.listen("127.0.0.1:0").unwrap();
-        server.update(data_of(SESSION, 1, u16::MAX)).unwrap();
+        server.update(unbuffered()).unwrap();
         let mut slow = Peer::connect(address);
-        (0..40).for_each(|_| slow.send(&reset_query(2)));
-        slow.is_sent_to();
-        std::thread::sleep(milliseconds(200));
+        slow.send(&reset_query(2));
+        let mut front = vec![0; 1 << 16];
+        slow.stream.read_exact(&mut front).unwrap();
         for serial in 2..=3 {
             server.update(data(serial)).unwrap();
         }
@@ -677,14 +693,10 @@ fn no_thread_wakes() {
         client.response();
         client.send(&[1, 1]);
     }
-    std::thread::sleep(Duration::from_secs(1));
-    let before = waits("rtr cache");
-    std::thread::sleep(Duration::from_secs(2));
-    let woken = waits("rtr cache") - before;
-    assert!(woken <= 2, "woken {woken} times");
+    assert!(stay_asleep(&["rtr cache"]));
 }
 
-/// The server says why it ended a connection, but of clients that just go.
+/// The server logs why it ended a connection, except for clients that just leave.
 #[test]
 fn reasons() {
     let _alone = alone();

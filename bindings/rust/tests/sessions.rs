@@ -6,7 +6,7 @@ mod computed;
 
 use rtr_wire::*;
 
-/// What was computed of one unit.
+/// The computed result for one unit.
 struct Answer {
     /// In the order of NUMBERS in `tests/libraries/sessions.py`.
     numbers: [u64; 22],
@@ -60,7 +60,7 @@ fn sessions() -> Vec<(Vec<u8>, Vec<Answer>)> {
     sessions
 }
 
-/// The fields of a unit, by their places in NUMBERS. All others are 0.
+/// The fields of a unit, by their index in NUMBERS. All others are 0.
 fn fields(unit: &UnitRef) -> Vec<(usize, u64)> {
     match *unit {
         Unit::SerialNotify(SerialNotify {

@@ -12,11 +12,11 @@ use std::os::unix::io::BorrowedFd;
 use std::os::unix::net::UnixStream;
 use std::sync::mpsc::channel;
 use std::sync::{Arc, Mutex};
-use std::thread::{sleep, Builder};
+use std::thread::Builder;
 use std::time::{Duration, Instant};
 
-/// A socket as those that encrypt are: it hides bytes, holds some that it took until it is flushed,
-/// and doesn't do each second call.
+/// A socket like those that encrypt: it hides bytes, holds some of them until it is flushed, and
+/// refuses every second call.
 struct Hidden<S> {
     socket: S,
     held: Vec<u8>,
@@ -209,7 +209,7 @@ fn a_hidden_report() {
     });
 }
 
-/// What can't be made ready is told, and no other waits.
+/// A socket that can't be set up is reported, and no other waits.
 #[test]
 fn connections_that_are_refused() {
     let _alone = alone();
@@ -261,13 +261,7 @@ fn no_client_wakes() {
             thread.spawn_scoped(scope, run).unwrap()
         });
         let threads: Vec<_> = threads.collect();
-        sleep(Duration::from_secs(1));
-        let before = names.map(waits);
-        sleep(Duration::from_secs(2));
-        for (name, before) in names.iter().zip(before) {
-            let woken = waits(name) - before;
-            assert!(woken <= 2, "{name}: woken {woken} times");
-        }
+        assert!(stay_asleep(&names));
         let began = Instant::now();
         clients.into_iter().for_each(Client::stop);
         for thread in threads {

@@ -9,7 +9,7 @@ use rtr_wire::*;
 use std::error::Error as _;
 use std::io::{self, Read, Write};
 
-/// Gives at most so many bytes a read, and before each an error of this kind, if there is one.
+/// Returns at most this many bytes a read, and before each read an error of this kind, if any.
 struct Slow<'a> {
     rest: &'a [u8],
     most: usize,
@@ -262,7 +262,7 @@ fn going_on() {
     assert!(matches!(reader.next_unit(), Ok(Some(Unit::Ipv4Prefix(_)))));
 }
 
-/// A sequence begins where the reader stands, ends after its end of data, and has no other units.
+/// A sequence begins at the reader's position, ends after its end of data, and has no other units.
 #[test]
 fn sequence_in_session() {
     let session = [CACHE_RESPONSE, IPV4, END, SERIAL_NOTIFY].concat();
@@ -314,7 +314,7 @@ fn cut_sequence() {
     }
 }
 
-/// A limit stops before the next unit, and another sequence goes on there.
+/// A limit stops before the next unit, and another sequence continues there.
 #[test]
 fn limit() {
     let session = [IPV4, KEY, END].concat();
@@ -354,7 +354,7 @@ fn sequence_goes_on() {
     assert_eq!(kinds, [Kind::Ipv4Prefix, Kind::EndOfData]);
 }
 
-/// As an iterator a sequence ends where its reader fails.
+/// As an iterator a sequence ends when its reader fails.
 #[test]
 fn sequence_fails() {
     let mut reader = Reader::new(Slow::new(IPV4, 20, Some(io::ErrorKind::TimedOut)));
@@ -363,7 +363,7 @@ fn sequence_fails() {
     assert!(sequence.next().is_none());
 }
 
-/// A writer that fails, and a unit that has no form.
+/// A writer that fails, and a unit that can't be written.
 #[test]
 fn writer_fails() {
     struct Broken;

@@ -1,4 +1,4 @@
-//! A router without sockets does in each scene what the scene says (`tests/transcripts`).
+//! A router without sockets plays each scene (`tests/transcripts`).
 #![cfg(feature = "alloc")]
 
 use rtr_wire::{ClientError, ClientOptions, ErrorCode, Router, Step, Unit, Units};
@@ -99,7 +99,7 @@ impl Played {
         self.router().sent(output.len());
     }
 
-    /// Has the router go on until it waits.
+    /// Runs the router until it waits.
     fn settle(&mut self) {
         loop {
             let now = self.now;
@@ -129,7 +129,7 @@ impl Played {
         }
     }
 
-    /// The clock comes to this time.
+    /// The clock reaches this time.
     fn pass(&mut self, time: u64) {
         while self.router().wakes() <= time {
             self.now = self.now.max(self.router().wakes());
@@ -138,7 +138,7 @@ impl Played {
         self.now = time;
     }
 
-    /// What the cache does, or the clock.
+    /// What the cache does, the router's caller, or the clock.
     fn given(&mut self, time: u64, step: &str, words: &[&str]) {
         self.pass(time);
         match step {
@@ -149,6 +149,7 @@ impl Played {
                 self.router().connected(time);
             }
             "closes" => self.router().received(&[]),
+            "asks" => self.router().ask_now(),
             "refuses" | "breaks" => {
                 self.broken = true;
                 #[cfg(feature = "std")]
@@ -188,7 +189,7 @@ impl Played {
             ["router", name, value] => self.set(name, value.parse().unwrap()),
             ["at", time] => self.given(time.parse().unwrap(), "at", &[]),
             [time, "cache>", bytes @ ..] => self.given(time.parse().unwrap(), ">", bytes),
-            [time, "cache", step] => self.given(time.parse().unwrap(), step, &[]),
+            [time, "cache" | "caller", step] => self.given(time.parse().unwrap(), step, &[]),
             [_, "router>", first, ..] if *first != "report" => {
                 writeln!(self.wanted, "{} router> {}", words[0], words[2..].concat()).unwrap();
             }
@@ -212,7 +213,7 @@ fn reported(report: &rtr_wire::ErrorReport<&[u8]>) -> String {
     )
 }
 
-/// Plays the scenes of a file, and answers how many there are.
+/// Plays the scenes of a file, and returns how many there are.
 fn play(path: &Path) -> usize {
     let text = std::fs::read_to_string(path).expect("a file");
     let mut scenes: Vec<Played> = Vec::new();

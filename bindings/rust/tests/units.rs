@@ -7,7 +7,7 @@ use common::{ASPA, CACHE_RESET, END, IPV4, IPV6, KEY, REPORT, RESET_QUERY, WITHD
 use rtr_wire::*;
 use std::cmp::Ordering;
 
-/// What is shown of each, and that it is written back as it was.
+/// The decoded fields of each, and that each is written back unchanged.
 #[test]
 fn there_and_back() {
     for (bytes, unit) in rows() {
@@ -51,8 +51,8 @@ fn cut() {
     }
 }
 
-/// What is free is written as zero: host bits, sessions that mean nothing, flags but the lowest,
-/// and the providers of a withdrawal.
+/// Free bits are written as zero: host bits, sessions that mean nothing, flags but the lowest; and
+/// the providers of a withdrawal are omitted.
 #[test]
 fn forms() {
     let prefix = [
@@ -365,7 +365,7 @@ fn report_of_a_prefix() {
     assert_eq!((report.version, report.code), (1, ErrorCode::CORRUPT_DATA));
 }
 
-/// What a report encloses, and then its text, is cut so that it has 65535 bytes.
+/// A report's enclosed unit, and then its text, is cut so that the report has 65535 bytes.
 #[test]
 fn reports_cut() {
     for (length, enclosed, text) in [

@@ -3,7 +3,9 @@
 //! nothing is tested here.
 #![cfg(feature = "std")]
 
-use rtr_wire::{Data, LengthError, Mismatch, Route, Tables, Unit, Validity, Vrp};
+use rtr_wire::{
+    Data, Fault, LengthError, Mismatch, Place, Route, Side, Tables, Unit, Validity, Vrp,
+};
 use std::net::{IpAddr, Ipv4Addr, Ipv6Addr};
 use std::process::Command;
 
@@ -125,7 +127,7 @@ fn for_each_table(mut check: impl FnMut(&Data, &[IpAddr], &[Row])) {
     }
 }
 
-/// What comes of a route is what was computed.
+/// The validity of each route is the computed one.
 fn check_row(data: &Data, addresses: &[IpAddr], row: &Row) {
     assert_eq!(data.validate(&row.route), row.validity, "{}", row.route);
     let mut covering = data.covering(&row.route);
@@ -165,11 +167,45 @@ fn routes() {
 #[test]
 fn slices() {
     for_each_table(|data, _, rows| {
-        let tables = Tables::of(data.as_bytes());
+        let tables = Tables::of(data.as_bytes()).expect("they are data");
         for row in rows {
-            assert_eq!(tables.validate(data.as_bytes(), &row.route), row.validity);
+            assert_eq!(tables.validate(&row.route), row.validity);
         }
     });
+}
+
+/// Bytes that aren't data have no tables: the fault is that of `Data::parse`.
+#[test]
+fn no_data() {
+    let (low, high) = (prefix(1), prefix(2));
+    let end = [
+        1, 7, 0, 9, 0, 0, 0, 24, 0, 0, 0, 3, 0, 0, 14, 16, 0, 0, 2, 88, 0, 0, 28, 32,
+    ];
+    let response = [1, 3, 0, 9, 0, 0, 0, 8];
+    let mut withdrawn = low;
+    withdrawn[8] = 0;
+    let rows = [
+        ([&low[..], &high].concat(), Fault::Short, 40),
+        ([&high[..], &low, &end].concat(), Fault::NotCanonical, 20),
+        ([&low[..], &low, &end].concat(), Fault::NotCanonical, 20),
+        ([&withdrawn[..], &end].concat(), Fault::NotCanonical, 0),
+        ([&response[..], &low, &end].concat(), Fault::UnitType(3), 0),
+    ];
+    for (bytes, fault, offset) in rows {
+        let side = Side::First;
+        let refused = Tables::of(&bytes).unwrap_err();
+        assert_eq!(refused.fault, fault);
+        assert_eq!(refused.place, Some(Place { side, offset }));
+        assert_eq!(Data::parse(&bytes).unwrap_err(), refused);
+    }
+    assert!(Tables::of(&[&low[..], &high, &end].concat()).is_ok());
+}
+
+/// The unit that announces 10.0.0.0/24 with this third byte, of AS7 (RFC 8210 section 5.6).
+fn prefix(third: u8) -> [u8; 20] {
+    [
+        1, 4, 0, 0, 0, 0, 0, 20, 1, 24, 24, 0, 10, 0, third, 0, 0, 0, 0, 7,
+    ]
 }
 
 #[test]

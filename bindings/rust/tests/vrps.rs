@@ -1,4 +1,4 @@
-//! Data made of VRPs, and VRPs of data.
+//! Data from VRPs, and VRPs from data.
 #![cfg(feature = "alloc")]
 
 mod common;
@@ -66,7 +66,7 @@ fn data_of_vrps() {
     }
 }
 
-/// The first that no unit has is named by its place.
+/// The first VRP that no unit can have is named by its index.
 #[test]
 fn refused() {
     let good = vrp("192.0.2.0/24", None);
@@ -86,7 +86,7 @@ fn refused() {
     assert_eq!(error.to_string(), error.fault.to_string());
 }
 
-/// Of data with other payloads the VRPs alone are there, in their order.
+/// From data with other payloads only the VRPs come, in their order.
 #[test]
 fn vrps_of_data() {
     let mut bytes = [common::IPV4, common::IPV6].concat();

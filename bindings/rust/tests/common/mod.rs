@@ -7,7 +7,7 @@ use std::net::Ipv6Addr;
 /// The bytes of a unit, and the unit.
 pub type Row = (&'static [u8], Unit<&'static [u8]>);
 
-/// The file of the samples of all languages, which says what each has.
+/// The file of samples that all languages share, with the fields of each.
 pub const SAMPLES: &str = include_str!("../../../../tests/samples");
 
 /// A sample.
@@ -44,6 +44,48 @@ pub fn samples() -> Vec<Sample> {
             _ => panic!("a sample has no {word}"),
         }
     }
+    all
+}
+
+/// A recording of the file `tests/loads`, which says what it has.
+#[derive(Default)]
+pub struct Load {
+    pub name: &'static str,
+    pub units: Vec<Vec<u8>>,
+    pub data: Vec<u8>,
+    pub refused: Option<(usize, String)>,
+    pub has_cut: bool,
+}
+
+impl Load {
+    pub fn recording(&self) -> Vec<u8> {
+        self.units.concat()
+    }
+}
+
+/// All recordings.
+pub fn loads() -> Vec<Load> {
+    let mut all: Vec<Load> = Vec::new();
+    let rows = include_str!("../../../../tests/loads").lines();
+    let rows = rows.filter(|row| !row.starts_with('#'));
+    for (word, rest) in rows.filter_map(|row| row.split_once(' ')) {
+        if word == "load" {
+            all.push(Load::default());
+        }
+        let last = all.last_mut().expect("a recording begins with its name");
+        match word {
+            "load" => last.name = rest,
+            "unit" => last.units.push(unspaced(rest)),
+            "data" => last.data.extend(unspaced(rest)),
+            "refused" => {
+                let (offset, text) = rest.split_once(' ').unwrap();
+                last.refused = Some((offset.parse().unwrap(), text.to_string()));
+            }
+            "cut" => last.has_cut = true,
+            _ => panic!("a recording has no {word}"),
+        }
+    }
+    assert!(all.len() > 40);
     all
 }
 
@@ -92,7 +134,7 @@ const fn length_of(name: &str) -> usize {
     digits / 2
 }
 
-/// The bytes of the sample of this name, as many as it has.
+/// The bytes of the sample of this name.
 const fn bytes_of<const LENGTH: usize>(name: &str) -> [u8; LENGTH] {
     let (mut at, mut bytes, mut digits) = (digits_of(name), [0; LENGTH], 0);
     while digits < 2 * LENGTH {

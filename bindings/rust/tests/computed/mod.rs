@@ -29,7 +29,9 @@ pub fn cases(setting: &str, script: &str, arguments: &[&str]) -> Option<Vec<u8>>
 /// The detail of a fault, as `rtr.h` has it.
 pub fn detail(fault: Fault) -> u8 {
     match fault {
-        Fault::UnitType(detail) | Fault::UnitVersion(detail) => detail,
+        Fault::UnitType(detail) | Fault::UnitVersion(detail) | Fault::OtherVersion(detail) => {
+            detail
+        }
         Fault::Prefix(PrefixRule::LengthOver) => 1,
         Fault::Prefix(PrefixRule::MaxLengthOver) => 2,
         Fault::Prefix(PrefixRule::MaxLengthUnder) => 3,

@@ -1,4 +1,4 @@
-//! Peers on the loopback interface, and the data that caches have in the tests.
+//! Peers on the loopback interface, and the data of caches in the tests.
 #![allow(dead_code)]
 
 use rtr_wire::*;
@@ -10,7 +10,7 @@ use std::time::{Duration, Instant};
 pub const SESSION: u16 = 4660;
 /// How long a test waits for something that has to come.
 pub const PATIENCE: Duration = Duration::from_secs(30);
-/// How long nothing comes, where a test looks for that.
+/// How long a test waits to see that nothing comes.
 pub const HOUR: Duration = Duration::from_secs(3600);
 /// How late something may come that ends by a limit of well under a second: others use the machine
 /// too.
@@ -20,7 +20,7 @@ pub fn milliseconds(count: u64) -> Duration {
     Duration::from_millis(count)
 }
 
-/// Has one test run after the other, so that each can count its threads.
+/// Runs the tests one after the other, so that each can count its threads.
 pub fn alone() -> MutexGuard<'static, ()> {
     static ONE: Mutex<()> = Mutex::new(());
     ONE.lock().unwrap_or_else(PoisonError::into_inner)
@@ -80,7 +80,7 @@ pub fn reset_query(version: u8) -> Vec<u8> {
     vec![version, 2, 0, 0, 0, 0, 0, 8]
 }
 
-/// All that a reset query of a version is answered.
+/// The whole answer to a reset query of a version.
 pub fn answer(data: &Data, version: u8) -> Vec<u8> {
     let data = data.for_version(version).unwrap();
     [&response(version, data.end().session), data.as_bytes()].concat()
@@ -122,8 +122,7 @@ impl Peer {
         let _ = self.stream.get_mut().write_all(bytes);
     }
 
-    /// Waits until something has come, which isn't read: a connection that is dropped then is
-    /// reset.
+    /// Waits until something has come, and doesn't read it: dropping the connection then resets it.
     pub fn is_sent_to(&self) {
         if self.stream.buffer().is_empty() {
             let _ = self.stream.get_ref().peek(&mut [0]);
@@ -155,7 +154,7 @@ impl Peer {
         }
     }
 
-    /// So many bytes, whatever they are: this takes little time, also where much comes.
+    /// Reads this many bytes, whatever they are; fast, also for many bytes.
     pub fn bytes(&mut self, count: usize) -> Vec<u8> {
         let mut bytes = vec![0; count];
         self.stream.read_exact(&mut bytes).expect("they come");
@@ -191,7 +190,7 @@ impl Peer {
     }
 }
 
-/// Waits until something holds; answers whether it does before patience ends.
+/// Waits until a condition holds; returns whether it does before patience ends.
 pub fn holds(mut what: impl FnMut() -> bool) -> bool {
     let began = Instant::now();
     while began.elapsed() < PATIENCE {
@@ -227,4 +226,32 @@ pub fn waits(name: &str) -> u64 {
         line.split_whitespace().last()?.parse().ok()
     };
     named.filter_map(count).sum()
+}
+
+/// Whether threads of these names are there, and stay asleep: for two seconds each wakes twice at
+/// most. On a busy machine it takes a while until all has been sent, and nothing more comes.
+pub fn stay_asleep(names: &[&str]) -> bool {
+    let counts = || names.iter().map(|name| waits(name)).collect::<Vec<u64>>();
+    let began = Instant::now();
+    while began.elapsed() < PATIENCE {
+        let before = counts();
+        std::thread::sleep(Duration::from_secs(2));
+        let mut woken = counts().into_iter().zip(before);
+        if woken.all(|(now, before)| now - before <= 2) {
+            return names.iter().all(|name| threads(name) > 0);
+        }
+    }
+    false
+}
+
+/// Data of 20 MB, of which no buffer of a system holds an answer.
+pub fn unbuffered() -> Data {
+    let mut bytes = Vec::new();
+    for number in 0..1_000_000_u32 {
+        bytes.extend([2, 4, 0, 0, 0, 0, 0, 20, 1, 32, 32, 0]);
+        bytes.extend(number.to_be_bytes());
+        bytes.extend([0, 1, 0, 15]);
+    }
+    bytes.extend(Data::new(2, SESSION, 1, None).unwrap().into_bytes());
+    Data::parse(&bytes).unwrap()
 }

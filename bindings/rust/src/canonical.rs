@@ -1,0 +1,150 @@
+//! Bytes in canonical form.
+
+use crate::abi::LONGEST_END;
+use crate::fault::Fault;
+use crate::sequence::normalise_for;
+use crate::sys;
+use crate::unit::{EndOfData, Unit, UnitRef};
+use crate::units::Units;
+use alloc::borrow::Cow;
+use alloc::collections::TryReserveError;
+use alloc::sync::Arc;
+use alloc::vec;
+use alloc::vec::Vec;
+
+/// Bytes in canonical form that end with an end of data. Copies share them.
+#[derive(Clone, Debug, PartialEq, Eq, Hash)]
+pub(crate) struct Canonical {
+    pub(crate) bytes: Arc<Vec<u8>>,
+    pub(crate) payloads: usize,
+    pub(crate) end: EndOfData,
+}
+
+impl Canonical {
+    /// The front of these bytes, which is in canonical form.
+    pub(crate) fn new(mut bytes: Vec<u8>, length: usize) -> Self {
+        bytes.truncate(length);
+        bytes.shrink_to_fit();
+        Canonical::of(bytes)
+    }
+
+    /// These bytes, which are in canonical form. Where they have much unused room, they are moved
+    /// if there is memory for that.
+    pub(crate) fn made(bytes: Vec<u8>) -> Self {
+        let (length, mut exact) = (bytes.len(), Vec::new());
+        if bytes.capacity() - length > length / 8 && exact.try_reserve_exact(length).is_ok() {
+            exact.extend_from_slice(&bytes);
+            return Canonical::of(exact);
+        }
+        Canonical::of(bytes)
+    }
+
+    fn of(bytes: Vec<u8>) -> Self {
+        let (mut payloads, mut last) = (0, None);
+        for unit in Units::sequence(&bytes, u64::MAX) {
+            match unit {
+                Ok(Unit::EndOfData(end)) => last = Some(end),
+                _ => payloads += 1,
+            }
+        }
+        let end = last.expect("the archive wrote an end of data");
+        Canonical {
+            bytes: Arc::new(bytes),
+            payloads,
+            end,
+        }
+    }
+
+    /// The bytes, which aren't copied unless they are shared.
+    pub(crate) fn into_bytes(self) -> Vec<u8> {
+        Arc::try_unwrap(self.bytes).unwrap_or_else(|shared| shared.to_vec())
+    }
+
+    /// The bytes of the payload units.
+    pub(crate) fn unit_bytes(&self) -> &[u8] {
+        let end: UnitRef = Unit::EndOfData(self.end);
+        &self.bytes[..self.bytes.len() - end.size()]
+    }
+
+    /// Without what a version doesn't have.
+    pub(crate) fn for_version(&self, version: u8) -> Result<Canonical, Fault> {
+        if version == self.end.version {
+            return Ok(self.clone());
+        }
+        let mut bytes = vec![0; self.bytes.len() + LONGEST_END];
+        match normalise_for(&self.bytes, &mut bytes, u64::MAX, version) {
+            Ok(progress) => Ok(Canonical::new(bytes, progress.written)),
+            Err(stopped) => Err(stopped.fault),
+        }
+    }
+
+    /// The payload units, without the end of data.
+    pub(crate) fn units(&self) -> impl Iterator<Item = UnitRef<'_>> + Clone + '_ {
+        Units::sequence(&self.bytes, u64::MAX)
+            .filter_map(Result::ok)
+            .take(self.payloads)
+    }
+
+    /// What leads from these data to the new, of whatever versions and sessions, or withdraws them
+    /// where there are none. It is in the higher one of the versions, so that what the lower one
+    /// lacks is withdrawn.
+    ///
+    /// # Errors
+    ///
+    /// If there is no memory for it.
+    pub(crate) fn difference_to(
+        &self,
+        new: Option<&Canonical>,
+    ) -> Result<Canonical, TryReserveError> {
+        let end = new.map_or(self.end, |new| new.end);
+        let version = self.end.version.max(end.version);
+        let old = self.form(version, end.session)?;
+        let new = match new {
+            Some(new) => new.form(version, end.session)?,
+            None => Cow::Borrowed(self.end_bytes()),
+        };
+        delta(&old, &new)
+    }
+
+    /// The bytes in this version and session.
+    fn form(&self, version: u8, session: u16) -> Result<Cow<'_, [u8]>, TryReserveError> {
+        if (version, session) == (self.end.version, self.end.session) {
+            return Ok(Cow::Borrowed(&self.bytes));
+        }
+        let mut form = Vec::new();
+        form.try_reserve_exact(self.bytes.len() + LONGEST_END)?;
+        form.resize(form.capacity(), 0);
+        let made = normalise_for(&self.bytes, &mut form, u64::MAX, version);
+        form.truncate(made.expect("data have a form in each version").written);
+        if session != self.end.session {
+            let end: UnitRef = Unit::EndOfData(EndOfData {
+                version,
+                session,
+                ..self.end
+            });
+            form.truncate(form.len() - end.size());
+            end.append(&mut form).expect("its version has a form");
+        }
+        Ok(Cow::Owned(form))
+    }
+
+    /// The bytes of the end of data.
+    fn end_bytes(&self) -> &[u8] {
+        &self.bytes[self.unit_bytes().len()..]
+    }
+}
+
+/// The changes that lead from the old data to the new, both of one version and session.
+fn delta(old: &[u8], new: &[u8]) -> Result<Canonical, TryReserveError> {
+    let most = old.len() + new.len();
+    let mut changes = Vec::new();
+    changes.try_reserve_exact(most / 8)?; // which is more than most changes have
+    let mut made = sys::append_delta(old, new, &mut changes);
+    if matches!(made, Err(error) if error.fault == Fault::NoRoom) {
+        changes = Vec::new();
+        changes.try_reserve_exact(most)?;
+        made = sys::append_delta(old, new, &mut changes);
+    }
+    made.expect("data of one version and session");
+    Ok(Canonical::made(changes))
+}

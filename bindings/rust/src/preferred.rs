@@ -1,0 +1,229 @@
+//! The data of several routers by preference.
+
+use crate::changes::Changes;
+use crate::client_error::ClientError;
+use crate::group::{Decision, Group, GroupSettings, Shown, TooManyMembers};
+use crate::owned_data::Data;
+use crate::router::{Event, Step};
+use alloc::collections::VecDeque;
+use alloc::vec::Vec;
+use core::mem::replace;
+
+/// What is shown of several routers in order of preference (RFC 8210 section 10), as a [`Group`]
+/// decides, without sockets and clock: the data of one of them, and the steps that lead there.
+///
+/// Its caller runs the routers. It starts member 0, calls [`Preferred::tell`] with each step of a
+/// member that runs, and [`Preferred::tick`] at the time [`Preferred::wakes`]; takes the steps of
+/// [`Preferred::take_step`], until there are none; and then stops and starts members as the
+/// decision says: a member that is started again continues by
+/// [`Router::again`](crate::Router::again). Times are in milliseconds of a clock that doesn't go
+/// back.
+///
+/// Its steps are [`Step::Data`] of the member whose data are shown, [`Step::Dropped`] of the last
+/// one that had data, and each [`Step::Failed`], also [`ClientError::Empty`]. If others' data are
+/// shown than before, the changes lead there from those, of whatever session and version they were.
+#[derive(Debug)]
+pub struct Preferred {
+    group: Group,
+    settings: GroupSettings,
+    members: Vec<Member>,
+    /// The member whose data are shown, and the data.
+    shown: Option<(usize, Data)>,
+    told: VecDeque<Told>,
+}
+
+/// What is known of a member.
+#[derive(Clone, Debug, Default)]
+struct Member {
+    data: Option<Data>,
+    /// Whether its data were dropped, and the failure that follows hasn't come yet.
+    dropped: bool,
+}
+
+/// A step of a member, and the data that are shown with it; none if they stay.
+#[derive(Debug)]
+struct Told {
+    member: usize,
+    step: Step,
+    shown: Option<Data>,
+}
+
+impl Preferred {
+    /// Routers of this number, without data, the first of which is started now. With no settings an
+    /// empty answer of the only router is data, and the others are the default ones.
+    ///
+    /// # Errors
+    ///
+    /// For more than [`Group::MOST`].
+    pub fn new(
+        members: usize,
+        settings: Option<GroupSettings>,
+        now: u64,
+    ) -> Result<Preferred, TooManyMembers> {
+        let settings = settings.unwrap_or_else(|| GroupSettings {
+            empty_is_data: members == 1,
+            ..GroupSettings::default()
+        });
+        Ok(Preferred {
+            group: Group::new(members, settings, now)?,
+            settings,
+            members: (0..members).map(|_| Member::default()).collect(),
+            shown: None,
+            told: VecDeque::new(),
+        })
+    }
+
+    /// When to call [`Preferred::tick`], if nothing happens before; `u64::MAX` for never.
+    #[must_use]
+    pub fn wakes(&self) -> u64 {
+        self.group.wakes()
+    }
+
+    /// Time has passed: starts the next member if the patience is over.
+    pub fn tick(&mut self, now: u64) -> Decision {
+        let decided = self.group.tick(now);
+        self.forget(&decided);
+        decided
+    }
+
+    /// A member that runs took this step, and has these data after it. Steps without an event
+    /// change nothing.
+    ///
+    /// # Panics
+    ///
+    /// If there is no such member.
+    pub fn tell(&mut self, now: u64, member: usize, step: Step, data: Option<&Data>) -> Decision {
+        self.members[member].data = data.cloned();
+        let decided = self.decide(now, member, &step);
+        if self.has_empty(member, &step) {
+            self.push(member, Step::Failed(ClientError::Empty), None);
+        }
+        match decided.shown {
+            Shown::Data(source) => self.show(source, member, step),
+            Shown::Nothing => self.show_nothing(member, step),
+            Shown::Same => self.pass(member, step),
+        }
+        self.forget(&decided);
+        decided
+    }
+
+    /// The next step, and its member; its data are shown from now on.
+    pub fn take_step(&mut self) -> Option<(usize, Step)> {
+        let Told {
+            member,
+            step,
+            shown,
+        } = self.told.pop_front()?;
+        match (&step, shown) {
+            (Step::Data(_), Some(data)) => self.shown = Some((member, data)),
+            (Step::Dropped(_), _) => self.shown = None,
+            _ => {}
+        }
+        Some((member, step))
+    }
+
+    /// The event of a step that [`Preferred::take_step`] returned last.
+    #[must_use]
+    pub fn event<'a>(&'a self, step: &'a Step) -> Option<Event<'a>> {
+        match (step, &self.shown) {
+            (Step::Data(changes), Some((_, data))) => Some(Event::Data { data, changes }),
+            (Step::Dropped(changes), _) => Some(Event::Dropped { changes }),
+            (Step::Failed(error), _) => Some(Event::Failed(error)),
+            _ => None,
+        }
+    }
+
+    /// The member whose data are shown, and the data. They may have expired since its last step.
+    #[must_use]
+    pub fn shown(&self) -> Option<(usize, &Data)> {
+        self.shown.as_ref().map(|(member, data)| (*member, data))
+    }
+
+    /// The data that are shown.
+    #[must_use]
+    pub fn into_shown(self) -> Option<Data> {
+        self.shown.map(|(_, data)| data)
+    }
+
+    /// The group's decision on a step. The failure that follows a loss of data is no event of the
+    /// group.
+    fn decide(&mut self, now: u64, member: usize, step: &Step) -> Decision {
+        let has = &mut self.members[member];
+        let dropped = replace(&mut has.dropped, matches!(step, Step::Dropped(_)));
+        let payloads = has.data.as_ref().map_or(0, Data::len);
+        match step {
+            Step::Data(_) => self.group.shows(now, member, payloads),
+            Step::Dropped(_) => self.group.drops(now, member),
+            Step::Failed(_) if !dropped => self.group.fails(now, member),
+            _ => Decision {
+                shown: Shown::Same,
+                stop: None,
+                start: None,
+            },
+        }
+    }
+
+    /// Whether a member has new data without payloads that don't count.
+    fn has_empty(&self, member: usize, step: &Step) -> bool {
+        let data = self.members[member].data.as_ref();
+        matches!(step, Step::Data(_))
+            && !self.settings.empty_is_data
+            && data.map_or(false, Data::is_empty)
+    }
+
+    /// Forgets the data of members that stop or start.
+    fn forget(&mut self, decided: &Decision) {
+        let first = decided.stop.unwrap_or(self.members.len());
+        self.members[first..].fill(Member::default());
+        if let Some(member) = decided.start {
+            self.members[member] = Member::default();
+        }
+    }
+
+    fn push(&mut self, member: usize, step: Step, shown: Option<Data>) {
+        self.told.push_back(Told {
+            member,
+            step,
+            shown,
+        });
+    }
+
+    /// Passes a failure on.
+    fn pass(&mut self, member: usize, step: Step) {
+        if matches!(step, Step::Failed(_)) {
+            self.push(member, step, None);
+        }
+    }
+
+    /// The shown data were dropped, or an empty answer withdrew them.
+    fn show_nothing(&mut self, member: usize, step: Step) {
+        match step {
+            Step::Dropped(changes) | Step::Data(changes) => {
+                self.push(member, Step::Dropped(changes), None);
+            }
+            step => self.pass(member, step),
+        }
+    }
+
+    /// Shows the data of a member after a step of one. Its own changes lead there if the data
+    /// before were its own, or there were none.
+    fn show(&mut self, source: usize, member: usize, step: Step) {
+        let data = self.members[source].data.clone();
+        let others = self.shown.as_ref().filter(|(before, _)| *before != source);
+        let changes = match (others, step) {
+            (Some((_, old)), step) => {
+                let changes = Changes::between(Some(old.clone()), data.clone());
+                self.pass(member, step);
+                changes
+            }
+            (None, Step::Data(changes)) => Some(changes),
+            (None, step) => {
+                self.pass(member, step);
+                None
+            }
+        };
+        if let (Some(changes), Some(data)) = (changes, data) {
+            self.push(source, Step::Data(changes), Some(data));
+        }
+    }
+}
