@@ -1,53 +1,63 @@
-"""Makes the wheel, for pip (PEP 517) and where packages are made, of Python's standard library
-alone: the same files give the same bytes."""
+"""Makes the wheel and the source archive, for pip and build (PEP 517) and where packages are made,
+of Python's standard library alone: the same files give the same bytes."""
 import base64
 import gzip
 import hashlib
 import io
+import json
 import os
 import pathlib
 import platform
 import re
+import shutil
 import subprocess
+import sys
+import sysconfig
 import tarfile
 import tempfile
 import zipfile
 
 HERE = pathlib.Path(__file__).resolve().parent
 NAME = "rtr_wire"
+SOURCES = HERE / "src" / NAME
 ARCHIVE = f"lib{NAME}.a"
 LIBRARY = f"lib{NAME}.so"
 
-# The pages that comments name: beside this file, or those of the repository.
+# The headers of the C file for other platforms: beside this file, or in the repository.
+HEADERS = ("rtr.h", "rtr_abi.h")
+
+# The pages that comments name: beside this file, or in the repository.
 DOCUMENTS = ("docs/PROTOCOL.md", "docs/SESSIONS.md")
 
-# What a program that links the shared library sees of it.
+# The symbols that the shared library exports, without a version.
 SHOWN = "{ global: rtr_*; local: *; };\n"
+
+# The machines that have archives.
+MACHINES = ("x86_64", "aarch64")
 
 METADATA = """Metadata-Version: 2.1
 Name: {name}
 Version: {version}
-Summary: Units, data and clients of the RPKI to Router protocol, over a proved library
-License: BSD-3-Clause
+Summary: {description}
+License: {license}
 License-File: LICENSE
-Requires-Python: >=3.9
-Classifier: Programming Language :: Python :: 3
-Classifier: Operating System :: POSIX :: Linux
-Classifier: License :: OSI Approved :: BSD License
-Classifier: Typing :: Typed
+Keywords: {keywords}
+Project-URL: Repository, {repository}
+Requires-Python: {python}
+{classifiers}
 Description-Content-Type: text/markdown
 
 {readme}"""
 
 
 def version():
-    """The version that rtr.h names."""
-    text = (HERE / NAME / "_rtr.py").read_text()
+    """Returns the version that rtr.h names."""
+    text = (SOURCES / "_rtr.py").read_text()
     return re.search(r'^VERSION = "([^"]+)"$', text, re.MULTILINE)[1]
 
 
 def first_there(*paths):
-    """The first of these files that is there: beside this file, or in the repository."""
+    """Returns the first of these files that exists, beside this file or in the repository."""
     for path in paths:
         if (HERE / path).exists():
             return HERE / path
@@ -55,20 +65,43 @@ def first_there(*paths):
 
 
 def archive(machine):
-    """The archive for a machine."""
-    return first_there(f"lib/{machine}/{ARCHIVE}", f"../../prebuilt/{machine}/{ARCHIVE}")
+    """The archive for Linux on a machine, or None."""
+    paths = [HERE / folder / machine / ARCHIVE for folder in ("lib", "../../prebuilt")]
+    found = [path for path in paths if path.exists()]
+    return found[0] if found and sys.platform == "linux" else None
 
 
-def link(of, to, soname=f"{LIBRARY}.0", compiler=None):
-    """Links the shared library from an archive, by this compiler, $CC or cc."""
-    with tempfile.NamedTemporaryFile("w", suffix=".map") as shown:
-        shown.write(SHOWN)
-        shown.flush()
+def compile_portable(to):
+    """Compiles the shared library from the C file for other platforms, by $CC or cc, with $CFLAGS
+    and $LDFLAGS."""
+    source = first_there("portable/rtr_wire.c", "../../prebuilt/portable/rtr_wire.c")
+    header = first_there("rtr.h", "../c/rtr.h")
+    compiler = os.environ.get("CC", "cc")
+    flags = [*os.environ.get("CFLAGS", "").split(), *os.environ.get("LDFLAGS", "").split()]
+    command = [compiler, "-std=c11", "-O2", *flags, "-fPIC", "-shared", "-I", header.parent, source,
+               "-o", to]
+    try:
+        failed = subprocess.run(command).returncode != 0
+    except OSError:
+        failed = True
+    if failed:
+        raise SystemExit(f"there is no archive for {sysconfig.get_platform()}, and {compiler} "
+                         f"didn't compile {source}: set CC to a C compiler")
+
+
+def link(of, to, soname=f"{LIBRARY}.0", compiler=None, more=(), hosted=True, shown=SHOWN):
+    """Links the shared library from an archive, and more of them, with this compiler, $CC or cc,
+    and $LDFLAGS. It binds all symbols where it is loaded, and exports what the version script
+    `shown` says. Unless it is hosted, it needs no C library: the functions on bytes are its
+    process's."""
+    with tempfile.NamedTemporaryFile("w", suffix=".map") as script:
+        script.write(shown)
+        script.flush()
         words = compiler or [os.environ.get("CC", "cc")]
-        # Without a C library nothing defines the functions on bytes that the archive asks for.
-        defined = "undefs" if "-nostdlib" in words else "defs"
-        command = [*words, "-shared", f"-Wl,-soname,{soname}", f"-Wl,-z,{defined}",
-                   f"-Wl,--version-script={shown.name}", "-Wl,--whole-archive", of,
+        flags = os.environ.get("LDFLAGS", "").split()
+        flags += ["-Wl,-z,defs"] if hosted else ["-nostdlib", "-Wl,-z,undefs"]
+        command = [*words, *flags, "-shared", f"-Wl,-soname,{soname}", "-Wl,-z,relro,-z,now",
+                   f"-Wl,--version-script={script.name}", "-Wl,--whole-archive", of, *more,
                    "-Wl,--no-whole-archive", "-Wl,--gc-sections", "-o", to]
         if subprocess.run(command).returncode != 0:
             raise SystemExit(
@@ -78,30 +111,44 @@ def link(of, to, soname=f"{LIBRARY}.0", compiler=None):
 def contents():
     """The files of the package, by their names in a wheel."""
     made = {f"{NAME}/{path.name}": path.read_bytes()
-            for path in (HERE / NAME).iterdir() if path.suffix == ".py" or path.name == "py.typed"}
+            for path in SOURCES.iterdir() if path.suffix == ".py" or path.name == "py.typed"}
     for page in DOCUMENTS:
         made[f"{NAME}/{page}"] = first_there(page, f"../../{page}").read_bytes()
     return made
 
 
 def readme():
-    """The page of the package."""
+    """Returns the README of the package."""
     return re.sub(r"(?m)^<!-- shown: .* -->\n", "", (HERE / "README.md").read_text())
 
 
-def metadata():
-    """What a package says of itself."""
-    return METADATA.format(name=NAME, version=version(), readme=readme())
+def said(name):
+    """Returns the value of a name in pyproject.toml, a text or a list of texts."""
+    text = (HERE / "pyproject.toml").read_text()
+    value = re.search(rf'^{name} = (".*?"|\[.*?\]|\{{.*?\}})$', text, re.MULTILINE | re.DOTALL)[1]
+    return json.loads(re.sub(r"(\w+) = ", r'"\1": ', value) if value[0] == "{" else value)
 
 
-def wheel(library, tag, to):
-    """Zips the wheel with this shared library for a platform, and answers its name."""
+def metadata(repository=None):
+    """Returns the metadata of the package, with the address of its repository, or the usual one."""
+    classifiers = "\n".join(f"Classifier: {classifier}" for classifier in said("classifiers"))
+    return METADATA.format(
+        name=NAME, version=version(), description=said("description"),
+        license=said("license")["text"], keywords=",".join(said("keywords")),
+        repository=repository or said("Repository"), python=said("requires-python"),
+        classifiers=classifiers, readme=readme())
+
+
+def wheel(library, tag, to, repository=None):
+    """Zips the wheel with this shared library for platforms, joined by dots, and returns its
+    name. Its metadata have this address of the repository, or the usual one."""
     folder, files = f"{NAME}-{version()}.dist-info", contents()
     files[f"{NAME}/{LIBRARY}"] = pathlib.Path(library).read_bytes()
-    files[f"{folder}/METADATA"] = metadata().encode()
+    files[f"{folder}/METADATA"] = metadata(repository).encode()
     files[f"{folder}/LICENSE"] = first_there("LICENSE", "../../LICENSE").read_bytes()
-    files[f"{folder}/WHEEL"] = (f"Wheel-Version: 1.0\nGenerator: {NAME}\nRoot-Is-Purelib: false\n"
-                                f"Tag: py3-none-{tag}\n").encode()
+    head = f"Wheel-Version: 1.0\nGenerator: {NAME}\nRoot-Is-Purelib: false\n"
+    lines = "".join(f"Tag: py3-none-{platform}\n" for platform in tag.split("."))
+    files[f"{folder}/WHEEL"] = (head + lines).encode()
     record = "".join(f"{name},{sum_of(data)},{len(data)}\n" for name, data in sorted(files.items()))
     files[f"{folder}/RECORD"] = f"{record}{folder}/RECORD,,\n".encode()
     name = f"{NAME}-{version()}-py3-none-{tag}.whl"
@@ -116,7 +163,7 @@ def wheel(library, tag, to):
 
 
 def sum_of(data):
-    """The sum of a file as RECORD has it."""
+    """Returns the hash of a file as RECORD has it."""
     return "sha256=" + base64.urlsafe_b64encode(hashlib.sha256(data).digest()).decode().rstrip("=")
 
 
@@ -134,11 +181,51 @@ def tar(folder, to):
     to.write_bytes(gzip.compress(made.getvalue(), mtime=0))
 
 
-# ---- what pip calls
+def source_archive(archives, portable, pages, to, repository=None):
+    """Makes the source archive: this folder with headers, archives by their machine, the C file
+    for other platforms unless that is None, pages by their names, and the address of the
+    repository, if not the usual one. Returns its name."""
+    with tempfile.TemporaryDirectory() as top:
+        folder = pathlib.Path(top, f"{NAME}-{version()}")
+        left_out = shutil.ignore_patterns("tests", "generate", "*.so", "__pycache__", ".*_cache",
+                                          "lib", "portable", "docs", "dist")
+        shutil.copytree(HERE, folder, ignore=left_out)
+        added = {f"lib/{machine}/{ARCHIVE}": archive for machine, archive in archives.items()}
+        added.update(pages, **{name: first_there(name, f"../c/{name}") for name in HEADERS})
+        added.update({f"portable/{NAME}.c": portable} if portable else {})
+        for name, source in added.items():
+            (folder / name).parent.mkdir(parents=True, exist_ok=True)
+            shutil.copyfile(source, folder / name)
+        (folder / "README.md").write_text(readme())
+        (folder / "PKG-INFO").write_text(metadata(repository))
+        settings = (folder / "pyproject.toml").read_text()
+        usual = said("Repository")
+        (folder / "pyproject.toml").write_text(settings.replace(usual, repository or usual))
+        tar(folder, pathlib.Path(to, f"{folder.name}.tar.gz"))
+        return f"{folder.name}.tar.gz"
+
+
+# ---- the hooks of PEP 517
+
+def build_sdist(sdist_directory, config_settings=None):
+    """Makes the source archive."""
+    archives = {machine: first_there(f"lib/{machine}/{ARCHIVE}",
+                                     f"../../prebuilt/{machine}/{ARCHIVE}")
+                for machine in MACHINES}
+    portable = first_there(f"portable/{NAME}.c", f"../../prebuilt/portable/{NAME}.c")
+    pages = {page: first_there(page, f"../../{page}") for page in ("LICENSE", *DOCUMENTS)}
+    return source_archive(archives, portable, pages, sdist_directory)
+
 
 def build_wheel(wheel_directory, config_settings=None, metadata_directory=None):
-    """Links the library for this machine, and makes its wheel."""
-    machine = platform.machine()
+    """Links the library for this machine, or compiles it where there is no archive, and makes its
+    wheel."""
+    found = archive(platform.machine())
+    tag = re.sub(r"\W", "_", sysconfig.get_platform())
     with tempfile.TemporaryDirectory() as folder:
-        link(archive(machine), pathlib.Path(folder, LIBRARY))
-        return wheel(pathlib.Path(folder, LIBRARY), f"linux_{machine}", wheel_directory)
+        library = pathlib.Path(folder, LIBRARY)
+        if found:
+            link(found, library)
+        else:
+            compile_portable(library)
+        return wheel(library, tag, wheel_directory)

@@ -1,11 +1,16 @@
-"""Prints whether three routes are valid by the data on standard input, and why one isn't."""
+"""Prints whether three routes are valid by the recording on standard input, and why one isn't."""
 import sys
 
-from rtr_wire import Data, Validity
+from rtr_wire import Fault, Validity, load_data
 
 ROUTES = [("192.0.2.0/24", 65551), ("192.0.2.0/27", 65551), ("203.0.113.0/24", 65551)]
 
-data = Data.from_bytes(sys.stdin.buffer.read())
+try:
+    data, has_cut = load_data(sys.stdin.buffer.read())
+except Fault as fault:
+    sys.exit(f"routes: {fault}")
+if has_cut:
+    print("routes: left out: an answer without an end of data", file=sys.stderr)
 for prefix, asn in ROUTES:
     validity = data.validate(prefix, asn)
     print(f"{prefix} AS{asn} {validity.name}")

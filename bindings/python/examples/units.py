@@ -1,4 +1,4 @@
-"""Prints the units of the sequence on standard input, and how long its form is."""
+"""Prints the units of the sequence on standard input, and the length of its form."""
 import sys
 
 from rtr_wire import EndOfData, normalise, units
@@ -9,4 +9,4 @@ for unit in units(data):
     if isinstance(unit, EndOfData):
         break
 done = normalise(data)
-print(done.units, "payload units, form of", len(done.form), "bytes")
+print(f"payload units: {done.units}, bytes of their form: {len(done.form)}")

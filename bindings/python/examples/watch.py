@@ -7,17 +7,17 @@ from rtr_wire import Client, IPv4Prefix, IPv6Prefix, Update
 
 
 def show(update: Update) -> None:
-    """Prints what is announced and withdrawn, and how much there is now."""
+    """Prints the announced and withdrawn units, and how many payloads there are now."""
     for unit in update.changes:
         if isinstance(unit, (IPv4Prefix, IPv6Prefix)):
             sign = "+" if unit.announce else "-"
             print(f"{sign} {unit.prefix}-{unit.max_length} AS{unit.asn}")
     if update.data is not None:
-        print(len(update.data), "payloads at serial number", update.data.serial)
+        print(f"serial number {update.data.serial}, payloads: {len(update.data)}")
 
 
 def watch(host: str, port: int, updates: Optional[int] = None) -> None:
-    """Shows so many updates, or all that come."""
+    """Shows this many updates, or all."""
     client = Client(host, port, failed=lambda error: print(error, file=sys.stderr))
     for update in itertools.islice(client, updates):
         show(update)

@@ -1,4 +1,4 @@
-"""Follows several caches at once, and prints what they have: watch_async.py SECONDS HOST:PORT.."""
+"""Follows several caches at once, and prints their data: watch_async.py SECONDS HOST:PORT.."""
 import asyncio
 import sys
 
@@ -14,7 +14,7 @@ async def watch(address: str) -> None:
 
 
 async def watch_all(seconds: float, addresses: "list[str]") -> None:
-    """Follows all of them for so long."""
+    """Follows all of them for this many seconds."""
     tasks = [asyncio.create_task(watch(address)) for address in addresses]
     await asyncio.wait(tasks, timeout=seconds)
     for task in tasks:

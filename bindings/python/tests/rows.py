@@ -1,14 +1,15 @@
-"""The rows that the other languages play, too: those of the file that a variable names, or else
-fewer, which the scripts in tests/libraries make."""
+"""The rows that all languages test: from the file that a variable names, or else fewer, from the
+scripts in tests/libraries."""
 from __future__ import annotations
 
 import ipaddress
+import itertools
 import os
 import pathlib
 import struct
 import subprocess
 import sys
-from typing import Iterator, List, NamedTuple, Tuple
+from typing import Iterator, List, NamedTuple, Optional, Tuple
 
 BINDINGS = pathlib.Path(__file__).resolve().parent.parent.parent
 TESTS = BINDINGS.parent / "tests"
@@ -19,7 +20,7 @@ import samples  # noqa: E402  (the sample units of all languages)
 
 
 def rows(variable: str, *script: str) -> bytes:
-    """The bytes of the rows."""
+    """Returns the bytes of the rows."""
     if path := os.environ.get(variable):
         return pathlib.Path(path).read_bytes()
     words = [sys.executable, TESTS / "libraries" / script[0], *script[1:]]
@@ -27,7 +28,7 @@ def rows(variable: str, *script: str) -> bytes:
 
 
 class Taken:
-    """Takes numbers and bytes off the front of bytes."""
+    """Reads numbers and bytes from the start of bytes."""
 
     def __init__(self, data: bytes) -> None:
         self.data, self.at = data, 0
@@ -44,7 +45,7 @@ class Taken:
 
 
 class Case(NamedTuple):
-    """A row of tests/libraries/cases.py; the version is 255 where there is none."""
+    """A row of tests/libraries/cases.py; the version is 255 if there is none."""
 
     version: int
     status: int
@@ -64,7 +65,7 @@ def cases() -> Iterator[Case]:
 
 
 class Answer(NamedTuple):
-    """What tests/libraries/sessions.py says of one unit."""
+    """What tests/libraries/sessions.py expects of one unit."""
 
     numbers: Tuple[int, ...]
     address: bytes
@@ -85,7 +86,7 @@ def sessions() -> Iterator[Tuple[bytes, List[Answer]]]:
 
 
 class Change(NamedTuple):
-    """A row of tests/libraries/deltas.py: a call, and how it ends."""
+    """A row of tests/libraries/deltas.py: a call, and its result."""
 
     call: int
     status: int
@@ -105,7 +106,7 @@ def changes() -> Iterator[Change]:
 
 
 class Route(NamedTuple):
-    """A route of tests/libraries/validity.py, with the place, the AS, the prefix length, the max
+    """A route of tests/libraries/validity.py, with the index, the AS, the prefix length, the max
     length and the mismatch of each VRP that covers it."""
 
     prefix: str
@@ -125,3 +126,48 @@ def tables() -> Iterator[Tuple[bytes, List[Route]]]:
             covering = [taken.numbers("2I4B")[:5] for _ in range(many)]
             routes.append(Route(f"{address}/{bits}", asn, validity, covering))
         yield data, routes
+
+
+class Load:
+    """A recording of tests/loads, which says what it has."""
+
+    def __init__(self, name: str) -> None:
+        self.name = name
+        self.units: List[bytes] = []
+        self.data = b""
+        self.refused: Optional[Tuple[int, str]] = None
+        self.has_cut = False
+
+    @property
+    def recording(self) -> bytes:
+        return b"".join(self.units)
+
+    @property
+    def is_one_answer(self) -> bool:
+        """Whether nothing but the whole recording leaves data."""
+        return self.refused is None and sum(unit[1] == 7 for unit in self.units) == 1
+
+    @property
+    def offsets(self) -> List[int]:
+        """The offset of each unit, and of the end."""
+        return list(itertools.accumulate(map(len, self.units), initial=0))
+
+
+def loads() -> List[Load]:
+    found: List[Load] = []
+    for row in (TESTS / "loads").read_text(encoding="ascii").splitlines():
+        word, _, rest = row.partition(" ")
+        if word == "load":
+            found.append(Load(rest))
+        elif word == "unit":
+            found[-1].units.append(bytes.fromhex(rest))
+        elif word == "data":
+            found[-1].data += bytes.fromhex(rest)
+        elif word == "refused":
+            offset, _, text = rest.partition(" ")
+            found[-1].refused = int(offset), text
+        elif word == "cut":
+            found[-1].has_cut = True
+        else:
+            assert word in ("", "#"), row
+    return found

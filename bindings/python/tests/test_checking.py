@@ -1,17 +1,17 @@
-"""What units break of the rules, and the lines of rtr_list --check."""
+"""The rules that units break, and the lines of rtr_list --check."""
 import unittest
 
 from rtr_wire import EmptyProvidersError, Finding, Rule, ShortError, check
 
 from .test_listings import LISTINGS
 
-# Of RFC 8210 sections 5.5 and 5.6: a cache response, and a prefix with host bits.
+# A cache response, and a prefix with host bits (RFC 8210 sections 5.5 and 5.6).
 RESPONSE = bytes([1, 3, 0, 7, 0, 0, 0, 8])
 PREFIX = bytes([1, 4, 0, 0, 0, 0, 0, 20, 1, 23, 26, 0, 192, 0, 2, 10, 0, 1, 0, 15])
 
 
 class Checks(unittest.TestCase):
-    """What is found."""
+    """Findings."""
 
     def test_rows(self):
         for recording, lines in LISTINGS.CHECKS:
@@ -30,7 +30,7 @@ class Checks(unittest.TestCase):
                              [Rule.HOST_BITS, Rule.CUT_OFF])
 
     def test_refusals(self):
-        """Findings come up to the unit that is refused."""
+        """Findings come before the unit that is refused."""
         bare = bytes([2, 11, 1, 0, 0, 0, 0, 12, 0, 1, 0, 15])
         for last, error in ((PREFIX[:9], ShortError), (bare, EmptyProvidersError)):
             found = check(PREFIX + last)
@@ -40,7 +40,7 @@ class Checks(unittest.TestCase):
             self.assertEqual(caught.exception.offset, 20)
 
     def test_names_of_long_keys(self):
-        """Keys that differ in their last byte alone are two."""
+        """Keys that differ only in their last byte are two."""
         head = bytes([1, 9, 1, 0]) + (65535).to_bytes(4, "big") + bytes(24)
         one, other = head + bytes(65503), head + bytes(65502) + b"\1"
         self.assertEqual([found.rule for found in check(one + other + one)],

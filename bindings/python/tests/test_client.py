@@ -1,4 +1,4 @@
-"""Clients beside caches that are scripted, on the loopback interface and over pairs of sockets."""
+"""Clients with scripted caches, on the loopback interface and over pairs of sockets."""
 import asyncio
 import contextlib
 import gc
@@ -11,30 +11,29 @@ import subprocess
 import tempfile
 import threading
 import unittest
+import warnings
 from dataclasses import replace
 from unittest import mock
 
 from rtr_wire import (AsyncClient, CacheResponse, Cause, Client, Data, DuplicateError, EndOfData,
-                      ErrorReport, IPv4Prefix, NoData, PrefixError, ResetQuery, Router, RouterKey,
-                      SerialNotify, SerialQuery, SessionError, Settings, UnitTypeError, Update,
-                      units)
-from rtr_wire.router import Failed
+                      ErrorReport, IPv4Prefix, NoData, PrefixError, ResetQuery, RouterKey,
+                      SerialNotify, SerialQuery, SessionError, Settings, UnitTypeError, units)
 
 SOON = Settings(pause=0.01, retry=0.01, response_limit=20)
-ONE = IPv4Prefix(ipaddress.IPv4Network("10.0.0.0/8"), 8, 1)
+ONE = IPv4Prefix(ipaddress.IPv4Network("10.0.0.0/8"), max_length=8, asn=1)
 TWO = replace(ONE, asn=2)
 KEY = RouterKey(bytes(20), 1, b"key")
 FIRST, SECOND = Data([ONE, KEY], EndOfData(7, 1)), Data([ONE, TWO], EndOfData(7, 2))
 
 
 def answer(payloads):
-    """The bytes of an answer."""
+    """Encodes an answer."""
     return bytes(CacheResponse(payloads.session, payloads.version)) + bytes(payloads)
 
 
 class Cache:
-    """A cache whose connections are scripted: each is given a socket, in its turn, and the units
-    that come. After the last script no connection is taken."""
+    """A cache with a script for each connection, in order: a script gets a socket and the units
+    that come. After the last script no connection is accepted."""
 
     def __init__(self, *scripts, context=None):
         self.listener = socket.create_server(("127.0.0.1", 0))
@@ -78,8 +77,39 @@ def says(wanted, *sent):
     return script
 
 
+def certified(folder, name="IP:127.0.0.1"):
+    """Returns the context of a cache whose certificate has this name, and the file of the
+    certificate."""
+    if shutil.which("openssl") is None:
+        raise unittest.SkipTest("no openssl, which makes a certificate")
+    key, certificate = pathlib.Path(folder, "key"), pathlib.Path(folder, "certificate")
+    subprocess.run(
+        ["openssl", "req", "-x509", "-newkey", "ec", "-pkeyopt", "ec_paramgen_curve:prime256v1",
+         "-nodes", "-days", "2", "-subj", "/CN=cache", "-addext", f"subjectAltName={name}",
+         "-keyout", key, "-out", certificate], check=True, stderr=subprocess.DEVNULL)
+    server = ssl.SSLContext(ssl.PROTOCOL_TLS_SERVER)
+    server.load_cert_chain(certificate, key)
+    return server, certificate
+
+
+def resolved(port, *addresses):
+    """Resolves every name to these addresses."""
+    found = [(socket.AF_INET, socket.SOCK_STREAM, 6, "", (address, port)) for address in addresses]
+    return mock.patch("socket.getaddrinfo", return_value=found)
+
+
+@contextlib.contextmanager
+def closes_all(test):
+    """Each socket is closed by who opened it."""
+    with warnings.catch_warnings(record=True) as told:
+        warnings.simplefilter("always", ResourceWarning)
+        yield
+        gc.collect()
+    test.assertEqual([str(one.message) for one in told], [])
+
+
 def both(*scripts):
-    """A script of several."""
+    """A script of several scripts."""
     def script(connection, queries):
         for one in scripts:
             one(connection, queries)
@@ -87,12 +117,12 @@ def both(*scripts):
 
 
 def waits(connection, queries):
-    """A script: until the client closes."""
+    """A script: waits until the client closes."""
     assert next(queries, None) is None
 
 
 def patient(told=None):
-    """Tells of failures, and ends a client that has too many."""
+    """Records failures, and ends a client that has too many."""
     count = [0]
 
     def failed(error):
@@ -105,7 +135,7 @@ def patient(told=None):
 
 
 def is_silent(connection, queries):
-    """A script: whatever is asked has no answer."""
+    """A script: answers no query."""
     for _ in queries:
         pass
 
@@ -113,10 +143,12 @@ def is_silent(connection, queries):
 RESET = ResetQuery(1)
 FOLLOWS = both(says(RESET, answer(FIRST), bytes(SerialNotify(7, 2))),
                says(SerialQuery(7, 1), bytes(CacheResponse(7)), bytes(FIRST.delta(SECOND))), waits)
+ASKED = both(says(RESET, answer(FIRST)),
+             says(SerialQuery(7, 1), bytes(CacheResponse(7)), bytes(FIRST.delta(SECOND))), waits)
 
 
 class Following:
-    """What both clients do: `updates` takes so many of a client, `fetch` asks once."""
+    """Tests of both clients: `updates` takes this many updates of a client, `fetch` asks once."""
 
     def test_fetch(self):
         with Cache(says(RESET, answer(FIRST)), says(RESET, answer(SECOND))) as cache:
@@ -124,7 +156,7 @@ class Following:
             self.assertEqual(self.fetch(cache), SECOND)
 
     def test_following(self):
-        """A notify makes it ask what changed."""
+        """A notify makes it ask for the changes."""
         with Cache(FOLLOWS) as cache:
             first, second = self.updates(cache, 2)
         self.assertEqual((first.data, set(first.changes)), (FIRST, {ONE, KEY}))
@@ -132,14 +164,14 @@ class Following:
                          (SECOND, {TWO, replace(KEY, announce=False)}))
 
     def test_versions(self):
-        """It falls to the version that the cache has, and drops what that lacks."""
+        """It falls back to the cache's version, and drops what that version lacks."""
         old = Data([replace(ONE, version=0)], EndOfData(7, 5, version=0))
-        report = bytes(ErrorReport(4, bytes(RESET), b"0 only", version=0))
+        report = bytes(ErrorReport(4, enclosed=bytes(RESET), text=b"0 only", version=0))
         with Cache(says(RESET, report), says(ResetQuery(0), answer(old))) as cache:
             self.assertEqual(self.fetch(cache), old)
 
     def test_cut(self):
-        """An answer that ends early shows nothing; the next connection has another."""
+        """An incomplete answer shows nothing; the next connection gets a whole one."""
         data = Data([replace(ONE, version=0)], EndOfData(7, 5, version=0))
         whole, query = answer(data), ResetQuery(0)
         for end in (0, 7, 8, 9, 27, 28, len(whole) - 1):
@@ -149,9 +181,10 @@ class Following:
             self.assertEqual(update.data, data)
             self.assertEqual(len(told), 1, told)
 
-    @mock.patch("rtr_wire.client._REPORT_SECONDS", 3600)
+    @mock.patch("rtr_wire.aio.REPORT_SECONDS", 3600)
+    @mock.patch("rtr_wire.client.REPORT_SECONDS", 3600)
     def test_reports(self):
-        """What is refused gets the report that is owed, and is told by name. Nothing follows the
+        """A refusal sends the report that is owed, and raises its own error. Nothing follows the
         report, so that the cache closes."""
         twice = bytes(CacheResponse(7)) + bytes(ONE) * 2 + bytes(FIRST.end)
         broken = bytes(ONE)[:10] + b"\7" + bytes(ONE)[11:]
@@ -173,7 +206,7 @@ class Following:
             self.assertGreater(len(str(caught.exception)), 5)
 
     def test_reported(self):
-        report = ErrorReport(1, b"", b"it rains")
+        report = ErrorReport(1, text=b"it rains")
         with Cache(says(RESET, bytes(report))) as cache, self.assertRaises(SessionError) as caught:
             self.fetch(cache)
         error = caught.exception
@@ -188,7 +221,7 @@ class Following:
         self.assertEqual(([type(one) for one in failures], update.data), ([NoData], FIRST))
 
     def test_slow(self):
-        """A cache that says nothing costs no more than the limit."""
+        """A silent cache costs no more than the limit."""
         quick = replace(SOON, response_limit=0.05)
         with Cache(both(says(RESET), waits)) as cache, self.assertRaises(SessionError) as caught:
             self.fetch(cache, quick)
@@ -205,7 +238,7 @@ class Following:
             self.assertEqual(caught.exception.cause, Cause.TOO_LONG)
 
     def test_expiry(self):
-        """Data that aren't renewed are dropped."""
+        """Data that aren't refreshed are dropped."""
         expires = replace(SOON, expire=0.2, refresh=0.1, response_limit=60)
         with Cache(both(says(RESET, answer(FIRST)), is_silent)) as cache:
             first, second = self.updates(cache, 2, settings=expires)
@@ -213,14 +246,14 @@ class Following:
         self.assertEqual({unit.announce for unit in second.changes}, {False})
 
     def test_refused(self):
-        """Where nothing listens, it says so."""
-        with socket.create_server(("127.0.0.1", 0)) as listener:
-            port = listener.getsockname()[1]
-        with self.assertRaises(ConnectionRefusedError):
-            self.fetch(mock.Mock(port=port))
+        """A refused connection is reported."""
+        with socket.socket() as bound:  # it doesn't listen, and holds the port
+            bound.bind(("127.0.0.1", 0))
+            with self.assertRaises(ConnectionRefusedError):
+                self.fetch(mock.Mock(port=bound.getsockname()[1]))
 
     def test_told(self):
-        """What the told function raises ends the loop, and the connection."""
+        """An exception of the callback `failed` ends the loop and the connection."""
         def raises(error):
             raise KeyError(error)
 
@@ -229,18 +262,9 @@ class Following:
                 self.updates(cache, 1, raises)
 
     def test_tls(self):
-        """A cache with a certificate for its address, and one that isn't trusted."""
-        if shutil.which("openssl") is None:
-            self.skipTest("no openssl, which makes a certificate")
+        """A cache with a certificate for its address, and an untrusted certificate."""
         with tempfile.TemporaryDirectory() as folder:
-            key, certificate = pathlib.Path(folder, "key"), pathlib.Path(folder, "certificate")
-            subprocess.run(
-                ["openssl", "req", "-x509", "-newkey", "ec", "-pkeyopt",
-                 "ec_paramgen_curve:prime256v1", "-nodes", "-days", "2", "-subj", "/CN=cache",
-                 "-addext", "subjectAltName=IP:127.0.0.1", "-keyout", key, "-out", certificate],
-                check=True, stderr=subprocess.DEVNULL)
-            server = ssl.SSLContext(ssl.PROTOCOL_TLS_SERVER)
-            server.load_cert_chain(certificate, key)
+            server, certificate = certified(folder)
             trusting = ssl.create_default_context(cafile=certificate)
         with Cache(FOLLOWS, context=server) as cache:
             updates = self.updates(cache, 2, context=trusting)
@@ -252,6 +276,26 @@ class Following:
 class Blocking(Following, unittest.TestCase):
     """Client."""
 
+    def test_second_address(self):
+        """Of a name with two addresses the one with a cache is used, in either order, and no socket
+        of the other stays open."""
+        here, nobody = "127.0.0.1", "127.0.0.9"
+        for order in ((nobody, here), (here, nobody), (nobody, nobody, here)):
+            with Cache(says(RESET, answer(FIRST))) as cache, closes_all(self), \
+                    resolved(cache.port, *order) as asked:
+                client = Client("cache.example", cache.port, SOON)
+                self.assertEqual(client.fetch(), FIRST, order)
+                asked.assert_called_once_with("cache.example", cache.port,
+                                              type=socket.SOCK_STREAM)
+
+    def test_no_address(self):
+        """If no address answers, the last error is raised."""
+        with socket.create_server(("127.0.0.1", 0)) as closed:
+            port = closed.getsockname()[1]
+        with closes_all(self), resolved(port, "127.0.0.9", "127.0.0.1"), \
+                self.assertRaises(ConnectionRefusedError):
+            Client("cache.example", port, SOON).fetch()
+
     def fetch(self, cache, settings=SOON, context=None):
         return Client("127.0.0.1", cache.port, settings, ssl=context).fetch()
 
@@ -261,14 +305,76 @@ class Blocking(Following, unittest.TestCase):
         with contextlib.closing(iter(client)) as updates:
             return [next(updates) for _ in range(count)]
 
+    def test_ask_now(self):
+        """It asks when its caller requests it, long before the refresh time."""
+        with Cache(ASKED) as cache:
+            client = Client("127.0.0.1", cache.port, SOON, failed=patient())
+            with contextlib.closing(iter(client)) as updates:
+                self.assertEqual(next(updates).data, FIRST)
+                threading.Timer(0.1, client.ask_now).start()
+                self.assertEqual(next(updates).data, SECOND)
+
     def test_any_stream(self):
-        """The connection may be any that has the methods of a socket."""
+        """The connection may be any object with the methods of a socket."""
         ours, theirs = socket.socketpair()
         theirs.sendall(answer(FIRST))
         with theirs:
             self.assertEqual(Client(settings=SOON, connect=lambda seconds: ours).fetch(), FIRST)
             self.assertEqual(theirs.recv(100), bytes(RESET))
             self.assertEqual(theirs.recv(100), b"")
+
+
+    def test_faults(self):
+        """A socket that takes a byte at a time, and isn't always ready, gets the whole query and
+        the whole report."""
+        class Slow:
+            def __init__(self, one):
+                self.one, self.calls = one, 0
+
+            def send(self, data):
+                self.calls += 1
+                if self.calls % 2:
+                    raise BlockingIOError
+                return self.one.send(data[:1])
+
+            def recv(self, most):
+                self.calls += 1
+                if self.calls % 3:
+                    raise BlockingIOError
+                return self.one.recv(min(most, 5))
+
+            def __getattr__(self, name):
+                return getattr(self.one, name)
+
+        ours, theirs = socket.socketpair()
+        broken = bytes(ONE)[:10] + b"\7" + bytes(ONE)[11:]
+        theirs.sendall(bytes(CacheResponse(7)) + broken)
+        with theirs, theirs.makefile("rb") as file:
+            with self.assertRaises(PrefixError) as caught:
+                Client(settings=SOON, connect=lambda seconds: Slow(ours)).fetch()
+            self.assertEqual(caught.exception.offset, 8)
+            query, report = units(file)
+        self.assertEqual((query, report.code, report.enclosed), (RESET, 0, broken))
+
+    def test_no_memory(self):
+        """If there is no memory to read, that is told, and it goes on with another connection."""
+        class Failing(socket.socket):
+            def recv(self, most):
+                raise MemoryError
+
+        def connect(seconds):
+            ours, theirs = socket.socketpair()
+            theirs.sendall(answer(FIRST))
+            ends.append(theirs)
+            return Failing(fileno=ours.detach()) if len(ends) < 3 else ours
+
+        ends, told = [], []
+        client = Client(settings=SOON, connect=connect, failed=told.append)
+        with closes_all(self), contextlib.closing(iter(client)) as updates:
+            self.assertEqual(next(updates).data, FIRST)
+        self.assertEqual([type(one) for one in told], [MemoryError, MemoryError])
+        for end in ends:
+            end.close()
 
 
 class ForAsyncio(Following, unittest.TestCase):
@@ -308,6 +414,21 @@ class ForAsyncio(Following, unittest.TestCase):
         with Cache(both(says(RESET), lambda *_: asked.set(), waits)) as cache:
             asyncio.run(cancelled(cache.port))
 
+    def test_ask_now(self):
+        """It asks when its caller requests it, long before the refresh time."""
+        async def follows(port):
+            client = AsyncClient("127.0.0.1", port, SOON, failed=patient())
+            updates = client.__aiter__()
+            try:
+                self.assertEqual((await updates.__anext__()).data, FIRST)
+                asyncio.get_running_loop().call_later(0.1, client.ask_now)
+                self.assertEqual((await updates.__anext__()).data, SECOND)
+            finally:
+                await updates.aclose()
+
+        with Cache(ASKED) as cache:
+            asyncio.run(follows(cache.port))
+
     def test_any_streams(self):
         ours, theirs = socket.socketpair()
         theirs.sendall(answer(FIRST))
@@ -318,35 +439,8 @@ class ForAsyncio(Following, unittest.TestCase):
             self.assertEqual(theirs.recv(100), b"")
 
 
-class WithoutSockets(unittest.TestCase):
-    """A router where memory runs out, and settings."""
-
-    def test_memory(self):
-        """Where there is no memory for the changes, the connection ends, and nothing is shown."""
-        router = Router(SOON)
-        router.step(0)
-        router.connected()
-        self.assertIsNone(router.step(0))
-        router.received(answer(FIRST))
-        with mock.patch.object(Data, "apply", side_effect=MemoryError):
-            steps = [router.step(1) for _ in range(2)]
-        self.assertIsInstance(steps[1], Failed)
-        self.assertIsInstance(steps[1].error, MemoryError)
-        self.assertIsNone(router.data)
-
-    def test_settings(self):
-        for wrong in (Settings(refresh=-1), Settings(most_units=-1)):
-            with self.assertRaises(ValueError):
-                Router(wrong)
-        Router(Settings(version=300, refresh=1e9, most_bytes=2**70, most_units=2**40), 65535)
-
-    def test_update(self):
-        update = Update(FIRST, Data((), FIRST.end).delta(FIRST))
-        self.assertEqual(update, Update(FIRST, Data((), FIRST.end).delta(FIRST)))
-
-
 def tearDownModule():
-    gc.collect()  # what is left open is warned of, and warnings are errors
+    gc.collect()  # open resources cause warnings, and warnings are errors
 
 
 if __name__ == "__main__":

@@ -1,4 +1,5 @@
-"""Data and changes: the rows of tests/libraries/deltas.py, and random data beside Python's sets."""
+"""Data and changes: the rows of tests/libraries/deltas.py, and random data compared with Python's
+sets."""
 import ctypes
 import ipaddress
 import pickle
@@ -17,7 +18,7 @@ from . import rows
 
 
 def applied(first, second):
-    """What rtr_apply writes, which takes changes in canonical form alone."""
+    """Returns what rtr_apply writes, which only takes changes in canonical form."""
     room, answer = len(first) + len(second), _rtr.rtr_data_answer()
     output = ctypes.create_string_buffer(room)
     status = _library.CALLS.rtr_apply_nonnull(
@@ -28,7 +29,7 @@ def applied(first, second):
 
 
 def called(call):
-    """A call of the package, over bytes."""
+    """Calls the package with bytes."""
     return lambda *inputs: _library.front(*call(*map(calls._all_of, inputs)))
 
 
@@ -37,7 +38,7 @@ CALLED = {0: called(calls._delta), 1: applied, 2: lambda first, _: bytes(Changes
 
 
 class Rows(unittest.TestCase):
-    """What is computed without the library."""
+    """Rows that are computed without the library."""
 
     def test_rows(self):
         count = 0
@@ -57,13 +58,14 @@ class Rows(unittest.TestCase):
 
 
 def any_payload(rng, version):
-    """A payload of few, so that data have some in common."""
+    """Makes one of few payloads, so that data have some in common."""
     asn = rng.choice([0, 1, 2**32 - 1])
     network = ipaddress.IPv4Network(rng.choice(["10.0.0.0/8", "10.0.0.0/9", "0.0.0.0/0"]))
     return rng.choice([
-        lambda: IPv4Prefix(network, rng.choice([network.prefixlen, 32]), asn, version=version),
-        lambda: IPv6Prefix(ipaddress.IPv6Network(rng.choice(["::/0", "2001:db8::/32"])), 128, asn,
+        lambda: IPv4Prefix(network, max_length=rng.choice([network.prefixlen, 32]), asn=asn,
                            version=version),
+        lambda: IPv6Prefix(ipaddress.IPv6Network(rng.choice(["::/0", "2001:db8::/32"])),
+                           max_length=128, asn=asn, version=version),
         lambda: RouterKey(bytes(19) + bytes([rng.randrange(3)]), asn, b"k" * rng.randrange(3),
                           version=version),
         lambda: Aspa(asn, (rng.randrange(3), 7), version=version),
@@ -71,12 +73,12 @@ def any_payload(rng, version):
 
 
 def name(unit):
-    """What names a payload: of an ASPA its customer."""
+    """Returns the key of a payload: of an ASPA its customer."""
     return unit.customer if isinstance(unit, Aspa) else unit
 
 
 def any_set(rng, version, most):
-    """Payloads, of each name one."""
+    """Makes payloads, one for each key."""
     return {name(unit): unit for unit in (any_payload(rng, version) for _ in range(most))}
 
 
@@ -88,7 +90,8 @@ class Sets(unittest.TestCase):
         for _ in range(100):
             version = rng.choice([0, 1, 2])
             sides = [any_set(rng, version, rng.choice([0, 1, 9])) for _ in range(2)]
-            ends = [EndOfData(1, serial, serial, 2, 3, version) for serial in (7, 8)]
+            ends = [EndOfData(1, serial, refresh=serial, retry=2, expire=3, version=version)
+                    for serial in (7, 8)]
             old, new = (Data(rng.sample(list(side.values()), len(side)), end)
                         for side, end in zip(sides, ends))
             for side, end, made in zip(sides, ends, (old, new)):
@@ -96,7 +99,7 @@ class Sets(unittest.TestCase):
             self.check_changes(sides, old, new)
 
     def check_set(self, side, end, made):
-        """Data have these payloads and this end of data."""
+        """Checks that data have these payloads and this end of data."""
         self.assertEqual((set(made), len(made)), (set(side.values()), len(side)))
         self.assertEqual((made.end, made.version), (end, end.version))
         self.assertEqual((made.session, made.serial), (end.session, end.serial))
@@ -110,7 +113,7 @@ class Sets(unittest.TestCase):
             self.assertEqual((again, hash(again)), (made, hash(made)))
 
     def check_changes(self, sides, old, new):
-        """The delta has what differs, and leads from one to the other."""
+        """The delta has what differs, and turns one into the other."""
         delta = old.delta(new)
         wanted = {unit for unit in sides[1].values() if unit not in set(sides[0].values())}
         wanted |= {replace(unit, announce=False) for key, unit in sides[0].items()
@@ -122,8 +125,8 @@ class Sets(unittest.TestCase):
         self.assertEqual(pickle.loads(pickle.dumps(delta)), delta)
 
     def test_in_order(self):
-        """Changes are made as they came."""
-        one = IPv4Prefix(ipaddress.IPv4Network("10.0.0.0/8"), 8, 1)
+        """Changes are applied as they came."""
+        one = IPv4Prefix(ipaddress.IPv4Network("10.0.0.0/8"), max_length=8, asn=1)
         gone, end = replace(one, announce=False), EndOfData(1, 2)
         data = Data([one], EndOfData(1, 1))
         for changes, refused, place in (([gone, one], None, 0), ([one], DuplicateError, 0),
@@ -141,14 +144,14 @@ class Sets(unittest.TestCase):
 
     def test_refused(self):
         network, end = ipaddress.IPv4Network("10.0.0.0/8"), EndOfData(1, 1)
-        one, data = IPv4Prefix(network, 8, 1), Data((), end)
+        one, data = IPv4Prefix(network, max_length=8, asn=1), Data((), end)
         for refused, make in (
                 (DuplicateError, lambda: Data([one, one], end)),
                 (UnknownError, lambda: Data([replace(one, announce=False)], end)),
                 (NotCanonicalError, lambda: Data([replace(one, version=0)], end)),
                 (ShortError, lambda: Data.from_bytes(bytes(one))),
                 (ShortError, lambda: data.apply(b"")),
-                (PrefixError, lambda: Data.from_vrps([Vrp(network, 1, 7)])),
+                (PrefixError, lambda: Data.from_vrps([Vrp(network, asn=1, max_length=7)])),
                 (OtherSessionError, lambda: data.apply(bytes(EndOfData(2, 1)))),
                 (OtherSessionError, lambda: data.delta(Data((), EndOfData(2, 1)))),
                 (UnitVersionError, lambda: data.delta(Data((), EndOfData(1, 1, version=0)))),
@@ -161,19 +164,22 @@ class Sets(unittest.TestCase):
             self.assertIs(type(caught.exception), refused)
 
     def test_vrps(self):
-        """Data of VRPs, of which two are the same."""
-        vrps = [Vrp(ipaddress.ip_network(prefix), 1, most) for prefix, most in (
+        """Data of VRPs, two of them the same."""
+        vrps = [Vrp(ipaddress.ip_network(prefix), asn=1, max_length=most) for prefix, most in (
             ("2001:db8::/32", None), ("10.0.0.0/8", 8), ("10.0.0.0/8", None), ("10.0.0.0/8", 9))]
         data = Data.from_vrps(vrps, EndOfData(5, 6))
         self.assertEqual([(str(unit.prefix), unit.max_length) for unit in data],
                          [("10.0.0.0/8", 8), ("10.0.0.0/8", 9), ("2001:db8::/32", 32)])
         self.assertEqual(repr(data), "<Data of 3 payloads, session 5, serial 6, version 1>")
+        one = Data.from_vrps(vrps[:1], EndOfData(5, 6))
+        self.assertEqual(repr(one), "<Data of 1 payload, session 5, serial 6, version 1>")
 
     def test_versions(self):
-        """What a version lacks isn't in its data; a change of version withdraws it."""
+        """Data of a version lack what it doesn't have; a change of version withdraws that."""
         end = EndOfData(1, 2, version=2)
         data = Data([Aspa(1, (2,)), RouterKey(bytes(20), 1, b"", version=2),
-                     IPv4Prefix(ipaddress.IPv4Network("10.0.0.0/8"), 8, 1, version=2)], end)
+                     IPv4Prefix(ipaddress.IPv4Network("10.0.0.0/8"), max_length=8, asn=1,
+                                version=2)], end)
         self.assertEqual([len(data.for_version(version)) for version in (0, 1, 2)], [1, 2, 3])
         lower = data.for_version(0).with_end(EndOfData(9, 1, version=0))
         self.assertEqual({(type(unit), unit.announce) for unit in calls.difference(data, lower)},
@@ -183,8 +189,8 @@ class Sets(unittest.TestCase):
         self.assertEqual({unit.announce for unit in calls.difference(data, None)}, {False})
 
     def test_threads(self):
-        """Threads share data of which nothing was asked yet."""
-        vrps = [Vrp(ipaddress.IPv4Network((i << 8, 24)), 64496) for i in range(300)]
+        """Threads share data before the first lookup."""
+        vrps = [Vrp(ipaddress.IPv4Network((i << 8, 24)), asn=64496) for i in range(300)]
         sequence, failed = bytes(Data.from_vrps(vrps, EndOfData(1, 1))), []
 
         def asks(data):
@@ -206,8 +212,8 @@ class Sets(unittest.TestCase):
         self.assertEqual(failed, [])
 
     def test_large(self):
-        """A table for which the system is asked for memory."""
-        vrps = [Vrp(ipaddress.IPv4Network((i << 8, 24)), 64496) for i in range(20000)]
+        """Data for which memory is mapped."""
+        vrps = [Vrp(ipaddress.IPv4Network((i << 8, 24)), asn=64496) for i in range(20000)]
         old = Data.from_vrps(vrps[:-1], EndOfData(1, 1))
         new = Data.from_vrps(vrps[1:], EndOfData(1, 2))
         self.assertEqual((len(old), len(old.delta(new))), (19999, 2))
@@ -228,7 +234,7 @@ class Routes(unittest.TestCase):
                 self.assertEqual(got, route.validity)
                 seen[got] += 1
                 if number % 8:
-                    continue  # each of these rows costs a list of networks
+                    continue  # each of these rows makes a list of networks
                 wanted = [(vrps[place], mismatch)
                           for place, _, _, _, mismatch in route.covering]
                 network = ipaddress.ip_network(route.prefix, strict=False)

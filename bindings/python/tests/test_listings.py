@@ -14,7 +14,7 @@ from .rows import samples
 
 
 def _listings():
-    """The script, which computes what is expected without the library."""
+    """The script that computes expected values without the library."""
     loader = SourceFileLoader("listings", str(rows.TESTS / "programs" / "listings"))
     module = module_from_spec(spec_from_loader("listings", loader))
     loader.exec_module(module)
@@ -24,9 +24,23 @@ def _listings():
 LISTINGS = _listings()
 
 
+def _written(unit):
+    """Returns the unit as it is encoded: no bits of an address after the prefix length, and no
+    providers of a withdrawn ASPA."""
+    kind, length = unit[1], unit[9] if len(unit) > 9 else 0
+    if kind in (4, 6):
+        address, width = unit[12:-4], 8 * len(unit[12:-4])
+        host = max(width - length, 0)
+        bits = int.from_bytes(address, "big") >> host << host
+        return unit[:12] + bits.to_bytes(len(address), "big") + unit[-4:]
+    if kind == 11 and not unit[2] & 1:
+        return unit[:12]
+    return unit
+
+
 def _change_of(unit):
-    """The change that a unit makes, as an object: what rtr_diff(1) has of the unit's own."""
-    said = LISTINGS.object_of(0, unit)
+    """Returns the change of a unit as an object: what rtr_diff(1) prints."""
+    said = LISTINGS.object_of(0, _written(unit))
     if "action" not in said:
         return ""
     parts = list(said.items())[list(said).index("zero") + 1:]
@@ -34,7 +48,7 @@ def _change_of(unit):
     return json.dumps(change, separators=(",", ":"))
 
 
-# What rtr_list --json calls attributes of units.
+# The names of attributes of units in rtr_list --json.
 NAMES = {"session": "session_id", "serial": "serial_number", "refresh": "refresh_interval",
          "retry": "retry_interval", "expire": "expire_interval", "max_length": "max_length",
          "asn": "asn", "customer": "customer_asn", "code": "error_code",
@@ -43,7 +57,7 @@ NAMES = {"session": "session_id", "serial": "serial_number", "refresh": "refresh
 
 
 def _shown(unit):
-    """The fields of a unit as rtr_list --json has them."""
+    """Returns the fields of a unit as rtr_list --json has them."""
     shown = {"kind": unit.KIND.name.lower()}
     for name, value in vars(unit).items():
         if name in NAMES and not (name in ("refresh", "retry", "expire") and unit.version == 0):
@@ -57,13 +71,14 @@ def _shown(unit):
 
 
 def _told(sample):
-    """The same of a sample, without what means nothing or is no attribute as it stands."""
+    """Returns the same of a sample, without fields that are ignored or that no attribute holds as
+    they are."""
     other = ("offset", "length", "flags", "zero", "prefix", "subject_public_key_info", "error_text")
     return {name: value for name, value in json.loads(sample.json).items() if name not in other}
 
 
 class Listings(unittest.TestCase):
-    """What the programs print, by the calls of the library."""
+    """The output of the programs, from the calls of the library."""
 
     def test_lines(self):
         data = b"".join(sample.bytes for sample in LISTINGS.LISTED)
@@ -74,7 +89,7 @@ class Listings(unittest.TestCase):
         self.assertEqual(list(unit_lines(data)), lines)
 
     def test_samples(self):
-        """Each sample is shown and written as the file says, or refused."""
+        """Each sample is shown and encoded as the file says, or refused."""
         for sample in samples.SAMPLES:
             with self.subTest(sample.unit):
                 for call in (units, unit_lines, unit_objects) if not sample.line else \

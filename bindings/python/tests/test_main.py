@@ -1,4 +1,4 @@
-"""The command line: what is printed, and how it ends."""
+"""The command line: output and exit status."""
 import ipaddress
 import pathlib
 import subprocess
@@ -8,21 +8,22 @@ import unittest
 
 from rtr_wire import Data, EndOfData, Vrp, __version__
 
-from .test_client import FIRST, RESET, Cache, answer, says
+from . import rows
+from .test_client import FIRST, RESET, Cache, answer, certified, says, waits
 
-DATA = Data.from_vrps([Vrp(ipaddress.IPv4Network("192.0.2.0/23"), 65551, 26),
-                       Vrp(ipaddress.IPv6Network("2001:db8::/32"), 0)], EndOfData(1, 2))
+DATA = Data.from_vrps([Vrp(ipaddress.IPv4Network("192.0.2.0/23"), asn=65551, max_length=26),
+                       Vrp(ipaddress.IPv6Network("2001:db8::/32"), asn=0)], EndOfData(1, 2))
 
 
 def runs(*words, given=b""):
-    """The status of a command, and what it prints on standard output and error."""
+    """Runs a command, and returns its status, standard output and standard error."""
     done = subprocess.run([sys.executable, "-m", "rtr_wire", *words], input=given,
                           stdout=subprocess.PIPE, stderr=subprocess.PIPE, timeout=300)
     return done.returncode, done.stdout, done.stderr.decode()
 
 
 class Commands(unittest.TestCase):
-    """What each does."""
+    """What each command does."""
 
     def test_fetch(self):
         line = "session 7 serial 1 version 1: 2 payloads\n"
@@ -36,6 +37,24 @@ class Commands(unittest.TestCase):
         status, printed, said = runs("fetch", address)
         self.assertEqual((status, printed), (1, b""))
         self.assertIn("Connection refused", said)
+
+    def test_fetch_over_tls(self):
+        """--tls verifies the cache, its authority and its name; --ca names the authority."""
+        with tempfile.TemporaryDirectory() as folder, tempfile.TemporaryDirectory() as others:
+            context, trusted = certified(folder)
+            other, named = certified(others, "DNS:cache.example")
+            for server, words, status, text in (
+                    (context, ("--ca", trusted), 0, "session 7 serial 1"),
+                    (context, ("--tls", "--ca", trusted), 0, "session 7 serial 1"),
+                    (context, ("--tls",), 1, "certificate verify failed"),
+                    (context, ("--ca", named), 1, "certificate verify failed"),
+                    (other, ("--ca", named), 1, "IP address mismatch")):
+                with self.subTest(words=words, text=text):
+                    script = waits if status else says(RESET, answer(FIRST))
+                    with Cache(script, context=server) as cache:
+                        ended, printed, said = runs("fetch", f"127.0.0.1:{cache.port}", *words)
+                    self.assertEqual((ended, printed), (status, b"" if status else bytes(FIRST)))
+                    self.assertIn(text, said)
 
     def test_validate(self):
         for route, printed in (
@@ -54,6 +73,19 @@ class Commands(unittest.TestCase):
             file.write(bytes(DATA))
             file.flush()
             self.assertEqual(runs("validate", file.name, "0.0.0.0/0", "1")[0], 0)
+
+    def test_recordings(self):
+        """A route by what a recording leaves: that of docs/OPERATORS.md, and of one with an answer
+        that is cut off."""
+        given = {row.name: row.recording for row in rows.loads()}
+        recording = given["the recording of docs/OPERATORS.md"]
+        self.assertEqual(runs("validate", "-", "198.51.100.0/26", "AS64497", given=recording),
+                         (0, b"198.51.100.0/26 AS64497 valid\n"
+                             b"  198.51.100.0/24-26 AS64497: matches\n", ""))
+        recording = given["an answer that the next cache response cuts off"]
+        self.assertEqual(runs("validate", "-", "192.0.2.0/24", "AS64496", given=recording),
+                         (0, b"192.0.2.0/24 AS64496 not found\n",
+                          "rtr_wire: left out: an answer without an end of data\n"))
 
     def test_list(self):
         """As rtr_list(1) says."""
@@ -87,7 +119,7 @@ class Commands(unittest.TestCase):
                       ("validate", "-", "::/0", "x")):
             self.assertEqual(runs(*words)[:2], (2, b""), words)
         self.assertEqual(runs("--version")[:2], (0, f"rtr_wire {__version__}\n".encode()))
-        self.assertIn(b"Statuses", runs("--help")[1])
+        self.assertIn(b"Exit status", runs("--help")[1])
 
 
 if __name__ == "__main__":

@@ -10,7 +10,7 @@ from . import rows
 
 
 def told(one):
-    """What `normalise` says of a case: the status, the detail, what was done."""
+    """Returns the result of `normalise` for a case: the status, the detail, what was done."""
     version = None if one.version == 255 else one.version
     try:
         return 0, 0, normalise(one.input, version=version)
@@ -19,7 +19,8 @@ def told(one):
 
 
 def read(one):
-    """The form of the units up to an end of data or a fault, and the status and detail of that."""
+    """Returns the form of the units up to an end of data or a fault, and the status and detail of
+    that."""
     form, source = b"", units(io.BytesIO(one.input))
     try:
         for unit in source:
@@ -32,7 +33,7 @@ def read(one):
 
 
 class Sequences(unittest.TestCase):
-    """What is said of each."""
+    """Each row, by each call."""
 
     @classmethod
     def setUpClass(cls):
@@ -64,7 +65,8 @@ class Sequences(unittest.TestCase):
         self.assertEqual(failed, [])
 
     def test_reading(self):
-        """Unit by unit, unless one comes that no sequence has: that is no fault of the unit."""
+        """Unit by unit, unless a unit comes that no sequence has, which isn't a fault of the
+        unit."""
         for one in self.cases:
             if one.version == 255 and one.status != rtr_wire.Status.UNIT_TYPE:
                 self.assertEqual(read(one), (one.status, one.detail, one.form, one.taken),
@@ -81,7 +83,7 @@ class Sequences(unittest.TestCase):
                 self.assertIsNone(caught.exception.code)
 
     def test_meanings(self):
-        """A sequence means what its form does, and another than an end of data alone."""
+        """A sequence means the same as its form, and not the same as an end of data alone."""
         end = bytes.fromhex("00070001 0000000c 00000002")
         for one in self.cases:
             if one.version != 255:
@@ -96,7 +98,7 @@ class Sequences(unittest.TestCase):
                     self.assertEqual(answer, (one.status, one.detail, one.taken, side))
 
     def test_versions(self):
-        """A version that there isn't is refused before anything else, and no unit is at fault."""
+        """An unknown version is refused before any other fault, and no unit is at fault."""
         for version in (3, 255, 256, 2**40, -1):
             with self.assertRaises(rtr_wire.UnitVersionError) as caught:
                 normalise(b"", version=version)

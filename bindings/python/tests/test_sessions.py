@@ -3,8 +3,7 @@ import io
 import unittest
 
 import rtr_wire
-from rtr_wire import (Aspa, ErrorReport, Fault, IPv4Prefix, IPv6Prefix, PrefixError, RouterKey,
-                      ShortError, units)
+from rtr_wire import Aspa, ErrorReport, Fault, PrefixError, RouterKey, ShortError, units
 
 from . import rows
 
@@ -14,8 +13,8 @@ from . import rows
 
 
 def shown(unit):
-    """What a unit shows: the numbers from ASN to MOST, then the address, the key identifier, its
-    part and its text."""
+    """Returns the content of a unit: the numbers from ASN to MOST, then the address, the key
+    identifier, its part and its text."""
     def number(name):
         return getattr(unit, name, 0)
 
@@ -38,7 +37,7 @@ def shown(unit):
 
 
 class Dripping(io.RawIOBase):
-    """A file that gives one byte a read, and an error now and then in between."""
+    """A file that returns one byte per read, and sometimes raises an error in between."""
 
     def __init__(self, data):
         super().__init__()
@@ -56,7 +55,7 @@ class Dripping(io.RawIOBase):
 
 
 def following(source):
-    """The next unit, or its fault, or None at the end, whatever the file raises before it."""
+    """Returns the next unit, or its fault, or None at the end, whatever the file raises before."""
     while True:
         try:
             return next(source, None)
@@ -67,14 +66,14 @@ def following(source):
 
 
 class Sessions(unittest.TestCase):
-    """What is shown of each unit."""
+    """The content of each unit."""
 
     @classmethod
     def setUpClass(cls):
         cls.sessions = list(rows.sessions())
 
     def check(self, got, one, data, at):
-        """A unit, or a fault, is as the answer says of the bytes from there on."""
+        """A unit or a fault is the one expected for the bytes from this offset on."""
         if isinstance(got, Fault):
             self.assertEqual((got.status, got.detail, got.offset),
                              (one.numbers[STATUS], one.numbers[DETAIL], at))
@@ -88,7 +87,7 @@ class Sessions(unittest.TestCase):
         self.assertEqual(bytes(got), one.form)
 
     def walk(self, data, answers, source):
-        """Goes over a session, past prefixes that are refused."""
+        """Iterates over a session, and skips prefixes that are refused."""
         at = 0
         for one in answers:
             if at == len(data):
@@ -120,7 +119,7 @@ class Sessions(unittest.TestCase):
                 self.walk(data, answers, units(Dripping(data)))
 
     def test_units_are_their_forms(self):
-        """Units are equal, and hash alike, exactly if their forms are the same."""
+        """Units are equal, and have the same hash, if and only if their forms are the same."""
         by_form = {}
         for data, _ in self.sessions:
             source = units(data)
@@ -151,10 +150,10 @@ class Sessions(unittest.TestCase):
 
 
 class Lengths(unittest.TestCase):
-    """A length is checked before it is believed."""
+    """A length is checked before it is trusted."""
 
     def test_long(self):
-        """Of a length that no unit has, nothing more is read."""
+        """After a length that no unit has, nothing more is read."""
         for kind in range(256):
             file = io.BytesIO(bytes([1, kind, 0, 0, 255, 255, 255, 255]) + bytes(1 << 20))
             with self.assertRaises(Fault) as caught:
@@ -167,7 +166,7 @@ class Lengths(unittest.TestCase):
             self.assertEqual(list(units(source)), [])
 
     def test_not_now(self):
-        """A file that has nothing for now says so, and then goes on."""
+        """A file without data for now raises that, and then continues."""
         class File:
             given = [b"\1\2\0\0", None, b"\0\0\0\10", b""]
 

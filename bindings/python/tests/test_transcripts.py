@@ -1,4 +1,4 @@
-"""The scenes of tests/transcripts, played by a Router with a made clock."""
+"""The scenes of tests/transcripts, played with a Router and a simulated clock."""
 import os
 import pathlib
 import subprocess
@@ -16,7 +16,7 @@ TIMES = ("refresh", "retry", "expire", "pause", "connect_limit", "response_limit
 
 
 def scenes():
-    """All scenes: those of the file that RTR_SCENES names, or those that are kept and made."""
+    """All scenes: from the file that RTR_SCENES names, or the stored and generated ones."""
     if path := os.environ.get("RTR_SCENES"):
         return pathlib.Path(path).read_text()
     with tempfile.TemporaryDirectory() as made:
@@ -26,7 +26,7 @@ def scenes():
 
 
 class Played:
-    """A scene that is played."""
+    """A scene in progress."""
 
     def __init__(self, name):
         self.name, self.settings, self.chance = name, {}, 0
@@ -36,14 +36,14 @@ class Played:
     @property
     def router(self):
         if self.made is None:
-            self.made = Router(Settings(**self.settings), self.chance)
+            self.made = Router(Settings(**self.settings), chance=self.chance)
         return self.made
 
     def sees(self, what):
         self.seen.append(f"{self.now} {what}")
 
     def sends(self):
-        """Notes what the router sends: queries, and reports."""
+        """Records what the router sends: queries and reports."""
         sent = self.router.output
         if self.broken:
             return
@@ -57,7 +57,7 @@ class Played:
         self.router.sent(len(sent))
 
     def settle(self):
-        """Has the router go on until it waits."""
+        """Runs the router until it waits."""
         while True:
             step = self.router.step(self.now)
             if step is None or isinstance(step, Close):
@@ -82,14 +82,14 @@ class Played:
         self.sees(f"shows {{ {' '.join(bytes(unit).hex() for unit in units(data))} }}")
 
     def passes(self, time):
-        """The clock comes to this time."""
+        """Advances the clock to this time."""
         while self.router.wakes <= time:
             self.now = max(self.now, self.router.wakes)
             self.settle()
         self.now = time
 
     def given(self, time, step, words=()):
-        """What the cache does, or the clock."""
+        """Carries out a step of the cache, the caller, or the clock."""
         self.passes(time)
         if step == ">" and self.connected:
             self.router.received(bytes.fromhex("".join(words)))
@@ -98,6 +98,8 @@ class Played:
             self.router.connected()
         elif step == "closes":
             self.router.received(b"")
+        elif step == "asks":
+            self.router.asked()
         elif step in ("refuses", "breaks"):
             self.broken = True
             self.router.lost(OSError(step))
@@ -115,7 +117,7 @@ class Played:
             self.given(int(words[1]), "at")
         elif words[1] == "cache>":
             self.given(int(words[0]), ">", words[2:])
-        elif words[1] == "cache":
+        elif words[1] in ("cache", "caller"):
             self.given(int(words[0]), words[2])
         elif words[1] == "router>" and words[2] != "report":
             self.wanted.append(f"{words[0]} router> {''.join(words[2:])}")

@@ -31,14 +31,15 @@ FORMS = [(unit, samples.unit(name)) for unit, name in (
     (SerialQuery(4660, 0xdeadbeef, version=0), "serial query"),
     (ResetQuery(2), "reset query"),
     (CacheResponse(4660), "cache response"),
-    (IPv4Prefix(ipaddress.IPv4Network("192.0.2.0/23"), 26, 65551), "IPv4 prefix"),
-    (IPv6Prefix(V6, 48, 65551, announce=False), "IPv6 prefix"),
+    (IPv4Prefix(ipaddress.IPv4Network("192.0.2.0/23"), max_length=26, asn=65551), "IPv4 prefix"),
+    (IPv6Prefix(V6, max_length=48, asn=65551, announce=False), "IPv6 prefix"),
     (EndOfData(4660, 0xdeadbeef, version=0), "end of data of version 0"),
     (EndOfData(4660, 0xdeadbeef), "end of data"),
-    (EndOfData(36591, 0, 399, 600, 7200, version=2), "end of data of version 2"),
+    (EndOfData(36591, 0, refresh=399, retry=600, expire=7200, version=2),
+     "end of data of version 2"),
     (CacheReset(), "cache reset"),
     (RouterKey(bytes(range(1, 21)), 65551, b"\xca\xfe"), "router key"),
-    (ErrorReport(2, bytes(ResetQuery()), b"no"), "error report"),
+    (ErrorReport(2, enclosed=bytes(ResetQuery()), text=b"no"), "error report"),
     (Aspa(65000, (65001, 65551)), "ASPA"),
     (Aspa(65000, (65001, 65551), announce=False), "withdrawn ASPA"),
 )]
@@ -58,11 +59,13 @@ def any_unit(rng):
     of_prefix = IPv4Prefix if width == 32 else IPv6Prefix
     most, providers = rng.choice([length, width]), (number(32), number(32))[rng.randrange(2):]
     return rng.choice([
-        lambda: of_prefix(prefix, most, number(32), flag, version),
-        lambda: RouterKey(bytes(20), number(32), some, flag, version),
-        lambda: Aspa(number(32), providers, flag, version),
-        lambda: EndOfData(number(16), number(32), number(32), 1, 2, version),
-        lambda: ErrorReport(number(16), some, b"text"[:rng.randrange(5)], version),
+        lambda: of_prefix(prefix, max_length=most, asn=number(32), announce=flag, version=version),
+        lambda: RouterKey(bytes(20), number(32), some, announce=flag, version=version),
+        lambda: Aspa(number(32), providers, announce=flag, version=version),
+        lambda: EndOfData(number(16), number(32), refresh=number(32), retry=1, expire=2,
+                          version=version),
+        lambda: ErrorReport(number(16), enclosed=some, text=b"text"[:rng.randrange(5)],
+                            version=version),
         lambda: SerialNotify(number(16), number(32), version),
         lambda: SerialQuery(number(16), number(32), version),
         lambda: ResetQuery(version), lambda: CacheReset(version),
@@ -80,7 +83,7 @@ class Made(unittest.TestCase):
             self.assertEqual(next(units(form)), unit)
 
     def test_left_loops(self):
-        """A loop goes on where the one before was left, also after a fault."""
+        """A loop continues where the one before was left, also after a fault."""
         longer = bytes.fromhex("01040000 00000014 01181000 c0000200 0000fbf0")
         each = [bytes(unit) for unit, _ in FORMS]
         for count in (1, 20, 64, 65):
@@ -100,7 +103,8 @@ class Made(unittest.TestCase):
             self.assertRaises(StopIteration, next, told)
 
     def test_random(self):
-        """Equal and of one hash exactly where the forms are; read again as they were."""
+        """Equal, with the same hash, if and only if the forms are; and unchanged when read
+        again."""
         rng = random.Random(1)
         made = [any_unit(rng) for _ in range(3000)]
         by_form = {}
@@ -114,21 +118,24 @@ class Made(unittest.TestCase):
         self.assertEqual(list(units(io.BytesIO(b"".join(map(bytes, made))))), made)
 
     def test_meanings(self):
-        """What means nothing doesn't count."""
+        """Ignored fields don't matter."""
         self.assertEqual(Aspa(9, (1, 2), announce=False), Aspa(9, (), announce=False))
         self.assertNotEqual(Aspa(9, (1, 2)), Aspa(9, (2, 1)))
-        self.assertEqual(EndOfData(1, 2, 3, 4, 5, version=0), EndOfData(1, 2, version=0))
-        self.assertNotEqual(EndOfData(1, 2, 3, 4, 5), EndOfData(1, 2))
+        times = {"refresh": 3, "retry": 4, "expire": 5}
+        self.assertEqual(EndOfData(1, 2, **times, version=0), EndOfData(1, 2, version=0))
+        self.assertNotEqual(EndOfData(1, 2, **times), EndOfData(1, 2))
         self.assertNotEqual(SerialNotify(1, 2), SerialQuery(1, 2))
-        self.assertNotEqual(ErrorReport(0, b"ab", b"c"), ErrorReport(0, b"a", b"bc"))
+        self.assertNotEqual(ErrorReport(0, enclosed=b"ab", text=b"c"),
+                            ErrorReport(0, enclosed=b"a", text=b"bc"))
         self.assertNotEqual(ResetQuery(), 5)
 
     def test_kinds_of_prefixes(self):
-        for unit in (IPv4Prefix(V4, 26, 64496), IPv6Prefix(V6, 48, 1)):
+        for unit in (IPv4Prefix(V4, max_length=26, asn=64496),
+                     IPv6Prefix(V6, max_length=48, asn=1)):
             self.assertIsInstance(unit, Prefix)
-        for kind, fields in ((Unit, ()), (Prefix, (V4, 26, 64496))):
+        for make in (Unit, lambda: Prefix(V4, max_length=26, asn=64496)):
             with self.assertRaisesRegex(TypeError, "is one of its subclasses"):
-                kind(*fields)
+                make()
 
     def test_frozen(self):
         for unit, _ in FORMS:
@@ -141,39 +148,41 @@ class Made(unittest.TestCase):
             self.assertEqual(dataclasses.replace(read, version=0).version, 0)
 
     def test_refused(self):
-        """Each unit that has no form, by the fault that rtr_write_unit has for it."""
+        """Each unit without a form, by the fault of rtr_write_unit."""
         key, ends = bytes(20), EndOfData(1, 2)
         for refused, make in [
-                (PrefixError, lambda: IPv4Prefix(V4, 23, 1)),
-                (PrefixError, lambda: IPv4Prefix(V4, 33, 1)),
-                (PrefixError, lambda: IPv6Prefix(V6, 129, 1)),
-                (NoFormError, lambda: IPv4Prefix(V4, 24, 1, announce=2)),
+                (PrefixError, lambda: IPv4Prefix(V4, max_length=23, asn=1)),
+                (PrefixError, lambda: IPv4Prefix(V4, max_length=33, asn=1)),
+                (PrefixError, lambda: IPv6Prefix(V6, max_length=129, asn=1)),
+                (NoFormError, lambda: IPv4Prefix(V4, max_length=24, asn=1, announce=2)),
                 (TooLongError, lambda: RouterKey(key, 1, bytes(65504))),
-                (TooLongError, lambda: ErrorReport(0, bytes(65520))),
-                (TooLongError, lambda: ErrorReport(0, bytes(60000), bytes(5520))),
+                (TooLongError, lambda: ErrorReport(0, enclosed=bytes(65520))),
+                (TooLongError, lambda: ErrorReport(0, enclosed=bytes(60000), text=bytes(5520))),
                 (TooLongError, lambda: Aspa(1, (0,) * 16381)),
                 (EmptyProvidersError, lambda: Aspa(1, ())),
                 (UnitVersionError, lambda: dataclasses.replace(ends, version=3)),
-                (ValueError, lambda: IPv4Prefix(V4, 24, 2**32)),
-                (ValueError, lambda: IPv4Prefix(V4, -1, 1)),
+                (ValueError, lambda: IPv4Prefix(V4, max_length=24, asn=2**32)),
+                (ValueError, lambda: IPv4Prefix(V4, max_length=-1, asn=1)),
                 (ValueError, lambda: SerialNotify(65536, 1)),
                 (ValueError, lambda: ResetQuery(256)),
-                (ValueError, lambda: ResetQuery("1")),
+                (TypeError, lambda: ResetQuery("1")),
                 (ValueError, lambda: RouterKey(bytes(19), 1, b"")),
                 (ValueError, lambda: Aspa(1, (2**32,))),
-                (TypeError, lambda: IPv4Prefix(V6, 32, 1)),
-                (TypeError, lambda: IPv6Prefix("::/0", 32, 1)),
+                (TypeError, lambda: IPv4Prefix(V6, max_length=32, asn=1)),
+                (TypeError, lambda: IPv6Prefix("::/0", max_length=32, asn=1)),
                 (TypeError, lambda: rtr_wire.Unit())]:
             with self.assertRaises(refused) as caught:
                 make()
             self.assertIs(type(caught.exception), refused)
         self.assertEqual(len(bytes(RouterKey(key, 1, bytes(65503)))), 65535)
-        self.assertEqual(len(bytes(ErrorReport(0, bytes(60000), bytes(5519)))), 65535)
+        longest = ErrorReport(0, enclosed=bytes(60000), text=bytes(5519))
+        self.assertEqual(len(bytes(longest)), 65535)
         self.assertEqual(len(bytes(Aspa(1, (0,) * 16380))), 65532)
 
     def test_vrps(self):
-        self.assertEqual(Vrp(V4, 5).unit(), IPv4Prefix(V4, 24, 5))
-        self.assertEqual(Vrp(V6, 5, 48).unit(2), IPv6Prefix(V6, 48, 5, version=2))
+        self.assertEqual(Vrp(V4, asn=5).unit(), IPv4Prefix(V4, max_length=24, asn=5))
+        self.assertEqual(Vrp(V6, asn=5, max_length=48).unit(2),
+                         IPv6Prefix(V6, max_length=48, asn=5, version=2))
 
     def test_versions(self):
         """RFC 6810 has no router keys; ASPAs are of version 2."""
@@ -211,7 +220,8 @@ class Faults(unittest.TestCase):
             self.assertIn("at byte 40", str(fault))
             again = pickle.loads(pickle.dumps(fault))
             self.assertEqual((type(again), str(again), again.unit), (one, str(fault), fault.unit))
-        self.assertEqual(names, set(Status) - {Status.OK})
+        # Only groups refuse too many members, and Python has none.
+        self.assertEqual(names, set(Status) - {Status.OK, Status.TOO_MANY_MEMBERS})
 
     def test_reports(self):
         """A report has the version of the session, the code, the unit and a text."""
@@ -253,7 +263,7 @@ class Faults(unittest.TestCase):
             self.assertEqual(said, text, row)
 
     def test_long_reports(self):
-        """Of a long unit and of one that isn't whole a report has what there is room for."""
+        """A report has as much of a long or incomplete unit as fits."""
         key = bytes(RouterKey(bytes(20), 1, bytes(65503)))
         read = next(units(rtr_wire.DuplicateError(0, 0, key).report(1)))
         self.assertTrue(key.startswith(read.enclosed))
@@ -281,7 +291,7 @@ class Faults(unittest.TestCase):
 
 
 class Header(unittest.TestCase):
-    """What was generated from rtr.h."""
+    """The module that is generated from rtr.h."""
 
     def test_texts(self):
         header = pathlib.Path(__file__).resolve().parent.parent.parent / "c" / "rtr.h"
@@ -295,7 +305,7 @@ class Header(unittest.TestCase):
         self.assertIn(f'"{rtr_wire.__version__}"', text)
 
     def test_layout(self):
-        """Structs have the sizes, and their fields the places, that C gives them."""
+        """Structs have the sizes, and their fields the offsets, of C."""
         if not (rows_of.BINDINGS / "header.py").exists():
             self.skipTest("no header.py beside")
         sys.path.insert(0, str(rows_of.BINDINGS))

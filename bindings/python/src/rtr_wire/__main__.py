@@ -1,4 +1,4 @@
-"""What the package does from a command line.
+"""The commands of the package.
 
 usage: python -m rtr_wire fetch HOST:PORT [--version 0|1|2] [--tls] [--ca FILE] [--output FILE]
        python -m rtr_wire list [--json] FILE
@@ -10,11 +10,11 @@ standard output or to a file. --tls speaks TLS, and --ca names a file of certifi
 trusted in the place of the system's. list prints a line of each unit of a recording, as rtr_list
 does, or of standard input where it is -; with --json each is an object. check prints what the units
 of such a file break of the protocol's rules, as rtr_list does with --check. validate says whether a
-route is valid by such a file (RFC 6811), or standard input where it is -, and which VRPs cover it,
-each with why it doesn't match.
+route is valid by the data that such a file leaves (RFC 6811), and which VRPs cover it, each with
+why it doesn't match; of an answer that is cut off it says so, and leaves it out.
 
-Statuses: 0 if all went well, 1 if the data didn't come or aren't data, a unit is refused or breaks
-a rule, 2 for other arguments.
+Exit status: 0 for success, 1 if the data didn't come or aren't data, or a unit is refused or breaks
+a rule, 2 for wrong arguments.
 """
 from __future__ import annotations
 
@@ -24,12 +24,12 @@ import ssl
 import sys
 from typing import List, Optional, Tuple
 
-from . import Client, Data, Fault, SessionError, Settings, check, unit_lines, unit_objects
+from . import Client, Fault, SessionError, Settings, check, load_data, unit_lines, unit_objects
 from ._rtr import VERSION
 
 
 def _address(text: str) -> Tuple[str, int]:
-    """HOST:PORT, of which the host may stand in brackets."""
+    """Splits HOST:PORT; the host may be in brackets."""
     host, _, port = text.rpartition(":")
     if not host or not port.isdecimal():
         raise argparse.ArgumentTypeError(f"{text!r} isn't HOST:PORT")
@@ -37,7 +37,7 @@ def _address(text: str) -> Tuple[str, int]:
 
 
 def _asn(text: str) -> int:
-    """A number, which may stand after AS."""
+    """Parses the number of an AS, with or without AS before it."""
     digits = text[2:] if text[:2].upper() == "AS" else text
     if not digits.isdecimal():
         raise argparse.ArgumentTypeError(f"{text!r} is no AS")
@@ -83,24 +83,25 @@ def _fetch(asked: argparse.Namespace) -> None:
         sys.stdout.buffer.flush()
     else:
         asked.output.write_bytes(bytes(data))
+    payloads = "payload" if len(data) == 1 else "payloads"
     print(f"session {data.session} serial {data.serial} version {data.version}: "
-          f"{len(data)} payloads", file=sys.stderr)
+          f"{len(data)} {payloads}", file=sys.stderr)
 
 
 def _input(name: str) -> bytes:
-    """What a file holds, or standard input."""
+    """Reads a file, or standard input."""
     return sys.stdin.buffer.read() if name == "-" else pathlib.Path(name).read_bytes()
 
 
 def _list(asked: argparse.Namespace) -> None:
     """Prints the line of each unit, or its object."""
-    said = unit_objects if asked.json else unit_lines
-    for line in said(_input(asked.file)):
+    listing = unit_objects if asked.json else unit_lines
+    for line in listing(_input(asked.file)):
         print(line)
 
 
 def _check(asked: argparse.Namespace) -> int:
-    """Prints what breaks a rule, and answers the status."""
+    """Prints what breaks a rule, and returns the exit status."""
     status = 0
     for finding in check(_input(asked.file)):
         status = 1
@@ -110,7 +111,9 @@ def _check(asked: argparse.Namespace) -> int:
 
 def _validate(asked: argparse.Namespace) -> None:
     """Prints the validity of a route, and what covers it."""
-    data = Data.from_bytes(_input(asked.file))
+    data, has_cut = load_data(_input(asked.file))
+    if has_cut:
+        print("rtr_wire: left out: an answer without an end of data", file=sys.stderr)
     said = _words(data.validate(asked.prefix, asked.asn).name)
     print(f"{asked.prefix} AS{asked.asn} {said}")
     for vrp, mismatch in data.covering(asked.prefix, asked.asn):
@@ -118,12 +121,12 @@ def _validate(asked: argparse.Namespace) -> None:
 
 
 def _words(name: str) -> str:
-    """The name of a member of an enum, as words."""
+    """Returns the name of a member of an enum, as words."""
     return name.lower().replace("_", " ")
 
 
 def main(words: Optional[List[str]] = None) -> int:
-    """Does what the words say, or those of the command line, and answers the status."""
+    """Runs the command of these arguments, or of the command line, and returns the exit status."""
     asked = _arguments(words)
     try:
         if asked.command == "fetch":

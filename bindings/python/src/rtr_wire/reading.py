@@ -11,10 +11,10 @@ from ._rtr import Kind, Status
 from .faults import fault, refusal
 from .units import KIND_PLACE, MAKERS, AnyUnit
 
-# How much is read, or copied, at once.
+# The bytes that are read, or copied, at once.
 _CHUNK = 1 << 16
 
-# A call of the library takes longer than a unit: it shows so many at once.
+# Units per call of the library, since a call costs more than a unit.
 _PLACES = 64
 
 _next_units = CALLS.rtr_next_many_nonnull
@@ -23,15 +23,15 @@ _next_units = CALLS.rtr_next_many_nonnull
 class Units(Iterator[AnyUnit]):
     """An iterator over the units of bytes in memory, or of a binary file.
 
-    It keeps what one read gave, and of a unit that isn't whole yet at most its length, which is
-    checked before it is believed. It ends where the input ends after a whole unit.
+    It buffers the bytes of one read, and of an incomplete unit at most its length, which is checked
+    before it is trusted. It ends if the input ends after a whole unit.
 
-    Raises, at the unit that is next:
+    Raises, at the next unit:
         ShortError: the input ends inside of it
         UnitTypeError, UnitVersionError, TooLongError, UnitLengthError, EmptyProvidersError: its
-            header is refused. Nothing says where the next unit begins: each call raises it again
-        PrefixError: the lengths of a prefix break their rule. The next call goes on after it
-    and what the file raises. Then what was read is kept, and the next call goes on.
+            header is refused. The start of the next unit isn't known: each call raises it again
+        PrefixError: the lengths of a prefix break their rule. The next call skips it
+    and what the file raises. Then the bytes stay buffered, and the next call continues.
     """
 
     def __init__(self, source: Union[Buffer, BinaryIO]) -> None:
@@ -47,7 +47,7 @@ class Units(Iterator[AnyUnit]):
 
     @property
     def offset(self) -> int:
-        """Where the next unit begins, in bytes from the front of the input."""
+        """The offset of the next unit in the input, in bytes."""
         return self._before + self._at
 
     def __next__(self) -> AnyUnit:
@@ -56,7 +56,7 @@ class Units(Iterator[AnyUnit]):
         raise StopIteration
 
     def __iter__(self) -> Iterator[AnyUnit]:
-        # One generator goes on where a loop was left, and a new one after a fault.
+        # The same generator continues after a loop was left, and a new one after a fault.
         if getattr(self._going, "gi_frame", None) is None:
             self._going = self._each()
         return self._going
@@ -80,7 +80,7 @@ class Units(Iterator[AnyUnit]):
                 return
 
     def _grown(self) -> bool:
-        """Whether more bytes came of a unit that isn't whole, or of none."""
+        """Reads more bytes, and reports whether any came."""
         more = self._more()
         if more is None:
             raise BlockingIOError("the file has nothing to read now")
@@ -92,7 +92,8 @@ class Units(Iterator[AnyUnit]):
         return bool(more)
 
     def _ends(self, status: int, refused: _rtr.rtr_unit) -> bool:
-        """Whether there is no next unit; raises what is wrong with it where there is one."""
+        """Reports whether there is no next unit; raises the fault of the next unit if there is
+        one."""
         data, at = self._data, self._at
         if status == Status.SHORT and at == len(data):
             return True
@@ -102,25 +103,45 @@ class Units(Iterator[AnyUnit]):
 
 
 def _reads_of(source: Any) -> Callable[[], Optional[bytes]]:
-    """What gives the next bytes of a file or of a buffer, and none at its end."""
+    """Returns a function that reads the next bytes of a file or of a buffer, and none at its
+    end."""
     read: Optional[Callable[[int], Optional[bytes]]] = getattr(
         source, "read1", getattr(source, "read", None))
     if read is not None:
         return partial(read, _CHUNK)
-    return _slices(memoryview(b"" if type(source) is bytes else source).cast("B")).__next__
+    if type(source) is bytes:
+        return _slices(memoryview(b"")).__next__
+    try:
+        view = memoryview(source).cast("B")
+    except TypeError:
+        kind = type(source).__name__
+        raise TypeError(f"source must be bytes-like or a binary file, not {kind}") from None
+    return _slices(view).__next__
 
 
 def _slices(view: memoryview) -> Iterator[bytes]:
-    """The bytes of a view, a piece after the other, and then none for ever."""
+    """Yields the bytes of a view piece by piece, and then empty bytes forever."""
     for start in range(0, len(view), _CHUNK):
         yield bytes(view[start:start + _CHUNK])
     while True:
         yield b""
 
 
+def count_units(memory: Any, length: int) -> int:
+    """Returns how many units memory of this length has, all of which are accepted."""
+    shown, address = (_rtr.rtr_unit * _PLACES)(), address_of(memory)
+    count, taken, at, total = ctypes.c_size_t(), ctypes.c_size_t(), 0, 0
+    while at < length:
+        _next_units(address + at, length - at, shown, _PLACES, ctypes.byref(count),
+                    ctypes.byref(taken))
+        assert count.value, "a unit is refused"
+        at, total = at + taken.value, total + count.value
+    return total
+
+
 def units(source: Union[Buffer, BinaryIO]) -> Units:
-    """The units of bytes, a bytearray or a memoryview, or of a binary file, one after the other:
-    of one with `read1`, as open(path, "rb") gives it, or with `read`.
+    """Iterates over the units of bytes, a bytearray or a memoryview, or of a binary file: with
+    `read1`, as open(path, "rb") returns it, or with `read`.
 
         for unit in units(open("recording", "rb")):
             print(unit)
@@ -129,13 +150,13 @@ def units(source: Union[Buffer, BinaryIO]) -> Units:
 
 
 class Normalised(NamedTuple):
-    """What `normalise` did.
+    """The result of `normalise`.
 
     Attributes:
         form: the form of the units, and of the end of data
-        units: how many payload units were taken
-        forms: how many of these were written: fewer only for one version
-        taken: how many bytes of the input were taken
+        units: how many payload units were read
+        forms: how many of these were written; fewer only for one version
+        taken: how many bytes of the input were read
     """
 
     form: bytes
@@ -146,16 +167,17 @@ class Normalised(NamedTuple):
 
 def normalise(sequence: Buffer, *, version: Optional[int] = None,
               limit: Optional[int] = None) -> Normalised:
-    """The form of the sequence that the input begins with: payload units up to an end of data. Two
-    sequences have the same form exactly if they mean the same. What follows isn't taken.
+    """Returns the form of the sequence at the start of the input: payload units up to an end of
+    data. Two sequences have the same form if and only if they mean the same. Later bytes aren't
+    read.
 
-    For a version, only what that version has is written, and in this version. At most `limit`
-    units are taken, the end of data included.
+    For a version, only what that version has is written, and in this version. At most `limit` units
+    are read, the end of data included.
 
-    Raises a Fault whose `before` says which whole units were taken before it, in this order:
-    UnitVersionError for a version that there isn't; TooManyError; ShortError to PrefixError.
+    Raises a Fault whose `before` has the whole units before it, in this order: UnitVersionError for
+    an unknown version; TooManyError; ShortError to PrefixError.
     """
-    data, answer, most = whole(sequence), _rtr.rtr_answer(), _library.at_most(limit)
+    data, answer, most = whole(sequence, "sequence"), _rtr.rtr_answer(), _library.at_most(limit)
     output = _library.memory(len(data) + FIELDS.size)
     if version is None:
         status = CALLS.rtr_normalise_slice_nonnull(
@@ -177,13 +199,13 @@ def normalise(sequence: Buffer, *, version: Optional[int] = None,
 
 
 def same_meaning(left: Buffer, right: Buffer, *, limit: Optional[int] = None) -> bool:
-    """Whether both inputs begin with sequences that mean the same, of fewer than `limit` payload
-    units each.
+    """Reports whether both inputs begin with sequences that mean the same, of fewer than `limit`
+    payload units each.
 
     Raises TooManyError, or ShortError to PrefixError: that of left, or if left is accepted, that of
-    right. Its `side` says which.
+    right. Its `side` is the input.
     """
-    inputs, answer = (whole(left), whole(right)), _rtr.rtr_comparison()
+    inputs, answer = (whole(left, "left"), whole(right, "right")), _rtr.rtr_comparison()
     most = _library.at_most(limit)
     status = CALLS.rtr_same_meaning_nonnull(
         inputs[0], len(inputs[0]), inputs[1], len(inputs[1]), most, answer)

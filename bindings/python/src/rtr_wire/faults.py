@@ -1,20 +1,20 @@
-"""What is wrong with a unit, or with a call: an exception of a class of its own for each status."""
+"""Faults of units and calls: each status has an exception class of its own."""
 from __future__ import annotations
 
 from typing import Any, ClassVar, Dict, Optional, Type
 
 from . import _library, _rtr
-from ._rtr import Cause, PrefixRule, Status
+from ._rtr import Cause, Status
 
 
 class Fault(ValueError):
-    """What the library refuses. Each status has a class of its own below; they are checked in the
-    order of docs/PROTOCOL.md.
+    """An input that the library refuses. Each status has a class of its own below; they are checked
+    in the order of docs/PROTOCOL.md.
 
     Attributes:
         status: the status, a `Status`
-        detail: of a UnitTypeError the type, of a UnitVersionError the version, of a PrefixError
-            the `PrefixRule` that is broken; else 0
+        detail: of a UnitTypeError the type, of a UnitVersionError or an OtherVersionError the
+            version, of a PrefixError the `PrefixRule` that is broken; else 0
         offset: where the unit at fault begins, in bytes from the front of the input; None where
             no unit is at fault
         unit: the bytes of that unit, as far as they are there and its length can be believed
@@ -41,13 +41,13 @@ class Fault(ValueError):
 
     @property
     def code(self) -> Optional[int]:
-        """The error code that the peer is owed a report with (RFC 8210 section 12), or None: where
-        no unit is at fault, and about an error report (section 5.11).
+        """The code of the error report that the peer is owed (RFC 8210 section 12), or None: if no
+        unit is at fault, or the unit is itself an error report (section 5.11).
         """
         return None if self.offset is None else _library.error_code(self.status, self.unit)
 
     def report(self, version: int) -> Optional[bytes]:
-        """The error report that the peer is owed (RFC 8210 section 5.11), as bytes to be sent in a
+        """Returns the error report that the peer is owed (RFC 8210 section 5.11), encoded for a
         session of this version, or None. It has the unit, and a text that says what is wrong.
         """
         code = self.code
@@ -56,7 +56,7 @@ class Fault(ValueError):
         cause = Cause.FAULTY if self.status <= Status.PREFIX else Cause.NOT_APPLIED
         action = _rtr.rtr_action(
             kind=_rtr.ActionKind.END, cause=cause, status=self.status, detail=self.detail,
-            code=code, version=version, reports=True)
+            code=code, version=_library.number("version", version, 8), reports=True)
         return _library.report(action, self.unit)
 
 
@@ -73,7 +73,7 @@ class UnitTypeError(Fault):
 
 
 class UnitVersionError(Fault):
-    """A unit of a version that is not allowed here, or data of another version than others."""
+    """A unit of a version that is not allowed here, or data of different versions."""
 
     status = Status.UNIT_VERSION
 
@@ -85,7 +85,7 @@ class TooLongError(Fault):
 
 
 class UnitLengthError(Fault):
-    """A length that doesn't suit the type."""
+    """A length that is wrong for the type."""
 
     status = Status.UNIT_LENGTH
 
@@ -103,7 +103,7 @@ class PrefixError(Fault):
 
 
 class TooManyError(Fault):
-    """As many units as were allowed came, and no end of data was among them."""
+    """The limit of units was reached before an end of data."""
 
     status = Status.TOO_MANY
 
@@ -121,53 +121,80 @@ class NoFormError(Fault):
 
 
 class NotCanonicalError(Fault):
-    """A unit, or an end of data, that may not stand there in data or changes."""
+    """A unit, or an end of data, that breaks the canonical form of data or changes."""
 
     status = Status.NOT_CANONICAL
 
 
 class OtherSessionError(Fault):
-    """Changes, or data, of another session than the data."""
+    """Changes, or data, of another session than the data; an end of data of another session than
+    its answer."""
 
     status = Status.OTHER_SESSION
 
 
 class DuplicateError(Fault):
-    """A payload is announced that is there already (RFC 8210 section 12, code 7)."""
+    """A payload is announced that is already present (RFC 8210 section 12, code 7)."""
 
     status = Status.DUPLICATE
 
 
 class UnknownError(Fault):
-    """A payload is withdrawn that isn't there (RFC 8210 section 12, code 6)."""
+    """A payload is withdrawn that isn't present (RFC 8210 section 12, code 6)."""
 
     status = Status.UNKNOWN
 
 
 class UndecidedError(Fault):
-    """An ASPA is announced and then withdrawn, so that what comes of it depends on the data."""
+    """An ASPA is announced and then withdrawn, so the net change depends on the data."""
 
     status = Status.UNDECIDED
 
 
 class NoIndexError(Fault):
-    """The library had too little room to sort in."""
+    """The index was too short for the units."""
 
     status = Status.NO_INDEX
+
+
+class OtherVersionError(Fault):
+    """A unit of a recording of another version than its answer, or than the data that it
+    changes."""
+
+    status = Status.OTHER_VERSION
+
+
+class OldSerialError(Fault):
+    """An end of data of changes in a recording whose serial number comes before that of the
+    data."""
+
+    status = Status.OLD_SERIAL
+
+
+class ResetInsideError(Fault):
+    """A cache reset inside an answer."""
+
+    status = Status.RESET_INSIDE
+
+
+class ReportInsideError(Fault):
+    """An error report inside an answer."""
+
+    status = Status.REPORT_INSIDE
 
 
 _CLASSES: Dict[int, Type[Fault]] = {one.status: one for one in Fault.__subclasses__()}
 
 
 def fault(status: int, detail: int = 0) -> Fault:
-    """The fault of a call that names no unit."""
+    """Returns the fault of a call that names no unit."""
     return _CLASSES[status](detail)
 
 
 def refusal(status: int, detail: int, data: bytes, at: int, *, offset: Optional[int] = None,
             side: int = 0) -> Fault:
-    """The fault of the unit that begins there in these bytes: at this offset of the input, if that
-    isn't the same place.
+    """Returns the fault of the unit that begins there in these bytes: at this offset of the input,
+    if the bytes are only a part of it.
     """
     known, size, _ = _library.unit_size(data, at)
     if status in (Status.TOO_MANY, Status.NO_ROOM):

@@ -6,8 +6,8 @@ from ctypes import (POINTER, Structure, c_bool, c_size_t, c_uint8, c_uint16, c_u
                     c_void_p)
 from typing import Any
 
-VERSION = "0.2.0"
-VERSION_NUMBER = 200
+VERSION = "0.3.0"
+VERSION_NUMBER = 300
 HIGHEST_VERSION = 2
 HEADER_SIZE = 8
 SERIAL_SIZE = 12
@@ -32,6 +32,7 @@ MOST_RETRY = 7200
 USUAL_EXPIRE = 7200
 LEAST_EXPIRE = 600
 MOST_EXPIRE = 172800
+MOST_MEMBERS = 16
 TEXT_ROOM = 64
 NAME_ROOM = 65528
 LINE_ROOM = 160
@@ -39,80 +40,92 @@ FINDING_ROOM = 128
 
 
 class Status(enum.IntEnum):
-    """How a call ended; each call below names the statuses that it can answer. The faults of a unit
-    are 1 to 7, and are checked in the order of docs/PROTOCOL.md.
+    """The result of a call; each call below lists the statuses that it returns. The faults of a
+    unit are 1 to 7, checked in the order of docs/PROTOCOL.md.
     """
 
-    # the call succeeded
+    # The call succeeded.
     OK = 0
-    # the input ends inside a unit, or before one
+    # The input ends inside a unit, or before one.
     SHORT = 1
-    # `detail` is a type that is not allowed here
+    # `detail` is a type that is not allowed here.
     UNIT_TYPE = 2
-    # `detail` is a version that is not allowed here
+    # `detail` is a version that is not allowed here.
     UNIT_VERSION = 3
-    # a router key, an ASPA or a report of more than 65535 bytes
+    # A router key, an ASPA or a report of more than 65535 bytes.
     TOO_LONG = 4
-    # a length that doesn't suit the type
+    # The length is wrong for the type.
     UNIT_LENGTH = 5
-    # an ASPA that is announced without providers
+    # An ASPA is announced without providers.
     EMPTY_PROVIDERS = 6
-    # `detail`, an rtr_prefix_rule, is broken by a prefix
+    # A prefix breaks the rule `detail`, an rtr_prefix_rule.
     PREFIX = 7
-    # `limit` units were taken, and no end of data was among them
+    # `limit` units were read, none of them an end of data.
     TOO_MANY = 8
-    # the output is too short for what comes next
+    # The output is too short for the next unit or text.
     NO_ROOM = 9
-    # rtr_write_unit: no such action, family or part
+    # rtr_write_unit: no such action, family or part.
     NO_FORM = 10
-    # a unit or an end of data that may not stand there in data or changes in canonical form
+    # A unit or an end of data breaks the canonical form of data or changes.
     NOT_CANONICAL = 12
-    # the second input is of another session than the first
+    # The second input is of another session than the first, or an end of data of another
+    # session than its answer.
     OTHER_SESSION = 13
-    # a payload other than an ASPA is announced that is there already
+    # A payload other than an ASPA is announced that is already present.
     DUPLICATE = 14
-    # a payload is withdrawn that isn't there
+    # A payload is withdrawn that isn't present.
     UNKNOWN = 15
-    # rtr_order: an ASPA is announced and then withdrawn, so that what the changes come to
-    # depends on the data
+    # rtr_order: an ASPA is announced and then withdrawn, so the net change depends on the
+    # data.
     UNDECIDED = 16
-    # the index has fewer places than there are units
+    # The index has fewer entries than there are units.
     NO_INDEX = 17
+    # A group would have more than RTR_MOST_MEMBERS members.
+    TOO_MANY_MEMBERS = 18
+    # A recorded unit has version `detail`, and the units before it in its answer, or the data
+    # that it changes, have another.
+    OTHER_VERSION = 19
+    # The serial number of a recorded answer comes before that of the data that it changes.
+    OLD_SERIAL = 20
+    # A recording has a cache reset inside an answer.
+    RESET_INSIDE = 21
+    # A recording has an error report inside an answer.
+    REPORT_INSIDE = 22
 
 
 class PrefixRule(enum.IntEnum):
     """enum rtr_prefix_rule of rtr.h."""
 
-    # the prefix length is above 32 for IPv4 or 128 for IPv6
+    # The prefix length is above 32 for IPv4 or 128 for IPv6.
     LENGTH_OVER = 1
-    # the max length is above that
+    # The max length is above 32 for IPv4 or 128 for IPv6.
     MAX_LENGTH_OVER = 2
-    # the max length is below the prefix length
+    # The max length is below the prefix length.
     MAX_LENGTH_UNDER = 3
 
 
 class Kind(enum.IntEnum):
-    """The kinds of units, by their type."""
+    """The kinds of units, numbered by PDU type."""
 
-    # RFC 8210 section 5.2
+    # RFC 8210 section 5.2.
     SERIAL_NOTIFY = 0
-    # RFC 8210 section 5.3
+    # RFC 8210 section 5.3.
     SERIAL_QUERY = 1
-    # RFC 8210 section 5.4
+    # RFC 8210 section 5.4.
     RESET_QUERY = 2
-    # RFC 8210 section 5.5
+    # RFC 8210 section 5.5.
     CACHE_RESPONSE = 3
-    # RFC 8210 section 5.6
+    # RFC 8210 section 5.6.
     IPV4_PREFIX = 4
-    # RFC 8210 section 5.7
+    # RFC 8210 section 5.7.
     IPV6_PREFIX = 6
-    # RFC 6810 and RFC 8210 section 5.8
+    # RFC 6810 and RFC 8210 section 5.8.
     END_OF_DATA = 7
-    # RFC 8210 section 5.9
+    # RFC 8210 section 5.9.
     CACHE_RESET = 8
-    # RFC 8210 section 5.10
+    # RFC 8210 section 5.10.
     ROUTER_KEY = 9
-    # RFC 8210 section 5.11
+    # RFC 8210 section 5.11.
     ERROR_REPORT = 10
     ASPA = 11
 
@@ -121,25 +134,25 @@ class ErrorCode(enum.IntEnum):
     """The codes of error reports (RFC 8210 section 12); those above 8 are the Rust crate rpki's.
     """
 
-    # what came can't be read, or contradicts itself
+    # The data can't be parsed, or contradict themselves.
     CORRUPT_DATA = 0
-    # the peer failed for a reason of its own
+    # The peer failed for a reason of its own.
     INTERNAL_ERROR = 1
-    # the cache has no data yet
+    # The cache has no data yet.
     NO_DATA_AVAILABLE = 2
-    # the request makes no sense to the cache
+    # The request makes no sense to the cache.
     INVALID_REQUEST = 3
     UNSUPPORTED_PROTOCOL_VERSION = 4
     UNSUPPORTED_PDU_TYPE = 5
     WITHDRAWAL_OF_UNKNOWN_RECORD = 6
     DUPLICATE_ANNOUNCEMENT_RECEIVED = 7
-    # another one than was agreed on
+    # Not the negotiated version.
     UNEXPECTED_PROTOCOL_VERSION = 8
-    # an ASPA may not have these providers
+    # An ASPA may not have these providers.
     ASPA_PROVIDER_LIST_ERROR = 9
-    # the connection failed
+    # The connection failed.
     TRANSPORT_ERROR = 10
-    # units came in the wrong order
+    # Units came in the wrong order.
     ORDERING_ERROR = 11
 
 
@@ -147,27 +160,47 @@ class SerialOrder(enum.IntEnum):
     """The order of two serial numbers (RFC 1982 section 3.2)."""
 
     EQUAL = 0
-    # the left one is less
+    # The left one is less.
     LESS = 1
-    # the left one is greater
+    # The left one is greater.
     GREATER = 2
-    # they are 2^31 apart
+    # They are 2^31 apart.
     NO_ORDER = 3
 
 
 class Named(enum.IntEnum):
-    """What rtr_name has names of."""
+    """The kinds of numbers that rtr_name names."""
 
-    # an rtr_status, without its detail: "unit type is not allowed here"
+    # An rtr_status, without its detail: "unit type is not allowed here".
     STATUS = 0
-    # an rtr_kind: "IPv4 prefix"
+    # An rtr_kind: "IPv4 prefix".
     KIND = 1
-    # an rtr_cause: "the cache is too slow"
+    # An rtr_cause: "the cache is too slow".
     CAUSE = 2
-    # an rtr_reason: "the router is too slow"
+    # An rtr_reason: "the router is too slow".
     REASON = 3
-    # an error code (RFC 8210 section 12): "Corrupt Data"
+    # An error code (RFC 8210 section 12): "Corrupt Data".
     CODE = 4
+    # An rtr_time_rule: "the retry time has to be 1 to 7200 seconds".
+    TIME_RULE = 5
+
+
+class TimeRule(enum.IntEnum):
+    """The rules on the times that a cache sends, in seconds (RFC 8210 section 6);
+    rtr_time_rule_text returns their texts.
+    """
+
+    NONE = 0
+    # The refresh time is 1 to 86400.
+    REFRESH = 1
+    # The retry time is 1 to 7200.
+    RETRY = 2
+    # The expire time is 600 to 172800.
+    EXPIRE = 3
+    # The expire time is longer than the refresh time.
+    ABOVE_REFRESH = 4
+    # The expire time is longer than the retry time.
+    ABOVE_RETRY = 5
 
 
 class Side(enum.IntEnum):
@@ -178,28 +211,43 @@ class Side(enum.IntEnum):
 
 
 class Validity(enum.IntEnum):
-    """What origin validation says of a route (RFC 6811 section 2)."""
+    """The validation state of a route (RFC 6811 section 2)."""
 
-    # no VRP covers the route
+    # No VRP covers the route.
     NOT_FOUND = 0
-    # a VRP matches it
+    # A VRP matches it.
     VALID = 1
-    # VRPs cover it, and none matches
+    # VRPs cover it, and none matches.
     INVALID = 2
-    # the family is neither 4 nor 6, or the prefix length is above 32 or 128
+    # The family is neither 4 nor 6, or the prefix length is above 32 or 128.
     NO_ROUTE = 3
+    # The struct rtr_data wasn't filled by rtr_check_data.
+    UNCHECKED = 4
+
+
+class Covers(enum.IntEnum):
+    """Whether a VRP covers a route."""
+
+    # No VRP covers it, or no further one.
+    NONE = 0
+    # A VRP covers it.
+    ONE = 1
+    # As RTR_NO_ROUTE.
+    NO_ROUTE = 2
+    # As RTR_UNCHECKED.
+    UNCHECKED = 3
 
 
 class Mismatch(enum.IntEnum):
     """Why a VRP that covers a route doesn't match it: the first of these that holds."""
 
-    # it matches
+    # It matches.
     MATCHES = 0
-    # it is one of AS 0, which says that no route is valid
+    # Its AS is 0, which no route may match.
     AS_ZERO = 1
-    # the route isn't from its AS
+    # The route's origin is another AS.
     OTHER_AS = 2
-    # the route's prefix is longer than its max length
+    # The route's prefix is longer than its max length.
     LONGER = 3
 
 
@@ -207,56 +255,59 @@ class Rule(enum.IntEnum):
     """A rule that a unit breaks."""
 
     NONE = 0
-    # the byte at `value` has to be zero
+    # The byte at `value` has to be zero.
     RESERVED = 1
-    # all bits of the flags but the lowest have to be zero
+    # All bits of the flags but the lowest have to be zero.
     FLAGS = 2
-    # the prefix length is at most 32 or 128
+    # The prefix length is at most 32 or 128.
     PREFIX_LENGTH = 3
-    # the max length is at most 32 or 128
+    # The max length is at most 32 or 128.
     MAX_LENGTH = 4
-    # the max length is no less than the prefix length
+    # The max length is no less than the prefix length.
     MAX_BELOW = 5
-    # a prefix has no bits after its length
+    # A prefix has no bits after its length.
     HOST_BITS = 6
-    # the version, `value`, is that of the sequence, `begun`
+    # The version, `value`, is that of the sequence, `begun`.
     VERSION = 7
-    # the session, `value`, is that of the answer, `begun`
+    # The session, `value`, is that of the answer, `begun`.
     SESSION = 8
-    # an answer ends with an end of data
+    # An answer ends with an end of data.
     CUT_OFF = 9
-    # a recording has an end of data
+    # A recording has an end of data.
     NO_ANSWER = 10
-    # the version, `value`, has such units
+    # The version, `value`, has such units.
     LACKS = 11
-    # a withdrawn ASPA has no providers; with `value` 1 the unit reads as one of an older draft
+    # A withdrawn ASPA has no providers; with `value` 1 the unit reads as one of an older
+    # draft.
     WITHDRAWN_PROVIDERS = 12
-    # a payload is announced once
+    # A payload is announced once.
     TWICE = 13
-    # providers ascend
+    # Providers ascend.
     PROVIDER_ORDER = 14
-    # the lengths inside an error report make it up
+    # The lengths inside an error report add up to its length.
     REPORT_PARTS = 15
-    # the text of an error report is UTF-8
+    # The text of an error report is UTF-8.
     REPORT_TEXT = 16
-    # no error report is about an error report
+    # No error report is about an error report.
     REPORT_OF_REPORT = 17
+    # A cache may send the times: the rule that they break is `value`, an rtr_time_rule.
+    TIMES = 18
 
 
 class Phase(enum.IntEnum):
-    """Where a router is: the `phase` of its struct."""
+    """The states of a router, in `phase` of its struct."""
 
-    # there is no connection
+    # There is no connection.
     OFFLINE = 0
-    # one is made
+    # A connection is being made.
     CONNECTING = 1
-    # an answer is awaited
+    # Waiting for an answer.
     ASKED = 2
-    # in a response
+    # Reading a response.
     READING = 3
-    # its changes are made
+    # Its changes are being applied.
     APPLYING = 4
-    # it waits for a notify, or for its time
+    # Idle until a notify comes or it is time to ask.
     WAITING = 5
 
 
@@ -276,13 +327,13 @@ class ActionKind(enum.IntEnum):
 
 
 class Cause(enum.IntEnum):
-    """Why a connection ends; rtr_cause_text says it in words."""
+    """Why a connection ends; rtr_cause_text returns the text."""
 
     LOST = 0
     SLOW = 1
-    # a unit is refused, for `status`
+    # A unit is refused, for `status`.
     FAULTY = 2
-    # by the unit between `start` and `taken`
+    # The cache reports an error, in the unit from `start` to `taken`.
     REPORTED = 3
     OUT_OF_PLACE = 4
     NO_SUCH_PAYLOAD = 5
@@ -292,15 +343,53 @@ class Cause(enum.IntEnum):
     OLD_SERIAL = 9
     OTHER_DATA = 10
     TOO_LONG = 11
-    # changes are refused, for `status`
+    # Changes are refused, for `status`.
     NOT_APPLIED = 12
     EXPIRED = 13
-    # no failure: it connects again at once, in a lower version
+    # No failure: it reconnects at once, in a lower version.
     LOWER = 14
+    # No failure: it reconnects at once, in the highest version.
+    HIGHER = 15
+
+
+class LinkStatus(enum.IntEnum):
+    """How a call for a router's end ended."""
+
+    OK = 0
+    # No call leaves the struct like this.
+    NOT_BEGUN = 1
+    # A buffer is shorter than what it holds; for rtr_link_give_up, the output is shorter than
+    # RTR_LONGEST_UNIT.
+    SHORT_BUFFER = 2
+    # The time is before that of an earlier call, or not below 2^63.
+    BAD_TIME = 3
+    # No connection is there, or being opened, to which this happens.
+    OUT_OF_TURN = 4
+    # More bytes than there is room for, or than are to be sent.
+    TOO_LONG = 5
+
+
+class TodoKind(enum.IntEnum):
+    """enum rtr_todo_kind of rtr.h."""
+
+    # The call was refused.
+    NOTHING = 0
+    GO = 1
+    WAIT = 2
+    CONNECT = 3
+    CLOSE = 4
+    DATA = 5
+    DROPPED = 6
+    NO_DATA = 7
+    INPUT_ROOM = 8
+    FIRST_ROOM = 9
+    SECOND_ROOM = 10
+    INDEX_ROOM = 11
+    OUTPUT_ROOM = 12
 
 
 class GroupShown(enum.IntEnum):
-    """What becomes of what is shown."""
+    """How the shown data change."""
 
     SAME = 0
     DATA = 1
@@ -320,14 +409,14 @@ class ServingKind(enum.IntEnum):
 
 
 class Reason(enum.IntEnum):
-    """Why a cache ends a connection; rtr_reason_text says it in words."""
+    """Why a cache ends a connection; rtr_reason_text returns the text."""
 
     LOST = 0
     SLOW = 1
     FULL = 2
-    # a unit is refused, for `status`
+    # A unit is refused, for `status`.
     FAULTY = 3
-    # by the first `taken` bytes of the input
+    # The router reports an error, in `taken` bytes of input.
     REPORTED = 4
     NO_QUERY = 5
     OTHER_VERSION = 6
@@ -368,6 +457,36 @@ class rtr_data_answer(Structure):
         ("offset", c_size_t),
         ("status", c_uint8),
         ("side", c_uint8),
+        ("detail", c_uint8),
+    ]
+
+
+class rtr_loaded(Structure):
+    length: int
+    offset: int
+    wanted: int
+    serial: int
+    refresh: int
+    retry: int
+    expire: int
+    session: int
+    version: int
+    has_cut: bool
+    status: int
+    detail: int
+
+    _fields_ = [
+        ("length", c_size_t),
+        ("offset", c_size_t),
+        ("wanted", c_size_t),
+        ("serial", c_uint32),
+        ("refresh", c_uint32),
+        ("retry", c_uint32),
+        ("expire", c_uint32),
+        ("session", c_uint16),
+        ("version", c_uint8),
+        ("has_cut", c_bool),
+        ("status", c_uint8),
         ("detail", c_uint8),
     ]
 
@@ -487,6 +606,18 @@ class rtr_tables(Structure):
         ("shortest_ipv4", c_uint8),
         ("shortest_ipv6", c_uint8),
         ("shortest", c_uint8 * 256),
+    ]
+
+
+class rtr_lookup(Structure):
+    length: int
+    seal: int
+    tables: rtr_tables
+
+    _fields_ = [
+        ("length", c_size_t),
+        ("seal", c_size_t),
+        ("tables", rtr_tables),
     ]
 
 
@@ -617,12 +748,16 @@ class rtr_known(Structure):
 class rtr_router(Structure):
     settings: rtr_settings
     expires: int
+    came: int
     asked: int
+    tried: int
     due: int
+    rises: int
     bytes: int
     known: rtr_known
     answer: rtr_known
     wait: int
+    rise_wait: int
     units: int
     note: int
     session: int
@@ -631,6 +766,7 @@ class rtr_router(Structure):
     floor: int
     agreed: bool
     fell: bool
+    silent: bool
     changes: bool
     resync: bool
     answered: bool
@@ -640,12 +776,16 @@ class rtr_router(Structure):
     _fields_ = [
         ("settings", rtr_settings),
         ("expires", c_uint64),
+        ("came", c_uint64),
         ("asked", c_uint64),
+        ("tried", c_uint64),
         ("due", c_uint64),
+        ("rises", c_uint64),
         ("bytes", c_uint64),
         ("known", rtr_known),
         ("answer", rtr_known),
         ("wait", c_uint32),
+        ("rise_wait", c_uint32),
         ("units", c_uint32),
         ("note", c_uint32),
         ("session", c_uint16),
@@ -654,6 +794,7 @@ class rtr_router(Structure):
         ("floor", c_uint8),
         ("agreed", c_bool),
         ("fell", c_bool),
+        ("silent", c_bool),
         ("changes", c_bool),
         ("resync", c_bool),
         ("answered", c_bool),
@@ -696,15 +837,165 @@ class rtr_action(Structure):
     ]
 
 
-class rtr_group(Structure):
-    count: int
-    runs: int
-    has: Any
+class rtr_link(Structure):
+    settings: rtr_settings
+    expires: int
+    came: int
+    asked: int
+    tried: int
+    due: int
+    rises: int
+    bytes: int
+    latest: int
+    kept: int
+    end_size: int
+    filled: int
+    shown: int
+    unsent: int
+    known: rtr_known
+    answer: rtr_known
+    wait: int
+    rise_wait: int
+    units: int
+    note: int
+    mark: int
+    session: int
+    phase: int
+    version: int
+    floor: int
+    agreed: int
+    fell: int
+    silent: int
+    changes: int
+    resync: int
+    answered: int
+    noted: int
+    has_data: int
+    holding: int
+    since: int
+    shows: int
+    second: int
+    opened: int
+    closed: int
 
     _fields_ = [
+        ("settings", rtr_settings),
+        ("expires", c_uint64),
+        ("came", c_uint64),
+        ("asked", c_uint64),
+        ("tried", c_uint64),
+        ("due", c_uint64),
+        ("rises", c_uint64),
+        ("bytes", c_uint64),
+        ("latest", c_uint64),
+        ("kept", c_size_t),
+        ("end_size", c_size_t),
+        ("filled", c_size_t),
+        ("shown", c_size_t),
+        ("unsent", c_size_t),
+        ("known", rtr_known),
+        ("answer", rtr_known),
+        ("wait", c_uint32),
+        ("rise_wait", c_uint32),
+        ("units", c_uint32),
+        ("note", c_uint32),
+        ("mark", c_uint32),
+        ("session", c_uint16),
+        ("phase", c_uint8),
+        ("version", c_uint8),
+        ("floor", c_uint8),
+        ("agreed", c_uint8),
+        ("fell", c_uint8),
+        ("silent", c_uint8),
+        ("changes", c_uint8),
+        ("resync", c_uint8),
+        ("answered", c_uint8),
+        ("noted", c_uint8),
+        ("has_data", c_uint8),
+        ("holding", c_uint8),
+        ("since", c_uint8),
+        ("shows", c_uint8),
+        ("second", c_uint8),
+        ("opened", c_uint8),
+        ("closed", c_uint8),
+    ]
+
+
+class rtr_todo(Structure):
+    wakes: int
+    room: int
+    offset: int
+    code: int
+    kind: int
+    cause: int
+    status: int
+    detail: int
+    drops: bool
+    reports: bool
+
+    _fields_ = [
+        ("wakes", c_uint64),
+        ("room", c_size_t),
+        ("offset", c_size_t),
+        ("code", c_uint16),
+        ("kind", c_uint8),
+        ("cause", c_uint8),
+        ("status", c_uint8),
+        ("detail", c_uint8),
+        ("drops", c_bool),
+        ("reports", c_bool),
+    ]
+
+
+class rtr_link_state(Structure):
+    wakes: int
+    filled: int
+    unsent: int
+    shown: int
+    answer: int
+    has_data: bool
+    second: bool
+    answers: bool
+    since: bool
+
+    _fields_ = [
+        ("wakes", c_uint64),
+        ("filled", c_size_t),
+        ("unsent", c_size_t),
+        ("shown", c_size_t),
+        ("answer", c_size_t),
+        ("has_data", c_bool),
+        ("second", c_bool),
+        ("answers", c_bool),
+        ("since", c_bool),
+    ]
+
+
+class rtr_group_settings(Structure):
+    patience: int
+    empty_is_data: bool
+
+    _fields_ = [
+        ("patience", c_uint32),
+        ("empty_is_data", c_bool),
+    ]
+
+
+class rtr_group(Structure):
+    settings: rtr_group_settings
+    count: int
+    runs: int
+    due: int
+    has: Any
+    current: bool
+
+    _fields_ = [
+        ("settings", rtr_group_settings),
         ("count", c_size_t),
         ("runs", c_size_t),
+        ("due", c_uint64),
         ("has", c_bool * 16),
+        ("current", c_bool),
     ]
 
 
@@ -762,6 +1053,7 @@ class rtr_cache(Structure):
     live: bool
     asked: bool
     told: bool
+    reset: bool
 
     _fields_ = [
         ("settings", rtr_cache_settings),
@@ -773,6 +1065,7 @@ class rtr_cache(Structure):
         ("live", c_bool),
         ("asked", c_bool),
         ("told", c_bool),
+        ("reset", c_bool),
     ]
 
 
@@ -842,13 +1135,17 @@ PROTOTYPES: dict[str, tuple[Any, list[Any]]] = {
         c_size_t, c_void_p, c_size_t, POINTER(rtr_data_answer)]),
     "rtr_order_nonnull": (c_uint8, [c_void_p, c_size_t, c_void_p, c_size_t, c_void_p, c_size_t,
         POINTER(rtr_data_answer)]),
-    "rtr_tables_nonnull": (None, [c_void_p, c_size_t, POINTER(rtr_tables)]),
-    "rtr_validate_nonnull": (c_uint8, [c_void_p, c_size_t, POINTER(rtr_tables),
+    "rtr_load_nonnull": (c_uint8, [c_void_p, c_size_t, c_void_p, c_size_t, c_void_p, c_size_t,
+        c_void_p, c_size_t, POINTER(rtr_loaded)]),
+    "rtr_check_data_nonnull": (c_uint8, [c_void_p, c_size_t, POINTER(rtr_lookup),
+        POINTER(rtr_data_answer)]),
+    "rtr_validate_nonnull": (c_uint8, [c_void_p, c_size_t, POINTER(rtr_lookup),
         POINTER(rtr_route)]),
-    "rtr_covering_nonnull": (c_bool, [c_void_p, c_size_t, POINTER(rtr_tables), POINTER(rtr_route),
+    "rtr_covering_nonnull": (c_uint8, [c_void_p, c_size_t, POINTER(rtr_lookup), POINTER(rtr_route),
         c_size_t, POINTER(rtr_covering)]),
     "rtr_serial_order": (c_uint8, [c_uint32, c_uint32]),
     "rtr_version_has": (c_bool, [c_uint8, c_uint8]),
+    "rtr_times_rule": (c_uint8, [c_uint32, c_uint32, c_uint32]),
     "rtr_wire_version": (c_uint32, []),
     "rtr_check_name_nonnull": (c_uint8, [c_void_p, c_size_t, c_void_p, c_size_t,
         POINTER(rtr_naming)]),
@@ -858,7 +1155,10 @@ PROTOTYPES: dict[str, tuple[Any, list[Any]]] = {
     "rtr_check_end": (None, [POINTER(rtr_check), POINTER(rtr_finding)]),
     "rtr_settings_usual": (None, [POINTER(rtr_settings), c_uint8]),
     "rtr_router_init": (None, [POINTER(rtr_router), POINTER(rtr_settings)]),
+    "rtr_router_again": (None, [POINTER(rtr_router)]),
+    "rtr_router_has_data": (c_bool, [POINTER(rtr_router), c_uint64]),
     "rtr_router_tick": (None, [POINTER(rtr_router), c_uint64, POINTER(rtr_action)]),
+    "rtr_router_asked": (None, [POINTER(rtr_router), c_uint64, POINTER(rtr_action)]),
     "rtr_router_connected": (None, [POINTER(rtr_router), c_uint64, POINTER(rtr_action)]),
     "rtr_router_lost": (None, [POINTER(rtr_router), c_uint64, POINTER(rtr_action)]),
     "rtr_router_applied": (None, [POINTER(rtr_router), c_uint64, POINTER(rtr_action)]),
@@ -869,12 +1169,30 @@ PROTOTYPES: dict[str, tuple[Any, list[Any]]] = {
     "rtr_router_query_nonnull": (c_size_t, [POINTER(rtr_action), c_void_p, c_size_t]),
     "rtr_router_report_nonnull": (c_bool, [POINTER(rtr_action), c_void_p, c_size_t, c_void_p,
         c_size_t, c_void_p]),
-    "rtr_group_init": (None, [POINTER(rtr_group), c_size_t]),
+    "rtr_link_init": (None, [POINTER(rtr_link), POINTER(rtr_settings)]),
+    "rtr_link_again": (c_uint8, [POINTER(rtr_link)]),
+    "rtr_link_opened": (c_uint8, [POINTER(rtr_link)]),
+    "rtr_link_lost": (c_uint8, [POINTER(rtr_link)]),
+    "rtr_link_received_nonnull": (c_uint8, [POINTER(rtr_link), c_void_p, c_size_t, c_size_t]),
+    "rtr_link_sent_nonnull": (c_uint8, [POINTER(rtr_link), c_void_p, c_size_t, c_size_t]),
+    "rtr_link_next_nonnull": (c_uint8, [POINTER(rtr_link), c_uint64, c_void_p, c_size_t, c_void_p,
+        c_size_t, c_void_p, c_size_t, c_void_p, c_size_t, c_void_p, c_size_t, POINTER(rtr_todo)]),
+    "rtr_link_ask_now_nonnull": (c_uint8, [POINTER(rtr_link), c_uint64, c_void_p, c_size_t,
+        c_void_p, c_size_t, POINTER(rtr_todo)]),
+    "rtr_link_give_up_nonnull": (c_uint8, [POINTER(rtr_link), c_uint64, c_void_p, c_size_t,
+        c_void_p, c_size_t, POINTER(rtr_todo)]),
+    "rtr_link_state_of": (c_uint8, [POINTER(rtr_link), c_uint64, c_size_t, c_size_t, c_size_t,
+        c_size_t, POINTER(rtr_link_state)]),
+    "rtr_group_usual": (None, [POINTER(rtr_group_settings)]),
+    "rtr_group_init": (c_uint8, [POINTER(rtr_group), POINTER(rtr_group_settings), c_size_t,
+        c_uint64]),
     "rtr_group_best": (c_bool, [POINTER(rtr_group), c_void_p]),
-    "rtr_group_shows": (None, [POINTER(rtr_group), c_size_t, POINTER(rtr_group_answer)]),
-    "rtr_group_drops": (None, [POINTER(rtr_group), c_size_t, POINTER(rtr_group_answer)]),
-    "rtr_group_fails": (None, [POINTER(rtr_group), c_size_t, POINTER(rtr_group_answer)]),
-    "rtr_group_well": (None, [POINTER(rtr_group), c_size_t, POINTER(rtr_group_answer)]),
+    "rtr_group_wakes": (c_uint64, [POINTER(rtr_group)]),
+    "rtr_group_tick": (None, [POINTER(rtr_group), c_uint64, POINTER(rtr_group_answer)]),
+    "rtr_group_shows": (None, [POINTER(rtr_group), c_uint64, c_size_t, c_size_t,
+        POINTER(rtr_group_answer)]),
+    "rtr_group_drops": (None, [POINTER(rtr_group), c_uint64, c_size_t, POINTER(rtr_group_answer)]),
+    "rtr_group_fails": (None, [POINTER(rtr_group), c_uint64, c_size_t, POINTER(rtr_group_answer)]),
     "rtr_cache_settings_usual": (None, [POINTER(rtr_cache_settings)]),
     "rtr_cache_init": (None, [POINTER(rtr_cache), c_uint64, POINTER(rtr_cache_settings)]),
     "rtr_cache_tick": (None, [POINTER(rtr_cache), c_uint64, POINTER(rtr_present),

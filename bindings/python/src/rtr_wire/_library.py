@@ -1,7 +1,8 @@
-"""The shared library, and what calls of it take and answer in Python."""
+"""The shared library, and the arguments and results of its calls in Python."""
 from __future__ import annotations
 
 import ctypes
+import operator
 import os
 import pathlib
 import platform
@@ -10,12 +11,12 @@ from typing import Any, Optional, Tuple, Union
 
 from . import _rtr
 
-# Bytes in memory, as callers give them.
+# Bytes in memory that callers pass.
 Buffer = Union[bytes, bytearray, memoryview]
 
 
 def _load() -> ctypes.CDLL:
-    """The library beside this file, or the one that RTR_WIRE_LIBRARY names."""
+    """Loads the library beside this file, or the one that RTR_WIRE_LIBRARY names."""
     beside = pathlib.Path(__file__).with_name("librtr_wire.so")
     path = os.environ.get("RTR_WIRE_LIBRARY") or str(beside)
     try:
@@ -39,66 +40,110 @@ CALLS = _load()
 FIELDS = struct.Struct(_rtr.UNIT_LETTERS)
 ROUTE = struct.Struct(_rtr.ROUTE_LETTERS)
 
-# Memory of so many bytes isn't filled with zero.
+# From this many bytes on, memory isn't filled with zeros.
 _LARGE = 1 << 16
 
 
-def whole(buffer: Buffer) -> bytes:
-    """The bytes of a buffer: itself if they can't change, else a copy."""
-    return buffer if type(buffer) is bytes else bytes(memoryview(buffer))
+def whole(buffer: Buffer, name: str = "data") -> bytes:
+    """Returns the bytes of a buffer, with its name for errors: the buffer itself if it is
+    immutable, else a copy."""
+    if type(buffer) is bytes:
+        return buffer
+    try:
+        return bytes(memoryview(buffer))
+    except TypeError:
+        kind = type(buffer).__name__
+        raise TypeError(f"{name} must be a bytes-like object, not {kind}") from None
 
 
-def address_of(data: bytes) -> int:
-    """Where the bytes lie. They have to be kept for as long as it is used."""
+def integer(name: str, value: Any) -> int:
+    """Returns an integer, with its name for errors."""
+    try:
+        return operator.index(value)
+    except TypeError:
+        raise TypeError(f"{name} must be an integer, not {type(value).__name__}") from None
+
+
+def number(name: str, value: Any, bits: int) -> int:
+    """Returns an integer that this many bits hold, with its name for errors."""
+    found = integer(name, value)
+    if not 0 <= found < 1 << bits:
+        raise ValueError(f"{name} is {found}: it must be from 0 to {(1 << bits) - 1}")
+    return found
+
+
+def address_of(data: Any) -> int:
+    """Returns the address of bytes, or of memory that `memory` returned. Keep it alive while the
+    address is used."""
+    if type(data) is not bytes:
+        return ctypes.addressof(data)
     return ctypes.cast(ctypes.c_char_p(data), ctypes.c_void_p).value or 0
 
 
 def memory(size: int) -> Any:
-    """So many bytes for the library to write to, which nobody else sees until it did."""
+    """Returns this many bytes for the library to write to, which nobody else sees until it has."""
     if size < _LARGE or platform.python_implementation() != "CPython":
         return ctypes.create_string_buffer(size)
-    # A bytes object with open contents, as the interpreter's C API allows to fill one.
-    made = ctypes.pythonapi.PyBytes_FromStringAndSize
-    made.restype, made.argtypes = ctypes.py_object, [ctypes.c_void_p, ctypes.c_ssize_t]
-    return made(None, size)
+    # A bytes object with unset contents, which the interpreter's C API allows to fill.
+    allocate = ctypes.pythonapi.PyBytes_FromStringAndSize
+    allocate.restype, allocate.argtypes = ctypes.py_object, [ctypes.c_void_p, ctypes.c_ssize_t]
+    return allocate(None, size)
+
+
+def lengthen(buffer: bytearray, size: int) -> None:
+    """Makes a buffer this long. The bytes that it didn't have aren't set, if the interpreter allows
+    that. Raises MemoryError, with the buffer as it was."""
+    if platform.python_implementation() != "CPython":
+        buffer.extend(bytes(size - len(buffer)))
+        return
+    resize = ctypes.pythonapi.PyByteArray_Resize
+    resize.restype, resize.argtypes = ctypes.c_int, [ctypes.py_object, ctypes.c_ssize_t]
+    resize(buffer, size)
+
+
+def start_of(buffer: bytearray) -> int:
+    """Returns the address of a buffer that isn't empty. Don't resize the buffer while it is
+    used."""
+    return ctypes.addressof(ctypes.c_char.from_buffer(buffer))
 
 
 def front(output: Any, length: int) -> bytes:
-    """The first bytes of memory."""
+    """Returns the first bytes of memory."""
     if type(output) is bytes and len(output) == length:
         return output
     return ctypes.string_at(output, length)
 
 
 def at_most(limit: Optional[int]) -> int:
-    """A limit as the library takes it."""
+    """Returns a limit as the library takes it."""
     largest = 2**64 - 1
     if limit is None:
         return largest
-    if limit < 0:
-        raise ValueError(f"a limit of {limit}")
+    if integer("limit", limit) < 0:
+        raise ValueError(f"limit is {limit}: it must be from 0 on")
     return min(limit, largest)
 
 
 def octet(version: int) -> int:
-    """A version as one byte: the last, which is none, for a number that no byte has."""
-    return version if 0 <= version <= 255 else 255
+    """Returns a version as one byte: 255, which no version has, for a number that no byte holds."""
+    found = integer("version", version)
+    return found if 0 <= found <= 255 else 255
 
 
 def unit_size(data: bytes, at: int = 0) -> Tuple[int, int, int]:
-    """The status, the size and the detail of rtr_unit_size from there on."""
+    """Returns the status, the size and the detail of rtr_unit_size from there on."""
     size, detail = ctypes.c_size_t(), ctypes.c_uint8()
     status = CALLS.rtr_unit_size_nonnull(address_of(data) + at, len(data) - at,
                                          ctypes.byref(size), ctypes.byref(detail))
     return status, size.value, detail.value
 
 
-# How many bytes tell how long a unit is.
+# The bytes that the length of a unit needs: a header.
 HEADER = unit_size(b"")[1]
 
 
 def written(fields: Tuple[Any, ...], part: bytes) -> Tuple[int, bytes]:
-    """The status of rtr_write_unit for a unit with these fields, and the form."""
+    """Returns the status of rtr_write_unit for a unit with these fields, and the form."""
     unit, length = _rtr.rtr_unit(), ctypes.c_size_t()
     FIELDS.pack_into(unit, 0, *fields)
     room = FIELDS.size + len(part)
@@ -112,31 +157,32 @@ def written(fields: Tuple[Any, ...], part: bytes) -> Tuple[int, bytes]:
 
 
 def error_code(status: int, unit: bytes) -> Optional[int]:
-    """The error code that is owed for a status of a unit, if one is."""
+    """Returns the error code that is owed for a status of a unit, or None."""
     code = ctypes.c_uint16()
     owed = CALLS.rtr_error_code_nonnull(status, unit, len(unit), ctypes.byref(code))
     return code.value if owed else None
 
 
 def _said(call: Any, *numbers: int) -> str:
-    """The text that a call writes for these numbers."""
+    """Returns the text that a call writes for these numbers."""
     output, length = ctypes.create_string_buffer(_rtr.TEXT_ROOM), ctypes.c_size_t()
     call(*numbers, output, len(output), ctypes.byref(length))
     return output.raw[:length.value].decode("ascii")
 
 
 def status_text(status: int, detail: int) -> str:
-    """The text of a status with its detail."""
+    """Returns the text of a status with its detail."""
     return _said(CALLS.rtr_text_nonnull, status, detail)
 
 
 def name(named: _rtr.Named, number: int) -> str:
-    """The name of a number."""
+    """Returns the name of a number."""
     return _said(CALLS.rtr_name_nonnull, named, number)
 
 
 def report(action: _rtr.rtr_action, about: bytes) -> bytes:
-    """The report that an action owes about the unit that these bytes begin with, or none."""
+    """Returns the report that an action owes about the unit at the start of these bytes, or
+    nothing."""
     room, length = FIELDS.size + len(about), ctypes.c_size_t()
     while action.reports:
         output = ctypes.create_string_buffer(room)

@@ -1,0 +1,94 @@
+"""Units of the RPKI to Router protocol (RFC 6810, RFC 8210), data and their changes, and clients of
+a cache. All rules of the protocol are in a library whose functions are proved to meet their
+contracts; this package, which is tested, calls it by ctypes. It requires Linux on x86-64 or
+aarch64, Python 3.9 or newer, and nothing else.
+
+Units
+    Each of the eleven kinds is a frozen dataclass: `IPv4Prefix` and `IPv6Prefix`, which are both a
+    `Prefix`, `RouterKey`, `Aspa`, `EndOfData`, `ErrorReport`, `SerialNotify`, `SerialQuery`,
+    `ResetQuery`, `CacheResponse` and `CacheReset`. `units(source)` reads them from bytes or a
+    binary file, `bytes(unit)` is the written form, and units are equal if they mean the same.
+
+        for unit in units(open("recording", "rb")):
+            print(unit)
+
+    `unit_lines`, `unit_objects` and `check` give the output of the program rtr_list for a
+    recording.
+
+Data
+    `Data` is what a cache has, or a router has of it: a collection of payloads that never changes.
+    `load_data` loads what a recording or a list leaves, `Data.from_bytes` takes a sequence,
+    `Data.from_vrps` what a validator has; `apply` makes the changes of an answer, `delta` makes
+    `Changes`, `validate` and `covering` are origin validation (RFC 6811).
+
+        data.validate("192.0.2.0/24", 65551) is Validity.VALID
+
+Clients
+    `Client` follows a cache over sockets, `AsyncClient` does so for asyncio, and `Router` is the
+    session of both, without sockets or a clock. `follow` follows several caches by preference, and
+    `follow` of the module `aio` does so for asyncio.
+
+        for update in Client("cache.example", 3323):
+            print(update.data, list(update.changes))
+
+Faults
+    A refusal of the library is a `Fault`, a ValueError with a class of its own for each status: it
+    has the offset of the unit, the unit, and the report that is owed to the peer. Any other reason
+    for which a session ends is a `SessionError`.
+
+Several threads may use units, data and changes at once, but an iterator or a client only one at a
+time.
+
+`python -m rtr_wire --help` shows the commands of the package.
+
+Copyright (c) 2026, the authors of Fishreef; copyright (c) 2018, NLnet Labs. BSD 3-Clause License.
+"""
+from __future__ import annotations
+
+from typing import TYPE_CHECKING, Any
+
+from ._rtr import VERSION as __version__
+from ._rtr import (Cause, ErrorCode, Kind, Mismatch, PrefixRule, Rule, SerialOrder, Side, Status,
+                   Validity)
+from .checking import Finding, check
+from .client import Client
+from .data import Changes, Covering, Data, Loaded, load_data
+from .faults import (DuplicateError, EmptyProvidersError, Fault, NoFormError, NoIndexError,
+                     NoRoomError, NotCanonicalError, OldSerialError, OtherSessionError,
+                     OtherVersionError, PrefixError, ReportInsideError, ResetInsideError,
+                     ShortError, TooLongError, TooManyError, UndecidedError, UnitLengthError,
+                     UnitTypeError, UnitVersionError, UnknownError)
+from .following import follow
+from .group import NoPayloads
+from .lines import change_json, change_line, unit_lines, unit_objects
+from .reading import Normalised, Units, normalise, same_meaning, units
+from .router import Close, Connect, Failed, NoData, Router, SessionError, Settings, Update
+from .units import (AnyUnit, Aspa, CacheReset, CacheResponse, EndOfData, ErrorReport, IPv4Prefix,
+                    IPv6Prefix, Payload, Prefix, ResetQuery, RouterKey, SerialNotify, SerialQuery,
+                    Unit, Vrp, serial_order, version_has)
+
+if TYPE_CHECKING:
+    from .aio import AsyncClient
+else:
+    def __getattr__(name: str) -> Any:
+        """Imports what needs asyncio when it is first used: that takes longer than all else."""
+        if name != "AsyncClient":
+            raise AttributeError(f"module {__name__!r} has no attribute {name!r}")
+        from .aio import AsyncClient
+        globals()[name] = AsyncClient
+        return AsyncClient
+
+__all__ = [
+    "AnyUnit", "Aspa", "AsyncClient", "CacheReset", "CacheResponse", "Cause", "Changes", "Client",
+    "Close", "Connect", "Covering", "Data", "DuplicateError", "EmptyProvidersError", "EndOfData",
+    "ErrorCode", "ErrorReport", "Failed", "Fault", "Finding", "IPv4Prefix", "IPv6Prefix", "Kind",
+    "Loaded", "Mismatch", "NoData", "NoFormError", "NoIndexError", "NoPayloads", "NoRoomError",
+    "Normalised", "NotCanonicalError", "OldSerialError", "OtherSessionError", "OtherVersionError",
+    "Payload", "Prefix", "PrefixError", "PrefixRule", "ReportInsideError", "ResetInsideError",
+    "ResetQuery", "Router", "RouterKey", "Rule", "SerialNotify", "SerialOrder", "SerialQuery",
+    "SessionError", "Settings", "ShortError", "Side", "Status", "TooLongError", "TooManyError",
+    "UndecidedError", "Unit", "UnitLengthError", "UnitTypeError", "UnitVersionError", "Units",
+    "UnknownError", "Update", "Validity", "Vrp", "__version__", "change_json", "change_line",
+    "check", "follow", "load_data", "normalise", "same_meaning", "serial_order", "unit_lines",
+    "unit_objects", "units", "version_has",
+]

@@ -1,0 +1,279 @@
+"""The client for asyncio, and several of them by preference: loops around a `Router`, with the
+streams of asyncio."""
+from __future__ import annotations
+
+import asyncio
+import ssl as tls
+from typing import (Any, AsyncGenerator, AsyncIterator, Awaitable, Callable, List, NamedTuple,
+                    Optional, Sequence, Tuple, Union)
+
+from ._library import number
+from ._rtr import Cause
+from .data import Data
+from .group import Decision, Group
+from .loops import CHUNK, LAST_BYTES, LOOK, REPORT_SECONDS, Asking, Clock, Told, new_router
+from .router import Close, Connect, Failed, Router, SessionError, Settings, Update
+
+# A pair of streams.
+Streams = Tuple[asyncio.StreamReader, asyncio.StreamWriter]
+
+# After how many seconds without an answer the next address of a name is tried too.
+_NEXT_ADDRESS = 0.25
+
+
+class AsyncClient(Asking):
+    """`Client` for asyncio.
+
+        async for update in AsyncClient("cache.example", 3323):
+            print(update.data)
+
+    Leave the loop through `contextlib.aclosing`, or cancel the task, so that the connection closes
+    at once.
+
+    Args:
+        host, port: the address of the cache
+        settings: limits and times; by default those of `Settings()`, in version 1
+        ssl: a context for TLS; the cache's certificate is checked against `host`
+        failed: is called with the reason when a connection ends or there is no answer yet; may
+            raise
+        connect: opens the pair of streams, instead of TCP and TLS
+    """
+
+    def __init__(self, host: str = "", port: int = 0, settings: Settings = Settings(), *,
+                 ssl: Optional[tls.SSLContext] = None, failed: Optional[Told] = None,
+                 connect: Optional[Callable[[], Awaitable[Streams]]] = None) -> None:
+        super().__init__()
+        self.host, self.port, self.settings = host, number("port", port, 16), settings
+        self._ssl, self._failed = ssl, failed
+        self._connect = connect if connect is not None else self._over_tcp
+
+    async def fetch(self) -> Data:
+        """Asks for all data once, and falls back to the cache's version.
+
+        Raises the first failure: a `Fault`, a `SessionError`, an OSError or a MemoryError.
+        """
+        def failed(error: Exception) -> None:
+            raise error
+
+        updates = self._updates(failed)
+        try:
+            async for update in updates:
+                if update.data is not None:
+                    return update.data
+        finally:
+            await updates.aclose()
+        raise SessionError(Cause.LOST)
+
+    def __aiter__(self) -> AsyncIterator[Update]:
+        return self._updates(self._failed)
+
+    async def _updates(self, failed: Optional[Told]) -> AsyncGenerator[Update, None]:
+        steps = self.run(new_router(self.settings), Clock())
+        try:
+            async for step in steps:
+                if isinstance(step, Update):
+                    yield step
+                elif failed is not None:
+                    failed(step.error)
+        finally:
+            await steps.aclose()
+
+    async def run(self, router: Router, clock: Clock
+                  ) -> AsyncGenerator[Union[Update, Failed], None]:
+        """Yields what happens, until it is closed."""
+        streams, asked = None, self._asked
+        try:
+            while True:
+                asked = self._told(router, asked)
+                step = router.step(clock.now())
+                if step is None:
+                    await _wait(router, clock, streams)
+                elif isinstance(step, Connect):
+                    streams = await self._connected(router, clock)
+                elif isinstance(step, Close):
+                    closed, streams = streams, None
+                    await _close_streams(closed, router.output)
+                else:
+                    yield step
+        finally:
+            if streams is not None:
+                streams[1].transport.abort()
+
+    async def _over_tcp(self) -> Streams:
+        return await asyncio.open_connection(self.host, self.port, ssl=self._ssl,
+                                             happy_eyeballs_delay=_NEXT_ADDRESS)
+
+    async def _connected(self, router: Router, clock: Clock) -> Optional[Streams]:
+        """Opens the streams that the router asks for, and reports them or their failure to the
+        router."""
+        try:
+            streams = await asyncio.wait_for(self._connect(), clock.until(router.wakes))
+        except (OSError, asyncio.TimeoutError) as error:
+            if not clock.is_at(router.wakes):
+                router.lost(error)
+            return None
+        router.connected()
+        return streams
+
+
+async def _wait(router: Router, clock: Clock, streams: Optional[Streams]) -> None:
+    """Sends the unsent bytes, and waits for bytes or the router's next time."""
+    seconds = min(clock.until(router.wakes), LOOK)
+    if streams is None:
+        await asyncio.sleep(seconds)
+        return
+    reader, writer = streams
+    try:
+        output = router.output
+        if output:
+            writer.write(output)
+            router.sent(len(output))
+        router.received(await asyncio.wait_for(reader.read(CHUNK), seconds))
+    except MemoryError as error:
+        router.lost(error)
+    except (OSError, asyncio.TimeoutError) as error:
+        # Without an error of the stream, the timer ended.
+        if reader.exception() is not None or reader.at_eof():
+            router.lost(error)
+
+
+async def _close_streams(streams: Optional[Streams], last: bytes) -> None:
+    """Sends a last unit, if there is one, lets the cache read it, and closes the connection."""
+    if streams is None:
+        return
+    reader, writer = streams
+    try:
+        if last:
+            await asyncio.wait_for(_last(reader, writer, last), REPORT_SECONDS)
+    except (OSError, asyncio.TimeoutError):
+        pass  # the connection is closing anyway
+    finally:
+        writer.transport.abort()
+
+
+async def _last(reader: asyncio.StreamReader, writer: asyncio.StreamWriter, last: bytes) -> None:
+    writer.write(last)
+    await writer.drain()
+    if writer.can_write_eof():
+        writer.write_eof()
+    left = LAST_BYTES
+    while left > 0:
+        came = len(await reader.read(CHUNK))
+        left = left - came if came else 0
+
+
+# A function that is called with each failure, and the client that has it.
+ToldOf = Callable[[AsyncClient, Exception], Any]
+
+
+def follow(clients: Sequence[AsyncClient], *, patience: Optional[float] = None,
+           empty_is_data: Optional[bool] = None, failed: Optional[ToldOf] = None
+           ) -> AsyncGenerator[Tuple[AsyncClient, Update], None]:
+    """`rtr_wire.follow` for asyncio, with the same arguments and errors.
+
+        async for client, update in follow([AsyncClient("first.example", 323), ..]):
+            print(client.host, update.data)
+
+    Leave the loop through `contextlib.aclosing`, or cancel the task, so that all connections close
+    at once.
+    """
+    group = Group(len(clients), patience, empty_is_data)
+    return _Following(clients, group, failed).updates()
+
+
+class _Run:
+    """One time that a client runs, in a task."""
+
+    def __init__(self) -> None:
+        self.task: Optional[asyncio.Task[None]] = None
+        self.is_stopped = False
+
+
+class _News(NamedTuple):
+    """What happened in a run of a client."""
+
+    place: int
+    run: _Run
+    step: Union[Update, Failed, Exception]
+
+
+class _Following:
+    """Clients in tasks, of which a group decides."""
+
+    def __init__(self, clients: Sequence[AsyncClient], group: Group,
+                 failed: Optional[ToldOf]) -> None:
+        self._clients, self._group, self._failed = list(clients), group, failed
+        self._clock = Clock()
+        self._routers: List[Optional[Router]] = [None] * len(self._clients)
+        self._runs: List[Optional[_Run]] = [None] * len(self._clients)
+        self._news: asyncio.Queue[_News]
+
+    async def updates(self) -> AsyncGenerator[Tuple[AsyncClient, Update], None]:
+        self._news = asyncio.Queue(1)
+        try:
+            self._start(0)
+            while True:
+                decision = await self._next()
+                if decision.error is not None and self._failed is not None:
+                    self._failed(self._clients[decision.place], decision.error)
+                for place in decision.stop:
+                    self._stop(place)
+                if decision.start is not None:
+                    self._start(decision.start)
+                if decision.update is not None:
+                    yield self._clients[decision.place], decision.update
+        finally:
+            for place in range(len(self._clients)):
+                self._stop(place)
+            tasks = [run.task for run in self._runs if run is not None and run.task is not None]
+            await asyncio.gather(*tasks, return_exceptions=True)
+
+    async def _next(self) -> Decision:
+        """Waits for news of a client, or the group's next time."""
+        wakes = self._group.wakes
+        seconds = None if wakes is None else self._clock.until(wakes)
+        try:
+            news = await asyncio.wait_for(self._news.get(), seconds)
+        except asyncio.TimeoutError:
+            return self._group.ticks(self._clock.now())
+        if news.run.is_stopped:
+            return Decision()
+        if isinstance(news.step, Exception):
+            raise news.step
+        return self._group.happens(self._clock.now(), news.place, news.step)
+
+    def _start(self, place: int) -> None:
+        """Starts a client, once its last run has ended."""
+        before, run = self._runs[place], _Run()
+        self._runs[place] = run
+        run.task = asyncio.get_running_loop().create_task(self._run(place, run, before))
+
+    def _stop(self, place: int) -> None:
+        run = self._runs[place]
+        if run is not None and run.task is not None:
+            run.is_stopped = True
+            run.task.cancel()
+
+    async def _run(self, place: int, run: _Run, before: Optional[_Run]) -> None:
+        """Runs a client until its task is cancelled."""
+        if before is not None and before.task is not None:
+            await asyncio.wait([before.task])
+        try:
+            client, router = self._clients[place], self._router(place)
+            steps = client.run(router, self._clock)
+            try:
+                async for step in steps:
+                    await self._news.put(_News(place, run, step))
+            finally:
+                await steps.aclose()
+        except Exception as error:
+            await self._news.put(_News(place, run, error))
+
+    def _router(self, place: int) -> Router:
+        """Returns the router of a client, which begins again if it ran before."""
+        router = self._routers[place]
+        if router is None:
+            router = self._routers[place] = new_router(self._clients[place].settings)
+        else:
+            router.again()
+        return router

@@ -1,0 +1,499 @@
+"""Data of a cache or a router, and changes of data."""
+from __future__ import annotations
+
+import ctypes
+import ipaddress
+from dataclasses import replace
+from typing import (Any, Collection, FrozenSet, Iterable, Iterator, NamedTuple, Optional, Tuple,
+                    Type, TypeVar, Union)
+
+from . import _library, _rtr
+from ._library import CALLS, HEADER, ROUTE, Buffer, front, memory, number, whole
+from ._rtr import Covers, Mismatch, Status, Validity
+from .faults import Fault, TooManyError, fault, refusal
+from .reading import Units, count_units, normalise
+from .units import EndOfData, Payload, Unit, Vrp
+
+Network = Union[ipaddress.IPv4Network, ipaddress.IPv6Network]
+_One = TypeVar("_One", bound="_Canonical")
+
+# How many bytes the data of a recording may have at first; the buffers grow for more.
+_FIRST_ROOM = 1 << 24
+
+
+class Part(NamedTuple):
+    """The start of a buffer: bytes, or memory that the library wrote, from which bytes are made on
+    demand."""
+
+    memory: Any
+    length: int
+
+
+def _all_of(data: bytes) -> Part:
+    """Returns all of these bytes."""
+    return Part(data, len(data))
+
+
+def _piece(part: Part, at: int, most: int) -> bytes:
+    """Returns the bytes of a part from there on, at most so many."""
+    return ctypes.string_at(_library.address_of(part.memory) + at, min(most, part.length - at))
+
+
+def fitted(output: Any, written: int, room: int) -> Part:
+    """Returns the start of an output of this size, as a copy if much of it is unused and there is
+    memory for one."""
+    part = Part(output, written)
+    if 4 * written > 3 * room:
+        return part
+    try:
+        return _all_of(front(*part))
+    except MemoryError:
+        return part
+
+
+def _refused(answer: _rtr.rtr_data_answer, *inputs: Part) -> Fault:
+    """Returns the fault of one of these inputs, or of both together."""
+    if answer.side == 0:
+        return fault(answer.status, answer.detail)
+    data = front(*inputs[answer.side - 1])
+    return refusal(answer.status, answer.detail, data, answer.offset, side=answer.side)
+
+
+def _delta(old: Part, new: Part) -> Part:
+    """Returns what rtr_delta writes."""
+    room = old.length + new.length
+    output, answer = memory(room), _rtr.rtr_data_answer()
+    status = CALLS.rtr_delta_nonnull(
+        old.memory, old.length, new.memory, new.length, output, room, answer)
+    if status != Status.OK:
+        raise _refused(answer, old, new)
+    return fitted(output, answer.written, room)
+
+
+def _index(places: int) -> Any:
+    """An index of so many places."""
+    return memory(ctypes.sizeof(ctypes.c_size_t) * (places + 1))
+
+
+def _index_for(changes: Part) -> Tuple[Any, int]:
+    """An index for changes, and its places: no unit is shorter than a header."""
+    places = changes.length // HEADER
+    return _index(places), places
+
+
+def _ordered(changes: Part) -> Part:
+    """What rtr_order writes."""
+    room, (index, places) = changes.length, _index_for(changes)
+    output, answer = memory(room), _rtr.rtr_data_answer()
+    status = CALLS.rtr_order_nonnull(
+        changes.memory, changes.length, index, places, output, room, answer)
+    if status != Status.OK:
+        raise _refused(answer, changes)
+    return fitted(output, answer.written, room)
+
+
+def _applied(data: Part, changes: Part) -> Part:
+    """What rtr_apply_in_order writes."""
+    room, (index, places) = data.length + changes.length, _index_for(changes)
+    output, answer = memory(room), _rtr.rtr_data_answer()
+    status = CALLS.rtr_apply_in_order_nonnull(
+        data.memory, data.length, changes.memory, changes.length, index, places, output, room,
+        answer)
+    if status != Status.OK:
+        raise _refused(answer, data, changes)
+    return fitted(output, answer.written, room)
+
+
+class _Canonical(Collection[Payload]):
+    """Payload units in canonical form, and an end of data."""
+
+    _held: Optional[Part]
+    _length: Optional[int]
+    _end: Optional[EndOfData]
+    _forms: Optional[FrozenSet[bytes]]
+    _lookup: Optional[_rtr.rtr_lookup]
+
+    @classmethod
+    def _of(cls: Type[_One], part: Optional[Part]) -> _One:
+        """Wraps this memory, which is in canonical form and doesn't change any more."""
+        instance = object.__new__(cls)
+        instance._held = part
+        instance._length = instance._end = instance._forms = instance._lookup = None
+        return instance
+
+    @property
+    def _part(self) -> Part:
+        """The memory that they are in, with their length."""
+        assert self._held is not None
+        return self._held
+
+    @property
+    def _bytes(self) -> bytes:
+        """Returns their bytes, which replace the memory from then on."""
+        all_bytes = front(*self._part)
+        self._held = _all_of(all_bytes)
+        return all_bytes
+
+    def __bytes__(self) -> bytes:
+        return self._bytes
+
+    @property
+    def end(self) -> EndOfData:
+        """The end of data: the version, the session, the serial number and the times."""
+        if self._end is None:
+            first = next(Units(_piece(self._part, 0, _rtr.LONGEST_UNIT)))
+            size = len(bytes(EndOfData(0, 0, version=first.version)))
+            last = next(Units(_piece(self._part, self._part.length - size, size)))
+            assert isinstance(last, EndOfData)
+            self._end = last
+        return self._end
+
+    @property
+    def version(self) -> int:
+        """The version of all units."""
+        return self.end.version
+
+    @property
+    def session(self) -> int:
+        """The session of the cache."""
+        return self.end.session
+
+    @property
+    def serial(self) -> int:
+        """The serial number of the data."""
+        return self.end.serial
+
+    def __len__(self) -> int:
+        if self._length is None:
+            self._length = count_units(self._part.memory, self._part.length) - 1
+        return self._length
+
+    def __iter__(self) -> Iterator[Payload]:
+        for unit in Units(self._bytes):
+            if isinstance(unit, EndOfData):
+                return
+            yield unit  # type: ignore[misc]
+
+    def __contains__(self, unit: object) -> bool:
+        if not isinstance(unit, Unit) or isinstance(unit, EndOfData):
+            return False
+        if self._forms is None:
+            self._forms = frozenset(_pieces(self._bytes))
+        return bytes(unit) in self._forms
+
+    def __eq__(self, other: object) -> bool:
+        return type(other) is type(self) and self._bytes == other._bytes  # type: ignore
+
+    def __hash__(self) -> int:
+        return hash(self._bytes)
+
+    def __repr__(self) -> str:
+        end = self.end
+        payloads = "payload" if len(self) == 1 else "payloads"
+        return (f"<{type(self).__name__} of {len(self)} {payloads}, session {end.session}, "
+                f"serial {end.serial}, version {end.version}>")
+
+
+def _pieces(data: bytes) -> Iterator[bytes]:
+    """The units of data, each as its bytes."""
+    at = 0
+    while at < len(data):
+        _, size, _ = _library.unit_size(data, at)
+        yield data[at:at + size]
+        at += size
+
+
+def _end_in(sequence: bytes) -> bytes:
+    """Returns the end of data of a sequence, whose units may be of several versions."""
+    try:
+        normalise(sequence, limit=normalise(sequence).units)
+    except TooManyError as stopped:
+        return bytes(next(Units(sequence[stopped.before.taken:])))
+    raise AssertionError("a sequence has an end of data")
+
+
+class Changes(_Canonical):
+    """The changes from data to other data, as `Data.delta` returns them: the payloads that are
+    announced and then those that are withdrawn, each in the order of payloads, with the end of data
+    of the new data.
+
+    `for unit in changes` iterates over them, `len` counts them, `bytes` encodes them as the
+    sequence that a cache sends after its response to a serial query (RFC 8210 section 8.2).
+
+    Those of an `Update` are made when they are first used, and hold the data before until then.
+    That may raise a MemoryError; then they can be used again when there is memory.
+    """
+
+    _sides: Optional[Tuple[Optional[Data], Optional[Data]]] = None
+
+    @property
+    def _part(self) -> Part:
+        sides = self._sides
+        if sides is not None:
+            self._held = _difference(*sides)
+            self._sides = None  # after the part is there, for other threads
+        return super()._part
+
+    @classmethod
+    def from_bytes(cls, sequence: Buffer) -> Changes:
+        """Returns the net effect of the changes in the sequence at the start of these bytes,
+        applied one after the other: payload units in any order up to an end of data, all of one
+        version.
+
+        Raises a Fault with the offset of the unit, in this order: ShortError to PrefixError;
+        NotCanonicalError for a unit of another version; DuplicateError, UnknownError for a payload
+        that is announced, or withdrawn, twice in a row; UndecidedError for an ASPA that is
+        announced and in the end withdrawn.
+        """
+        return cls._of(_ordered(_all_of(whole(sequence, "sequence"))))
+
+    def __reduce__(self) -> Tuple[Any, ...]:
+        return Changes.from_bytes, (self._bytes,)
+
+
+class Covering(NamedTuple):
+    """A VRP that covers a route, and why it doesn't match it, or `Mismatch.MATCHES`."""
+
+    vrp: Vrp
+    mismatch: Mismatch
+
+
+class Data(_Canonical):
+    """The data of a cache or a router: payloads, and the end of data with their version, session,
+    serial number and times. Immutable, so threads may share one.
+
+    It is a collection: `len(data)`, `for unit in data`, which iterates over the units that announce
+    its payloads in their order, and `unit in data`. `bytes(data)` is a sequence in canonical form
+    (defined in rtr.h), and equal if and only if data mean the same.
+
+    Args:
+        payloads: units that announce, in any order, none twice; of several ASPAs of a customer the
+            last counts
+        end: the end of data, of the version of all units
+
+    Raises:
+        NotCanonicalError: a unit isn't of the version of the end of data
+        DuplicateError, UnknownError: a payload is announced twice, or withdrawn
+    """
+
+    def __new__(cls, payloads: Iterable[Payload] = (), end: EndOfData = EndOfData(0, 0)) -> Data:
+        return cls.from_bytes(b"".join([*map(bytes, payloads), bytes(end)]))
+
+    @classmethod
+    def from_bytes(cls, sequence: Buffer) -> Data:
+        """The data that the sequence at the front of these bytes makes, its changes made one after
+        the other: payload units in any order up to an end of data, all of one version, as a cache
+        sends them after its response to a reset query. What follows doesn't count: `load_data`
+        takes whole recordings.
+
+        Raises a Fault with the offset of the unit, in this order: ShortError to PrefixError;
+        NotCanonicalError for a unit of another version; DuplicateError, UnknownError for the first
+        that announces a payload which is present then, or withdraws one which isn't.
+        """
+        changes = whole(sequence, "sequence")
+        return cls._of(_applied(_all_of(_end_in(changes)), _all_of(changes)))
+
+    @classmethod
+    def from_vrps(cls, vrps: Iterable[Vrp], end: EndOfData = EndOfData(0, 0)) -> Data:
+        """Returns the data of VRPs in any order, of the version of this end of data. Duplicates
+        count once, since validators print one VRP for each ROA.
+
+        Raises PrefixError for a max length below the prefix length or above the address length.
+        """
+        return cls(dict.fromkeys(_vrp(vrp).unit(end.version) for vrp in vrps), end)
+
+    def __reduce__(self) -> Tuple[Any, ...]:
+        return Data.from_bytes, (self._bytes,)
+
+    def apply(self, changes: Union[Buffer, Changes]) -> Data:
+        """Applies the changes of an answer to the data as they came, and returns the result, with
+        the end of data of the changes: all of them, or there is a fault. An announced ASPA replaces
+        that of its customer.
+
+        Raises a Fault, with the offset in the changes, in this order: ShortError to PrefixError;
+        NotCanonicalError for a unit of another version than those before it; UnitVersionError,
+        OtherSessionError for changes of another version or session than the data; DuplicateError,
+        UnknownError for the first that announces a payload which is present then, or withdraws one
+        which isn't; the cache is owed a report about it (RFC 8210 section 12).
+        """
+        part = changes._part if isinstance(changes, Changes) else _all_of(whole(changes, "changes"))
+        return self._of(_applied(self._part, part))
+
+    def delta(self, new: Data) -> Changes:
+        """Returns the delta from these data to the new ones, for `apply`.
+
+        Raises UnitVersionError or OtherSessionError for data of another version or session.
+        """
+        if not isinstance(new, Data):
+            raise TypeError(f"new must be Data, not {type(new).__name__}")
+        return Changes._of(_delta(self._part, new._part))
+
+    def for_version(self, version: int) -> Data:
+        """Returns the data for clients of a version: in this version, without the payloads that it
+        doesn't have.
+
+        Raises UnitVersionError for an unknown version.
+        """
+        return self._of(_all_of(normalise(self._bytes, version=version).form))
+
+    def with_end(self, end: EndOfData) -> Data:
+        """Returns the same payloads with another end of data, of the same version."""
+        payloads = self._bytes[:len(self._bytes) - len(bytes(self.end))]
+        return self.from_bytes(payloads + bytes(end))
+
+    def validate(self, prefix: Union[Network, str], asn: int) -> Validity:
+        """Returns the validity of a route of this prefix from this AS (RFC 6811 section 2). AS 0
+        stands for a route without a single origin, which no VRP matches. Host bits are ignored.
+
+        Raises ValueError for a text that is no prefix, or a number that is no AS, and TypeError for
+        other types.
+        """
+        route, (memory, length) = _route(prefix, asn), self._part
+        return Validity(CALLS.rtr_validate_nonnull(memory, length, self._looked_up(), route))
+
+    def covering(self, prefix: Union[Network, str], asn: int) -> Iterator[Covering]:
+        """Returns the VRPs that cover such a route, in the order of payloads, and why each doesn't
+        match.
+
+        Raises as `validate`.
+        """
+        return self._covering(_network(prefix), _route(prefix, asn))
+
+    def _covering(self, network: Network, route: _rtr.rtr_route) -> Iterator[Covering]:
+        found, index = _rtr.rtr_covering(), 0
+        family, address = type(network), network.network_address.packed
+        lookup, (memory, length) = self._looked_up(), self._part
+        while CALLS.rtr_covering_nonnull(memory, length, lookup, route, index,
+                                         found) == Covers.ONE:
+            index = found.place + 1
+            covers = family((address, found.prefix_length), strict=False)
+            yield Covering(Vrp(covers, asn=found.asn, max_length=found.max_length),
+                           Mismatch(found.mismatch))
+
+    def _looked_up(self) -> _rtr.rtr_lookup:
+        """Returns the index of the prefixes, which is made on first use."""
+        if self._lookup is None:
+            lookup, answer = _rtr.rtr_lookup(), _rtr.rtr_data_answer()
+            status = CALLS.rtr_check_data_nonnull(*self._part, lookup, answer)
+            if status != Status.OK:
+                raise _refused(answer, self._part)
+            self._lookup = lookup
+        return self._lookup
+
+
+class Loaded(NamedTuple):
+    """What a recording or a list leaves.
+
+    Attributes:
+        data: the data of its whole answers
+        has_cut: whether an answer was left out, since the next one began before its end of data
+    """
+
+    data: Data
+    has_cut: bool
+
+
+def load_data(recording: Buffer) -> Loaded:
+    """Loads the data that a recording or a list of units leaves: its answers one after the other,
+    each with or without a cache response, their payload units in any order. An answer changes the
+    data before it; after a reset query or a cache reset, and in another session, it replaces them
+    (RFC 8210 sections 5.1, 5.4 and 5.9). All of the input counts, also what a router sent.
+
+        data, has_cut = load_data(pathlib.Path("recording").read_bytes())
+
+    It allocates two buffers, as long as the input but at most 16 MiB at first, which grow if the
+    data are longer, and an index of the payload units of an answer.
+
+    Raises a Fault, with the offset of the first unit at which the recording can't go on:
+        ShortError to PrefixError: what isn't a unit; ShortError also at the end of the input, if an
+            answer has no end of data there or none came
+        DuplicateError, UnknownError: the first change of an answer that isn't allowed (RFC 8210
+            section 12)
+        OtherVersionError: a payload unit or an end of data of another version than those before it
+            in its answer, or than the data that it changes
+        OtherSessionError: an end of data of another session than its answer (section 5.8)
+        OldSerialError: an end of data of changes whose serial number comes before that of the data
+            (RFC 1982)
+        ResetInsideError, ReportInsideError: a cache reset or an error report inside an answer
+    """
+    given, loaded = whole(recording, "recording"), _rtr.rtr_loaded()
+    room = min(len(given), _FIRST_ROOM)
+    places = room // _rtr.IPV4_SIZE
+    while True:
+        output = memory(room)
+        status = CALLS.rtr_load_nonnull(given, len(given), _index(places), places, memory(room),
+                                        room, output, room, loaded)
+        if status == Status.OK:
+            part = fitted(output, loaded.length, room)
+            return Loaded(Data._of(part), loaded.has_cut)
+        if status == Status.NO_INDEX:
+            places = max(loaded.wanted, 2 * places)
+        elif status == Status.NO_ROOM:
+            room = min(2 * room, len(given))
+        else:
+            raise refusal(status, loaded.detail, given, loaded.offset)
+
+
+def _vrp(vrp: Vrp) -> Vrp:
+    if not isinstance(vrp, Vrp):
+        raise TypeError(f"each of vrps must be a Vrp, not {type(vrp).__name__}")
+    return vrp
+
+
+def _network(prefix: Union[Network, str]) -> Network:
+    if isinstance(prefix, str):
+        return ipaddress.ip_network(prefix, strict=False)
+    if not isinstance(prefix, (ipaddress.IPv4Network, ipaddress.IPv6Network)):
+        raise TypeError(f"prefix must be a network of ipaddress, or its text, not "
+                        f"{type(prefix).__name__}")
+    return prefix
+
+
+def _route(prefix: Union[Network, str], asn: int) -> _rtr.rtr_route:
+    """Returns the route of a prefix from an AS."""
+    network, route = _network(prefix), _rtr.rtr_route()
+    ROUTE.pack_into(route, 0, number("asn", asn, 32), network.version, network.prefixlen,
+                    network.network_address.packed)
+    return route
+
+
+def data_in(part: Part) -> Data:
+    """Returns the data that this memory has in canonical form. It must not change any more."""
+    return Data._of(part)
+
+
+def part_of(data: Data) -> Part:
+    """Returns the memory that data are in now."""
+    return data._part
+
+
+def difference(old: Optional[Data], new: Optional[Data]) -> Changes:
+    """Returns the changes from old data to new, whatever their versions and sessions, in the higher
+    of the versions, so that what the lower one lacks is withdrawn. One of them may be None, for no
+    data. They are made when they are first used."""
+    changes = Changes._of(None)
+    changes._sides = (old, new)
+    return changes
+
+
+def _difference(old: Optional[Data], new: Optional[Data]) -> Part:
+    """Makes the changes of `difference`."""
+    there = [data for data in (old, new) if data is not None]
+    version = max(data.version for data in there)
+    end = _in_version(there[-1], version).end
+    return _delta(*(_side(data, version, end) for data in (old, new)))
+
+
+def _in_version(data: Data, version: int) -> Data:
+    return data if data.version == version else data.for_version(version)
+
+
+def _side(data: Optional[Data], version: int, end: EndOfData) -> Part:
+    """Returns data for a delta in a version and the session of an end of data."""
+    if data is None:
+        return _all_of(bytes(end))
+    data = _in_version(data, version)
+    if data.session == end.session:
+        return data._part
+    own = replace(data.end, session=end.session)
+    return _all_of(_piece(data._part, 0, data._part.length - len(bytes(own))) + bytes(own))

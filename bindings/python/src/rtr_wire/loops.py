@@ -1,0 +1,59 @@
+"""What the loops around a `Router` share: the clock, the requests of a caller, limits."""
+from __future__ import annotations
+
+import random
+import time
+from typing import Any, Callable
+
+from .router import Router, Settings
+
+# A function that is called with each failure.
+Told = Callable[[Exception], Any]
+
+CHUNK = 1 << 16  # how many bytes are read at once
+REPORT_SECONDS = 2.0  # to send a last report, and for the cache to read it
+LAST_BYTES = 1 << 20  # the most bytes that are read from the cache meanwhile
+LOOK = 0.25  # how often a loop checks whether its caller asks, or stops it
+_LONGEST_WAIT = 3600.0
+
+
+class Clock:
+    """The time in milliseconds since the clock was made."""
+
+    def __init__(self) -> None:
+        self._begun = time.monotonic()
+
+    def now(self) -> int:
+        return int((time.monotonic() - self._begun) * 1000)
+
+    def until(self, when: int) -> float:
+        """Returns the seconds until then, more than 0."""
+        left = self._begun + when / 1000 - time.monotonic()
+        return min(max(left, 0.001), _LONGEST_WAIT)
+
+    def is_at(self, when: int) -> bool:
+        """Reports whether it is that time, or close enough that a timer for it may have ended."""
+        return self.now() + 10 >= when
+
+
+def new_router(settings: Settings) -> Router:
+    """Returns a router whose waits are spread by a random number."""
+    return Router(settings, chance=random.SystemRandom().getrandbits(16))
+
+
+class Asking:
+    """The requests of a caller to the loops of a client."""
+
+    def __init__(self) -> None:
+        self._asked = 0
+
+    def ask_now(self) -> None:
+        """Asks the cache for its current data as soon as allowed, or connects, without waiting for
+        the refresh or the retry time. Any thread may call it."""
+        self._asked += 1
+
+    def _told(self, router: Router, before: int) -> int:
+        """Tells the router if the caller has asked since `before`, and returns how often it has."""
+        if self._asked != before:
+            router.asked()
+        return self._asked

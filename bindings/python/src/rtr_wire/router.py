@@ -1,0 +1,324 @@
+"""A router's end of a session, without sockets or a clock."""
+from __future__ import annotations
+
+import math
+from collections import deque
+from dataclasses import dataclass
+from typing import Any, ClassVar, Deque, List, Optional, Union
+
+from . import _library, _rtr
+from ._library import CALLS, Buffer
+from ._rtr import Cause, Status, TodoKind
+from .data import Changes, Data, difference
+from .faults import refusal
+from .link import Link
+from .reading import Units
+from .units import ErrorReport
+
+
+class SessionError(Exception):
+    """Why a connection ended, or why there is no answer yet, if no unit is wrong by itself, which
+    is a `Fault`. docs/SESSIONS.md says when.
+
+    Attributes:
+        cause: the `Cause`
+        unit: the bytes of the unit that it is about, if it is about one
+        code: the error code of the report that the cache got, if it got one
+        reported: the error report of the cache, of a `Cause.REPORTED` and a `NoData`
+    """
+
+    def __init__(self, cause: Cause, unit: bytes = b"", code: Optional[int] = None,
+                 reported: Optional[ErrorReport] = None) -> None:
+        super().__init__(cause, unit, code, reported)
+        self.cause = cause
+        self.unit = unit
+        self.code = code
+        self.reported = reported
+
+    def __str__(self) -> str:
+        text = _library.name(_rtr.Named.CAUSE, self.cause)
+        if self.reported is not None:
+            text += f": code {self.reported.code}"
+            if self.reported.text:
+                text += f", {self.reported.text.decode(errors='replace')[:200]!r}"
+        return text
+
+
+class NoData(SessionError):
+    """The cache has no data yet; the router will ask again."""
+
+
+@dataclass(frozen=True, init=False)
+class Settings:
+    """The settings of a router. None stands for the default, which rtr.h names. Times are in
+    seconds. All but the version are keyword-only.
+
+    Attributes:
+        version: the highest version that it asks in, 0 to 2. ASPAs are of version 2, for which
+            caches in use have several layouts
+        refresh, retry, expire: used instead of the cache's (RFC 8210 section 6)
+        pause: the least time between two queries or connections
+        connect_limit: the time limit for connecting
+        response_limit: the time limit from a query to its end of data
+        most_bytes: the most bytes of an answer's payload units
+        most_units: the most payload units of an answer
+    """
+
+    version: int = 1
+    refresh: Optional[float] = None
+    retry: Optional[float] = None
+    expire: Optional[float] = None
+    pause: Optional[float] = None
+    connect_limit: Optional[float] = None
+    response_limit: Optional[float] = None
+    most_bytes: Optional[int] = None
+    most_units: Optional[int] = None
+
+    _TIMES: ClassVar[List[str]] = ["refresh", "retry", "expire", "pause", "connect_limit",
+                                   "response_limit"]
+
+    def __init__(self, version: int = 1, *, refresh: Optional[float] = None,
+                 retry: Optional[float] = None, expire: Optional[float] = None,
+                 pause: Optional[float] = None, connect_limit: Optional[float] = None,
+                 response_limit: Optional[float] = None, most_bytes: Optional[int] = None,
+                 most_units: Optional[int] = None) -> None:
+        self.__dict__.update(
+            version=version, refresh=refresh, retry=retry, expire=expire, pause=pause,
+            connect_limit=connect_limit, response_limit=response_limit, most_bytes=most_bytes,
+            most_units=most_units)
+
+    def for_library(self, chance: int) -> _rtr.rtr_settings:
+        """Returns the struct, with a random number of 16 bits, which spreads the waits of
+        routers."""
+        settings = _rtr.rtr_settings()
+        CALLS.rtr_settings_usual(settings, _library.octet(self.version))
+        for name in self._TIMES:
+            seconds = getattr(self, name)
+            if seconds is not None:
+                setattr(settings, name, milliseconds(name, seconds))
+        if self.most_bytes is not None:
+            settings.most_bytes = _bounded("most_bytes", self.most_bytes, 64)
+        if self.most_units is not None:
+            settings.most_units = _bounded("most_units", self.most_units, 32)
+        settings.chance = _library.number("chance", chance, 16)
+        return settings
+
+
+def milliseconds(name: str, seconds: float) -> int:
+    """Returns the time in milliseconds, rounded to 0 only if it is 0, or the longest that 32 bits
+    hold."""
+    if not isinstance(seconds, (int, float)):
+        raise TypeError(f"{name} must be a number of seconds, not {type(seconds).__name__}")
+    if not 0 <= seconds < math.inf:
+        raise ValueError(f"{name} is {seconds}: it must be from 0 on")
+    return _bounded(name, round(seconds * 1000) or int(seconds > 0), 32)
+
+
+def _bounded(name: str, value: int, bits: int) -> int:
+    """Returns the number, or the largest that this many bits hold."""
+    if _library.integer(name, value) < 0:
+        raise ValueError(f"{name} is {value}: it must be from 0 on")
+    return min(value, (1 << bits) - 1)
+
+
+@dataclass(frozen=True)
+class Connect:
+    """Open a connection, then call `Router.connected` or `Router.lost`."""
+
+
+@dataclass(frozen=True)
+class Close:
+    """Send the rest of `Router.output`, and close the connection."""
+
+
+@dataclass(frozen=True)
+class Update:
+    """The data changed.
+
+    Attributes:
+        data: all data, as the cache had them at one serial number; None if they expired, or the
+            cache has others and hasn't sent them yet
+        changes: the changes to them from the data before, which are made when they are first used
+    """
+
+    data: Optional[Data]
+    changes: Changes
+
+
+@dataclass(frozen=True)
+class Failed:
+    """A connection ended, or there is no answer yet; the router continues.
+
+    Attributes:
+        error: a `Fault` of a unit or of changes, a `SessionError`, an OSError of the connection, or
+            a MemoryError
+    """
+
+    error: Exception
+
+
+Step = Union[Connect, Close, Update, Failed]
+
+
+class Router:
+    """A router's end of a session (RFC 8210) without sockets or a clock: it gets bytes and times,
+    and returns what to do. A proved client decides that (`struct rtr_link` of rtr.h;
+    docs/SESSIONS.md has its states); this class has no rule of its own.
+
+    After each event that it reports, a program calls `step` until that returns None, and does what
+    it says. Times are in milliseconds, by a monotonic clock, and below 2**63.
+    """
+
+    def __init__(self, settings: Settings = Settings(), *, chance: int = 0) -> None:
+        self._link = Link(_settings(settings).for_library(chance))
+        self._steps: Deque[Step] = deque()
+        self._asked = False  # whether the caller requests current data
+        self._begin(is_wanted=False)
+
+    def _begin(self, is_wanted: bool) -> None:
+        """Sets what is known of a connection that is wanted, or that there is none."""
+        self._is_wanted, self._is_open = is_wanted, False
+        self._came = b""  # what came and isn't in the link yet
+        self._ended = False  # whether the cache has closed, of which the link isn't told yet
+        self._error: Optional[Exception] = None
+
+    def again(self) -> None:
+        """Begins again without data, with the same settings and cache: the waits for a cache that
+        fails continue to grow. If there is a connection, the caller closes it."""
+        self._link.again()
+        self._steps.clear()
+        self._asked = False
+        self._begin(is_wanted=False)
+
+    def data(self, now: int) -> Optional[Data]:
+        """Returns the data at this time; None if there are none, or they have expired, even before
+        a step says so."""
+        time = _library.number("now", now, 64)
+        return self._link.data if self._link.has_data(time) else None
+
+    @property
+    def wakes(self) -> int:
+        """When to call `step`, if nothing happens before."""
+        return self._link.wakes
+
+    @property
+    def output(self) -> bytes:
+        """The bytes to send."""
+        return self._link.output
+
+    def sent(self, count: int) -> None:
+        """Reports that this many bytes of the output were sent."""
+        unsent = len(self._link.output)
+        if _library.integer("count", count) not in range(unsent + 1):
+            raise ValueError(f"count is {count}: it must be from 0 to {unsent}")
+        self._link.sent(count)
+
+    def connected(self) -> None:
+        """Reports that the connection is established. Raises a RuntimeError unless `Connect` asked
+        for it and neither `lost` nor `Close` followed."""
+        self._link.opened()
+        self._is_wanted, self._is_open = False, True
+
+    def lost(self, error: Optional[Exception] = None) -> None:
+        """Reports that connecting failed, or the connection broke. Ignored if there is none."""
+        if self._is_wanted or self._is_open:
+            self._error, self._ended = error, True
+
+    def asked(self) -> None:
+        """Requests current data: the router asks as soon as it may, or connects."""
+        self._asked = True
+
+    def received(self, data: Buffer) -> None:
+        """Passes bytes that came; none means that the cache has closed. Ignored if there is no
+        connection."""
+        came = _library.whole(data)
+        if self._is_open:
+            self._came += came
+            self._ended = self._ended or not came
+
+    def step(self, now: int) -> Optional[Step]:
+        """Returns what to do at this time; None means to wait."""
+        _library.number("now", now, 64)
+        while not self._steps:
+            before, todo = self._link.data, self._link.next(now, self._asked)
+            self._asked = False
+            if todo.kind != TodoKind.WAIT:
+                self._perform(todo, before)
+            elif not self._feed():
+                return None
+        return self._steps.popleft()
+
+    def _feed(self) -> bool:
+        """Gives the link what came, or tells it that the cache has closed; reports whether there
+        was either."""
+        if self._came:
+            self._came = self._came[self._link.received(self._came):]
+        elif self._ended:
+            self._link.lost()
+            self._is_wanted = self._is_open = self._ended = False
+        else:
+            return False
+        return True
+
+    def _perform(self, todo: _rtr.rtr_todo, before: Optional[Data]) -> None:
+        """Queues the steps for what the link wants done. It had these data before."""
+        kind, link = todo.kind, self._link
+        if kind == TodoKind.CONNECT:
+            self._begin(is_wanted=True)
+            self._steps.append(Connect())
+        elif kind == TodoKind.DATA:
+            self._steps.append(Update(link.data, difference(before, link.data)))
+        elif kind == TodoKind.NO_DATA:
+            self._steps.append(Failed(NoData(Cause.REPORTED, reported=self._report(todo))))
+        elif before is not None and link.data is None:
+            self._steps.append(Update(None, difference(before, None)))
+        if kind == TodoKind.DROPPED:
+            self._steps.append(Failed(SessionError(Cause.EXPIRED)))
+        elif kind == TodoKind.CLOSE:
+            self._steps.append(Close())
+            self._explain(todo)
+            self._begin(is_wanted=False)
+
+    def _explain(self, todo: _rtr.rtr_todo) -> None:
+        """Queues why the connection ends."""
+        try:
+            error = self._reason(todo)
+        except MemoryError as none_left:
+            error = none_left
+        if error is not None:
+            self._steps.append(Failed(error))
+
+    def _reason(self, todo: _rtr.rtr_todo) -> Optional[Exception]:
+        """Returns why the connection ends, unless it is for a lower or a higher version."""
+        if self._link.gave_up:
+            return MemoryError("no memory for the answer")
+        if isinstance(self._error, MemoryError):
+            return self._error
+        cause = Cause(todo.cause)
+        if cause in (Cause.LOWER, Cause.HIGHER):
+            return None
+        if cause == Cause.LOST and self._error is not None:
+            return self._error
+        if cause == Cause.REPORTED:
+            return SessionError(cause, reported=self._report(todo))
+        about = self._link.about(todo.offset)
+        if cause == Cause.FAULTY:
+            offset = self._link.offset_of(todo.offset)
+            return refusal(todo.status, todo.detail, about, 0, offset=offset)
+        if cause == Cause.NOT_APPLIED and todo.status != Status.OK:
+            return refusal(todo.status, todo.detail, about, 0, offset=todo.offset, side=2)
+        if not todo.reports:
+            return SessionError(cause)
+        _, size, _ = _library.unit_size(about)
+        return SessionError(cause, about[:size], todo.code)
+
+    def _report(self, todo: _rtr.rtr_todo) -> Optional[ErrorReport]:
+        """Returns the cache's report that the link names."""
+        unit: Any = next(Units(self._link.about(todo.offset)), None)
+        return unit if isinstance(unit, ErrorReport) else None
+
+
+def _settings(settings: Settings) -> Settings:
+    if not isinstance(settings, Settings):
+        raise TypeError(f"settings must be Settings, not {type(settings).__name__}")
+    return settings
