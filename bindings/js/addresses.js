@@ -1,7 +1,10 @@
-// Addresses and prefixes as text: of IPv6 as RFC 5952 writes them.
+// Addresses and prefixes as text, IPv6 in the form of RFC 5952.
 
-/** The text of an address of 4 or 16 bytes. */
-export function addressText(bytes) {
+import { bytesOfLength, textOf } from "./given.js";
+
+/** Returns the text of an address of 4 or 16 bytes. */
+export function addressText(address) {
+    const bytes = bytesOfLength(address, "address", 4, 16);
     if (bytes.length === 4) {
         return bytes.join(".");
     }
@@ -18,25 +21,25 @@ export function addressText(bytes) {
 }
 
 function groupsOf(bytes) {
-    return Array.from({ length: 8 }, (_, place) => bytes[2 * place] * 256 + bytes[2 * place + 1]);
+    return Array.from({ length: 8 }, (_, index) => bytes[2 * index] * 256 + bytes[2 * index + 1]);
 }
 
-/** Where the longest row of groups that are zero begins, the first of several, and its length. */
+/** Returns the start and length of the longest run of zero groups, the first of several. */
 function longestZeros(groups) {
     let best = [0, 0];
-    for (let start = 0, place = 0; place < 8; place += 1) {
-        if (groups[place] !== 0) {
-            start = place + 1;
-        } else if (place + 1 - start > best[1]) {
-            best = [start, place + 1 - start];
+    for (let start = 0, index = 0; index < 8; index += 1) {
+        if (groups[index] !== 0) {
+            start = index + 1;
+        } else if (index + 1 - start > best[1]) {
+            best = [start, index + 1 - start];
         }
     }
     return best;
 }
 
-/** The bytes of an address, 4 or 16, or null where the text is none. */
+/** Returns the 4 or 16 bytes of an address, or null if the text is none. */
 export function addressOf(text) {
-    return text.includes(":") ? ipv6Of(text) : ipv4Of(text);
+    return textOf(text, "text").includes(":") ? ipv6Of(text) : ipv4Of(text);
 }
 
 function ipv4Of(text) {
@@ -48,8 +51,8 @@ function ipv4Of(text) {
 
 function ipv6Of(text) {
     const halves = text.split("::");
-    const [front, back = []] = halves.map((half, place) => (
-        groupsOfText(half, place === halves.length - 1)));
+    const [front, back = []] = halves.map((half, index) => (
+        groupsOfText(half, index === halves.length - 1)));
     if (halves.length > 2 || !front || !back) {
         return null;
     }
@@ -61,13 +64,13 @@ function ipv6Of(text) {
     return Uint8Array.from(groups.flatMap((group) => [group >> 8, group & 255]));
 }
 
-/** The groups between colons, of which the last of an address may be an IPv4 address; null where
- * one is none. */
+/** Returns the groups between colons, of which the last of an address may be an IPv4 address; null
+ * if a group is invalid. */
 function groupsOfText(text, isEnd) {
     const parts = text === "" ? [] : text.split(":");
     const groups = [];
-    for (const [place, part] of parts.entries()) {
-        const isLast = isEnd && place === parts.length - 1;
+    for (const [index, part] of parts.entries()) {
+        const isLast = isEnd && index === parts.length - 1;
         const four = isLast && part.includes(".") ? ipv4Of(part) : null;
         if (four) {
             groups.push(four[0] * 256 + four[1], four[2] * 256 + four[3]);
@@ -80,10 +83,11 @@ function groupsOfText(text, isEnd) {
     return groups;
 }
 
-/** The address and the length of a prefix, as 192.0.2.0/24; of an address alone all of its bits.
- * Null where the text is none. Whether the length fits the family isn't looked at here. */
+/** Returns the address and the length of a prefix such as 192.0.2.0/24; without a length, the
+ * length of the address. Null if the text is no prefix. Doesn't check whether the length fits the
+ * family. */
 export function prefixOf(text) {
-    const [, front, , length] = /^([^/]+)(\/(\d{1,3}))?$/.exec(text.trim()) ?? [];
+    const [, front, , length] = /^([^/]+)(\/(\d{1,3}))?$/.exec(textOf(text, "text").trim()) ?? [];
     const address = front === undefined ? null : addressOf(front);
     const bits = length === undefined ? 8 * address?.length : Number(length);
     return address && { address, length: bits };

@@ -1,4 +1,4 @@
-// What units break of the protocol's rules, as the program rtr_list says it with --check.
+// Finds the protocol's rules that units break, as the program rtr_list --check does.
 
 import { FINDING_ROOM, LONGEST_UNIT, NAME_ROOM, STRUCTS, Status } from "./rtr_table.js";
 import { Fault } from "./fault.js";
@@ -12,11 +12,11 @@ const FINDINGS = STRUCTS.checked.fields.find(([field]) => field === "findings")[
 const latin = new TextDecoder("latin1");
 const text = new TextDecoder();
 
-/** A check of units that come one after the other, with the names that are announced so far. */
+/** A check of units in order, with the names announced so far. */
 export class Checker {
     #rtr;
     #state;
-    #output; // names and lines
+    #output; // a buffer for names and lines
     #names = new Set();
 
     constructor(rtr) {
@@ -26,8 +26,8 @@ export class Checker {
         this.#output = rtr.heap.take(NAME_ROOM);
     }
 
-    /** What the unit breaks that lies at a place in the memory, and its size. A Fault says why
-     * nothing is found. */
+    /** Returns the findings for the unit at an address in the memory, and its size. Throws a Fault
+     * if the unit is refused. */
     take(at, length, offset) {
         const rtr = this.#rtr;
         const [naming, checked] = [rtr.frame("naming"), rtr.frame("checked")];
@@ -42,8 +42,8 @@ export class Checker {
         rtr.call("rtr_check_unit_nonnull", this.#state, at, length, this.#names.has(name), checked);
         this.#keep(unit, name);
         const findings = [];
-        for (let place = 0; place < FINDINGS; place += 1) {
-            const finding = checked + CHECKED.findings + place * STRUCTS.finding.size;
+        for (let index = 0; index < FINDINGS; index += 1) {
+            const finding = checked + CHECKED.findings + index * STRUCTS.finding.size;
             if (this.#hasRule(finding)) {
                 findings.push(this.#found(finding, offset));
             }
@@ -62,7 +62,7 @@ export class Checker {
         }
     }
 
-    /** What is missing where the input ends. */
+    /** Returns what is missing at the end of the input. */
     finish(offset) {
         const finding = this.#rtr.frame("finding");
         this.#rtr.call("rtr_check_end", this.#state, finding);
@@ -73,7 +73,7 @@ export class Checker {
         return this.#rtr.heap.view.getUint8(at + FINDING.rule) !== 0;
     }
 
-    /** The finding that lies at a place. */
+    /** Returns the finding at an address. */
     #found(at, offset) {
         const rule = this.#rtr.heap.view.getUint8(at + FINDING.rule);
         const length = this.#rtr.call("rtr_finding_line_nonnull", at, offset, this.#output,
@@ -82,9 +82,12 @@ export class Checker {
         return { offset, rule, line };
     }
 
-    /** Gives the memory back. */
+    /** Frees the memory. */
     drop() {
-        this.#rtr.heap.release(this.#state);
-        this.#rtr.heap.release(this.#output);
+        if (this.#state !== null) {
+            this.#rtr.heap.release(this.#state);
+            this.#rtr.heap.release(this.#output);
+            this.#state = null;
+        }
     }
 }

@@ -1,4 +1,4 @@
-// The memory of a module: who has which part of it, and structs in it as plain objects.
+// The memory of a module: an allocator, and its structs as plain objects.
 
 import { STRUCTS } from "./rtr_table.js";
 
@@ -13,12 +13,12 @@ export class OutOfMemory extends Error {
     }
 }
 
-/** A memory in which callers take parts and give them back, and which grows by whole pages. */
+/** A memory in which callers allocate and free parts, and which grows by whole pages. */
 export class Heap {
     #memory;
     #most;
-    #pages; // the type of number that memory.grow takes: engines differ
-    #taken = []; // [start, end], in their order
+    #pages; // the type of number that memory.grow takes, which differs by engine
+    #taken = []; // [start, end], in order
     #base;
     #view;
 
@@ -29,12 +29,12 @@ export class Heap {
         this.#pages = pageNumbers(memory);
     }
 
-    /** How many bytes the memory has. */
+    /** The size of the memory in bytes. */
     get size() {
         return this.#memory.buffer.byteLength;
     }
 
-    /** A view of all of it, until it grows. */
+    /** A view of the whole memory, valid until it grows. */
     get view() {
         if (this.#view?.buffer !== this.#memory.buffer) {
             this.#view = new DataView(this.#memory.buffer);
@@ -42,34 +42,34 @@ export class Heap {
         return this.#view;
     }
 
-    /** The bytes from a place on, until the memory grows. */
+    /** Returns the bytes from an address on, valid until the memory grows. */
     bytes(start, length) {
         return new Uint8Array(this.#memory.buffer, start, length);
     }
 
-    /** Takes a part of this length, and answers where it starts: at a multiple of 16. */
+    /** Allocates a part of this length, and returns its address, a multiple of 16. */
     take(length) {
-        const wanted = Math.max(rounded(length), 16);
+        const needed = Math.max(rounded(length), 16);
         let start = this.#base;
-        let place = 0;
-        while (place < this.#taken.length && this.#taken[place][0] - start < wanted) {
-            start = this.#taken[place][1];
-            place += 1;
+        let index = 0;
+        while (index < this.#taken.length && this.#taken[index][0] - start < needed) {
+            start = this.#taken[index][1];
+            index += 1;
         }
-        this.#reach(start + wanted);
-        this.#taken.splice(place, 0, [start, start + wanted]);
+        this.#reach(start + needed);
+        this.#taken.splice(index, 0, [start, start + needed]);
         return start;
     }
 
-    /** Gives back what starts there. */
+    /** Frees the part that starts there. */
     release(start) {
-        const place = this.#taken.findIndex((part) => part[0] === start);
-        if (place >= 0) {
-            this.#taken.splice(place, 1);
+        const index = this.#taken.findIndex((part) => part[0] === start);
+        if (index >= 0) {
+            this.#taken.splice(index, 1);
         }
     }
 
-    /** Has the memory reach to this place at least. */
+    /** Grows the memory to at least this address. */
     #reach(end) {
         const missing = Math.ceil((end - this.size) / PAGE);
         if (missing <= 0) {
@@ -78,7 +78,8 @@ export class Heap {
         if (end > this.#most) {
             throw new OutOfMemory(end, `the session may have ${this.#most}`);
         }
-        // Some more, so that it doesn't grow often; if that can't be had, as much as is needed.
+        // Grows by more than needed, so that it rarely grows; if that fails, by as much as is
+        // needed.
         for (const pages of [missing + (this.size / PAGE >> 2), missing]) {
             if (this.size + pages * PAGE <= this.#most && this.#grows(pages)) {
                 return;
@@ -102,7 +103,7 @@ function rounded(length) {
     return Math.ceil(length / 16) * 16;
 }
 
-/** Whether memory.grow takes a BigInt, as it does by the standard, or a number, as before. */
+/** Returns whether memory.grow takes a BigInt, as the standard says, or a number, as before. */
 function pageNumbers(memory) {
     try {
         memory.grow(0n);
@@ -130,7 +131,7 @@ const WRITE = {
     size: (view, at, value) => view.setBigUint64(at, BigInt(value), true),
 };
 
-/** The struct of this name that lies at a place, as an object of its fields. */
+/** Returns the struct of this name at an address, as an object of its fields. */
 export function readStruct(view, name, at) {
     const made = {};
     for (const [field, place, kind, many] of STRUCTS[name].fields) {
@@ -145,7 +146,7 @@ export function readStruct(view, name, at) {
     return made;
 }
 
-/** Puts the fields that the object has into the struct of this name at a place; others are zero. */
+/** Writes an object's fields into the struct of this name at an address; other fields are zero. */
 export function writeStruct(view, name, at, values) {
     for (const [field, place, kind, many] of STRUCTS[name].fields) {
         if (many) {
@@ -159,7 +160,7 @@ export function writeStruct(view, name, at, values) {
     }
 }
 
-/** Where each field of a struct lies. */
+/** Returns the offset of each field of a struct. */
 export function placesOf(name) {
     return Object.fromEntries(STRUCTS[name].fields.map(([field, place]) => [field, place]));
 }

@@ -1,24 +1,19 @@
-// A router's end of the protocol: what to do when, without sockets and without a clock.
+// A router's end of the protocol, without sockets or a clock.
 
 import { LONGEST_UNIT, STRUCTS } from "./rtr_table.js";
+import { byteOf, bytesOf, fieldsOf, flagOf, numberOf } from "./given.js";
 import { readStruct, writeStruct } from "./memory.js";
 
-// A version that is higher than any: rtr_settings_usual takes the highest that there is.
-const HIGHEST = 255;
-
-/** A struct rtr_router, which is told what happens, and answers what is to be done: an action of
- * rtr.h as an object. It is kept outside of the module's memory: nothing has to be given back. */
+/** A struct rtr_router: it gets events, and returns what to do, an action of rtr.h as an object. It
+ * is kept outside of the module's memory: nothing has to be freed. */
 export class Router {
     #session;
     #state;
 
-    /** Instances are made by `session.router`. Settings that aren't given are the usual ones. */
+    /** `session.router` makes instances. Missing settings have their defaults. */
     constructor(session, settings) {
         this.#session = session;
-        const usual = session.usualSettings(settings.highest ?? HIGHEST);
-        const from = session.frame("settings");
-        writeStruct(session.heap.view, "settings", from, { ...usual, ...settings });
-        session.call("rtr_router_init", session.frame("router"), from);
+        session.call("rtr_router_init", session.frame("router"), session.putSettings(settings));
         this.#keep();
     }
 
@@ -27,44 +22,59 @@ export class Router {
         return readStruct(new DataView(this.#state.buffer), "router", 0);
     }
 
-    /** When `tick` is to be called, if nothing comes before. */
+    /** When to call `tick`, if nothing happens before. */
     get wakes() {
         return this.#session.call("rtr_router_wakes", this.#put());
     }
 
-    /** Time passed. */
+    /** Reports that time has passed. */
     tick(now) {
         return this.#told("rtr_router_tick", now);
     }
 
-    /** The connection is there. */
+    /** Reports whether there are data at this time: they last until they expire. */
+    hasData(now) {
+        return this.#session.call("rtr_router_has_data", this.#put(), numberOf(now, "now"));
+    }
+
+    /** Requests current data: the router asks as soon as it may, or connects. */
+    asked(now) {
+        return this.#told("rtr_router_asked", now);
+    }
+
+    /** Reports that the connection is established. */
     connected(now) {
         return this.#told("rtr_router_connected", now);
     }
 
-    /** None could be made, or it is gone, and `read` has nothing left. */
+    /** Reports that the connection failed or was lost, and `read` has no input left. */
     lost(now) {
         return this.#told("rtr_router_lost", now);
     }
 
-    /** All changes of the answer were made. */
+    /** Reports that all changes of the answer were applied. */
     applied(now) {
         return this.#told("rtr_router_applied", now);
     }
 
-    /** None was made, since `applyInOrder` answered this status with this detail. */
+    /** Reports that no change was applied, since `applyInOrder` returned this status and detail. */
     notApplied(now, status, detail = 0) {
+        byteOf(status, "status");
+        byteOf(detail, "detail");
         return { ...this.#told("rtr_router_not_applied", now, status), detail };
     }
 
-    /** These bytes came, and nothing more will where `ended`. */
+    /** Passes the bytes that came; `ended` if the peer has closed. */
     read(now, bytes, ended = false) {
-        return this.#session.within([bytes], (at) => (
-            this.#told("rtr_router_read_nonnull", now, at, bytes.length, ended)));
+        const input = bytesOf(bytes);
+        flagOf(ended, "ended");
+        return this.#session.within([input], (at) => (
+            this.#told("rtr_router_read_nonnull", now, at, input.length, ended)));
     }
 
-    /** The query that an action asks for. */
+    /** Returns the query that an action asks for. */
     query(action) {
+        fieldsOf(action, "action", STRUCTS.action.fields);
         return this.#session.within([LONGEST_UNIT], (output) => {
             const length = this.#session.call("rtr_router_query_nonnull", this.#action(action),
                 output, LONGEST_UNIT);
@@ -72,9 +82,11 @@ export class Router {
         });
     }
 
-    /** The report that an action owes about the unit that these bytes begin with, or null. */
+    /** Returns the report that an action owes about the unit at the start of these bytes, or
+     * null. */
     report(action, bytes) {
-        const unit = bytes.subarray(0, LONGEST_UNIT);
+        fieldsOf(action, "action", STRUCTS.action.fields);
+        const unit = bytesOf(bytes).subarray(0, LONGEST_UNIT);
         return this.#session.within([unit, LONGEST_UNIT], (at, output) => {
             const written = this.#session.frame("number");
             const isOwed = this.#session.call("rtr_router_report_nonnull", this.#action(action), at,
@@ -84,7 +96,7 @@ export class Router {
         });
     }
 
-    /** Puts the struct into the memory, and answers its place. */
+    /** Writes the struct into the memory, and returns its address. */
     #put() {
         const at = this.#session.frame("router");
         this.#session.heap.bytes(at, this.#state.length).set(this.#state);
@@ -96,6 +108,7 @@ export class Router {
     }
 
     #told(name, now, ...values) {
+        numberOf(now, "now");
         this.#session.call(name, this.#put(), now, ...values, this.#session.frame("action"));
         this.#keep();
         return this.#session.answer("action");

@@ -1,82 +1,96 @@
 // What rtr.h declares. `generate` made this file of it: don't edit it.
 
-export const VERSION: "0.2.0";
-export const VERSION_NUMBER: 200;
+export const VERSION: "0.3.0";
+export const VERSION_NUMBER: 300;
 
-/** How a call ended; each call below names the statuses that it can answer. The faults of a unit
- * are 1 to 7, and are checked in the order of docs/PROTOCOL.md.
+/** The result of a call; each call below lists the statuses that it returns. The faults of a
+ * unit are 1 to 7, checked in the order of docs/PROTOCOL.md.
  */
 export const Status: {
-    /** the call succeeded */
+    /** The call succeeded. */
     readonly OK: 0;
-    /** the input ends inside a unit, or before one */
+    /** The input ends inside a unit, or before one. */
     readonly SHORT: 1;
-    /** `detail` is a type that is not allowed here */
+    /** `detail` is a type that is not allowed here. */
     readonly UNIT_TYPE: 2;
-    /** `detail` is a version that is not allowed here */
+    /** `detail` is a version that is not allowed here. */
     readonly UNIT_VERSION: 3;
-    /** a router key, an ASPA or a report of more than 65535 bytes */
+    /** A router key, an ASPA or a report of more than 65535 bytes. */
     readonly TOO_LONG: 4;
-    /** a length that doesn't suit the type */
+    /** The length is wrong for the type. */
     readonly UNIT_LENGTH: 5;
-    /** an ASPA that is announced without providers */
+    /** An ASPA is announced without providers. */
     readonly EMPTY_PROVIDERS: 6;
-    /** `detail`, an rtr_prefix_rule, is broken by a prefix */
+    /** A prefix breaks the rule `detail`, an rtr_prefix_rule. */
     readonly PREFIX: 7;
-    /** `limit` units were taken, and no end of data was among them */
+    /** `limit` units were read, none of them an end of data. */
     readonly TOO_MANY: 8;
-    /** the output is too short for what comes next */
+    /** The output is too short for the next unit or text. */
     readonly NO_ROOM: 9;
-    /** rtr_write_unit: no such action, family or part */
+    /** rtr_write_unit: no such action, family or part. */
     readonly NO_FORM: 10;
-    /** a unit or an end of data that may not stand there in data or changes in canonical form */
+    /** A unit or an end of data breaks the canonical form of data or changes. */
     readonly NOT_CANONICAL: 12;
-    /** the second input is of another session than the first */
+    /** The second input is of another session than the first, or an end of data of another
+     * session than its answer.
+     */
     readonly OTHER_SESSION: 13;
-    /** a payload other than an ASPA is announced that is there already */
+    /** A payload other than an ASPA is announced that is already present. */
     readonly DUPLICATE: 14;
-    /** a payload is withdrawn that isn't there */
+    /** A payload is withdrawn that isn't present. */
     readonly UNKNOWN: 15;
-    /** rtr_order: an ASPA is announced and then withdrawn, so that what the changes come to
-     * depends on the data
+    /** rtr_order: an ASPA is announced and then withdrawn, so the net change depends on the
+     * data.
      */
     readonly UNDECIDED: 16;
-    /** the index has fewer places than there are units */
+    /** The index has fewer entries than there are units. */
     readonly NO_INDEX: 17;
+    /** A group would have more than RTR_MOST_MEMBERS members. */
+    readonly TOO_MANY_MEMBERS: 18;
+    /** A recorded unit has version `detail`, and the units before it in its answer, or the data
+     * that it changes, have another.
+     */
+    readonly OTHER_VERSION: 19;
+    /** The serial number of a recorded answer comes before that of the data that it changes. */
+    readonly OLD_SERIAL: 20;
+    /** A recording has a cache reset inside an answer. */
+    readonly RESET_INSIDE: 21;
+    /** A recording has an error report inside an answer. */
+    readonly REPORT_INSIDE: 22;
 };
 export type Status = (typeof Status)[keyof typeof Status];
 
 export const PrefixRule: {
-    /** the prefix length is above 32 for IPv4 or 128 for IPv6 */
+    /** The prefix length is above 32 for IPv4 or 128 for IPv6. */
     readonly LENGTH_OVER: 1;
-    /** the max length is above that */
+    /** The max length is above 32 for IPv4 or 128 for IPv6. */
     readonly MAX_LENGTH_OVER: 2;
-    /** the max length is below the prefix length */
+    /** The max length is below the prefix length. */
     readonly MAX_LENGTH_UNDER: 3;
 };
 export type PrefixRule = (typeof PrefixRule)[keyof typeof PrefixRule];
 
-/** The kinds of units, by their type. */
+/** The kinds of units, numbered by PDU type. */
 export const Kind: {
-    /** RFC 8210 section 5.2 */
+    /** RFC 8210 section 5.2. */
     readonly SERIAL_NOTIFY: 0;
-    /** RFC 8210 section 5.3 */
+    /** RFC 8210 section 5.3. */
     readonly SERIAL_QUERY: 1;
-    /** RFC 8210 section 5.4 */
+    /** RFC 8210 section 5.4. */
     readonly RESET_QUERY: 2;
-    /** RFC 8210 section 5.5 */
+    /** RFC 8210 section 5.5. */
     readonly CACHE_RESPONSE: 3;
-    /** RFC 8210 section 5.6 */
+    /** RFC 8210 section 5.6. */
     readonly IPV4_PREFIX: 4;
-    /** RFC 8210 section 5.7 */
+    /** RFC 8210 section 5.7. */
     readonly IPV6_PREFIX: 6;
-    /** RFC 6810 and RFC 8210 section 5.8 */
+    /** RFC 6810 and RFC 8210 section 5.8. */
     readonly END_OF_DATA: 7;
-    /** RFC 8210 section 5.9 */
+    /** RFC 8210 section 5.9. */
     readonly CACHE_RESET: 8;
-    /** RFC 8210 section 5.10 */
+    /** RFC 8210 section 5.10. */
     readonly ROUTER_KEY: 9;
-    /** RFC 8210 section 5.11 */
+    /** RFC 8210 section 5.11. */
     readonly ERROR_REPORT: 10;
     readonly ASPA: 11;
 };
@@ -84,25 +98,25 @@ export type Kind = (typeof Kind)[keyof typeof Kind];
 
 /** The codes of error reports (RFC 8210 section 12); those above 8 are the Rust crate rpki's. */
 export const ErrorCode: {
-    /** what came can't be read, or contradicts itself */
+    /** The data can't be parsed, or contradict themselves. */
     readonly CORRUPT_DATA: 0;
-    /** the peer failed for a reason of its own */
+    /** The peer failed for a reason of its own. */
     readonly INTERNAL_ERROR: 1;
-    /** the cache has no data yet */
+    /** The cache has no data yet. */
     readonly NO_DATA_AVAILABLE: 2;
-    /** the request makes no sense to the cache */
+    /** The request makes no sense to the cache. */
     readonly INVALID_REQUEST: 3;
     readonly UNSUPPORTED_PROTOCOL_VERSION: 4;
     readonly UNSUPPORTED_PDU_TYPE: 5;
     readonly WITHDRAWAL_OF_UNKNOWN_RECORD: 6;
     readonly DUPLICATE_ANNOUNCEMENT_RECEIVED: 7;
-    /** another one than was agreed on */
+    /** Not the negotiated version. */
     readonly UNEXPECTED_PROTOCOL_VERSION: 8;
-    /** an ASPA may not have these providers */
+    /** An ASPA may not have these providers. */
     readonly ASPA_PROVIDER_LIST_ERROR: 9;
-    /** the connection failed */
+    /** The connection failed. */
     readonly TRANSPORT_ERROR: 10;
-    /** units came in the wrong order */
+    /** Units came in the wrong order. */
     readonly ORDERING_ERROR: 11;
 };
 export type ErrorCode = (typeof ErrorCode)[keyof typeof ErrorCode];
@@ -110,29 +124,49 @@ export type ErrorCode = (typeof ErrorCode)[keyof typeof ErrorCode];
 /** The order of two serial numbers (RFC 1982 section 3.2). */
 export const SerialOrder: {
     readonly EQUAL: 0;
-    /** the left one is less */
+    /** The left one is less. */
     readonly LESS: 1;
-    /** the left one is greater */
+    /** The left one is greater. */
     readonly GREATER: 2;
-    /** they are 2^31 apart */
+    /** They are 2^31 apart. */
     readonly NO_ORDER: 3;
 };
 export type SerialOrder = (typeof SerialOrder)[keyof typeof SerialOrder];
 
-/** What rtr_name has names of. */
+/** The kinds of numbers that rtr_name names. */
 export const Named: {
-    /** an rtr_status, without its detail: "unit type is not allowed here" */
+    /** An rtr_status, without its detail: "unit type is not allowed here". */
     readonly STATUS: 0;
-    /** an rtr_kind: "IPv4 prefix" */
+    /** An rtr_kind: "IPv4 prefix". */
     readonly KIND: 1;
-    /** an rtr_cause: "the cache is too slow" */
+    /** An rtr_cause: "the cache is too slow". */
     readonly CAUSE: 2;
-    /** an rtr_reason: "the router is too slow" */
+    /** An rtr_reason: "the router is too slow". */
     readonly REASON: 3;
-    /** an error code (RFC 8210 section 12): "Corrupt Data" */
+    /** An error code (RFC 8210 section 12): "Corrupt Data". */
     readonly CODE: 4;
+    /** An rtr_time_rule: "the retry time has to be 1 to 7200 seconds". */
+    readonly TIME_RULE: 5;
 };
 export type Named = (typeof Named)[keyof typeof Named];
+
+/** The rules on the times that a cache sends, in seconds (RFC 8210 section 6);
+ * rtr_time_rule_text returns their texts.
+ */
+export const TimeRule: {
+    readonly NONE: 0;
+    /** The refresh time is 1 to 86400. */
+    readonly REFRESH: 1;
+    /** The retry time is 1 to 7200. */
+    readonly RETRY: 2;
+    /** The expire time is 600 to 172800. */
+    readonly EXPIRE: 3;
+    /** The expire time is longer than the refresh time. */
+    readonly ABOVE_REFRESH: 4;
+    /** The expire time is longer than the retry time. */
+    readonly ABOVE_RETRY: 5;
+};
+export type TimeRule = (typeof TimeRule)[keyof typeof TimeRule];
 
 /** The two inputs of a comparison. */
 export const Side: {
@@ -141,28 +175,43 @@ export const Side: {
 };
 export type Side = (typeof Side)[keyof typeof Side];
 
-/** What origin validation says of a route (RFC 6811 section 2). */
+/** The validation state of a route (RFC 6811 section 2). */
 export const Validity: {
-    /** no VRP covers the route */
+    /** No VRP covers the route. */
     readonly NOT_FOUND: 0;
-    /** a VRP matches it */
+    /** A VRP matches it. */
     readonly VALID: 1;
-    /** VRPs cover it, and none matches */
+    /** VRPs cover it, and none matches. */
     readonly INVALID: 2;
-    /** the family is neither 4 nor 6, or the prefix length is above 32 or 128 */
+    /** The family is neither 4 nor 6, or the prefix length is above 32 or 128. */
     readonly NO_ROUTE: 3;
+    /** The struct rtr_data wasn't filled by rtr_check_data. */
+    readonly UNCHECKED: 4;
 };
 export type Validity = (typeof Validity)[keyof typeof Validity];
 
+/** Whether a VRP covers a route. */
+export const Covers: {
+    /** No VRP covers it, or no further one. */
+    readonly NONE: 0;
+    /** A VRP covers it. */
+    readonly ONE: 1;
+    /** As RTR_NO_ROUTE. */
+    readonly NO_ROUTE: 2;
+    /** As RTR_UNCHECKED. */
+    readonly UNCHECKED: 3;
+};
+export type Covers = (typeof Covers)[keyof typeof Covers];
+
 /** Why a VRP that covers a route doesn't match it: the first of these that holds. */
 export const Mismatch: {
-    /** it matches */
+    /** It matches. */
     readonly MATCHES: 0;
-    /** it is one of AS 0, which says that no route is valid */
+    /** Its AS is 0, which no route may match. */
     readonly AS_ZERO: 1;
-    /** the route isn't from its AS */
+    /** The route's origin is another AS. */
     readonly OTHER_AS: 2;
-    /** the route's prefix is longer than its max length */
+    /** The route's prefix is longer than its max length. */
     readonly LONGER: 3;
 };
 export type Mismatch = (typeof Mismatch)[keyof typeof Mismatch];
@@ -170,56 +219,60 @@ export type Mismatch = (typeof Mismatch)[keyof typeof Mismatch];
 /** A rule that a unit breaks. */
 export const Rule: {
     readonly NONE: 0;
-    /** the byte at `value` has to be zero */
+    /** The byte at `value` has to be zero. */
     readonly RESERVED: 1;
-    /** all bits of the flags but the lowest have to be zero */
+    /** All bits of the flags but the lowest have to be zero. */
     readonly FLAGS: 2;
-    /** the prefix length is at most 32 or 128 */
+    /** The prefix length is at most 32 or 128. */
     readonly PREFIX_LENGTH: 3;
-    /** the max length is at most 32 or 128 */
+    /** The max length is at most 32 or 128. */
     readonly MAX_LENGTH: 4;
-    /** the max length is no less than the prefix length */
+    /** The max length is no less than the prefix length. */
     readonly MAX_BELOW: 5;
-    /** a prefix has no bits after its length */
+    /** A prefix has no bits after its length. */
     readonly HOST_BITS: 6;
-    /** the version, `value`, is that of the sequence, `begun` */
+    /** The version, `value`, is that of the sequence, `begun`. */
     readonly VERSION: 7;
-    /** the session, `value`, is that of the answer, `begun` */
+    /** The session, `value`, is that of the answer, `begun`. */
     readonly SESSION: 8;
-    /** an answer ends with an end of data */
+    /** An answer ends with an end of data. */
     readonly CUT_OFF: 9;
-    /** a recording has an end of data */
+    /** A recording has an end of data. */
     readonly NO_ANSWER: 10;
-    /** the version, `value`, has such units */
+    /** The version, `value`, has such units. */
     readonly LACKS: 11;
-    /** a withdrawn ASPA has no providers; with `value` 1 the unit reads as one of an older draft */
+    /** A withdrawn ASPA has no providers; with `value` 1 the unit reads as one of an older
+     * draft.
+     */
     readonly WITHDRAWN_PROVIDERS: 12;
-    /** a payload is announced once */
+    /** A payload is announced once. */
     readonly TWICE: 13;
-    /** providers ascend */
+    /** Providers ascend. */
     readonly PROVIDER_ORDER: 14;
-    /** the lengths inside an error report make it up */
+    /** The lengths inside an error report add up to its length. */
     readonly REPORT_PARTS: 15;
-    /** the text of an error report is UTF-8 */
+    /** The text of an error report is UTF-8. */
     readonly REPORT_TEXT: 16;
-    /** no error report is about an error report */
+    /** No error report is about an error report. */
     readonly REPORT_OF_REPORT: 17;
+    /** A cache may send the times: the rule that they break is `value`, an rtr_time_rule. */
+    readonly TIMES: 18;
 };
 export type Rule = (typeof Rule)[keyof typeof Rule];
 
-/** Where a router is: the `phase` of its struct. */
+/** The states of a router, in `phase` of its struct. */
 export const Phase: {
-    /** there is no connection */
+    /** There is no connection. */
     readonly OFFLINE: 0;
-    /** one is made */
+    /** A connection is being made. */
     readonly CONNECTING: 1;
-    /** an answer is awaited */
+    /** Waiting for an answer. */
     readonly ASKED: 2;
-    /** in a response */
+    /** Reading a response. */
     readonly READING: 3;
-    /** its changes are made */
+    /** Its changes are being applied. */
     readonly APPLYING: 4;
-    /** it waits for a notify, or for its time */
+    /** Idle until a notify comes or it is time to ask. */
     readonly WAITING: 5;
 };
 export type Phase = (typeof Phase)[keyof typeof Phase];
@@ -238,13 +291,13 @@ export const ActionKind: {
 };
 export type ActionKind = (typeof ActionKind)[keyof typeof ActionKind];
 
-/** Why a connection ends; rtr_cause_text says it in words. */
+/** Why a connection ends; rtr_cause_text returns the text. */
 export const Cause: {
     readonly LOST: 0;
     readonly SLOW: 1;
-    /** a unit is refused, for `status` */
+    /** A unit is refused, for `status`. */
     readonly FAULTY: 2;
-    /** by the unit between `start` and `taken` */
+    /** The cache reports an error, in the unit from `start` to `taken`. */
     readonly REPORTED: 3;
     readonly OUT_OF_PLACE: 4;
     readonly NO_SUCH_PAYLOAD: 5;
@@ -254,15 +307,53 @@ export const Cause: {
     readonly OLD_SERIAL: 9;
     readonly OTHER_DATA: 10;
     readonly TOO_LONG: 11;
-    /** changes are refused, for `status` */
+    /** Changes are refused, for `status`. */
     readonly NOT_APPLIED: 12;
     readonly EXPIRED: 13;
-    /** no failure: it connects again at once, in a lower version */
+    /** No failure: it reconnects at once, in a lower version. */
     readonly LOWER: 14;
+    /** No failure: it reconnects at once, in the highest version. */
+    readonly HIGHER: 15;
 };
 export type Cause = (typeof Cause)[keyof typeof Cause];
 
-/** What becomes of what is shown. */
+/** How a call for a router's end ended. */
+export const LinkStatus: {
+    readonly OK: 0;
+    /** No call leaves the struct like this. */
+    readonly NOT_BEGUN: 1;
+    /** A buffer is shorter than what it holds; for rtr_link_give_up, the output is shorter than
+     * RTR_LONGEST_UNIT.
+     */
+    readonly SHORT_BUFFER: 2;
+    /** The time is before that of an earlier call, or not below 2^63. */
+    readonly BAD_TIME: 3;
+    /** No connection is there, or being opened, to which this happens. */
+    readonly OUT_OF_TURN: 4;
+    /** More bytes than there is room for, or than are to be sent. */
+    readonly TOO_LONG: 5;
+};
+export type LinkStatus = (typeof LinkStatus)[keyof typeof LinkStatus];
+
+export const TodoKind: {
+    /** The call was refused. */
+    readonly NOTHING: 0;
+    readonly GO: 1;
+    readonly WAIT: 2;
+    readonly CONNECT: 3;
+    readonly CLOSE: 4;
+    readonly DATA: 5;
+    readonly DROPPED: 6;
+    readonly NO_DATA: 7;
+    readonly INPUT_ROOM: 8;
+    readonly FIRST_ROOM: 9;
+    readonly SECOND_ROOM: 10;
+    readonly INDEX_ROOM: 11;
+    readonly OUTPUT_ROOM: 12;
+};
+export type TodoKind = (typeof TodoKind)[keyof typeof TodoKind];
+
+/** How the shown data change. */
 export const GroupShown: {
     readonly SAME: 0;
     readonly DATA: 1;
@@ -281,14 +372,14 @@ export const ServingKind: {
 };
 export type ServingKind = (typeof ServingKind)[keyof typeof ServingKind];
 
-/** Why a cache ends a connection; rtr_reason_text says it in words. */
+/** Why a cache ends a connection; rtr_reason_text returns the text. */
 export const Reason: {
     readonly LOST: 0;
     readonly SLOW: 1;
     readonly FULL: 2;
-    /** a unit is refused, for `status` */
+    /** A unit is refused, for `status`. */
     readonly FAULTY: 3;
-    /** by the first `taken` bytes of the input */
+    /** The router reports an error, in `taken` bytes of input. */
     readonly REPORTED: 4;
     readonly NO_QUERY: 5;
     readonly OTHER_VERSION: 6;
@@ -298,7 +389,7 @@ export const Reason: {
 };
 export type Reason = (typeof Reason)[keyof typeof Reason];
 
-/** What a router may set: rtr.h says what each is. Times are in milliseconds. */
+/** The settings of a router: rtr.h describes each. Times are in milliseconds. */
 export interface Settings {
     mostBytes: number;
     pause: number;
@@ -312,7 +403,7 @@ export interface Settings {
     highest: number;
 }
 
-/** What names data, with their times in seconds. */
+/** The session, serial number and version of data, and their times in seconds. */
 export interface Known {
     serial: number;
     refresh: number;
@@ -326,12 +417,16 @@ export interface Known {
 export interface RouterState {
     settings: Settings;
     expires: number;
+    came: number;
     asked: number;
+    tried: number;
     due: number;
+    rises: number;
     bytes: number;
     known: Known;
     answer: Known;
     wait: number;
+    riseWait: number;
     units: number;
     note: number;
     session: number;
@@ -340,6 +435,7 @@ export interface RouterState {
     floor: number;
     agreed: boolean;
     fell: boolean;
+    silent: boolean;
     changes: boolean;
     resync: boolean;
     answered: boolean;
@@ -347,7 +443,7 @@ export interface RouterState {
     hasData: boolean;
 }
 
-/** What is to be done: rtr.h says what each field is. */
+/** What the program has to do: rtr.h describes each field. */
 export interface Action {
     start: number;
     taken: number;
@@ -363,6 +459,26 @@ export interface Action {
     changes: boolean;
     drops: boolean;
     reports: boolean;
+}
+
+/** What the program has to do: rtr.h describes each field. */
+export interface TodoFields {
+    wakes: number;
+    room: number;
+    offset: number;
+    code: number;
+    kind: TodoKind;
+    cause: Cause;
+    status: Status;
+    detail: number;
+    drops: boolean;
+    reports: boolean;
+}
+
+/** The settings of a group: rtr.h describes each. Times are in milliseconds. */
+export interface GroupSettings {
+    patience: number;
+    emptyIsData: boolean;
 }
 
 export function statusText(number: number): string;

@@ -1,7 +1,7 @@
 // What rtr.h declares. `generate` made this file of it: don't edit it.
 
-export const VERSION = "0.2.0";
-export const VERSION_NUMBER = 200;
+export const VERSION = "0.3.0";
+export const VERSION_NUMBER = 300;
 export const HIGHEST_VERSION = 2;
 export const HEADER_SIZE = 8;
 export const SERIAL_SIZE = 12;
@@ -26,6 +26,7 @@ export const MOST_RETRY = 7200;
 export const USUAL_EXPIRE = 7200;
 export const LEAST_EXPIRE = 600;
 export const MOST_EXPIRE = 172800;
+export const MOST_MEMBERS = 16;
 export const TEXT_ROOM = 64;
 export const NAME_ROOM = 65528;
 export const LINE_ROOM = 160;
@@ -49,6 +50,11 @@ export const Status = Object.freeze({
     UNKNOWN: 15,
     UNDECIDED: 16,
     NO_INDEX: 17,
+    TOO_MANY_MEMBERS: 18,
+    OTHER_VERSION: 19,
+    OLD_SERIAL: 20,
+    RESET_INSIDE: 21,
+    REPORT_INSIDE: 22,
 });
 
 export const PrefixRule = Object.freeze({
@@ -99,6 +105,16 @@ export const Named = Object.freeze({
     CAUSE: 2,
     REASON: 3,
     CODE: 4,
+    TIME_RULE: 5,
+});
+
+export const TimeRule = Object.freeze({
+    NONE: 0,
+    REFRESH: 1,
+    RETRY: 2,
+    EXPIRE: 3,
+    ABOVE_REFRESH: 4,
+    ABOVE_RETRY: 5,
 });
 
 export const Side = Object.freeze({
@@ -111,6 +127,14 @@ export const Validity = Object.freeze({
     VALID: 1,
     INVALID: 2,
     NO_ROUTE: 3,
+    UNCHECKED: 4,
+});
+
+export const Covers = Object.freeze({
+    NONE: 0,
+    ONE: 1,
+    NO_ROUTE: 2,
+    UNCHECKED: 3,
 });
 
 export const Mismatch = Object.freeze({
@@ -139,6 +163,7 @@ export const Rule = Object.freeze({
     REPORT_PARTS: 15,
     REPORT_TEXT: 16,
     REPORT_OF_REPORT: 17,
+    TIMES: 18,
 });
 
 export const Phase = Object.freeze({
@@ -179,6 +204,32 @@ export const Cause = Object.freeze({
     NOT_APPLIED: 12,
     EXPIRED: 13,
     LOWER: 14,
+    HIGHER: 15,
+});
+
+export const LinkStatus = Object.freeze({
+    OK: 0,
+    NOT_BEGUN: 1,
+    SHORT_BUFFER: 2,
+    BAD_TIME: 3,
+    OUT_OF_TURN: 4,
+    TOO_LONG: 5,
+});
+
+export const TodoKind = Object.freeze({
+    NOTHING: 0,
+    GO: 1,
+    WAIT: 2,
+    CONNECT: 3,
+    CLOSE: 4,
+    DATA: 5,
+    DROPPED: 6,
+    NO_DATA: 7,
+    INPUT_ROOM: 8,
+    FIRST_ROOM: 9,
+    SECOND_ROOM: 10,
+    INDEX_ROOM: 11,
+    OUTPUT_ROOM: 12,
 });
 
 export const GroupShown = Object.freeze({
@@ -226,6 +277,20 @@ export const STRUCTS = Object.freeze({
         ["status", 16, "uint8"],
         ["side", 17, "uint8"],
         ["detail", 18, "uint8"],
+    ] },
+    loaded: { size: 48, fields: [
+        ["length", 0, "size"],
+        ["offset", 8, "size"],
+        ["wanted", 16, "size"],
+        ["serial", 24, "uint32"],
+        ["refresh", 28, "uint32"],
+        ["retry", 32, "uint32"],
+        ["expire", 36, "uint32"],
+        ["session", 40, "uint16"],
+        ["version", 42, "uint8"],
+        ["hasCut", 43, "bool"],
+        ["status", 44, "uint8"],
+        ["detail", 45, "uint8"],
     ] },
     comparison: { size: 24, fields: [
         ["offset", 0, "size"],
@@ -280,6 +345,11 @@ export const STRUCTS = Object.freeze({
         ["shortestIpv4", 2064, "uint8"],
         ["shortestIpv6", 2065, "uint8"],
         ["shortest", 2066, "uint8", 256],
+    ] },
+    lookup: { size: 2344, fields: [
+        ["length", 0, "size"],
+        ["seal", 8, "size"],
+        ["tables", 16, "tables"],
     ] },
     covering: { size: 16, fields: [
         ["place", 0, "size"],
@@ -336,28 +406,33 @@ export const STRUCTS = Object.freeze({
         ["session", 16, "uint16"],
         ["version", 18, "uint8"],
     ] },
-    router: { size: 136, fields: [
+    router: { size: 168, fields: [
         ["settings", 0, "settings"],
         ["expires", 40, "uint64"],
-        ["asked", 48, "uint64"],
-        ["due", 56, "uint64"],
-        ["bytes", 64, "uint64"],
-        ["known", 72, "known"],
-        ["answer", 92, "known"],
-        ["wait", 112, "uint32"],
-        ["units", 116, "uint32"],
-        ["note", 120, "uint32"],
-        ["session", 124, "uint16"],
-        ["phase", 126, "uint8"],
-        ["version", 127, "uint8"],
-        ["floor", 128, "uint8"],
-        ["agreed", 129, "bool"],
-        ["fell", 130, "bool"],
-        ["changes", 131, "bool"],
-        ["resync", 132, "bool"],
-        ["answered", 133, "bool"],
-        ["noted", 134, "bool"],
-        ["hasData", 135, "bool"],
+        ["came", 48, "uint64"],
+        ["asked", 56, "uint64"],
+        ["tried", 64, "uint64"],
+        ["due", 72, "uint64"],
+        ["rises", 80, "uint64"],
+        ["bytes", 88, "uint64"],
+        ["known", 96, "known"],
+        ["answer", 116, "known"],
+        ["wait", 136, "uint32"],
+        ["riseWait", 140, "uint32"],
+        ["units", 144, "uint32"],
+        ["note", 148, "uint32"],
+        ["session", 152, "uint16"],
+        ["phase", 154, "uint8"],
+        ["version", 155, "uint8"],
+        ["floor", 156, "uint8"],
+        ["agreed", 157, "bool"],
+        ["fell", 158, "bool"],
+        ["silent", 159, "bool"],
+        ["changes", 160, "bool"],
+        ["resync", 161, "bool"],
+        ["answered", 162, "bool"],
+        ["noted", 163, "bool"],
+        ["hasData", 164, "bool"],
     ] },
     action: { size: 40, fields: [
         ["start", 0, "size"],
@@ -375,10 +450,81 @@ export const STRUCTS = Object.freeze({
         ["drops", 38, "bool"],
         ["reports", 39, "bool"],
     ] },
-    group: { size: 32, fields: [
-        ["count", 0, "size"],
-        ["runs", 8, "size"],
-        ["has", 16, "bool", 16],
+    link: { size: 224, fields: [
+        ["settings", 0, "settings"],
+        ["expires", 40, "uint64"],
+        ["came", 48, "uint64"],
+        ["asked", 56, "uint64"],
+        ["tried", 64, "uint64"],
+        ["due", 72, "uint64"],
+        ["rises", 80, "uint64"],
+        ["bytes", 88, "uint64"],
+        ["latest", 96, "uint64"],
+        ["kept", 104, "size"],
+        ["endSize", 112, "size"],
+        ["filled", 120, "size"],
+        ["shown", 128, "size"],
+        ["unsent", 136, "size"],
+        ["known", 144, "known"],
+        ["answer", 164, "known"],
+        ["wait", 184, "uint32"],
+        ["riseWait", 188, "uint32"],
+        ["units", 192, "uint32"],
+        ["note", 196, "uint32"],
+        ["mark", 200, "uint32"],
+        ["session", 204, "uint16"],
+        ["phase", 206, "uint8"],
+        ["version", 207, "uint8"],
+        ["floor", 208, "uint8"],
+        ["agreed", 209, "uint8"],
+        ["fell", 210, "uint8"],
+        ["silent", 211, "uint8"],
+        ["changes", 212, "uint8"],
+        ["resync", 213, "uint8"],
+        ["answered", 214, "uint8"],
+        ["noted", 215, "uint8"],
+        ["hasData", 216, "uint8"],
+        ["holding", 217, "uint8"],
+        ["since", 218, "uint8"],
+        ["shows", 219, "uint8"],
+        ["second", 220, "uint8"],
+        ["opened", 221, "uint8"],
+        ["closed", 222, "uint8"],
+    ] },
+    todo: { size: 32, fields: [
+        ["wakes", 0, "uint64"],
+        ["room", 8, "size"],
+        ["offset", 16, "size"],
+        ["code", 24, "uint16"],
+        ["kind", 26, "uint8"],
+        ["cause", 27, "uint8"],
+        ["status", 28, "uint8"],
+        ["detail", 29, "uint8"],
+        ["drops", 30, "bool"],
+        ["reports", 31, "bool"],
+    ] },
+    linkState: { size: 48, fields: [
+        ["wakes", 0, "uint64"],
+        ["filled", 8, "size"],
+        ["unsent", 16, "size"],
+        ["shown", 24, "size"],
+        ["answer", 32, "size"],
+        ["hasData", 40, "bool"],
+        ["second", 41, "bool"],
+        ["answers", 42, "bool"],
+        ["since", 43, "bool"],
+    ] },
+    groupSettings: { size: 8, fields: [
+        ["patience", 0, "uint32"],
+        ["emptyIsData", 4, "bool"],
+    ] },
+    group: { size: 56, fields: [
+        ["settings", 0, "groupSettings"],
+        ["count", 8, "size"],
+        ["runs", 16, "size"],
+        ["due", 24, "uint64"],
+        ["has", 32, "bool", 16],
+        ["current", 48, "bool"],
     ] },
     groupAnswer: { size: 32, fields: [
         ["member", 0, "size"],
@@ -409,6 +555,7 @@ export const STRUCTS = Object.freeze({
         ["live", 39, "bool"],
         ["asked", 40, "bool"],
         ["told", 41, "bool"],
+        ["reset", 42, "bool"],
     ] },
     serving: { size: 32, fields: [
         ["taken", 0, "size"],
@@ -445,11 +592,13 @@ export const FUNCTIONS = Object.freeze({
     rtr_apply_nonnull: ["uint8", "*", "size", "*", "size", "*", "size", "*"],
     rtr_apply_in_order_nonnull: ["uint8", "*", "size", "*", "size", "*", "size", "*", "size", "*"],
     rtr_order_nonnull: ["uint8", "*", "size", "*", "size", "*", "size", "*"],
-    rtr_tables_nonnull: ["void", "*", "size", "*"],
+    rtr_load_nonnull: ["uint8", "*", "size", "*", "size", "*", "size", "*", "size", "*"],
+    rtr_check_data_nonnull: ["uint8", "*", "size", "*", "*"],
     rtr_validate_nonnull: ["uint8", "*", "size", "*", "*"],
-    rtr_covering_nonnull: ["bool", "*", "size", "*", "*", "size", "*"],
+    rtr_covering_nonnull: ["uint8", "*", "size", "*", "*", "size", "*"],
     rtr_serial_order: ["uint8", "uint32", "uint32"],
     rtr_version_has: ["bool", "uint8", "uint8"],
+    rtr_times_rule: ["uint8", "uint32", "uint32", "uint32"],
     rtr_wire_version: ["uint32"],
     rtr_check_name_nonnull: ["uint8", "*", "size", "*", "size", "*"],
     rtr_check_unit_nonnull: ["uint8", "*", "*", "size", "bool", "*"],
@@ -457,7 +606,10 @@ export const FUNCTIONS = Object.freeze({
     rtr_check_end: ["void", "*", "*"],
     rtr_settings_usual: ["void", "*", "uint8"],
     rtr_router_init: ["void", "*", "*"],
+    rtr_router_again: ["void", "*"],
+    rtr_router_has_data: ["bool", "*", "uint64"],
     rtr_router_tick: ["void", "*", "uint64", "*"],
+    rtr_router_asked: ["void", "*", "uint64", "*"],
     rtr_router_connected: ["void", "*", "uint64", "*"],
     rtr_router_lost: ["void", "*", "uint64", "*"],
     rtr_router_applied: ["void", "*", "uint64", "*"],
@@ -466,12 +618,24 @@ export const FUNCTIONS = Object.freeze({
     rtr_router_read_nonnull: ["void", "*", "uint64", "*", "size", "bool", "*"],
     rtr_router_query_nonnull: ["size", "*", "*", "size"],
     rtr_router_report_nonnull: ["bool", "*", "*", "size", "*", "size", "*"],
-    rtr_group_init: ["void", "*", "size"],
+    rtr_link_init: ["void", "*", "*"],
+    rtr_link_again: ["uint8", "*"],
+    rtr_link_opened: ["uint8", "*"],
+    rtr_link_lost: ["uint8", "*"],
+    rtr_link_received_nonnull: ["uint8", "*", "*", "size", "size"],
+    rtr_link_sent_nonnull: ["uint8", "*", "*", "size", "size"],
+    rtr_link_next_nonnull: ["uint8", "*", "uint64", "*", "size", "*", "size", "*", "size", "*", "size", "*", "size", "*"],
+    rtr_link_ask_now_nonnull: ["uint8", "*", "uint64", "*", "size", "*", "size", "*"],
+    rtr_link_give_up_nonnull: ["uint8", "*", "uint64", "*", "size", "*", "size", "*"],
+    rtr_link_state_of: ["uint8", "*", "uint64", "size", "size", "size", "size", "*"],
+    rtr_group_usual: ["void", "*"],
+    rtr_group_init: ["uint8", "*", "*", "size", "uint64"],
     rtr_group_best: ["bool", "*", "*"],
-    rtr_group_shows: ["void", "*", "size", "*"],
-    rtr_group_drops: ["void", "*", "size", "*"],
-    rtr_group_fails: ["void", "*", "size", "*"],
-    rtr_group_well: ["void", "*", "size", "*"],
+    rtr_group_wakes: ["uint64", "*"],
+    rtr_group_tick: ["void", "*", "uint64", "*"],
+    rtr_group_shows: ["void", "*", "uint64", "size", "size", "*"],
+    rtr_group_drops: ["void", "*", "uint64", "size", "*"],
+    rtr_group_fails: ["void", "*", "uint64", "size", "*"],
     rtr_cache_settings_usual: ["void", "*"],
     rtr_cache_init: ["void", "*", "uint64", "*"],
     rtr_cache_tick: ["void", "*", "uint64", "*", "*"],
@@ -502,6 +666,11 @@ const statusTexts = [
     "withdrawal of an unknown record",
     "an ASPA is announced and then withdrawn",
     "no room in the index",
+    "too many members",
+    "of another version than the units before",
+    "serial number before that of the data",
+    "cache reset inside an answer",
+    "error report inside an answer",
 ];
 
 export function statusText(number) {
@@ -543,6 +712,7 @@ const causeTexts = [
     "changes are refused",
     "the data have expired",
     "the cache may have a lower version",
+    "the cache may have a higher version",
 ];
 
 export function causeText(number) {

@@ -1,18 +1,26 @@
-/** The RTR wire layer in JavaScript, over the proved module rtr_wire.wasm. */
+/** The RTR wire layer in JavaScript, over the proved module rtr_wire.wasm.
+ *
+ * Arguments aren't converted: a value of another type throws a TypeError, and a number that isn't
+ * whole, or out of its range, a RangeError; both name the argument or field. */
 
-import type { Action, Kind, Mismatch, Named, RouterState, Rule, SerialOrder, Settings, Status,
-    Validity } from "./rtr_table.js";
-
-export { ActionKind, Cause, ErrorCode, Kind, Mismatch, Named, PrefixRule, Rule, SerialOrder, Side,
-    Status, VERSION, VERSION_NUMBER, Validity, causeText, kindText, statusText }
+import type { Action, Cause, GroupSettings, GroupShown, Kind, LinkStatus, Mismatch, Named,
+    RouterState, Rule, SerialOrder, Settings, Status, TodoFields, TodoKind, Validity }
     from "./rtr_table.js";
-export type { Action, Known, RouterState, Settings } from "./rtr_table.js";
 
-/** What each unit has. */
+export { ActionKind, Cause, ErrorCode, GroupShown, Kind, LinkStatus, Mismatch, Named, PrefixRule,
+    Rule, SerialOrder, Side, Status, TodoKind, VERSION, VERSION_NUMBER, Validity, causeText,
+    kindText, statusText } from "./rtr_table.js";
+export type { Action, GroupSettings, Known, RouterState, Settings, TodoFields }
+    from "./rtr_table.js";
+
+/** Bytes as arguments; all bytes of an ArrayBuffer. */
+export type Bytes = Uint8Array | ArrayBuffer;
+
+/** The fields of each unit. */
 interface AnyUnit {
-    /** How many bytes stand before it in what was read. */
+    /** Its offset in the input, in bytes. */
     offset: number;
-    /** How many bytes it has. */
+    /** Its size in bytes. */
     size: number;
     version: number;
 }
@@ -60,7 +68,7 @@ export interface RouterKey extends AnyUnit {
     keyInfo: Uint8Array;
 }
 
-/** Where the lengths inside of it don't fit, the three last are null. */
+/** If the lengths inside of it don't fit, the last three fields are null. */
 export interface ErrorReport extends AnyUnit {
     kind: typeof Kind.ERROR_REPORT;
     code: number;
@@ -79,53 +87,84 @@ export interface Aspa extends AnyUnit {
 export type Unit = SerialNotify | SerialQuery | ResetQuery | CacheResponse | Prefix | EndOfData
     | CacheReset | RouterKey | ErrorReport | Aspa;
 
-/** What `writeUnit` takes: the offset and the size don't matter. */
+/** A unit for `writeUnit`: all fields of the kind; the offset and the size are ignored. */
 export type Written = Unit extends infer One ? One extends Unit
     ? Omit<One, "offset" | "size"> & Partial<Pick<One, "offset" | "size">> : never : never;
 
-/** What a call refuses. */
+/** A refusal of a call. */
 export class Fault extends Error {
     readonly name: "Fault";
     readonly status: Status;
-    /** What the status and the detail say, as in rtr_text. */
+    /** The text of the status and the detail, as in rtr_text. */
     readonly text: string;
-    /** Where the unit at fault begins, in the input of `side`. */
+    /** The offset of the unit at fault, in the input of `side`. Of a Link: from the first byte of
+     * the connection; of a change that can't be applied, in the answer's payload units. */
     readonly offset: number;
-    /** 1 or 2 where one of two inputs is at fault, else 0. */
+    /** 1 or 2 if one of two inputs is at fault, else 0. */
     readonly side: number;
-    /** The type or the version that isn't allowed, or a PrefixRule that is broken; else 0. */
+    /** The type or the version that isn't allowed, or a PrefixRule that is broken; of
+     * OTHER_VERSION the version of the unit; else 0. */
     readonly detail: number;
-    /** Of a prefix that is refused its size, so that a reader may go on behind it; else 0. */
+    /** The size of a prefix that is refused, so that a reader can skip it; else 0. */
     readonly size: number;
-    /** After SHORT how many bytes are wanted from the offset on. */
+    /** After SHORT the least number of bytes needed from the offset on. */
     readonly wanted: number;
     /** The error code of the report that is owed (RFC 8210 section 12), or null. */
     readonly code: number | null;
+    /** Of a Link a copy of the unit, as far as it came, and only its header if it can't have its
+     * length; else null. */
+    readonly unit: Uint8Array | null;
+}
+
+/** Why a connection to a cache ended, if no unit is wrong by itself, which is a Fault; and with
+ * Cause.EXPIRED why there are no data any more. docs/SESSIONS.md says when. */
+export class SessionError extends Error {
+    readonly name: "SessionError" | "NoData";
+    readonly reason: Cause;
+    /** A copy of the unit that it is about, if the cache got a report about it, or null. */
+    readonly unit: Uint8Array | null;
+    /** The error code of that report, or null. */
+    readonly code: number | null;
+    /** The cache's own report, of Cause.REPORTED; else null. */
+    readonly reported: ErrorReport | null;
+}
+
+/** The cache has no data yet (RFC 8210 section 8.4); it is asked again. */
+export class NoData extends SessionError { readonly name: "NoData" }
+
+/** An answer without payloads, which counts as a failure where another cache may have some. */
+export class Empty extends Error { readonly name: "Empty" }
+
+/** A call of a Link that can't be: out of turn, with a time before that of an earlier call, or with
+ * more bytes than there are. Nothing has happened. */
+export class LinkError extends Error {
+    readonly name: "LinkError";
+    readonly status: LinkStatus;
 }
 
 /** The module's memory would have to grow, and can't. */
 export class OutOfMemory extends Error {
     readonly name: "OutOfMemory";
-    /** How many bytes it would have to have. */
+    /** The size that it would need, in bytes. */
     readonly wanted: number;
 }
 
-/** There is no 64-bit memory for WebAssembly here. */
+/** The module has a 64-bit memory, which this engine lacks. */
 export class Unsupported extends Error { readonly name: "Unsupported" }
 
-/** The module isn't the one that these files were made for. */
+/** The module is of another version than these files. */
 export class OtherVersion extends Error { readonly name: "OtherVersion" }
 
-/** A call of a session that was dropped. */
+/** A call of a session, or of bytes in its memory, that was dropped. */
 export class Dropped extends Error { readonly name: "Dropped" }
 
 /** A route, by the text of its prefix, or by bytes and a length. */
 export type Route = { prefix: string; asn: number }
-    | { address: Uint8Array; prefixLength: number; asn: number };
+    | { address: Bytes; prefixLength: number; asn: number };
 
-/** A VRP that covers a route: its prefix are the first bits of the route's address. */
+/** A VRP that covers a route: its prefix is the first bits of the route's address. */
 export interface Covering {
-    /** Which payload of the data it is, from 0. */
+    /** The index of the payload in the data, from 0. */
     place: number;
     asn: number;
     prefixLength: number;
@@ -133,25 +172,37 @@ export interface Covering {
     mismatch: Mismatch;
 }
 
-/** Data in canonical form: what a cache has, or a router has of it. They never change. */
+/** The data of a cache or a router, in canonical form; immutable. */
 export class Data {
     private constructor();
-    /** A copy of their bytes, with all free bits zero. */
+    /** Returns a copy of their bytes, with all free bits zero. */
     readonly bytes: Uint8Array;
     readonly end: EndOfData;
     readonly version: number;
     readonly serial: number;
-    /** The units that announce their payloads. */
+    /** Whether there are no payloads. */
+    readonly isEmpty: boolean;
+    /** The number of payloads, which is counted each time. */
+    readonly count: number;
+    /** Iterates over the units that announce their payloads. */
     units(): Generator<Unit, void, undefined>;
-    deltaTo(next: Data): Uint8Array;
-    applyInOrder(changes: Uint8Array): Data;
-    apply(changes: Uint8Array): Data;
-    /** Whether a route is valid (RFC 6811 section 2). */
+    deltaTo(next: Bytes | Data): Uint8Array;
+    applyInOrder(changes: Bytes): Data;
+    apply(changes: Bytes): Data;
+    /** Returns the validity of a route (RFC 6811 section 2). */
     validate(route: Route): Validity;
-    /** The VRPs that cover a route, in the order of payloads. */
+    /** Returns the VRPs that cover a route, in the order of payloads. */
     covering(route: Route): Generator<Covering, void, undefined>;
-    /** Gives back the memory that looking up took. */
+    /** Frees the memory of lookups. */
     drop(): void;
+}
+
+/** What a recording or a list leaves. */
+export interface Loaded {
+    /** The data of its whole answers. */
+    data: Data;
+    /** Whether an answer was left out, since the next one began before its end of data. */
+    hasCut: boolean;
 }
 
 /** A router's end of the protocol, without sockets and clock: rtr.h says what is to be done for
@@ -160,14 +211,88 @@ export class Router {
     private constructor();
     readonly state: RouterState;
     readonly wakes: number;
+    /** Reports whether there are data at this time: they last until they expire. */
+    hasData(now: number): boolean;
     tick(now: number): Action;
+    /** Requests current data: the router asks as soon as it may, or connects. */
+    asked(now: number): Action;
     connected(now: number): Action;
     lost(now: number): Action;
     applied(now: number): Action;
     notApplied(now: number, status: Status, detail?: number): Action;
-    read(now: number, bytes: Uint8Array, ended?: boolean): Action;
+    read(now: number, bytes: Bytes, ended?: boolean): Action;
     query(action: Action): Uint8Array;
-    report(action: Action, bytes: Uint8Array): Uint8Array | null;
+    report(action: Action, bytes: Bytes): Uint8Array | null;
+}
+
+/** What the program of a Link has to do, as rtr.h describes it; GO and the kinds that ask for
+ * room are done already. */
+export interface Todo extends TodoFields {
+    /** Of CLOSE, DROPPED and NO_DATA, why: a Fault, a SessionError, OutOfMemory, or what `lost` was
+     * given. Null if the connection ends for another version, and of other kinds. */
+    error: unknown;
+}
+
+/** A router's end of the protocol with its bytes and its data, without sockets and clock. Call
+ * `next` again and again, and do what it returns, until that is to wait. Times are in milliseconds,
+ * and don't go back. Wrong calls throw a LinkError. Its buffers are in the session's memory, and
+ * grow as an answer needs it, within the limits of the settings; without memory for an answer the
+ * connection ends, and the data stay. */
+export class Link {
+    private constructor();
+    /** When to call `next`, if nothing happens before. */
+    readonly wakes: number;
+    /** A copy of the bytes to send. */
+    readonly output: Uint8Array;
+    next(now: number): Todo;
+    /** Requests current data: the router asks as soon as it may, or connects. Returns what to
+     * do. */
+    askNow(now: number): Todo;
+    opened(): void;
+    /** Reports that connecting failed, the cache closed, or the connection broke, for this reason;
+     * bytes that came before still count. */
+    lost(reason?: unknown): void;
+    /** Takes bytes that came, as many as there is room for, and returns how many. */
+    received(bytes: Bytes): number;
+    /** Reports that this many bytes of the output were sent. */
+    sent(count: number): void;
+    /** Returns the data at this time, until they expire, or null. They stay as they are, also when
+     * the next answer comes, and after `drop`. */
+    data(now: number): Data | null;
+    /** Frees the memory of the buffers. Only `again` may follow. */
+    drop(): void;
+    /** Begins again without data and with its settings; waits for a failing cache go on growing. */
+    again(): void;
+}
+
+/** What the program of a Group has to do, in this order. */
+export interface Decision {
+    /** What becomes of the data that are shown. */
+    shown: GroupShown;
+    /** With GroupShown.DATA the member whose data to show, else null. */
+    member: number | null;
+    /** The first of the members that stop, if they run, and whose data are dropped; or null. */
+    stop: number | null;
+    /** The member that starts, without data; or null. */
+    start: number | null;
+}
+
+/** Caches by preference (RFC 8210 section 10), without data, sockets and clock: rtr.h has its
+ * rules. Member 0 is the most preferred, and runs first. Times are in milliseconds. */
+export class Group {
+    private constructor();
+    readonly settings: GroupSettings;
+    /** When to call `tick`, if nothing happens before; Infinity for never. */
+    readonly wakes: number;
+    /** The member whose data are shown, or null. */
+    readonly best: number | null;
+    tick(now: number): Decision;
+    /** Reports that a member has the data of a whole answer, with this number of payloads. */
+    shows(now: number, member: number, payloads: number): Decision;
+    /** Reports that a member lost its data, which is a failure too. */
+    drops(now: number, member: number): Decision;
+    /** Reports that a member failed, or that its cache has no data. */
+    fails(now: number, member: number): Decision;
 }
 
 export interface Normalised {
@@ -177,7 +302,7 @@ export interface Normalised {
     form: Uint8Array;
 }
 
-/** What the last look at a unit shows, field by field, as in a struct rtr_unit. */
+/** The fields of the unit that was read last, as in a struct rtr_unit. */
 export interface Shown {
     byte(field: string): number;
     short(field: string): number;
@@ -186,15 +311,15 @@ export interface Shown {
     row(field: string, length: number): Uint8Array;
 }
 
-/** A rule that the unit at an offset breaks, or all units together, where the offset is their
- * length; and the line of rtr_list. */
+/** A rule that the unit at an offset breaks, or all units together, with their length as offset;
+ * and the line of rtr_list. */
 export interface Finding {
     offset: number;
     rule: Rule;
     line: string;
 }
 
-/** Bytes that stay in the memory of a session, to look at their units in any order. */
+/** Bytes that stay in the memory of a session, to read their units in any order. */
 export class Held {
     private constructor();
     readonly length: number;
@@ -204,7 +329,7 @@ export class Held {
     shown(offset: number): Shown;
     unit(offset: number): Unit | Fault;
     findings(): Generator<Finding, void, undefined>;
-    /** A check of its units, one after the other: `take` at the offset of each, then `finish`. */
+    /** A check of its units in order: call `take` at the offset of each, then `finish`. */
     checker(): {
         take(offset: number): { findings: Finding[]; size: number };
         finish(): Finding[];
@@ -212,72 +337,92 @@ export class Held {
     };
 }
 
-/** The library in a memory of its own. Calls throw a Fault for what rtr.h refuses, OutOfMemory
- * where the memory can't grow, and Dropped after `drop`. */
+/** The library in a memory of its own. Calls throw a Fault if rtr.h refuses the input, OutOfMemory
+ * if the memory can't grow, and Dropped after `drop`. */
 export class Session {
     private constructor();
-    /** How many bytes the module's memory has. */
+    /** The size of the module's memory in bytes. */
     readonly memory: number;
-    /** A session of the same module, with a memory of its own. */
+    /** Makes a session of the same module, with a memory of its own. */
     another(): Session;
     drop(): void;
 
-    next(bytes: Uint8Array, offset?: number): Unit;
-    units(bytes: Uint8Array, offset?: number): Generator<Unit, void, undefined>;
-    hold(bytes: Uint8Array): Held;
-    /** What the units break of the rules that rtr_list looks for with --check. */
-    check(bytes: Uint8Array): Generator<Finding, void, undefined>;
-    unitSize(bytes: Uint8Array): number;
+    next(bytes: Bytes, offset?: number): Unit;
+    units(bytes: Bytes, offset?: number): Generator<Unit, void, undefined>;
+    hold(bytes: Bytes): Held;
+    /** Iterates over the rules of rtr_list --check that the units break. */
+    check(bytes: Bytes): Generator<Finding, void, undefined>;
+    unitSize(bytes: Bytes): number;
     writeUnit(unit: Written): Uint8Array;
-    errorCode(status: Status, bytes: Uint8Array): number | null;
+    errorCode(status: Status, bytes: Bytes): number | null;
 
-    /** A Fault of it has the four fields of the answer too. */
-    normalise(bytes: Uint8Array, options?: { limit?: number | bigint; version?: number | null }):
+    /** Its Fault has the four fields of the result, too. */
+    normalise(bytes: Bytes, options?: { limit?: number | bigint; version?: number | null }):
         Normalised;
-    sameMeaning(left: Uint8Array, right: Uint8Array, limit?: number | bigint): boolean;
+    sameMeaning(left: Bytes, right: Bytes, limit?: number | bigint): boolean;
 
-    delta(old: Uint8Array | Data, next: Uint8Array | Data): Uint8Array;
-    apply(data: Uint8Array | Data, changes: Uint8Array): Uint8Array;
-    applyInOrder(data: Uint8Array | Data, changes: Uint8Array, places?: number): Uint8Array;
-    order(changes: Uint8Array, places?: number): Uint8Array;
-    data(bytes: Uint8Array): Data;
+    delta(old: Bytes | Data, next: Bytes | Data): Uint8Array;
+    apply(data: Bytes | Data, changes: Bytes): Uint8Array;
+    applyInOrder(data: Bytes | Data, changes: Bytes, places?: number): Uint8Array;
+    order(changes: Bytes, places?: number): Uint8Array;
+    /** Data of bytes in canonical form. */
+    data(bytes: Bytes): Data;
+    /** Loads the data that a recording or a list of units leaves: its answers one after the other,
+     * each with or without a cache response, their payload units in any order. An answer changes
+     * the data before it; after a reset query or a cache reset, and in another session, it replaces
+     * them (RFC 8210 sections 5.1, 5.4 and 5.9). All of the input counts, also what a router sent.
+     *
+     * A Fault has the offset of the first unit at which the recording can't go on, and its status:
+     * SHORT to PREFIX for what isn't a unit, SHORT also at the end of the input, if an answer has
+     * no end of data there or none came; DUPLICATE or UNKNOWN for the first change of an answer
+     * that isn't allowed (section 12); OTHER_VERSION for a payload unit or an end of data of
+     * another version than those before it in its answer, or than the data that it changes;
+     * OTHER_SESSION for an end of data of another session than its answer (section 5.8);
+     * OLD_SERIAL for one of changes whose serial number comes before that of the data (RFC 1982);
+     * RESET_INSIDE or REPORT_INSIDE for a cache reset or an error report inside an answer. */
+    loadData(recording: Bytes): Loaded;
     validate(data: Data, route: Route): Validity;
     covering(data: Data, route: Route): Generator<Covering, void, undefined>;
 
-    /** The line that rtr_list prints of the unit that the bytes begin with, of one that stands
-     * after `offset` bytes. */
-    unitLine(bytes: Uint8Array, offset?: number | bigint): string;
-    /** The same as an object in JSON, as rtr_list --json prints it. */
-    unitJson(bytes: Uint8Array, offset?: number | bigint): string;
-    /** The change that a payload unit makes, as rtr_diff prints it; of another unit "". */
+    /** Returns the line that rtr_list prints for the unit at the start of the bytes, with this
+     * offset. */
+    unitLine(bytes: Bytes, offset?: number | bigint): string;
+    /** Returns the unit as a JSON object, as rtr_list --json prints it. */
+    unitJson(bytes: Bytes, offset?: number | bigint): string;
+    /** Returns the line of a payload unit's change, as rtr_diff prints it; "" for another unit. */
     changeLine(unit: Written): string;
-    /** The same as an object in JSON, as rtr_diff --json prints it. */
+    /** Returns the change as a JSON object, as rtr_diff --json prints it. */
     changeJson(unit: Written): string;
 
-    /** The text of a status with its detail: "unit type 5 is not allowed here". */
+    /** Returns the text of a status with its detail: "unit type 5 is not allowed here". */
     statusText(status: number, detail?: number): string;
-    /** The name of a number, of what `named` says: "IPv4 prefix" of Named.KIND and 4. */
+    /** Returns the name of a number, as `named` selects: "IPv4 prefix" for Named.KIND and 4. */
     name(named: Named, number: number): string;
 
     router(settings?: Partial<Settings>): Router;
+    link(settings?: Partial<Settings>): Link;
+    /** Makes a group of up to 16 members. */
+    group(members: number, now: number, settings?: Partial<GroupSettings>): Group;
     usualSettings(highest: number): Settings;
     serialOrder(left: number, right: number): SerialOrder;
     versionHas(version: number, kind: Kind): boolean;
 }
 
-/** Whether this engine has 64-bit memory for WebAssembly. */
-export function isSupported(): boolean;
+/** Reports whether this engine runs a module with 64-bit memory. The module with 32-bit memory, the
+ * default of `load`, runs on every engine with WebAssembly. */
+export function has64BitMemory(): boolean;
 
-/** A session of the library, of the bytes of rtr_wire.wasm or the module compiled of them. Its
- * memory has at most `most` bytes, if that is given. */
-export function load(source: BufferSource | WebAssembly.Module, options?: { most?: number }):
-    Promise<Session>;
+/** Makes a session of the library. Without a source it reads the module with 32-bit memory beside
+ * these files; else the source is the bytes of a module, or the module compiled from them. `most`
+ * limits the bytes of its memory. */
+export function load(source?: BufferSource | WebAssembly.Module | null,
+    options?: { most?: number }): Promise<Session>;
 
-/** The text of an address of 4 or 16 bytes. */
-export function addressText(bytes: Uint8Array): string;
+/** Returns the text of an address of 4 or 16 bytes. */
+export function addressText(bytes: Bytes): string;
 
-/** The bytes of an address, or null where the text is none. */
+/** Returns the bytes of an address, or null if the text is none. */
 export function addressOf(text: string): Uint8Array | null;
 
-/** The address and the length of a prefix, or null where the text is none. */
+/** Returns the address and the length of a prefix, or null if the text is none. */
 export function prefixOf(text: string): { address: Uint8Array; length: number } | null;

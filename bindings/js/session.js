@@ -1,29 +1,41 @@
 // The library in a memory of its own.
 
-import { FUNCTIONS, LINE_ROOM, LONGEST_UNIT, STRUCTS, Status, TEXT_ROOM } from "./rtr_table.js";
+import { FUNCTIONS, IPV4_SIZE, LINE_ROOM, LONGEST_UNIT, STRUCTS, Status, TEXT_ROOM }
+    from "./rtr_table.js";
 import { Heap, placesOf, readStruct, writeStruct } from "./memory.js";
 import { Fault } from "./fault.js";
+import { byteOf, bytesOf, fieldsOf, longOf, numberOf, objectOf, shortOf, wordOf }
+    from "./given.js";
 import { Shown, structOf, unitOf } from "./units.js";
 import { Checker } from "./checking.js";
 import { Data } from "./data.js";
+import { Group } from "./group.js";
+import { Link } from "./link.js";
 import { Router } from "./router.js";
 
-// How many bytes of an input are read at a time: more than the longest unit has.
+// The bytes of an input that are read at a time: more than the longest unit.
 const PIECE = 1 << 17;
 
+// How many bytes the data of a recording may have at first; the buffers grow for more.
+const FIRST_ROOM = 1 << 24;
+
 const ALL = (1n << 64n) - 1n;
+
+// A version that is higher than any: rtr_settings_usual then takes the highest known one.
+const HIGHEST = 255;
+
 const NEXT = placesOf("unit");
 const NOTHING = new Uint8Array(0);
 
-/** A call of a session that was dropped. */
+/** A call of a session, or of bytes in its memory, that was dropped. */
 export class Dropped extends Error {
-    constructor() {
-        super("the session was dropped");
+    constructor(text = "the session was dropped") {
+        super(text);
         this.name = "Dropped";
     }
 }
 
-/** What each function answers, as a number or a boolean. */
+/** The result of each function: a number or a boolean. */
 const ANSWERS = {
     void: () => undefined,
     bool: (answer) => (answer & 255) !== 0,
@@ -40,10 +52,10 @@ export class Session {
     #options;
     #exports;
     #heap;
-    #frame; // room for one struct of each kind
-    #unit; // where that of a unit is, as calls take it
+    #frame; // space for one struct of each kind
+    #unit; // the address of the unit's struct, as calls take it
 
-    /** Instances are made by `load` and by `another`. */
+    /** `load` and `another` make instances. */
     constructor(module, options = {}) {
         this.#module = module;
         this.#options = options;
@@ -57,23 +69,23 @@ export class Session {
         this.#unit = BigInt(this.#frame.unit);
     }
 
-    /** A session of the same module, with a memory of its own. */
+    /** Makes a session of the same module, with a memory of its own. */
     another() {
         return new Session(this.#module, this.#options);
     }
 
-    /** Gives the memory back to the engine. Every later call is `Dropped`. */
+    /** Releases the memory to the engine. Every later call throws `Dropped`. */
     drop() {
         this.#exports = null;
         this.#heap = null;
     }
 
-    /** How many bytes the module's memory has. */
+    /** The size of the module's memory in bytes. */
     get memory() {
         return this.heap.size;
     }
 
-    /** The parts of the memory, for `Data` and `Router`. */
+    /** The memory, for `Data` and `Router`. */
     get heap() {
         if (this.#heap === null) {
             throw new Dropped();
@@ -81,7 +93,7 @@ export class Session {
         return this.#heap;
     }
 
-    /** Where there is room for a struct of this name, until the next call. */
+    /** Returns the address of a struct of this name, valid until the next call. */
     frame(name) {
         return this.#frame[name];
     }
@@ -96,8 +108,8 @@ export class Session {
         return ANSWERS[answer](this.#exports[name](...made));
     }
 
-    /** Puts slices into the memory while a function runs, which gets their places. A number stands
-     * for so many bytes that are open. */
+    /** Copies slices into the memory while a function runs, which gets their addresses. A number
+     * stands for that many uninitialized bytes. */
     within(slices, run) {
         const places = [];
         try {
@@ -114,21 +126,22 @@ export class Session {
         }
     }
 
-    /** A copy of what lies in the memory. */
+    /** Returns a copy of a part of the memory. */
     copy(start, length) {
         return this.heap.bytes(start, length).slice();
     }
 
-    /** The struct of this name that the last call filled. */
+    /** Returns the struct of this name that the last call filled. */
     answer(name) {
         return readStruct(this.heap.view, name, this.#frame[name]);
     }
 
     // ---- units
 
-    /** The unit that the bytes begin with at this offset; a Fault says why there is none. */
+    /** Returns the unit of the bytes at this offset; throws a Fault if it is refused. */
     next(bytes, offset = 0) {
-        const piece = bytes.subarray(offset, offset + LONGEST_UNIT);
+        const all = bytesOf(bytes);
+        const piece = all.subarray(offsetIn(all, offset), offset + LONGEST_UNIT);
         return this.within([piece], (at) => {
             const status = this.call("rtr_next_nonnull", at, piece.length, this.#frame.unit);
             if (status !== Status.OK) {
@@ -138,9 +151,14 @@ export class Session {
         });
     }
 
-    /** The units from an offset on, one after the other, up to the end of the bytes; where there is
-     * none the Fault comes after those before it. */
-    * units(bytes, offset = 0) {
+    /** Iterates over the units from an offset to the end of the bytes; the Fault of a unit comes
+     * after the units before it. */
+    units(bytes, offset = 0) {
+        const all = bytesOf(bytes);
+        return this.#unitsFrom(all, offsetIn(all, offset));
+    }
+
+    * #unitsFrom(bytes, offset) {
         for (let from = offset; from < bytes.length;) {
             const { units, fault, end } = this.#piece(bytes, from);
             yield* units;
@@ -151,7 +169,7 @@ export class Session {
         }
     }
 
-    /** The units that are whole in a piece of the bytes. */
+    /** Iterates over the whole units in a piece of the bytes. */
     #piece(bytes, from) {
         const piece = bytes.subarray(from, from + PIECE);
         const units = [];
@@ -173,19 +191,23 @@ export class Session {
         });
     }
 
-    /** Calls rtr_next on what lies at a place; the struct is at frame("unit"). */
+    /** Calls rtr_next on the bytes at an address; the struct is at frame("unit"). */
     step(at, length) {
         return this.#exports.rtr_next_nonnull(BigInt(at), BigInt(length), this.#unit) & 255;
     }
 
-    /** Bytes that stay in the memory, to look at their units in any order. */
+    /** Copies bytes into the memory, to read their units in any order. */
     hold(bytes) {
-        return new Held(this, bytes);
+        return new Held(this, bytesOf(bytes));
     }
 
-    /** What the units break of the rules that rtr_list looks for with --check, in order; where one
-     * is refused the Fault comes after what was found before it. */
-    * check(bytes) {
+    /** Iterates over the rules of rtr_list --check that the units break, in order; the Fault of a
+     * unit comes after the findings before it. */
+    check(bytes) {
+        return this.#findings(bytesOf(bytes));
+    }
+
+    * #findings(bytes) {
         const held = this.hold(bytes);
         try {
             yield* held.findings();
@@ -194,7 +216,7 @@ export class Session {
         }
     }
 
-    /** The Fault of rtr_next with this status, about what lies at a place. */
+    /** Returns the Fault of rtr_next with this status, about the bytes at an address. */
     refused(status, at, length, offset) {
         const view = this.heap.view;
         const field = (name) => Number(view.getBigUint64(this.#frame.unit + NEXT[name], true));
@@ -217,17 +239,18 @@ export class Session {
         return isOwed ? this.heap.view.getUint16(this.#frame.number, true) : null;
     }
 
-    /** The error code that is owed for a status about the unit that the bytes begin with, or
-     * null. */
+    /** Returns the error code that is owed for a status about the unit at the start of the bytes,
+     * or null. */
     errorCode(status, bytes) {
-        const unit = bytes.subarray(0, LONGEST_UNIT);
+        const unit = bytesOf(bytes).subarray(0, LONGEST_UNIT);
+        byteOf(status, "status");
         return this.within([unit], (at) => this.#code(status, at, unit.length));
     }
 
-    /** How long the unit is that the bytes begin with, by its header alone. */
+    /** Returns the length of the unit at the start of the bytes, from its header alone. */
     unitSize(bytes) {
         const { unit, number } = this.#frame;
-        const piece = bytes.subarray(0, LONGEST_UNIT);
+        const piece = bytesOf(bytes).subarray(0, LONGEST_UNIT);
         return this.within([piece], (at) => {
             const status = this.call("rtr_unit_size_nonnull", at, piece.length, number, unit);
             const size = Number(this.heap.view.getBigUint64(number, true));
@@ -240,7 +263,7 @@ export class Session {
         });
     }
 
-    /** The written form of a unit: an object as `units` gives it. */
+    /** Encodes a unit: an object as `units` yields it. */
     writeUnit(unit) {
         const { fields, input } = structOf(unit);
         return this.within([input, LONGEST_UNIT], (at, output) => {
@@ -256,8 +279,14 @@ export class Session {
 
     // ---- sequences
 
-    /** Normalises the sequence that the bytes begin with; with a version, for its clients. */
-    normalise(bytes, { limit = ALL, version = null } = {}) {
+    /** Normalises the sequence at the start of the bytes; with a version, for its clients. */
+    normalise(sequence, options = {}) {
+        const { limit = ALL, version = null } = objectOf(options, "options");
+        const bytes = bytesOf(sequence);
+        longOf(limit, "limit");
+        if (version !== null) {
+            byteOf(version, "version");
+        }
         const room = bytes.length + (version === null ? 0 : LONGEST_UNIT);
         return this.within([bytes, room], (at, output) => {
             const name = version === null
@@ -276,8 +305,10 @@ export class Session {
         });
     }
 
-    /** Whether the sequences that both begin with mean the same. */
-    sameMeaning(left, right, limit = ALL) {
+    /** Reports whether the sequences at the start of both mean the same. */
+    sameMeaning(first, second, limit = ALL) {
+        const [left, right] = [bytesOf(first, "left"), bytesOf(second, "right")];
+        longOf(limit, "limit");
         return this.within([left, right], (one, other) => {
             this.call("rtr_same_meaning_nonnull", one, left.length, other, right.length, limit,
                 this.#frame.comparison);
@@ -289,7 +320,7 @@ export class Session {
         });
     }
 
-    /** The Fault of a call on two inputs: where each lies, and how long it is. */
+    /** Returns the Fault of a call on two inputs, given the address and length of each. */
     #sided(answer, ...inputs) {
         const [at, length] = inputs[answer.side - 1] ?? [this.#frame.number, 0];
         const { status, offset } = answer;
@@ -315,73 +346,128 @@ export class Session {
         });
     }
 
-    /** The delta that leads from old data to new: bytes in canonical form, or Data. */
+    /** Returns the delta from old data to new: bytes in canonical form, or Data. */
     delta(old, next) {
-        return this.#made("rtr_delta_nonnull", bytesIn(old), bytesIn(next));
+        return this.#made("rtr_delta_nonnull", bytesIn(old, "old"), bytesIn(next, "next"));
     }
 
-    /** What changes in canonical form make of data. */
+    /** Applies changes in canonical form to data. */
     apply(data, changes) {
-        return this.#made("rtr_apply_nonnull", bytesIn(data), changes);
+        return this.#made("rtr_apply_nonnull", bytesIn(data, "data"), bytesOf(changes, "changes"));
     }
 
-    /** What changes make of data, in the order in which they came. */
-    applyInOrder(data, changes, places = this.#unitsAtMost(changes)) {
-        return this.#made("rtr_apply_in_order_nonnull", bytesIn(data), changes, places);
+    /** Applies changes to data, in the order in which they came. */
+    applyInOrder(data, changes, places = null) {
+        const bytes = bytesOf(changes, "changes");
+        return this.#made("rtr_apply_in_order_nonnull", bytesIn(data, "data"), bytes,
+            placesFor(bytes, places));
     }
 
-    /** The changes of a sequence in canonical form. */
-    order(changes, places = this.#unitsAtMost(changes)) {
-        return this.#made("rtr_order_nonnull", changes, null, places);
+    /** Returns the changes of a sequence in canonical form. */
+    order(changes, places = null) {
+        const bytes = bytesOf(changes, "changes");
+        return this.#made("rtr_order_nonnull", bytes, null, placesFor(bytes, places));
     }
 
-    /** More units than the bytes can have: each has a header of eight at least. */
-    #unitsAtMost(bytes) {
-        return bytes.length >> 3;
-    }
-
-    /** Data of bytes in canonical form; a Fault says why they aren't. */
+    /** Makes Data of bytes in canonical form; throws a Fault if they aren't. */
     data(bytes) {
-        return new Data(this, bytes);
+        const given = bytesOf(bytes);
+        const nothing = this.delta(given, given);
+        return new Data(this, this.apply(given, nothing), this.next(nothing));
     }
 
-    /** A router's end of the protocol. */
+    /** The data that a recording or a list leaves, and whether an answer was left out; a Fault has
+     * the first unit at which it can't go on. */
+    loadData(recording) {
+        const bytes = bytesOf(recording, "recording");
+        let room = Math.min(bytes.length, FIRST_ROOM);
+        let places = Math.floor(room / IPV4_SIZE);
+        for (;;) {
+            const loaded = this.#loaded(bytes, places, room);
+            const { status, wanted, form, hasCut } = loaded;
+            if (status === Status.OK) {
+                return { data: this.data(form), hasCut };
+            }
+            if (status === Status.NO_INDEX) {
+                places = Math.max(wanted, 2 * places);
+            } else if (status === Status.NO_ROOM) {
+                room = Math.min(2 * room, bytes.length);
+            } else {
+                throw this.#fault(loaded);
+            }
+        }
+    }
+
+    /** What rtr_load answers with an index of so many places and buffers of so much room: with the
+     * form of the data, or the error code that is owed for a unit at fault. */
+    #loaded(bytes, places, room) {
+        return this.within([bytes, 8 * places, room, room], (at, index, work, output) => {
+            this.call("rtr_load_nonnull", at, bytes.length, index, places, work, room, output, room,
+                this.#frame.loaded);
+            const answer = this.answer("loaded");
+            const { status, offset, length } = answer;
+            return status === Status.OK ? { ...answer, form: this.copy(output, length) }
+                : { ...answer, code: this.#code(status, at + offset, bytes.length - offset) };
+        });
+    }
+
+    /** A router's end of the protocol, without its bytes and data. */
     router(settings = {}) {
         return new Router(this, settings);
     }
 
-    /** The usual settings of a router, with a highest version. */
+    /** A router's end of the protocol with its bytes and data. */
+    link(settings = {}) {
+        return new Link(this, settings);
+    }
+
+    /** A group of this many caches by preference; `now` is the time in milliseconds. */
+    group(members, now, settings = {}) {
+        return new Group(this, members, now, settings);
+    }
+
+    /** Writes settings where rtr_router_init and rtr_link_init read them, the defaults for those
+     * that are missing, and returns their address. */
+    putSettings(settings) {
+        fieldsOf(settings, "settings", STRUCTS.settings.fields);
+        const usual = this.usualSettings(settings.highest ?? HIGHEST);
+        const at = this.#frame.settings;
+        writeStruct(this.heap.view, "settings", at, { ...usual, ...settings });
+        return at;
+    }
+
+    /** Returns the default settings of a router, with a highest version. */
     usualSettings(highest) {
-        this.call("rtr_settings_usual", this.#frame.settings, highest);
+        this.call("rtr_settings_usual", this.#frame.settings, byteOf(highest, "highest"));
         return this.answer("settings");
     }
 
     // ---- lines and texts
 
-    /** The line that rtr_list prints of the unit that the bytes begin with, of one that stands
-     * after `offset` bytes. */
+    /** Returns the line that rtr_list prints for the unit at the start of the bytes, with this
+     * offset. */
     unitLine(bytes, offset = 0) {
-        return this.#line("rtr_line_nonnull", bytes, offset);
+        return this.#line("rtr_line_nonnull", bytes, longOf(offset, "offset"));
     }
 
-    /** The same as an object in JSON, as rtr_list --json prints it. */
+    /** Returns the unit as a JSON object, as rtr_list --json prints it. */
     unitJson(bytes, offset = 0) {
-        return this.#line("rtr_json_nonnull", bytes, offset);
+        return this.#line("rtr_json_nonnull", bytes, longOf(offset, "offset"));
     }
 
-    /** The change that a payload unit makes, as rtr_diff prints it; of another unit "". */
+    /** Returns the line of a payload unit's change, as rtr_diff prints it; "" for another unit. */
     changeLine(unit) {
         return this.#line("rtr_change_line_nonnull", this.writeUnit(unit));
     }
 
-    /** The same as an object in JSON, as rtr_diff --json prints it. */
+    /** Returns the change as a JSON object, as rtr_diff --json prints it. */
     changeJson(unit) {
         return this.#line("rtr_change_json_nonnull", this.writeUnit(unit));
     }
 
-    /** What a call writes of the unit that the bytes begin with. */
+    /** Returns what a call writes for the unit at the start of the bytes. */
     #line(name, bytes, ...more) {
-        const piece = bytes.subarray(0, LONGEST_UNIT);
+        const piece = bytesOf(bytes).subarray(0, LONGEST_UNIT);
         let room = LINE_ROOM;
         for (;;) {
             const said = this.within([piece, room], (at, output) => {
@@ -403,15 +489,15 @@ export class Session {
         }
     }
 
-    /** The text of a status with its detail. */
+    /** Returns the text of a status with its detail. */
     statusText(status, detail = 0) {
-        return this.#said("rtr_text_nonnull", status, detail);
+        return this.#said("rtr_text_nonnull", byteOf(status, "status"), byteOf(detail, "detail"));
     }
 
-    /** The name of a number, of what `named` says: of a status, a kind, a cause, a reason or an
-     * error code. */
+    /** Returns the name of a number, as `named` selects: of a status, a kind, a cause, a reason or
+     * an error code. */
     name(named, number) {
-        return this.#said("rtr_name_nonnull", named, number);
+        return this.#said("rtr_name_nonnull", byteOf(named, "named"), shortOf(number, "number"));
     }
 
     #said(name, first, second) {
@@ -423,55 +509,69 @@ export class Session {
 
     // ---- numbers
 
-    /** The order of two serial numbers, a SerialOrder. */
+    /** Returns the order of two serial numbers, a SerialOrder. */
     serialOrder(left, right) {
-        return this.call("rtr_serial_order", left, right);
+        return this.call("rtr_serial_order", wordOf(left, "left"), wordOf(right, "right"));
     }
 
-    /** Whether a version of the protocol has units of a kind. */
+    /** Reports whether a protocol version has units of a kind. */
     versionHas(version, kind) {
-        return this.call("rtr_version_has", version, kind);
+        return this.call("rtr_version_has", byteOf(version, "version"), byteOf(kind, "kind"));
     }
 
-    /** The validity of a route by data, a Validity. */
+    /** Returns the validity of a route by data, a Validity. */
     validate(data, route) {
-        return data.validate(route);
+        return dataOf(data).validate(route);
     }
 
-    /** The VRPs of data that cover a route, each with why it doesn't match. */
+    /** Returns the VRPs of data that cover a route, each with the reason why it doesn't match. */
     covering(data, route) {
-        return data.covering(route);
+        return dataOf(data).covering(route);
     }
 }
 
 /** Bytes in the memory of a session. */
 export class Held {
     #session;
-    #start;
+    #place;
 
     constructor(session, bytes) {
         this.#session = session;
-        this.#start = session.heap.take(bytes.length);
+        this.#place = session.heap.take(bytes.length);
         this.length = bytes.length;
-        session.heap.bytes(this.#start, bytes.length).set(bytes);
+        session.heap.bytes(this.#place, bytes.length).set(bytes);
     }
 
-    /** A copy of some of the bytes. */
+    /** Their address in the memory. */
+    get #start() {
+        if (this.#place === null) {
+            throw new Dropped("the bytes were dropped");
+        }
+        return this.#place;
+    }
+
+    /** Returns a copy of some of the bytes. */
     bytes(offset, length) {
+        offsetIn(this, offset);
+        numberOf(length, "length");
         return this.#session.copy(this.#start + offset, Math.min(length, this.length - offset));
     }
 
-    /** Gives the memory back. */
+    /** Frees the memory. Every later call throws `Dropped`. */
     drop() {
-        this.#session.heap.release(this.#start);
+        if (this.#place !== null) {
+            this.#session.heap.release(this.#place);
+            this.#place = null;
+        }
     }
 
-    /** A check of its units, one after the other: `take` at the offset of each, then `finish`, then
+    /** Makes a check of its units in order: call `take` at the offset of each, then `finish`, then
      * `drop`. */
     checker() {
         const checker = new Checker(this.#session);
         return {
-            take: (offset) => checker.take(this.#start + offset, this.length - offset, offset),
+            take: (offset) => checker.take(this.#start + offsetIn(this, offset),
+                this.length - offset, offset),
             finish: () => checker.finish(this.length),
             drop: () => checker.drop(),
         };
@@ -492,18 +592,19 @@ export class Held {
         }
     }
 
-    /** The status of the unit at an offset, whose fields `shown` has until the next call. */
+    /** Returns the status of the unit at an offset; `shown` has its fields until the next call. */
     status(offset) {
-        return this.#session.step(this.#start + offset, this.length - offset);
+        return this.#session.step(this.#start + offsetIn(this, offset), this.length - offset);
     }
 
-    /** The fields of a unit, as rtr_next left them. */
+    /** The fields of a unit, as rtr_next set them. */
     shown(offset) {
         const { heap } = this.#session;
-        return new Shown(heap.view, this.#session.frame("unit"), this.#start + offset);
+        return new Shown(heap.view, this.#session.frame("unit"),
+            this.#start + offsetIn(this, offset));
     }
 
-    /** The unit at an offset, or a Fault. */
+    /** Returns the unit at an offset, or throws a Fault. */
     unit(offset) {
         const status = this.status(offset);
         if (status !== Status.OK) {
@@ -515,6 +616,25 @@ export class Held {
     }
 }
 
-function bytesIn(data) {
-    return data instanceof Data ? data.bytes : data;
+/** Returns the bytes of Data, or bytes as they are. */
+function bytesIn(data, name) {
+    return data instanceof Data ? data.bytes : bytesOf(data, name);
+}
+
+function dataOf(data) {
+    if (!(data instanceof Data)) {
+        throw new TypeError("data must be a Data, which session.data makes");
+    }
+    return data;
+}
+
+/** Returns an offset in bytes, at most their end. */
+function offsetIn(bytes, offset) {
+    return numberOf(offset, "offset", bytes.length);
+}
+
+/** Returns the number of entries of an index of changes: by default more than the bytes can have
+ * units, since each has at least a header. */
+function placesFor(bytes, places) {
+    return places === null ? bytes.length >> 3 : numberOf(places, "places");
 }

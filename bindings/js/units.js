@@ -1,12 +1,14 @@
-// Units of each kind as plain objects, from and to a struct rtr_unit.
+// Converts units of each kind between plain objects and a struct rtr_unit.
 
-import { Kind } from "./rtr_table.js";
+import { Kind, STRUCTS } from "./rtr_table.js";
+import { bytesOf, bytesOfLength, flagOf, numberOfType, objectOf, textOf, wordOf }
+    from "./given.js";
 import { placesOf } from "./memory.js";
 
 const AT = placesOf("unit");
 const text = new TextDecoder();
 
-/** What a struct rtr_unit at a place says, field by field; `input` is where its unit begins. */
+/** A struct rtr_unit at an address, field by field; `input` is the address of its unit. */
 export class Shown {
     constructor(view, at, input) {
         this.view = view;
@@ -30,20 +32,20 @@ export class Shown {
         return Number(this.view.getBigUint64(this.at + AT[field], true));
     }
 
-    /** Bytes of the struct, copied. */
+    /** Returns a copy of bytes of the struct. */
     row(field, length) {
         const from = this.at + AT[field];
         return new Uint8Array(this.view.buffer.slice(from, from + length));
     }
 
-    /** Bytes of the unit, copied. */
+    /** Returns a copy of bytes of the unit. */
     part(start, length) {
         const from = this.input + this.long(start);
         return new Uint8Array(this.view.buffer.slice(from, from + this.long(length)));
     }
 }
 
-/** What each kind has besides its offset, size, version and kind. */
+/** The fields of each kind besides its offset, size, version and kind. */
 const SHAPES = {
     [Kind.SERIAL_NOTIFY]: (one) => ({ session: one.short("session"), serial: one.word("serial") }),
     [Kind.SERIAL_QUERY]: (one) => ({ session: one.short("session"), serial: one.word("serial") }),
@@ -83,7 +85,7 @@ function prefixShape(one) {
     };
 }
 
-/** A report whose inner lengths don't fit has neither the unit that it is about nor a text. */
+/** A report whose inner lengths don't fit has neither an enclosed unit nor a text. */
 function reportShape(one) {
     const fits = one.long("textStart") > 0;
     const said = fits ? one.part("textStart", "textLength") : null;
@@ -100,7 +102,7 @@ function providersOf(bytes) {
     return Array.from({ length: bytes.length / 4 }, (_, place) => view.getUint32(4 * place));
 }
 
-/** The object of the struct at a place, whose unit is at this offset of what was given. */
+/** Returns the object of the struct at an address, whose unit is at this offset in the input. */
 export function unitOf(view, at, input, offset) {
     const one = new Shown(view, at, input);
     const kind = one.byte("kind");
@@ -108,18 +110,79 @@ export function unitOf(view, at, input, offset) {
     return { offset, size, version, kind, ...SHAPES[kind](one) };
 }
 
-/** The struct of an object, and the bytes that its parts lie in, for rtr_write_unit. */
-export function structOf(unit) {
-    const part = unit.keyInfo ?? unit.about ?? bytesOf(unit.providers ?? []);
-    const said = unit.textBytes ?? new TextEncoder().encode(unit.text ?? "");
+const NOTHING = new Uint8Array(0);
+
+/** The fields that each kind needs to be encoded. An end of data of version 0 needs no times. */
+const WRITTEN = {
+    [Kind.SERIAL_NOTIFY]: (unit) => numbersOf(unit, "session", "serial"),
+    [Kind.SERIAL_QUERY]: (unit) => numbersOf(unit, "session", "serial"),
+    [Kind.RESET_QUERY]: () => ({}),
+    [Kind.CACHE_RESPONSE]: (unit) => numbersOf(unit, "session"),
+    [Kind.IPV4_PREFIX]: (unit) => prefixFields(unit, 4, 4),
+    [Kind.IPV6_PREFIX]: (unit) => prefixFields(unit, 6, 16),
+    [Kind.END_OF_DATA]: (unit) => numbersOf(
+        unit.version === 0 ? { refresh: 0, retry: 0, expire: 0, ...unit } : unit,
+        "session", "serial", "refresh", "retry", "expire"),
+    [Kind.CACHE_RESET]: () => ({}),
+    [Kind.ROUTER_KEY]: (unit) => ({
+        ...actionOf(unit),
+        ...numbersOf(unit, "asn"),
+        keyIdentifier: bytesOfLength(unit.keyIdentifier, "keyIdentifier", 20),
+        part: bytesOf(unit.keyInfo, "keyInfo"),
+    }),
+    [Kind.ERROR_REPORT]: (unit) => ({
+        ...numbersOf(unit, "code"),
+        part: unit.about === null ? NOTHING : bytesOf(unit.about, "about"),
+        said: textOfReport(unit),
+    }),
+    [Kind.ASPA]: (unit) => ({
+        ...actionOf(unit),
+        ...numbersOf(unit, "customer"),
+        part: bytesOfProviders(unit.providers),
+    }),
+};
+
+/** The types of numbers that units have. */
+const TYPES = Object.fromEntries(STRUCTS.unit.fields.map(([field, , type]) => [field, type]));
+
+/** Returns these fields of a unit. */
+function numbersOf(unit, ...fields) {
+    return Object.fromEntries(
+        fields.map((field) => [field, numberOfType(unit[field], field, TYPES[field])]));
+}
+
+function actionOf(unit) {
+    return { action: flagOf(unit.announce, "announce") ? 1 : 0 };
+}
+
+function prefixFields(unit, family, length) {
+    return {
+        ...actionOf(unit),
+        ...numbersOf(unit, "prefixLength", "maxLength", "asn"),
+        address: bytesOfLength(unit.address, "address", length),
+        family,
+    };
+}
+
+/** Returns the bytes of a report's text: `textBytes`, or if they are missing, `text` in UTF-8. */
+function textOfReport({ text: said, textBytes }) {
+    if (textBytes !== undefined && textBytes !== null) {
+        return bytesOf(textBytes, "textBytes");
+    }
+    return said === null ? NOTHING : new TextEncoder().encode(textOf(said, "text"));
+}
+
+/** Returns the struct of an object, and the bytes of its parts, for rtr_write_unit. */
+export function structOf(given) {
+    const unit = objectOf(given, "unit");
+    const numbers = numbersOf(unit, "kind", "version");
+    const { part = NOTHING, said = NOTHING, ...more } = WRITTEN[unit.kind]?.(unit) ?? {};
     const input = new Uint8Array(part.length + said.length);
     input.set(part);
     input.set(said, part.length);
     const fields = {
-        ...unit,
-        action: unit.announce ? 1 : 0,
-        family: unit.address ? (unit.address.length === 4 ? 4 : 6) : 0,
-        partStart: 0,
+        ...numbers,
+        ...more,
         partLength: part.length,
         textStart: part.length,
         textLength: said.length,
@@ -127,9 +190,13 @@ export function structOf(unit) {
     return { fields, input };
 }
 
-function bytesOf(providers) {
+function bytesOfProviders(providers) {
+    if (!Array.isArray(providers)) {
+        throw new TypeError("providers must be an array of numbers");
+    }
     const bytes = new Uint8Array(4 * providers.length);
     const view = new DataView(bytes.buffer);
-    providers.forEach((provider, place) => view.setUint32(4 * place, provider));
+    providers.forEach((provider, place) => (
+        view.setUint32(4 * place, wordOf(provider, `providers[${place}]`))));
     return bytes;
 }

@@ -1,11 +1,11 @@
 // Prints the units of a recording on standard input.
 //
-// usage: node units.js rtr_wire.wasm < RECORDING
+// usage: node units.js < RECORDING
 
 import { readFileSync } from "node:fs";
 import { Fault, Kind, addressText, kindText, load } from "../rtr_wire.js";
 
-/** What the example prints of a unit. */
+/** Returns what the example prints for a unit. */
 function line(unit) {
     const front = `${unit.offset} v${unit.version} ${kindText(unit.kind)}`;
     switch (unit.kind) {
@@ -23,7 +23,7 @@ function line(unit) {
     }
 }
 
-const rtr = await load(readFileSync(process.argv[2]));
+const rtr = await load();
 try {
     for (const unit of rtr.units(new Uint8Array(readFileSync(0)))) {
         console.log(line(unit));

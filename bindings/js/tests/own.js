@@ -1,16 +1,16 @@
-// Tests of what the other languages don't share: memory, sessions, texts of addresses.
+// Tests that other languages don't share: memory, sessions, texts of addresses.
 
 import assert from "node:assert/strict";
 import { Heap } from "../memory.js";
-import { STRUCTS } from "../rtr_table.js";
-import { Data, Dropped, Fault, Kind, OutOfMemory, Status, Validity, addressOf, addressText, load,
-    prefixOf, statusText } from "../rtr_wire.js";
+import { STRUCTS, VERSION_NUMBER } from "../rtr_table.js";
+import { Data, Dropped, Fault, Kind, OtherVersion, OutOfMemory, Status, Unsupported, Validity,
+    addressOf, addressText, has64BitMemory, load, prefixOf, statusText } from "../rtr_wire.js";
 
 /** An end of data of version 1 (RFC 8210 section 5.8). */
 const END = Uint8Array.from([1, 7, 0x12, 0x34, 0, 0, 0, 24, 0, 0, 0, 9,
     0, 0, 14, 16, 0, 0, 2, 88, 0, 0, 28, 32]);
 
-/** IPv4 prefixes in their order, and an end of data (RFC 8210 section 5.6). */
+/** IPv4 prefixes in order, and an end of data (RFC 8210 section 5.6). */
 function many(count) {
     const bytes = new Uint8Array(20 * count + END.length);
     const unit = Uint8Array.from([1, 4, 0, 0, 0, 0, 0, 20, 1, 32, 32, 0, 0, 0, 0, 0, 0, 0, 0, 1]);
@@ -23,18 +23,38 @@ function many(count) {
     return bytes;
 }
 
-/** A module that has a 64-bit memory of a page, and nothing else. */
-const MEMORY = Uint8Array.of(0, 97, 115, 109, 1, 0, 0, 0, 5, 3, 1, 4, 1, 7, 5, 1, 1, 109, 2, 0);
+/** A module that only has a memory of one page, of 32 bits (flags 0) or of 64 bits (4). */
+const withMemory = (flags) => Uint8Array.of(
+    0, 97, 115, 109, 1, 0, 0, 0, 5, 3, 1, flags, 1, 7, 5, 1, 1, 109, 2, 0);
 
-/** How wide C's types are in 64-bit memory. */
+/** How wide C's types are: a module with 32-bit memory keeps pointers and sizes of 64 bits. */
 const WIDTHS = { bool: 1, uint8: 1, uint16: 2, uint32: 4, uint64: 8, size: 8 };
 
-/** The number, or the next one that is a multiple of this. */
+/** Rounds a number up to a multiple of another. */
 const upTo = (multiple, number) => Math.ceil(number / multiple) * multiple;
 
-const TESTS = {
-    /** Structs lie as C lays them out: each field at the next place that suits its widest type, and
-     * their size a multiple of that. */
+/** The memory of a module grows as parts are allocated, and freed parts are reused. */
+function growsThis(made) {
+    const heap = new Heap(made(), 1000, 1 << 22);
+    assert.equal(heap.size, 65536);
+    const first = heap.take(10);
+    assert.equal(first, 1008);
+    const second = heap.take(100000);
+    heap.bytes(second, 100000).fill(7);
+    assert.ok(heap.size >= 131072 && heap.view.getUint8(second + 99999) === 7);
+    heap.release(first);
+    assert.equal(heap.take(16), first);
+    assert.ok(heap.take(17) >= second + 100000);
+    heap.release(second);
+    assert.equal(heap.take(99999), second);
+    assert.throws(() => heap.take(1 << 22), OutOfMemory);
+    assert.ok(heap.size <= 1 << 22);
+    assert.throws(() => new Heap(made(), 0, Infinity).take(2 ** 46), OutOfMemory);
+}
+
+export const TESTS = {
+    /** Structs have the layout of C: each field at the next offset that is aligned for its type,
+     * and their size a multiple of the widest alignment. */
     laysOutStructs() {
         const widest = (kind) => WIDTHS[kind]
             ?? Math.max(...STRUCTS[kind].fields.map(([, , inner]) => widest(inner)));
@@ -50,27 +70,44 @@ const TESTS = {
         assert.equal(STRUCTS.unit.size, 120);
     },
 
-    /** A memory that grows as parts are taken, and whose parts are used again. */
+    /** A memory that grows as parts are allocated, and whose freed parts are reused. */
     growsMemory() {
-        const { m: memory } = new WebAssembly.Instance(new WebAssembly.Module(MEMORY)).exports;
-        const heap = new Heap(memory, 1000, 1 << 22);
-        assert.equal(heap.size, 65536);
-        const first = heap.take(10);
-        assert.equal(first, 1008);
-        const second = heap.take(100000);
-        heap.bytes(second, 100000).fill(7);
-        assert.ok(heap.size >= 131072 && heap.view.getUint8(second + 99999) === 7);
-        heap.release(first);
-        assert.equal(heap.take(16), first);
-        assert.ok(heap.take(17) >= second + 100000);
-        heap.release(second);
-        assert.equal(heap.take(99999), second);
-        assert.throws(() => heap.take(1 << 22), OutOfMemory);
-        assert.ok(heap.size <= 1 << 22);
-        assert.throws(() => new Heap(memory, 0, Infinity).take(2 ** 46), OutOfMemory);
+        for (const flags of has64BitMemory() ? [0, 4] : [0]) {
+            growsThis(() => new WebAssembly.Instance(
+                new WebAssembly.Module(withMemory(flags))).exports.m);
+        }
     },
 
-    /** Inputs of many pieces, with a unit across the border of each. */
+    /** Without bytes the module beside the library is loaded, with a memory of 32 bits. */
+    async loadsItself() {
+        const own = await load();
+        assert.equal(own.next(END).kind, Kind.END_OF_DATA);
+        const limited = await load(null, { most: own.memory + 65536 });
+        assert.throws(() => limited.hold(many(10000)), OutOfMemory);
+    },
+
+    /** Bytes that are no module, and a module without the library, are refused. */
+    async refusesOthers() {
+        await assert.rejects(load(Uint8Array.of(0, 97, 115, 109, 9)), WebAssembly.CompileError);
+        await assert.rejects(load(withMemory(0)), OtherVersion);
+        await assert.rejects(load(withMemory(4)), has64BitMemory() ? OtherVersion : Unsupported);
+    },
+
+    /** A module of another version: this one, with the number of the version before. */
+    async refusesOtherVersions(rtr, bytes) {
+        const other = bytes.slice();
+        // i32.const VERSION_NUMBER, end
+        const low = (VERSION_NUMBER & 127) | 128;
+        const is = (at) => other[at] === 0x41 && other[at + 1] === low
+            && other[at + 2] === VERSION_NUMBER >> 7 && other[at + 3] === 0x0b;
+        const found = Array.from(other.keys()).filter(is);
+        assert.ok(found.length > 0);
+        found.forEach((at) => { other[at + 1] -= 1; });
+        await assert.rejects(load(other), (error) => error instanceof OtherVersion
+            && error.message.includes(`version number ${VERSION_NUMBER - 1}, and`));
+    },
+
+    /** Inputs of many pieces, with a unit across each boundary. */
     walksPieces(rtr) {
         const bytes = many(100000);
         let count = 0;
@@ -84,7 +121,7 @@ const TESTS = {
                 && error.offset === 2000000 && error.wanted === 24 && error.code === 0);
     },
 
-    /** A generator that is left, and others beside it, keep nothing of the memory. */
+    /** A generator that isn't finished, and others beside it, keep no memory. */
     leavesNothing(rtr) {
         const bytes = many(30000);
         rtr.delta(bytes, bytes);
@@ -99,7 +136,7 @@ const TESTS = {
         assert.equal(rtr.memory, before);
     },
 
-    /** Units that are objects of their own: the next call changes none. */
+    /** Units are objects of their own: the next call changes none. */
     keepsUnits(rtr) {
         const [first, second] = [...rtr.units(many(2))];
         assert.deepEqual([...first.address, ...second.address], [0, 0, 0, 0, 0, 0, 0, 1]);
@@ -107,7 +144,7 @@ const TESTS = {
             "address", "prefixLength", "maxLength", "asn"]);
     },
 
-    /** Where the memory can't grow, that is said, and the session goes on. */
+    /** If the memory can't grow, an error says so, and the session still works. */
     async saysNoMemory(rtr, bytes) {
         const small = await load(bytes, { most: rtr.another().memory + 65536 });
         const large = many(10000);
@@ -117,7 +154,7 @@ const TESTS = {
         assert.equal([...small.units(END)].length, 1);
     },
 
-    /** A session that was dropped has no memory, and says so; another one goes on. */
+    /** A dropped session has no memory, and throws; another one still works. */
     drops(rtr) {
         const one = rtr.another();
         const data = one.data(many(10));
@@ -129,7 +166,7 @@ const TESTS = {
         assert.equal(rtr.next(END).kind, Kind.END_OF_DATA);
     },
 
-    /** Data, and what is made of them. */
+    /** Data, and the results of their calls. */
     hasData(rtr) {
         const old = rtr.data(many(3));
         const next = rtr.data(many(5));
@@ -147,7 +184,7 @@ const TESTS = {
         assert.equal(next.validate({ prefix: "no prefix", asn: 1 }), Validity.NO_ROUTE);
     },
 
-    /** An object for which there isn't room at once, and no line of a unit that is cut off. */
+    /** An object that doesn't fit the first buffer, and no line for a truncated unit. */
     writesLongLines(rtr) {
         const providers = Array.from({ length: 9000 }, (_, place) => place + 1);
         const long = { kind: Kind.ASPA, version: 2, announce: true, customer: 65000, providers };
@@ -156,7 +193,7 @@ const TESTS = {
             (error) => error.status === Status.SHORT && error.wanted === 24);
     },
 
-    /** A header alone says how long its unit is. */
+    /** A header alone has the length of its unit. */
     sizes(rtr) {
         assert.equal(rtr.unitSize(END.subarray(0, 8)), 24);
         assert.throws(() => rtr.unitSize(END.subarray(0, 7)),
@@ -168,7 +205,7 @@ const TESTS = {
         assert.equal(statusText(200), "unknown status");
     },
 
-    /** Addresses as RFC 5952 writes them. */
+    /** Addresses in the form of RFC 5952. */
     writesAddresses() {
         for (const text of ["0.0.0.0", "192.0.2.255", "::", "::1", "2001:db8::",
             "2001:db8:0:1:1:1:1:1", "2001:db8::1:0:0:1", "1:0:2:3:4:5:6:7", "::ffff:192.0.2.1"]) {
@@ -191,11 +228,3 @@ const TESTS = {
         }
     },
 };
-
-/** Runs all of them, and answers how many there are. */
-export async function tests(bytes, rtr) {
-    for (const test of Object.values(TESTS)) {
-        await test(rtr, bytes);
-    }
-    return Object.keys(TESTS).length;
-}

@@ -1,11 +1,11 @@
-// Plays the rows that the other languages play: cases.py, sessions.py, deltas.py and validity.py in
-// tests/libraries say what a file of each has.
+// Tests the rows of all languages: cases.py, sessions.py, deltas.py and validity.py in
+// tests/libraries describe their files.
 
 import assert from "node:assert/strict";
 import { Fault, Named, Status } from "../rtr_wire.js";
 import { STRUCTS } from "../rtr_table.js";
 
-/** Reads the numbers and pieces of a file, one after the other. */
+/** Reads the numbers and pieces of a file in order. */
 class Rows {
     #bytes;
     #view;
@@ -40,7 +40,7 @@ class Rows {
     }
 }
 
-/** What a call answers, or the Fault that it throws. */
+/** Returns the result of a call, or the Fault that it throws. */
 function outcome(call) {
     try {
         return call();
@@ -86,7 +86,7 @@ const NUMBERS = ["status", "size", "wanted", "partStart", "partLength", "textSta
 const KINDS = Object.fromEntries(STRUCTS.unit.fields.map(([name, , kind]) => [name, kind]));
 const METHODS = { uint8: "byte", uint16: "short", uint32: "word", size: "long" };
 
-/** Sessions with units of all types: what is shown of each, and its written form. */
+/** Sessions with units of all types: the fields of each, and its form. */
 export function sessions(rtr, bytes) {
     const rows = new Rows(bytes);
     let count = 0;
@@ -119,7 +119,7 @@ function shownFields(held, offset, wanted, address, identifier) {
     same(shown.row("keyIdentifier", 20), identifier, "key identifier");
 }
 
-/** The unit as an object, by both ways to it; and what is written of it. */
+/** The unit as an object, by both calls; and its form. */
 function shownUnit(rtr, input, offset, wanted, form) {
     const unit = outcome(() => rtr.next(input, offset));
     assert.equal(unit.offset, offset);
@@ -145,7 +145,7 @@ function shownUnit(rtr, input, offset, wanted, form) {
     same(rtr.writeUnit(unit), form, "form");
 }
 
-/** The generator gives the units that `next` gives one after the other, and then its Fault. */
+/** The generator yields the units that `next` returns in order, and then throws its Fault. */
 function walked(rtr, input) {
     const walk = rtr.units(input);
     for (let offset = 0; offset < input.length;) {
@@ -232,7 +232,8 @@ export function texts(rtr, bytes) {
     return count;
 }
 
-/** The rows of tests/programs/listings --findings: recordings, and the lines of what they break. */
+/** The rows of tests/programs/listings --findings: recordings, and the lines of the rules that they
+ * break. */
 export function findings(rtr, bytes) {
     const rows = new Rows(bytes);
     const text = new TextDecoder();

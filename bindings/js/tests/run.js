@@ -1,26 +1,133 @@
-// Plays all rows, and what is JavaScript's own.
+// Runs all tests with the module with 32-bit memory in `prebuilt`, or another one: the rows of all
+// languages, the examples, and tests of JavaScript's own. `npm test` calls it. Scripts in Python
+// make most of the rows: without python3 those tests are skipped, and without 64-bit memory in the
+// engine all tests of a module that has it; without openssl those of TLS, and without a C compiler
+// that with the cache in C.
 //
-// usage: node run.js MODULE FOLDER    in FOLDER the files cases, sessions, deltas, validity,
-//                                  texts, findings, samples, scenes
+// usage: node run.js [MODULE]
 
-import { readFileSync } from "node:fs";
-import { join } from "node:path";
-import { isSupported, load } from "../rtr_wire.js";
+import assert from "node:assert/strict";
+import { spawnSync } from "node:child_process";
+import { existsSync, readFileSync } from "node:fs";
+import { resolve } from "node:path";
+import { test } from "node:test";
+import { fileURLToPath } from "node:url";
+import v8 from "node:v8";
+import { Unsupported, has64BitMemory, load } from "../rtr_wire.js";
 import * as rows from "./rows.js";
+import { TESTS as large, loads, read } from "./loads.js";
 import { samples } from "./samples.js";
-import { scenes } from "./scenes.js";
-import { tests } from "./own.js";
+import { scenes, scenesOfLinks } from "./scenes.js";
+import { TESTS as clients } from "./clients.js";
+import { TESTS as follows } from "./follows.js";
+import { TESTS as given } from "./given.js";
+import { TESTS as links } from "./links.js";
+import { TESTS as own } from "./own.js";
 
-const [module, folder] = process.argv.slice(2);
-if (!isSupported()) {
-    console.log("no 64-bit memory");
-    process.exit(3);
+const TOP = fileURLToPath(new URL("../../..", import.meta.url));
+const MODULE = resolve(process.argv[2] ?? `${TOP}/prebuilt/wasm32/rtr_wire.wasm`);
+
+/** The rows that stand in a file. */
+const FILES = { texts: "tests/texts", samples: "tests/samples", loads: "tests/loads" };
+
+/** The rows that a script makes. */
+const SCRIPTS = {
+    cases: ["tests/libraries/cases.py", "--inputs", "200"],
+    sessions: ["tests/libraries/sessions.py", "cases"],
+    deltas: ["tests/libraries/deltas.py"],
+    validity: ["tests/libraries/validity.py"],
+    findings: ["tests/programs/listings", "--findings"],
+    scenes: ["tests/transcripts/play", "--print"],
+    scenesOfLinks: ["tests/transcripts/play", "--print"],
+};
+
+/** The examples, and the recordings that they read. */
+const EXAMPLES = { units: "crates/rtr_list/stdin", routes: "crates/rtr_normalise/stdin" };
+
+/** Recordings of tests/loads, and what the example routes.js says of each: its status, what it
+ * prints, and what it prints on standard error. */
+const ROUTES = {
+    "the recording of docs/OPERATORS.md": [0, `192.0.2.0/24 AS65551 INVALID
+  its first 24 bits, up to 24, AS64496: OTHER_AS
+192.0.2.0/27 AS65551 INVALID
+  its first 24 bits, up to 24, AS64496: OTHER_AS
+203.0.113.0/24 AS65551 INVALID
+  its first 24 bits, up to 24, AS64500: OTHER_AS
+`, ""],
+    "an answer that the next cache response cuts off": [0, `192.0.2.0/24 AS65551 NOT_FOUND
+192.0.2.0/27 AS65551 NOT_FOUND
+203.0.113.0/24 AS65551 NOT_FOUND
+`, "routes: left out: an answer without an end of data\n"],
+    nothing: [1, "", "routes: unexpected end of input, at byte 0\n"],
+};
+
+/** The flag by which engines that are older have 64-bit memory. */
+const FLAG = "--experimental-wasm-memory64";
+
+const python = spawnSync("python3", ["--version"]).status === 0;
+
+/** Runs a program in the repository's folder, and returns what it prints. */
+function printed(program, words, input) {
+    const done = spawnSync(program, words, { cwd: TOP, input, maxBuffer: 1 << 30 });
+    assert.equal(done.status, 0, `${program} ${words.join(" ")}: ${done.error ?? done.stderr}`);
+    return done.stdout;
 }
-const bytes = new Uint8Array(readFileSync(module));
-const rtr = await load(bytes);
-const said = [];
-for (const [name, play] of Object.entries({ ...rows, samples, scenes })) {
-    said.push(`${name} ${play(rtr, new Uint8Array(readFileSync(join(folder, name))))}`);
+
+/** Returns the bytes of the rows of a test. */
+function input(name) {
+    const bytes = name in FILES ? readFileSync(`${TOP}/${FILES[name]}`)
+        : printed("python3", SCRIPTS[name]);
+    return new Uint8Array(bytes);
 }
-said.push(`tests ${await tests(bytes, rtr)}`);
-console.log(said.join(", "));
+
+/** Returns why a test can't run here, or false. */
+function missing(name) {
+    if (rtr === null) {
+        return `node ${process.version} has no 64-bit memory for WebAssembly`;
+    }
+    return name in SCRIPTS && !python && "no python3 here, whose scripts make the rows";
+}
+
+/** Makes a session of the module; null if it needs 64-bit memory and the engine has none. */
+async function opened(bytes) {
+    try {
+        return await load(bytes);
+    } catch (error) {
+        if (!(error instanceof Unsupported)) {
+            throw error;
+        }
+        v8.setFlagsFromString(FLAG);
+        return has64BitMemory() ? load(bytes) : null;
+    }
+}
+
+if (!existsSync(MODULE)) {
+    console.error(`there is no ${MODULE}: node run.js MODULE names another`);
+    process.exit(2);
+}
+const bytes = new Uint8Array(readFileSync(MODULE));
+const rtr = await opened(bytes);
+for (const [name, play] of Object.entries({ ...rows, samples, loads, scenes, scenesOfLinks })) {
+    test(name, { skip: missing(name) }, (t) => t.diagnostic(`${play(rtr, input(name))} rows`));
+}
+for (const [group, tests] of Object.entries({ own, given, large, links, clients, follows })) {
+    for (const [name, call] of Object.entries(tests)) {
+        test(`${group}: ${name}`, { skip: missing(name) }, (t) => call(rtr, bytes, t));
+    }
+}
+for (const [name, recording] of Object.entries(EXAMPLES)) {
+    test(`examples/${name}.js`, { skip: missing(name) }, () => {
+        const example = `${TOP}/bindings/js/examples/${name}`;
+        const said = printed(process.execPath, [`${example}.js`],
+            readFileSync(`${TOP}/${recording}`));
+        assert.equal(said.toString(), readFileSync(`${example}.stdout`, "utf8"));
+    });
+}
+test("examples/routes.js over recordings", { skip: missing("routes") }, () => {
+    const units = Object.fromEntries(read(input("loads")).map((row) => [row.name, row.units]));
+    for (const [name, expected] of Object.entries(ROUTES)) {
+        const done = spawnSync(process.execPath, [`${TOP}/bindings/js/examples/routes.js`],
+            { input: Buffer.concat(units[name]), encoding: "utf8" });
+        assert.deepEqual([done.status, done.stdout, done.stderr], expected, name);
+    }
+});

@@ -1,16 +1,16 @@
-// The sample units of the file tests/samples, which says what each has.
+// The sample units of the file tests/samples, which describes its rows.
 
 import assert from "node:assert/strict";
 import { Fault, Kind, addressText } from "../rtr_wire.js";
 
 const TIMES = ["refresh_interval", "retry_interval", "expire_interval"];
 
-/** The bytes of hex digits. */
+/** Decodes hex digits. */
 const unspaced = (row) => Uint8Array.from(Buffer.from(row.replaceAll(" ", ""), "hex"));
 
 const hex = (bytes) => bytes && Buffer.from(bytes).toString("hex");
 
-/** The samples of the file. */
+/** Returns the samples of the file. */
 function read(text) {
     const all = [];
     for (const row of text.split("\n")) {
@@ -25,7 +25,8 @@ function read(text) {
     return all;
 }
 
-/** What rtr_list --json says of a unit, but for what means nothing and the text of a report. */
+/** Returns the fields of rtr_list --json for a unit, without ignored ones and the text of a
+ * report. */
 function shown(unit) {
     const fields = {
         offset: unit.offset, length: unit.size, version: unit.version, session_id: unit.session,
@@ -43,7 +44,7 @@ function shown(unit) {
         value !== undefined && !(unit.version === 0 && TIMES.includes(name))));
 }
 
-/** A call that is refused with this text. */
+/** Checks that a call is refused with this text. */
 function refuses(call, text) {
     assert.throws(call, (error) => error instanceof Fault && error.text === text);
 }
@@ -72,7 +73,7 @@ function check(rtr, sample) {
     assert.ok(text === undefined || text === null || unit.text === text);
 }
 
-/** Each sample is shown and written as the file says, or refused. */
+/** Each sample is shown and encoded as the file says, or refused. */
 export function samples(rtr, file) {
     const all = read(new TextDecoder().decode(file));
     assert.ok(all.length > 50);

@@ -1,13 +1,15 @@
-// Plays scenes of a router and its cache (tests/transcripts/README.md), with a made clock.
+// Plays scenes of a router and its cache (tests/transcripts/README.md), with a simulated clock: by
+// a Router, and by a Link.
 
-import { ActionKind, Fault } from "../rtr_wire.js";
+import { ActionKind, Fault, Kind, TodoKind } from "../rtr_wire.js";
 
 const NOTHING = new Uint8Array(0);
 
 const SETTINGS = { "version": "highest", "connect-limit": "connectLimit", "most-units": "mostUnits",
     "response-limit": "responseLimit", "most-bytes": "mostBytes" };
 
-function hex(bytes) {
+/** Returns bytes in hexadecimal. */
+export function hex(bytes) {
     return Array.from(bytes, (byte) => byte.toString(16).padStart(2, "0")).join("");
 }
 
@@ -26,11 +28,136 @@ function joined(...pieces) {
     return all;
 }
 
-/** A router that is played with. */
-class Player {
+/** What a router under test did, in lines of a scene. */
+class Seen {
     now = 0;
     seen = [];
-    #rtr;
+
+    constructor(rtr) {
+        this.rtr = rtr;
+    }
+
+    note(what) {
+        this.seen.push(`${this.now} ${what}`);
+    }
+
+    /** Notes the units that are sent. */
+    notesSent(bytes) {
+        for (const { offset, size, kind, ...unit } of this.rtr.units(bytes)) {
+            const { version, code, about, text } = unit;
+            this.note(kind === Kind.ERROR_REPORT
+                ? `router> report ${version} ${code} ${hex(about) || "-"} ${text}`
+                : `router> ${hex(bytes.subarray(offset, offset + size))}`);
+        }
+    }
+
+    /** Notes data, which are shown. */
+    notesData(bytes) {
+        const shown = Array.from(this.rtr.units(bytes),
+            ({ offset, size }) => hex(bytes.subarray(offset, offset + size)));
+        this.note(`shows { ${shown.join(" ")} }`);
+    }
+}
+
+/** A Link under test. */
+export class LinkPlayer extends Seen {
+    #link;
+    #isOpen = false; // what the cache sends is read
+    #isBroken = false;
+
+    constructor(rtr, settings) {
+        super(rtr);
+        this.#link = rtr.link(settings);
+    }
+
+    /** Advances the clock to this time. */
+    pass(time) {
+        while (this.#link.wakes <= time) {
+            this.now = Math.max(this.now, this.#link.wakes);
+            this.#settle();
+        }
+        this.now = Math.max(this.now, time);
+    }
+
+    accepted() {
+        this.#isOpen = true;
+        this.#isBroken = false;
+        this.#link.opened();
+        this.#settle();
+    }
+
+    asked() {
+        this.#does(this.#link.askNow(this.now));
+        this.#settle();
+    }
+
+    refused() {
+        this.#link.lost();
+        this.#settle();
+    }
+
+    received(bytes) {
+        for (let rest = bytes; this.#isOpen && rest.length > 0;) {
+            rest = rest.subarray(this.#link.received(rest));
+            this.#settle();
+        }
+    }
+
+    closed(isBroken) {
+        this.#isBroken = isBroken;
+        if (this.#isOpen) {
+            this.#link.lost();
+        }
+        this.#settle();
+    }
+
+    /** When it acts by itself. */
+    get wakes() {
+        return this.#link.wakes;
+    }
+
+    /** Frees the memory. */
+    drop() {
+        this.#link.drop();
+    }
+
+    #settle() {
+        while (this.#does(this.#link.next(this.now)) !== TodoKind.WAIT) { /* it isn't done */ }
+    }
+
+    #does({ kind, drops }) {
+        const steps = {
+            [TodoKind.WAIT]: () => this.#sends(),
+            [TodoKind.CONNECT]: () => this.note("connects"),
+            [TodoKind.CLOSE]: () => this.#closes(drops),
+            [TodoKind.DATA]: () => this.notesData(this.#link.data(this.now).bytes),
+            [TodoKind.DROPPED]: () => this.note("drops"),
+            [TodoKind.NO_DATA]: () => this.note("no data"),
+        };
+        steps[kind]();
+        return kind;
+    }
+
+    #sends() {
+        const bytes = this.#link.output;
+        if (!this.#isBroken) {
+            this.notesSent(bytes);
+        }
+        this.#link.sent(bytes.length);
+    }
+
+    #closes(drops) {
+        if (drops) {
+            this.note("drops");
+        }
+        this.#sends();
+        this.#isOpen = false;
+        this.note("closes");
+    }
+}
+
+/** A Router under test, with what it needs besides. */
+class RouterPlayer extends Seen {
     #router;
     #input = NOTHING;
     #kept = NOTHING;
@@ -40,11 +167,14 @@ class Player {
     #isBroken = false;
 
     constructor(rtr, settings) {
-        this.#rtr = rtr;
+        super(rtr);
         this.#router = rtr.router(settings);
     }
 
-    /** The clock comes to this time. */
+    /** Nothing is to be freed. */
+    drop() {}
+
+    /** Advances the clock to this time. */
     pass(time) {
         while (this.#router.wakes <= time) {
             this.now = Math.max(this.now, this.#router.wakes);
@@ -58,6 +188,11 @@ class Player {
     accepted() {
         this.#isClosed = this.#isBroken = false;
         this.#act(this.#router.connected(this.now), NOTHING);
+        this.#settle();
+    }
+
+    asked() {
+        this.#act(this.#router.asked(this.now), NOTHING);
         this.#settle();
     }
 
@@ -81,7 +216,7 @@ class Player {
         }
     }
 
-    /** Has the machine go on until it waits, and answers whether it did something. */
+    /** Runs the machine until it waits, and returns whether it did something. */
     #settle() {
         let steps = 0;
         while (this.#tick() || this.#read()) {
@@ -107,31 +242,27 @@ class Player {
         return action.kind !== ActionKind.WAIT || action.taken > 0;
     }
 
-    #note(what) {
-        this.seen.push(`${this.now} ${what}`);
-    }
-
-    /** Does what an action says, about the unit that these bytes begin with. */
+    /** Carries out an action, about the unit at the start of these bytes. */
     #act(action, about) {
         const steps = {
-            [ActionKind.CONNECT]: () => this.#note("connects"),
-            [ActionKind.ASK]: () => this.#note(`router> ${hex(this.#router.query(action))}`),
+            [ActionKind.CONNECT]: () => this.note("connects"),
+            [ActionKind.ASK]: () => this.notesSent(this.#router.query(action)),
             [ActionKind.BEGIN]: () => { this.#kept = NOTHING; },
             [ActionKind.APPLY]: () => this.#apply(action, about),
             [ActionKind.SHOW]: () => this.#show(),
-            [ActionKind.NO_DATA]: () => this.#note("no data"),
+            [ActionKind.NO_DATA]: () => this.note("no data"),
             [ActionKind.DROP]: () => this.#drops(),
             [ActionKind.END]: () => this.#end(action, about),
         };
         steps[action.kind]?.();
     }
 
-    /** Makes the changes that were kept, of the data or of none. */
+    /** Applies the changes that were kept, to the data or to none. */
     #apply(action, about) {
-        const end = about.subarray(0, this.#rtr.next(about).size);
+        const end = about.subarray(0, this.rtr.next(about).size);
         const changes = joined(this.#kept, end);
         try {
-            this.#made = this.#rtr.applyInOrder(action.changes ? this.#data : end, changes);
+            this.#made = this.rtr.applyInOrder(action.changes ? this.#data : end, changes);
             this.#act(this.#router.applied(this.now), NOTHING);
         } catch (error) {
             if (!(error instanceof Fault)) {
@@ -144,15 +275,12 @@ class Player {
 
     #show() {
         this.#data = this.#made;
-        const units = [...this.#rtr.units(this.#data)];
-        const bytes = ({ offset, size }) => this.#data.subarray(offset, offset + size);
-        const shown = units.map((unit) => hex(bytes(unit)));
-        this.#note(`shows { ${shown.join(" ")} }`);
+        this.notesData(this.#data);
     }
 
     #drops() {
         this.#data = null;
-        this.#note("drops");
+        this.note("drops");
     }
 
     #end(action, about) {
@@ -161,39 +289,40 @@ class Player {
         }
         const report = this.#isBroken ? null : this.#router.report(action, about);
         if (report) {
-            const { version, code, about: unit, text } = this.#rtr.next(report);
-            this.#note(`router> report ${version} ${code} ${hex(unit) || "-"} ${text}`);
+            this.notesSent(report);
         }
         this.#input = this.#kept = NOTHING;
         this.#isClosed = false;
-        this.#note("closes");
+        this.note("closes");
     }
 }
 
-/** A step that the router has to take, with one space between words and none in a query. */
+/** Adds a step that the router has to take, with one space between words and none in a query. */
 function plain(step) {
     const [time, who, ...words] = step.split(/\s+/);
     const isQuery = who === "router>" && words[0] !== "report";
     return [time, who, ...(isQuery ? [words.join("")] : words)].join(" ");
 }
 
-/** A scene, as it is played. */
-class Scene {
+/** A scene in progress, with a player of this class. */
+export class Scene {
     #rtr;
+    #Player;
     #name;
     #settings = { highest: 1 };
     #player = null;
     #wanted = [];
     #differs = null;
 
-    constructor(rtr, name) {
+    constructor(rtr, Player, name) {
         this.#rtr = rtr;
+        this.#Player = Player;
         this.#name = name;
     }
 
     line(text) {
         const step = text.replace(/#.*/, "").trim();
-        const [, time, what] = /^(?:at (\d+)$|(\d+ cache.*))/.exec(step) ?? [];
+        const [, time, what] = /^(?:at (\d+)$|(\d+ (?:cache|caller).*))/.exec(step) ?? [];
         if (step.startsWith("router ")) {
             const [, key, value] = step.split(/\s+/);
             this.#settings[SETTINGS[key] ?? key] = Number(value);
@@ -208,7 +337,7 @@ class Scene {
 
     #begun() {
         const usual = this.#rtr.usualSettings(this.#settings.highest);
-        this.#player ??= new Player(this.#rtr, { ...usual, ...this.#settings });
+        this.#player ??= new this.#Player(this.#rtr, { ...usual, ...this.#settings });
         return this.#player;
     }
 
@@ -217,6 +346,7 @@ class Scene {
         player.pass(Number(time));
         this.compare();
         const steps = {
+            "caller asks": () => player.asked(),
             "cache accepts": () => player.accepted(),
             "cache refuses": () => player.refused(),
             "cache closes": () => player.closed(false),
@@ -225,8 +355,7 @@ class Scene {
         (steps[step] ?? (() => player.received(bytesOf(step.replace("cache>", "")))))();
     }
 
-    /** Compares what the router did since the last step that was given. Answers where it did
-     * otherwise first. */
+    /** Compares what the router did since the last given step. Returns the first difference. */
     compare() {
         const seen = this.#player?.seen.splice(0) ?? [];
         const wanted = this.#wanted.splice(0);
@@ -235,16 +364,33 @@ class Scene {
         }
         return this.#differs;
     }
+
+    /** Returns what the router did since the last given step, and when it acts by itself. */
+    taken() {
+        return [...this.#player.seen.splice(0), `wakes ${this.#player.wakes}`];
+    }
+
+    /** Ends it. Returns the first difference. */
+    end() {
+        const differs = this.compare();
+        this.#player?.drop();
+        return differs;
+    }
 }
 
-/** Plays all scenes of a text, and answers how many there are. */
-export function scenes(rtr, bytes) {
+/** Plays all scenes of a text by a Router, and returns their number. */
+export const scenes = (rtr, bytes) => played(rtr, bytes, RouterPlayer);
+
+/** Plays them by a Link. */
+export const scenesOfLinks = (rtr, bytes) => played(rtr, bytes, LinkPlayer);
+
+function played(rtr, bytes, Player) {
     let count = 0;
     for (const text of new TextDecoder().decode(bytes).split(/^scene /m).slice(1)) {
         const [name, ...lines] = text.split("\n");
-        const scene = new Scene(rtr, name);
+        const scene = new Scene(rtr, Player, name);
         lines.forEach((line) => scene.line(line));
-        const differs = scene.compare();
+        const differs = scene.end();
         if (differs) {
             throw new Error(differs);
         }

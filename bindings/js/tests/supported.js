@@ -1,5 +1,5 @@
-// Ends with status 0 where this engine has 64-bit memory for WebAssembly, and else with 1.
+// Exits with status 0 if this engine has 64-bit memory for WebAssembly, else with 1.
 
-import { isSupported } from "../rtr_wire.js";
+import { has64BitMemory } from "../rtr_wire.js";
 
-process.exitCode = isSupported() ? 0 : 1;
+process.exitCode = has64BitMemory() ? 0 : 1;

@@ -1,7 +1,9 @@
 // What a program in TypeScript may write: it is compiled, and not run.
 
-import { Fault, Kind, Status, Validity, load } from "../rtr_wire.js";
-import type { Data, Session, Unit } from "../rtr_wire.js";
+import { Cause, Fault, Kind, SessionError, Status, TodoKind, Validity, load } from "../rtr_wire.js";
+import type { Data, Loaded, Session, Unit } from "../rtr_wire.js";
+import { Client, follow } from "../client.js";
+import type { Update } from "../client.js";
 
 /** What is told of a unit, whose kind says which fields it has. */
 function told(unit: Unit): string | null {
@@ -28,7 +30,9 @@ export async function main(module: ArrayBuffer, recording: Uint8Array): Promise<
             console.log(error.code, error.wanted);
         }
     }
-    const data: Data = rtr.data(rtr.order(rtr.writeUnit({ kind: Kind.RESET_QUERY, version: 1 })));
+    const made: Data = rtr.data(rtr.order(rtr.writeUnit({ kind: Kind.RESET_QUERY, version: 1 })));
+    const { data, hasCut }: Loaded = rtr.loadData(recording);
+    console.log(made.serial, hasCut);
     const route = { prefix: "192.0.2.0/24", asn: 65551 };
     if (data.validate(route) === Validity.INVALID) {
         console.log([...data.covering(route)].map(({ mismatch }) => mismatch));
@@ -36,4 +40,36 @@ export async function main(module: ArrayBuffer, recording: Uint8Array): Promise<
     const router = rtr.router({ highest: 1 });
     const action = router.tick(0);
     console.log(router.state.known.serial, action.kind, router.report(action, recording));
+}
+
+/** What is told of an update. */
+function changed(update: Update): string {
+    const changes = Array.from(update.changes(), (unit) => told(unit));
+    return update.data === null ? "none" : `${update.data.serial} ${changes} ${update.client}`;
+}
+
+export async function followed(rtr: Session, signal: AbortSignal): Promise<Data> {
+    const client = new Client({ host: "cache.example", port: 323, rtr, signal,
+        settings: { highest: 2 }, tls: { rejectUnauthorized: true } });
+    client.on("connect", () => client.askNow()).once("data", (update) => changed(update));
+    client.on("failed", (error) => {
+        console.log(error instanceof SessionError && error.reason === Cause.SLOW, error.message);
+    }).on("noData", (error) => console.log(error.reported?.text));
+    for await (const update of client) {
+        console.log(changed(update));
+        break;
+    }
+    for await (const update of follow([client], { signal, settings: { patience: 1000 } })) {
+        console.log(update.client === client, changed(update));
+    }
+    return client.fetch();
+}
+
+export function linked(rtr: Session): Uint8Array {
+    const link = rtr.link({ highest: 1 });
+    if (link.next(0).kind === TodoKind.CONNECT) {
+        link.lost(new Error("no cache"));
+    }
+    console.log(link.next(0).error, link.data(0)?.isEmpty, rtr.group(2, 0).tick(0).start);
+    return link.output;
 }

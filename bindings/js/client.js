@@ -1,0 +1,163 @@
+// A client of a cache for Node, over TCP or TLS.
+//
+//     const client = new Client({ host: "cache.example", port: 3323 });
+//     for await (const update of client) ..
+//
+// The proved module decides each step; docs/SESSIONS.md says what a client does when.
+
+import { randomInt } from "node:crypto";
+import { EventEmitter } from "node:events";
+import { Session, SessionError, load } from "./rtr_wire.js";
+import { Cause, STRUCTS } from "./rtr_table.js";
+import { fieldsOf, numberOf, objectOf, textOf } from "./given.js";
+import { opened } from "./connection.js";
+import { EVENTS, SESSION, iterated } from "./iterated.js";
+import { Run } from "./running.js";
+
+export { follow } from "./following.js";
+
+// The version of RFC 8210. ASPAs are of version 2, for which caches in use have several layouts.
+const VERSION = 1;
+
+// The milliseconds that a cache has to read a last report.
+const REPORT_LIMIT = 2000;
+
+// How many random numbers there are that spread the waits of clients.
+const CHANCES = 1 << 16;
+
+/** How each option is checked. */
+const OPTIONS = {
+    host: textOf,
+    port: (value, name) => numberOf(value, name, 0xffff),
+    tls: objectOf,
+    connect: functionOf,
+    settings: (value, name) => fieldsOf(value, name, STRUCTS.settings.fields),
+    reportLimit: (value, name) => numberOf(value, name, 0xffffffff),
+    signal: signalOf,
+    rtr: sessionOf,
+};
+
+function functionOf(value, name) {
+    if (typeof value !== "function") {
+        throw new TypeError(`${name} must be a function`);
+    }
+    return value;
+}
+
+function signalOf(value, name) {
+    if (typeof value?.throwIfAborted !== "function") {
+        throw new TypeError(`${name} must be an AbortSignal`);
+    }
+    return value;
+}
+
+function sessionOf(value, name) {
+    if (!(value instanceof Session)) {
+        throw new TypeError(`${name} must be a Session, which load returns`);
+    }
+    return value;
+}
+
+/** Returns the options that were given, with the defaults of others. */
+function optionsOf(given) {
+    const named = Object.entries(objectOf(given, "options"))
+        .filter(([, value]) => value !== undefined);
+    for (const [name, value] of named) {
+        if (!Object.hasOwn(OPTIONS, name)) {
+            throw new TypeError(`options has no field ${name}`);
+        }
+        OPTIONS[name](value, name);
+    }
+    const options = { reportLimit: REPORT_LIMIT, settings: {}, ...Object.fromEntries(named) };
+    if (options.connect === undefined) {
+        textOf(options.host, "host");
+        OPTIONS.port(options.port, "port");
+        options.connect = (limits) => opened(options, limits);
+    }
+    return options;
+}
+
+/** A router's end of the protocol: it asks a cache for data, and follows their changes. */
+export class Client extends EventEmitter {
+    #options;
+    #isRunning = false;
+    #run = null;
+
+    constructor(options) {
+        super();
+        this.#options = optionsOf(options);
+    }
+
+    /** Iterates over the updates: one for each answer, and one when the data are lost. The loop
+     * connects, and connects again when a connection ends. Leaving it closes the connection. */
+    [Symbol.asyncIterator]() {
+        return iterated((stop) => this.#updates(stop));
+    }
+
+    /** Follows the cache until the signal aborts, for those who listen to events. */
+    async run() {
+        const updates = this[Symbol.asyncIterator]();
+        while (!(await updates.next()).done) { /* the events have told it */ }
+    }
+
+    /** Loads all data once, in the cache's version. Throws the first failure. */
+    async fetch() {
+        for await (const { name, value } of iterated((stop) => this[EVENTS](stop))) {
+            if (name === "data") {
+                return value.data;
+            }
+            if (name === "failed" || name === "noData") {
+                throw value;
+            }
+        }
+        throw new SessionError({ reason: Cause.LOST });
+    }
+
+    /** Asks the cache as soon as the pause allows it, or connects, without waiting for the refresh
+     * or retry time. If the client doesn't run, nothing happens. */
+    askNow() {
+        this.#run?.askNow();
+    }
+
+    async * #updates(stop) {
+        for await (const { name, value } of this[EVENTS](stop)) {
+            this.emit(name, value);
+            if (name === "data" || name === "dropped") {
+                yield value;
+            }
+        }
+    }
+
+    /** Returns the session in whose memory the client is. */
+    async [SESSION]() {
+        this.#options.rtr ??= await load();
+        return this.#options.rtr;
+    }
+
+    /** Iterates over what happens until `stop` aborts, with the link of an earlier run, if `kept`
+     * has one, or a new one. */
+    async * [EVENTS](stop, kept = { link: null }) {
+        if (this.#isRunning) {
+            throw new Error("the client follows its cache already: make another one");
+        }
+        this.#isRunning = true;
+        try {
+            kept.link = linkOf(await this[SESSION](), this.#options.settings, kept.link);
+            this.#run = new Run(kept.link, this, this.#options, stop);
+            yield* this.#run.events();
+        } finally {
+            kept.link?.drop();
+            this.#run = null;
+            this.#isRunning = false;
+        }
+    }
+}
+
+/** Returns a link that begins, or begins again. */
+function linkOf(rtr, settings, before) {
+    if (before === null) {
+        return rtr.link({ highest: VERSION, chance: randomInt(CHANCES), ...settings });
+    }
+    before.again();
+    return before;
+}

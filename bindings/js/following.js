@@ -1,0 +1,190 @@
+// Follows several caches by preference (RFC 8210 section 10): a Group decides.
+
+import { GroupShown, MOST_MEMBERS, STRUCTS } from "./rtr_table.js";
+import { Empty } from "./fault.js";
+import { fieldsOf, objectOf } from "./given.js";
+import { EVENTS, SESSION, iterated } from "./iterated.js";
+import { Bell, now } from "./running.js";
+import { Update } from "./update.js";
+
+/** Follows the most preferred of some clients' caches that answers: iterates over the updates, each
+ * with its `client`. Leaving the loop stops all clients. */
+export function follow(clients, options = {}) {
+    const { signal, settings = {}, ...others } = objectOf(options, "options");
+    for (const name of Object.keys(others)) {
+        throw new TypeError(`options has no field ${name}`);
+    }
+    fieldsOf(settings, "settings", STRUCTS.groupSettings.fields);
+    if (!Array.isArray(clients) || !clients.every((client) => client?.[EVENTS])) {
+        throw new TypeError("clients must be an array of clients");
+    }
+    if (clients.length < 1 || clients.length > MOST_MEMBERS) {
+        throw new RangeError(`clients are ${clients.length}: they must be 1 to ${MOST_MEMBERS}`);
+    }
+    const chooser = new Chooser(clients, { emptyIsData: clients.length === 1, ...settings });
+    return iterated((stop) => chooser.updates(stop, signal));
+}
+
+/** A client among others. */
+class Member {
+    link = null; // as its last run left it
+    stop = null; // the controller of the present run
+    running = null; // settles when the last run has ended
+    data = null;
+    taken = null; // continues the run, once its last event was taken
+
+    constructor(client) {
+        this.client = client;
+    }
+
+    /** Ends the present run, and forgets its data. */
+    ends() {
+        this.stop?.abort();
+        this.taken?.();
+        this.stop = this.taken = this.data = null;
+    }
+}
+
+/** Runs clients as a group decides. */
+class Chooser {
+    #members;
+    #settings;
+    #rtr;
+    #group;
+    #bell = new Bell();
+    #news = []; // what happened to members that run, in order
+    #shown = null;
+
+    constructor(clients, settings) {
+        this.#members = clients.map((client) => new Member(client));
+        this.#settings = settings;
+    }
+
+    /** Iterates over the updates until `stop` aborts, or throws the reason of the signal. */
+    async * updates(stop, signal) {
+        const signals = [stop, signal].filter((one) => one !== undefined);
+        const aborted = () => this.#endsAll();
+        signals.forEach((one) => one.addEventListener("abort", aborted));
+        try {
+            this.#rtr = await this.#members[0].client[SESSION]();
+            this.#group = this.#rtr.group(this.#members.length, now(), this.#settings);
+            this.#starts(0);
+            while (!stop.aborted) {
+                signal?.throwIfAborted();
+                const update = await this.#next();
+                if (update !== null) {
+                    yield update;
+                }
+            }
+        } finally {
+            signals.forEach((one) => one.removeEventListener("abort", aborted));
+            this.#endsAll();
+            await Promise.all(this.#members.map(({ running }) => running));
+        }
+    }
+
+    #endsAll() {
+        this.#members.forEach((member) => member.ends());
+        this.#bell.ring();
+    }
+
+    /** Takes the next event of a member, or waits for one, or for the patience to be over. Returns
+     * an update, or null. */
+    async #next() {
+        const news = this.#news.shift();
+        if (news !== undefined) {
+            return news.stop === news.member.stop ? this.#takes(news) : null;
+        }
+        if (this.#group.wakes <= now()) {
+            return this.#obeys(0, this.#group.tick(now()));
+        }
+        await this.#bell.wait(this.#group.wakes);
+        return null;
+    }
+
+    #takes({ member, event, error }) {
+        member.taken();
+        member.taken = null;
+        if (error !== undefined) {
+            throw error;
+        }
+        member.client.emit(event.name, event.value);
+        return this.#happens(this.#members.indexOf(member), member, event);
+    }
+
+    /** Tells the group what happened to a member, and does what it decides. */
+    #happens(place, member, { name, value, isPartOfLoss }) {
+        switch (name) {
+            case "data":
+                return this.#has(place, member, value.data);
+            case "dropped":
+                member.data = null;
+                return this.#obeys(place, this.#group.drops(now(), place));
+            case "noData":
+                return this.#obeys(place, this.#group.fails(now(), place));
+            case "failed":
+                return isPartOfLoss ? null
+                    : this.#obeys(place, this.#group.fails(now(), place));
+            default:
+                return null;
+        }
+    }
+
+    #has(place, member, data) {
+        member.data = data;
+        if (data.isEmpty && !this.#settings.emptyIsData) {
+            member.client.emit("failed", new Empty());
+        }
+        // It only matters whether there are some.
+        return this.#obeys(place, this.#group.shows(now(), place, data.isEmpty ? 0 : 1));
+    }
+
+    /** Does what the group decides after an event of a member. */
+    #obeys(place, { shown, member, stop, start }) {
+        const source = this.#members[member ?? place];
+        const update = shown === GroupShown.SAME ? null
+            : this.#shows(source, shown === GroupShown.DATA);
+        if (stop !== null) {
+            this.#members.slice(stop).forEach((one) => one.ends());
+        }
+        if (start !== null) {
+            this.#starts(start);
+        }
+        return update;
+    }
+
+    #shows({ client, data }, hasData) {
+        const update = new Update(this.#rtr, this.#shown, hasData ? data : null, client);
+        this.#shown = update.data;
+        return update;
+    }
+
+    /** Starts a member, once its last run has ended. */
+    #starts(place) {
+        const member = this.#members[place];
+        member.stop = new AbortController();
+        member.running = this.#runs(member, member.stop, member.running);
+    }
+
+    async #runs(member, stop, before) {
+        await before;
+        try {
+            for await (const event of member.client[EVENTS](stop.signal, member)) {
+                await this.#gives({ member, stop, event });
+            }
+        } catch (error) {
+            await this.#gives({ member, stop, error });
+        }
+    }
+
+    /** Waits until the news of a member are taken, or the member is stopped. */
+    async #gives(news) {
+        if (!news.stop.signal.aborted) {
+            await new Promise((resolve) => {
+                news.member.taken = resolve;
+                this.#news.push(news);
+                this.#bell.ring();
+            });
+        }
+    }
+}

@@ -1,0 +1,86 @@
+// Caches by preference: which cache's data are shown, and which are asked.
+
+import { GroupShown, MOST_MEMBERS, STRUCTS } from "./rtr_table.js";
+import { fieldsOf, numberOf } from "./given.js";
+import { readStruct, writeStruct } from "./memory.js";
+
+/** A struct rtr_group: it gets events of its members, and returns what to do, as an object. It is
+ * kept outside of the module's memory: nothing has to be freed. */
+export class Group {
+    #session;
+    #state;
+
+    /** `session.group` makes instances. Missing settings have their defaults. */
+    constructor(session, members, now, settings) {
+        fieldsOf(settings, "settings", STRUCTS.groupSettings.fields);
+        const count = numberOf(members, "members", MOST_MEMBERS);
+        const [at, from] = [session.frame("group"), session.frame("groupSettings")];
+        session.call("rtr_group_usual", from);
+        const usual = session.answer("groupSettings");
+        writeStruct(session.heap.view, "groupSettings", from, { ...usual, ...settings });
+        session.call("rtr_group_init", at, from, count, numberOf(now, "now"));
+        this.#session = session;
+        this.#state = session.copy(at, STRUCTS.group.size);
+    }
+
+    /** The settings that it has. */
+    get settings() {
+        return readStruct(new DataView(this.#state.buffer), "group", 0).settings;
+    }
+
+    /** When to call `tick`, if nothing happens before; Infinity for never. */
+    get wakes() {
+        const wakes = this.#session.call("rtr_group_wakes", this.#put());
+        return wakes > Number.MAX_SAFE_INTEGER ? Infinity : wakes;
+    }
+
+    /** The member whose data are shown, or null. */
+    get best() {
+        const member = this.#session.frame("number");
+        const has = this.#session.call("rtr_group_best", this.#put(), member);
+        return has ? Number(this.#session.heap.view.getBigUint64(member, true)) : null;
+    }
+
+    /** Reports that time has passed. */
+    tick(now) {
+        return this.#told("rtr_group_tick", now);
+    }
+
+    /** Reports that a member has the data of a whole answer, with this number of payloads. */
+    shows(now, member, payloads) {
+        return this.#told("rtr_group_shows", now, memberOf(member),
+            numberOf(payloads, "payloads"));
+    }
+
+    /** Reports that a member lost its data, which is a failure too. */
+    drops(now, member) {
+        return this.#told("rtr_group_drops", now, memberOf(member));
+    }
+
+    /** Reports that a member failed, or that its cache has no data. */
+    fails(now, member) {
+        return this.#told("rtr_group_fails", now, memberOf(member));
+    }
+
+    /** Writes the struct into the memory, and returns its address. */
+    #put() {
+        const at = this.#session.frame("group");
+        this.#session.heap.bytes(at, this.#state.length).set(this.#state);
+        return at;
+    }
+
+    #told(name, now, ...values) {
+        const [at, answer] = [this.#put(), this.#session.frame("groupAnswer")];
+        this.#session.call(name, at, numberOf(now, "now"), ...values, answer);
+        this.#state = this.#session.copy(at, STRUCTS.group.size);
+        const { member, stop, start, shown, stops, starts } = this.#session.answer("groupAnswer");
+        return {
+            shown,
+            member: shown === GroupShown.DATA ? member : null,
+            stop: stops ? stop : null,
+            start: starts ? start : null,
+        };
+    }
+}
+
+const memberOf = (member) => numberOf(member, "member");

@@ -1,0 +1,225 @@
+// The loop of a client: what a link wants done, over connections and timers of Node.
+
+import { TodoKind } from "./rtr_table.js";
+import { Connection } from "./connection.js";
+import { Update } from "./update.js";
+
+// The longest wait of a timer in milliseconds; the loop then waits again.
+const LONGEST_WAIT = 3_600_000;
+
+/** The time in milliseconds, by a clock that doesn't go back. */
+export function now() {
+    return Math.floor(performance.now());
+}
+
+/** Returns what a caller's function connected, which has to be a stream. */
+function streamOf(value) {
+    if (typeof value?.read !== "function" || typeof value.destroy !== "function") {
+        throw new TypeError("connect must return a stream");
+    }
+    return value;
+}
+
+/** A wait that ends when someone rings, or at a time. */
+export class Bell {
+    #isRung = false;
+    #end = null;
+
+    /** Ends the present wait, or else the next one. */
+    ring() {
+        this.#isRung = true;
+        this.#end?.();
+    }
+
+    /** Waits until a time of the clock, at most. */
+    async wait(until) {
+        if (!this.#isRung) {
+            const left = Math.min(Math.max(until - performance.now(), 1), LONGEST_WAIT);
+            await new Promise((resolve) => {
+                const timer = setTimeout(resolve, left);
+                this.#end = () => {
+                    clearTimeout(timer);
+                    resolve();
+                };
+            });
+            this.#end = null;
+        }
+        this.#isRung = false;
+    }
+}
+
+/** One run of a client: it ends when its `stop` aborts, or throws the reason of its signal. */
+export class Run {
+    #link;
+    #client;
+    #options;
+    #stop;
+    #bell = new Bell();
+    #dialing = null; // the controller of the connection that is being opened
+    #connection = null;
+    #closing = null; // the connection to which a last report is sent
+    #came = null; // bytes that came, and that the link has no room for yet
+    #told = false; // the link knows that the connection is over
+    #isConnected = false; // and the client's caller wasn't told
+    #isAsked = false;
+    #data = null;
+
+    /** `options` are those of a client, which the updates name; `stop` is a signal. */
+    constructor(link, client, options, stop) {
+        this.#link = link;
+        this.#client = client;
+        this.#options = options;
+        this.#stop = stop;
+    }
+
+    /** Asks the cache as soon as the pause allows it. */
+    askNow() {
+        this.#isAsked = true;
+        this.#bell.ring();
+    }
+
+    /** Iterates over what happens: the name of each event, its value, and whether it is part of the
+     * loss of data that was told before it. */
+    async * events() {
+        const signals = [this.#stop, this.#options.signal].filter((signal) => signal !== undefined);
+        const aborted = () => this.#abort();
+        signals.forEach((signal) => signal.addEventListener("abort", aborted));
+        try {
+            while (!this.#stop.aborted) {
+                this.#options.signal?.throwIfAborted();
+                yield* this.#turn();
+            }
+        } finally {
+            signals.forEach((signal) => signal.removeEventListener("abort", aborted));
+            this.#abort();
+        }
+    }
+
+    /** Closes what is open, and ends the wait. */
+    #abort() {
+        this.#dialing?.abort();
+        this.#dialing = null;
+        this.#connection?.destroy();
+        this.#closing?.destroy();
+        this.#bell.ring();
+    }
+
+    /** Does what the link wants done next. */
+    async * #turn() {
+        if (this.#isConnected) {
+            this.#isConnected = false;
+            yield { name: "connect" };
+        }
+        const time = now();
+        const todo = this.#isAsked ? this.#link.askNow(time) : this.#link.next(time);
+        this.#isAsked = false;
+        switch (todo.kind) {
+            case TodoKind.WAIT:
+                await this.#wait(todo.wakes);
+                return;
+            case TodoKind.CONNECT:
+                this.#dial(todo.wakes);
+                return;
+            case TodoKind.DATA:
+                yield { name: "data", value: this.#update(this.#link.data(time)) };
+                return;
+            case TodoKind.NO_DATA:
+                yield { name: "noData", value: todo.error };
+                return;
+            default:
+                yield* this.#ends(todo);
+        }
+    }
+
+    /** Ends the connection, or drops the data, or both. */
+    async * #ends({ kind, drops, error }) {
+        const isDropped = drops || kind === TodoKind.DROPPED;
+        const closed = kind === TodoKind.CLOSE ? this.#closes() : null;
+        if (isDropped) {
+            yield { name: "dropped", value: this.#update(null) };
+        }
+        await closed;
+        if (error !== null) {
+            yield { name: "failed", value: error, isPartOfLoss: isDropped };
+        }
+    }
+
+    #update(data) {
+        const update = new Update(this.#options.rtr, this.#data, data, this.#client);
+        this.#data = data;
+        return update;
+    }
+
+    /** Sends and reads what can be, or waits until it can. */
+    async #wait(wakes) {
+        if (this.#connection !== null) {
+            this.#connection.write(this.#unsent());
+            if (this.#reads()) {
+                return;
+            }
+        }
+        await this.#bell.wait(wakes);
+    }
+
+    /** Takes the bytes to send from the link. */
+    #unsent() {
+        const bytes = this.#link.output;
+        this.#link.sent(bytes.length);
+        return bytes;
+    }
+
+    /** Gives the link bytes that came, or tells it that no more come; reports whether it did. */
+    #reads() {
+        this.#came ??= this.#connection.read();
+        if (this.#came !== null) {
+            const rest = this.#came.subarray(this.#link.received(this.#came));
+            this.#came = rest.length > 0 ? rest : null;
+            return true;
+        }
+        if (!this.#connection.isOver || this.#told) {
+            return false;
+        }
+        this.#told = true;
+        this.#link.lost(this.#connection.error);
+        return true;
+    }
+
+    /** Opens a connection, until this time, unless it isn't wanted any more then. */
+    async #dial(wakes) {
+        const dialing = new AbortController();
+        this.#dialing = dialing;
+        let [stream, error] = [null, null];
+        try {
+            const limits = { signal: dialing.signal, milliseconds: wakes - now() };
+            stream = streamOf(await this.#options.connect(limits));
+        } catch (thrown) {
+            error = thrown;
+        }
+        if (this.#dialing !== dialing) {
+            stream?.on("error", () => {}).destroy();
+            return;
+        }
+        this.#dialing = null;
+        if (stream === null) {
+            this.#link.lost(error);
+        } else {
+            this.#connection = new Connection(stream, () => this.#bell.ring());
+            this.#told = false;
+            this.#link.opened();
+            this.#isConnected = true;
+        }
+        this.#bell.ring();
+    }
+
+    /** Closes the connection, or stops opening it, after the bytes that are still to be sent. */
+    async #closes() {
+        const [last, connection] = [this.#unsent(), this.#connection];
+        this.#dialing?.abort();
+        this.#dialing = this.#connection = this.#came = null;
+        if (connection !== null && !this.#stop.aborted) {
+            this.#closing = connection;
+            await connection.finish(last, this.#options.reportLimit);
+            this.#closing = null;
+        }
+    }
+}

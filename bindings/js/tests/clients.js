@@ -1,0 +1,544 @@
+// Tests of a Client, over sockets and with caches that have a script.
+
+import assert from "node:assert/strict";
+import { spawnSync } from "node:child_process";
+import dns from "node:dns/promises";
+import { once } from "node:events";
+import { mkdtempSync, readFileSync, rmSync } from "node:fs";
+import { syncBuiltinESMExports } from "node:module";
+import { createServer } from "node:net";
+import { tmpdir } from "node:os";
+import { join } from "node:path";
+import { setTimeout as sleep } from "node:timers/promises";
+import { Cause, Fault, NoData, OutOfMemory, SessionError, Status, load } from "../rtr_wire.js";
+import { Client, follow } from "../client.js";
+import { RESET_QUERY, answer, cache, cacheReset, end, notify, prefix, report, response,
+    serialQuery, unused } from "./caches.js";
+
+/** Short waits; and enough time for a machine that is busy. */
+const SOON = { pause: 1, retry: 1, responseLimit: 60_000, connectLimit: 60_000 };
+
+const HOST = "127.0.0.1";
+
+const NO_OPENSSL = "no openssl here, which makes certificates";
+
+/** Makes a client of a port, in a session of its own. */
+function clientOf(rtr, port, options = {}) {
+    const { settings, ...others } = options;
+    return new Client({ host: HOST, port, rtr: rtr.another(), settings: { ...SOON, ...settings },
+        ...others });
+}
+
+/** Notes the events of a client, in order. */
+function noted(client) {
+    const told = [];
+    client.on("connect", () => told.push("connect"));
+    client.on("data", ({ data }) => told.push(`data ${data.serial}`));
+    client.on("dropped", ({ data }) => told.push(`dropped ${data}`));
+    client.on("noData", (error) => told.push(`noData ${error.message}`));
+    client.on("failed", (error) => told.push(`failed ${error.message}`));
+    return told;
+}
+
+/** Waits for so many updates of a loop, and leaves it. */
+async function taken(updates, count) {
+    const all = [];
+    for await (const update of updates) {
+        all.push(update);
+        if (all.length === count) {
+            break;
+        }
+    }
+    return all;
+}
+
+/** Describes the changes of an update: +1 announces the prefix of AS 1. */
+const changesOf = (update) => Array.from(update.changes(),
+    ({ announce, asn }) => `${announce ? "+" : "-"}${asn}`).join(" ");
+
+/** Runs a test with a cache, which is closed after it. */
+async function withCache(scripts, run, options) {
+    const one = await cache(scripts, options);
+    try {
+        await run(one);
+    } finally {
+        await one.close();
+    }
+}
+
+/** A script: the router asks for all data, gets these bytes, and closes. */
+const gives = (...units) => async (peer) => {
+    assert.deepEqual(await peer.next(), RESET_QUERY);
+    peer.send(...units);
+    await peer.gone();
+};
+
+/** The first failure of a client that has no data. */
+async function failureOf(client) {
+    const failed = once(client, "failed");
+    const stop = client[Symbol.asyncIterator]();
+    const update = stop.next();
+    const [error] = await failed;
+    await stop.return();
+    assert.deepEqual(await update, { value: undefined, done: true });
+    return error;
+}
+
+/** Has every name these addresses, while a function runs. */
+async function resolved(addresses, run) {
+    const { lookup } = dns;
+    dns.lookup = async () => addresses.map((address) => ({ address, family: 4 }));
+    syncBuiltinESMExports();
+    try {
+        await run();
+    } finally {
+        dns.lookup = lookup;
+        syncBuiltinESMExports();
+    }
+}
+
+/** Makes the key and the certificate of a cache of this name; null without openssl. */
+function certified(name) {
+    const folder = mkdtempSync(join(tmpdir(), "rtr-"));
+    const [key, certificate] = ["key", "certificate"].map((file) => join(folder, file));
+    const made = spawnSync("openssl", ["req", "-x509", "-newkey", "ec", "-pkeyopt",
+        "ec_paramgen_curve:prime256v1", "-nodes", "-days", "2", "-subj", "/CN=cache", "-addext",
+        `subjectAltName=${name}`, "-keyout", key, "-out", certificate]);
+    const files = made.status === 0
+        ? { key: readFileSync(key), cert: readFileSync(certificate) } : null;
+    rmSync(folder, { recursive: true });
+    return files;
+}
+
+const isAborted = (error) => error.name === "AbortError";
+
+export const TESTS = {
+    /** All data, changes after a notify, all data after a cache reset: with the events, and what
+     * changed. Leaving the loop closes the connection. */
+    async follows(rtr) {
+        let isGone = false;
+        const script = async (peer) => {
+            assert.deepEqual(await peer.next(), RESET_QUERY);
+            peer.send(answer(1, prefix(1), prefix(2)));
+            await sleep(5);
+            peer.send(notify(2));
+            assert.deepEqual(await peer.next(), serialQuery(1));
+            peer.send(answer(2, prefix(1, false), prefix(3)));
+            await sleep(5);
+            peer.send(notify(3));
+            assert.deepEqual(await peer.next(), serialQuery(2));
+            peer.send(cacheReset());
+            assert.deepEqual(await peer.next(), RESET_QUERY);
+            peer.send(answer(3, prefix(4)));
+            await peer.gone();
+            isGone = true;
+        };
+        await withCache([script], async ({ port }) => {
+            const client = clientOf(rtr, port);
+            const told = noted(client);
+            const updates = await taken(client, 3);
+            assert.deepEqual(updates.map(changesOf), ["+1 +2", "+3 -1", "+4 -2 -3"]);
+            assert.deepEqual(updates.map(({ data }) => [data.serial, data.count]),
+                [[1, 2], [2, 2], [3, 1]]);
+            assert.deepEqual(told, ["connect", "data 1", "data 2", "data 3"]);
+            assert.ok(updates.every((update) => update.client === client));
+            // The data of earlier updates are what they were.
+            assert.deepEqual(Buffer.from(updates[0].data.bytes),
+                Buffer.concat([prefix(1), prefix(2), end(1)]));
+            while (!isGone) {
+                await sleep(1);
+            }
+        });
+    },
+
+    /** No cache there, then one; it closes, and the client connects again and asks for changes. */
+    async connectsAgain(rtr) {
+        const port = await unused();
+        const client = clientOf(rtr, port);
+        const told = noted(client);
+        const updates = client[Symbol.asyncIterator]();
+        const first = updates.next();
+        await once(client, "failed");
+        const scripts = [async (peer) => {
+            assert.deepEqual(await peer.next(), RESET_QUERY);
+            peer.send(answer(1, prefix(1)));
+        }, async (peer) => {
+            assert.deepEqual(await peer.next(), serialQuery(1));
+            peer.send(answer(2, prefix(2)));
+            await peer.gone();
+        }];
+        await withCache(scripts, async () => {
+            assert.equal((await first).value.data.serial, 1);
+            assert.equal(changesOf((await updates.next()).value), "+2");
+            await updates.return();
+        }, { port });
+        const refused = `failed connect ECONNREFUSED ${HOST}:${port}`;
+        assert.deepEqual(told.filter((line) => line !== refused), ["connect", "data 1",
+            "failed the cache closed the connection", "connect", "data 2"]);
+        assert.equal(told[0], refused);
+    },
+
+    /** Each address of a name is tried, also by TLS, and the last error is told. */
+    async triesAddresses(rtr) {
+        await withCache([gives(answer(1, prefix(1)))], async ({ port }) => {
+            await resolved(["127.0.0.2", "127.0.0.3", HOST], async () => {
+                const client = clientOf(rtr, port, { host: "cache.example" });
+                assert.equal((await client.fetch()).serial, 1);
+            });
+            await resolved(["127.0.0.2", "127.0.0.3"], async () => {
+                const client = clientOf(rtr, port, { host: "cache.example" });
+                await assert.rejects(client.fetch(), (error) => error.code === "ECONNREFUSED"
+                    && error.address === "127.0.0.3");
+            });
+        });
+        const client = new Client({ host: "no-cache.invalid", port: 323, rtr: rtr.another() });
+        await assert.rejects(client.fetch(), (error) => error.syscall === "getaddrinfo");
+    },
+
+    /** An address that doesn't answer has its share of the time, and then the next is tried. */
+    async leavesSilentAddresses(rtr, _, t) {
+        const tls = certified("DNS:cache.example");
+        if (tls === null) {
+            t.skip(NO_OPENSSL);
+            return;
+        }
+        const silent = createServer().listen(0, "127.0.0.2");
+        await once(silent, "listening");
+        const { port } = silent.address();
+        await withCache([gives(answer(1, prefix(1)))], () => (
+            resolved(["127.0.0.2", HOST], async () => {
+                const client = clientOf(rtr, port, { host: "cache.example", tls: { ca: tls.cert },
+                    settings: { connectLimit: 1000 } });
+                assert.equal((await taken(client, 1))[0].data.serial, 1);
+            })), { port, tls });
+        silent.close();
+    },
+
+    /** An answer that is cut: between units, inside one, and by a reset. */
+    async namesCuts(rtr) {
+        const cuts = [
+            [(peer) => peer.close(), (error) => error instanceof SessionError
+                && error.reason === Cause.LOST
+                && error.message === "the cache closed the connection"],
+            [(peer) => {
+                peer.send(prefix(2).subarray(0, 7));
+                peer.close();
+            }, (error) => error instanceof Fault && error.status === Status.SHORT
+                && error.offset === 28 && error.unit.length === 7],
+            [(peer) => peer.reset(), (error) => error.code === "ECONNRESET"],
+        ];
+        for (const [ends, isExpected] of cuts) {
+            const script = async (peer) => {
+                await peer.next();
+                peer.send(response(), prefix(1));
+                await sleep(20);
+                ends(peer);
+                await peer.gone();
+            };
+            await withCache([script], async ({ port }) => {
+                const error = await failureOf(clientOf(rtr, port));
+                assert.ok(isExpected(error), error);
+            });
+        }
+    },
+
+    /** The report about a refused unit reaches a cache that goes on sending, and is told. */
+    async reports(rtr) {
+        const wrong = prefix(3);
+        wrong[9] = 33; // the prefix length
+        let seen = null;
+        const script = async (peer) => {
+            await peer.next();
+            peer.send(response(), wrong, ...Array.from({ length: 1000 }, (_, n) => prefix(n)));
+            seen = await peer.next();
+            await peer.gone();
+        };
+        await withCache([script], async ({ port }) => {
+            const error = await failureOf(clientOf(rtr, port));
+            assert.equal(error.message, "prefix length too large, at byte 8");
+            const { code, about, text } = rtr.next(seen);
+            assert.deepEqual([code, Buffer.from(about), text],
+                [error.code, wrong, "prefix length too large"]);
+        });
+    },
+
+    /** A cache that doesn't close after a report costs the report limit. */
+    async limitsReports(rtr) {
+        const script = async (peer) => {
+            await peer.next();
+            peer.send(end(1)); // out of place
+            peer.socket.resume();
+            await once(peer.socket, "close");
+        };
+        await withCache([script], async ({ port }) => {
+            const begun = performance.now();
+            const error = await failureOf(clientOf(rtr, port, { reportLimit: 100 }));
+            assert.equal(error.reason, Cause.OUT_OF_PLACE);
+            assert.ok(performance.now() - begun > 90);
+        });
+    },
+
+    /** Without data yet the cache is asked again; `fetch` throws. */
+    async hasNoData(rtr) {
+        const script = async (peer) => {
+            await peer.next();
+            peer.send(report(2, "later"));
+            if (await peer.next() !== null) {
+                peer.send(answer(1, prefix(1)));
+                await peer.gone();
+            }
+        };
+        await withCache([script], async ({ port }) => {
+            const client = clientOf(rtr, port);
+            const told = noted(client);
+            assert.equal((await taken(client, 1))[0].data.serial, 1);
+            assert.deepEqual(told, ["connect",
+                'noData the cache reports an error: code 2, "later"', "data 1"]);
+            await assert.rejects(clientOf(rtr, port).fetch(), NoData);
+        });
+    },
+
+    /** Data that expire are dropped, as an update and an event. */
+    async drops(rtr) {
+        const script = async (peer) => {
+            await peer.next();
+            peer.send(answer(1, prefix(1)));
+            await peer.gone();
+        };
+        await withCache([script], async ({ port }) => {
+            const client = clientOf(rtr, port, { settings: { refresh: 100_000, expire: 50 } });
+            const told = noted(client);
+            const updates = await taken(client, 2);
+            assert.deepEqual(updates.map(({ data }) => data && data.serial), [1, null]);
+            assert.equal(changesOf(updates[1]), "-1");
+            assert.equal(updates[0].data.count, 1);
+            assert.deepEqual(told.slice(0, 3), ["connect", "data 1", "dropped null"]);
+        });
+    },
+
+    /** Without memory for an answer the failure is told, and the data stay; without memory for the
+     * changes the data are told, and the changes can be asked for once more. */
+    async staysWithoutMemory(rtr, bytes) {
+        const many = Array.from({ length: 30_000 }, (_, n) => {
+            const one = prefix(1);
+            one.writeUInt32BE(n + 10, 16);
+            return one;
+        });
+        const script = async (peer) => {
+            await peer.next();
+            peer.send(answer(1, prefix(1)));
+            await sleep(5);
+            peer.send(notify(2));
+            await peer.next();
+            peer.send(answer(2, ...many));
+            await peer.gone();
+        };
+        const small = await load(bytes, { most: rtr.another().memory + 600_000 });
+        await withCache([script], async ({ port }) => {
+            const client = clientOf(rtr, port, { rtr: small });
+            const failed = once(client, "failed");
+            const updates = client[Symbol.asyncIterator]();
+            const { value: { data } } = await updates.next();
+            const next = updates.next();
+            assert.ok((await failed)[0] instanceof OutOfMemory);
+            await updates.return();
+            assert.deepEqual([data.serial, (await next).done], [1, true]);
+        });
+        const room = await load(bytes, { most: rtr.another().memory + 2_700_000 });
+        await withCache([gives(answer(1, ...many))], async ({ port }) => {
+            const updates = clientOf(rtr, port, { rtr: room })[Symbol.asyncIterator]();
+            const { value: update } = await updates.next();
+            const held = room.hold(new Uint8Array(1_500_000));
+            assert.throws(() => update.delta(), OutOfMemory);
+            assert.equal(update.data.serial, 1);
+            held.drop();
+            assert.equal(update.delta().length, update.data.bytes.length);
+            await updates.return();
+        });
+    },
+
+    /** Clients of one session, one after the other, need the memory of one. */
+    async freesMemory(rtr) {
+        const many = Array.from({ length: 20_000 }, (_, n) => {
+            const one = prefix(1);
+            one.writeUInt32BE(n, 16);
+            return one;
+        });
+        const shared = rtr.another();
+        await withCache([gives(answer(1, ...many))], async ({ port }) => {
+            const seen = new Set();
+            for (let turn = 0; turn < 5; turn += 1) {
+                const data = await clientOf(rtr, port, { rtr: shared }).fetch();
+                assert.equal(data.count, 20_000);
+                seen.add(shared.memory);
+            }
+            assert.equal(seen.size, 1);
+        });
+    },
+
+    /** While the caller has an update, nothing is read; so what comes doesn't pile up. */
+    async readsAtItsPace(rtr) {
+        const long = Buffer.concat(Array(1 << 21).fill(notify(1)));
+        let left = null;
+        const script = async (peer) => {
+            await peer.next();
+            peer.send(answer(1, prefix(1)));
+            peer.socket.write(long);
+            await sleep(300);
+            left = peer.socket.writableLength;
+            peer.socket.destroy();
+        };
+        await withCache([script], async ({ port }) => {
+            for await (const { data } of clientOf(rtr, port)) {
+                assert.equal(data.serial, 1);
+                while (left === null) {
+                    await sleep(10);
+                }
+                break;
+            }
+            assert.ok(left > 0);
+        });
+    },
+
+    /** A client asks before the refresh time if its caller wants present data. */
+    async asksNow(rtr) {
+        const script = async (peer) => {
+            await peer.next();
+            peer.send(answer(1, prefix(1)));
+            assert.deepEqual(await peer.next(), serialQuery(1));
+            peer.send(answer(2, prefix(2)));
+            await peer.gone();
+        };
+        await withCache([script], async ({ port }) => {
+            const client = clientOf(rtr, port);
+            client.askNow(); // it doesn't run: nothing happens
+            const updates = client[Symbol.asyncIterator]();
+            await updates.next();
+            const next = updates.next();
+            await sleep(20);
+            client.askNow();
+            assert.equal((await next).value.data.serial, 2);
+            await updates.return();
+        });
+    },
+
+    /** Over TLS the cache has to prove its name, or its address. */
+    async provesNames(rtr, _, t) {
+        const [named, addressed] = [certified("DNS:cache.example"), certified(`IP:${HOST}`)];
+        if (named === null) {
+            t.skip(NO_OPENSSL);
+            return;
+        }
+        for (const [tls, host, isRight] of [[named, "cache.example", true], [addressed, HOST, true],
+            [named, "other.example", false], [named, HOST, false]]) {
+            await withCache([gives(answer(1, prefix(1)))], ({ port }) => (
+                resolved([HOST], async () => {
+                    const client = clientOf(rtr, port, { host, tls: { ca: tls.cert } });
+                    if (isRight) {
+                        assert.equal((await client.fetch()).serial, 1);
+                        return;
+                    }
+                    await assert.rejects(client.fetch(),
+                        (error) => error.code === "ERR_TLS_CERT_ALTNAME_INVALID");
+                })), { tls });
+        }
+        await withCache([gives(answer(1, prefix(1)))], async ({ port }) => {
+            await assert.rejects(clientOf(rtr, port, { tls: {} }).fetch(),
+                (error) => error.code === "DEPTH_ZERO_SELF_SIGNED_CERT");
+        }, { tls: addressed });
+    },
+
+    /** The signal ends a client while it looks up, connects, shakes hands, waits for an answer, and
+     * rests; and while its caller has an update. */
+    async aborts(rtr) {
+        const silent = createServer().listen(0, HOST);
+        await once(silent, "listening");
+        const { port } = silent.address();
+        const cases = [
+            { connect: () => new Promise(() => {}) },
+            { tls: {} },
+            {},
+            { port: await unused(), settings: { retry: 1_000_000, pause: 1_000_000 } },
+        ];
+        for (const options of cases) {
+            const stop = new AbortController();
+            const client = clientOf(rtr, options.port ?? port, { signal: stop.signal, ...options });
+            const running = client.run();
+            await sleep(30);
+            stop.abort();
+            await assert.rejects(running, isAborted);
+            await assert.rejects(client.run(), isAborted);
+        }
+        silent.close();
+        await withCache([gives(answer(1, prefix(1)))], async (server) => {
+            const stop = new AbortController();
+            const client = clientOf(rtr, server.port, { signal: stop.signal });
+            const seen = [];
+            await assert.rejects(async () => {
+                for await (const { data } of client) {
+                    seen.push(data.serial);
+                    stop.abort(new Error("enough"));
+                }
+            }, /^Error: enough$/);
+            assert.deepEqual(seen, [1]);
+        });
+    },
+
+    /** What a listener throws ends the loop; a second loop at the same time is refused. */
+    async endsWithListeners(rtr) {
+        await withCache([gives(answer(1, prefix(1)))], async ({ port }) => {
+            const client = clientOf(rtr, port);
+            const updates = client[Symbol.asyncIterator]();
+            await updates.next();
+            await assert.rejects(client.fetch(), /follows its cache already/);
+            await updates.return();
+            client.once("data", () => {
+                throw new Error("the listener's");
+            });
+            await assert.rejects(client.run(), /the listener's/);
+            assert.equal((await client.fetch()).serial, 1);
+        });
+    },
+
+    /** Another way to connect: any stream of Node. */
+    async takesStreams(rtr) {
+        await withCache([gives(answer(1, prefix(1)))], async ({ port }) => {
+            const net = await import("node:net");
+            const seen = [];
+            const client = new Client({
+                rtr: rtr.another(),
+                connect: async ({ signal, milliseconds }) => {
+                    seen.push(signal.aborted, milliseconds <= 30_000 && milliseconds > 20_000);
+                    const stream = net.connect(port, HOST);
+                    await once(stream, "connect", { signal });
+                    return stream;
+                },
+            });
+            assert.equal((await client.fetch()).serial, 1);
+            assert.deepEqual(seen, [false, true]);
+        });
+    },
+
+    /** Options are checked, with their names. */
+    refusesOptions(rtr) {
+        const refused = (options, Kind, said) => assert.throws(() => new Client(options),
+            (error) => error instanceof Kind && error.message === said);
+        refused(undefined, TypeError, "options must be an object, not undefined");
+        refused({ port: 1 }, TypeError, "host must be a string, not undefined");
+        refused({ host: "a" }, TypeError, "port must be a number, not undefined");
+        refused({ host: "a", port: 65536 }, RangeError,
+            "port is 65536: it must be an integer from 0 to 65535");
+        refused({ host: "a", port: 1, tsl: {} }, TypeError, "options has no field tsl");
+        refused({ host: "a", port: 1, settings: { highst: 1 } }, TypeError,
+            "settings has no field highst");
+        refused({ host: "a", port: 1, signal: {} }, TypeError, "signal must be an AbortSignal");
+        refused({ connect: 1 }, TypeError, "connect must be a function");
+        refused({ host: "a", port: 1, rtr: {} }, TypeError,
+            "rtr must be a Session, which load returns");
+        const client = new Client({ host: "a", port: 1, rtr });
+        assert.throws(() => follow(client), /^TypeError: clients must be an array of clients$/);
+        assert.throws(() => follow([]), /^RangeError: clients are 0: they must be 1 to 16$/);
+        assert.throws(() => follow([client], { patience: 1 }),
+            /^TypeError: options has no field patience$/);
+    },
+};

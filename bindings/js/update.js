@@ -1,0 +1,32 @@
+// What a client tells of its data.
+
+import { Kind } from "./rtr_table.js";
+import { changesBetween } from "./data.js";
+
+/** The data of a client, and what leads to them from those before. */
+export class Update {
+    #session;
+    #before;
+
+    constructor(session, before, data, client) {
+        this.#session = session;
+        this.#before = before;
+        this.data = data;
+        this.client = client;
+    }
+
+    /** Returns the changes in canonical form, as a cache sends them. Each call makes them, and may
+     * throw OutOfMemory; the data are there in any case. */
+    delta() {
+        return changesBetween(this.#session, this.#before, this.data);
+    }
+
+    /** Iterates over the changes: units that are announced, then units that are withdrawn. */
+    * changes() {
+        for (const unit of this.#session.units(this.delta())) {
+            if (unit.kind !== Kind.END_OF_DATA) {
+                yield unit;
+            }
+        }
+    }
+}
