@@ -1,0 +1,110 @@
+package main
+
+import (
+	"errors"
+	"fmt"
+	"os"
+	"time"
+
+	"fishreef/programs/internal/beside"
+	"fishreef/programs/internal/fetch"
+	"fishreef/programs/internal/logs"
+	"fishreef/programs/internal/monitor"
+	"fishreef/programs/internal/payloads"
+	"fishreef/programs/internal/transport"
+	"fishreef/programs/internal/words"
+)
+
+// wanted is the content of the command line.
+type wanted struct {
+	settings monitor.Settings
+	log      logs.Logging
+}
+
+// usual returns the defaults of the command line.
+func usual() *wanted {
+	return &wanted{
+		settings: monitor.Settings{
+			Fetch: fetch.Usual(), Version: 2, Look: 10 * time.Second, Grace: 30 * time.Minute,
+		},
+		log: logs.Usual(),
+	}
+}
+
+// anyone is the default address of the page: only for this machine.
+const anyone = "127.0.0.1:9324"
+
+// arguments parses a command line.
+func arguments(line []string) (*wanted, error) {
+	w := usual()
+	program := words.Program{
+		Name:     "rtr-monitor",
+		Sentence: "compare RTR caches and validators",
+		Calls:    []string{"SOURCE SOURCE.. [OPTION]..", "--help | --version"},
+		Help: `Compares the payloads of two or more sources, and reports which payload is missing
+in which of them, and since when. A SOURCE is one of these:
+
+  HOST:PORT                  a cache, over TCP
+  tls:HOST:PORT              a cache, over TLS
+  ssh:HOST:PORT              a cache, over SSH
+  json:FILE, csv:FILE        the list of a validator
+  json:URL, csv:URL          the same by http or https
+  sequence:FILE              a recording, or a list of units (PDUs)`,
+		Options: words.Join(w.ofComparison(), w.settings.Reader.Options(),
+			w.settings.Fetch.Options(), w.settings.TLS.Options(), w.ofSSH(),
+			w.settings.SSH.Options(), w.ofPage(), w.log.Options()),
+		Operand: w.source,
+	}
+	if err := program.Parse(line, os.Stdout); err != nil {
+		return nil, err
+	}
+	return w, w.check()
+}
+
+// source parses the next source.
+func (w *wanted) source(word string) error {
+	source, err := monitor.ParseSource(word)
+	if err != nil {
+		return err
+	}
+	for _, before := range w.settings.Sources {
+		if before.Name == source.Name {
+			return fmt.Errorf("%s is named twice", source.Name)
+		}
+	}
+	w.settings.Sources = append(w.settings.Sources, source)
+	return nil
+}
+
+// check returns an error if the options don't fit together, and finds the programs that read lists.
+func (w *wanted) check() (err error) {
+	s := &w.settings
+	if s.HTTP == "" {
+		s.HTTP = anyone
+	}
+	switch {
+	case len(s.Sources) < 2:
+		return errors.New("two sources or more have to be named, to be compared")
+	case len(s.Sources) > monitor.MostSources:
+		return fmt.Errorf("more than %d sources are named", monitor.MostSources)
+	case s.TLS.Check() != nil:
+		return s.TLS.Check()
+	case s.SSH.Partial():
+		return errors.New("--ssh-user, --ssh-key and --ssh-known-hosts need each other")
+	}
+	for _, source := range s.Sources {
+		if err = s.Reader.CheckSlurm(source.List); err != nil {
+			return err
+		}
+		switch {
+		case source.Transport == transport.SSH && s.SSH.User == "":
+			return fmt.Errorf("%s needs --ssh-user, --ssh-key and --ssh-known-hosts", source.Name)
+		case source.Transport != "" || source.List.Format == payloads.Sequence:
+		case s.Reader.Maker == "":
+			if s.Reader.Maker, err = beside.Find("rtr_make"); err != nil {
+				return err
+			}
+		}
+	}
+	return nil
+}
