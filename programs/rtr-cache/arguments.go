@@ -2,46 +2,50 @@ package main
 
 import (
 	"errors"
+	"fmt"
 	"os"
 	"time"
 
-	"github.com/sirupsen/logrus"
-
 	"fishreef/programs/internal/beside"
 	"fishreef/programs/internal/cache"
+	"fishreef/programs/internal/fetch"
+	"fishreef/programs/internal/logs"
 	"fishreef/programs/internal/payloads"
+	"fishreef/programs/internal/trust"
 	"fishreef/programs/internal/words"
 	"fishreef/rtr"
 )
 
-// wanted is what the command line asks for.
+// wanted is the content of the command line.
 type wanted struct {
 	settings cache.Settings
-	log      logging
+	log      logs.Logging
 }
 
-// usual is what is meant by a command line that says nothing else.
+// usual returns the defaults of the command line.
 func usual() *wanted {
 	return &wanted{
 		settings: cache.Settings{
-			Timing: rtr.RecommendedTiming, Guard: 50, Look: 10 * time.Second, Stale: 2 * time.Hour,
-			Clients: 1024, PerAddress: 100,
+			Timing: rtr.RecommendedTiming, Look: 10 * time.Second, Clients: 1024, PerAddress: 100,
+			Fetch: fetch.Usual(),
+			Rules: trust.Rules{Guard: 50, Quiet: 5 * time.Minute, Stale: 2 * time.Hour},
 		},
-		log: logging{level: logrus.InfoLevel},
+		log: logs.Usual(),
 	}
 }
 
-// arguments reads a command line.
+// arguments parses a command line.
 func arguments(line []string) (*wanted, error) {
 	w := usual()
 	program := words.Program{
 		Name:     "rtr-cache",
 		Sentence: "serve validated payloads to routers",
-		Calls:    []string{"(--json | --csv | --sequence) FILE.. [OPTION]..", "--help | --version"},
-		Help: `It follows files that validators write, and serves their payloads, merged, over the
-RPKI to Router protocol (RFC 6810, RFC 8210). It keeps session and serial number.`,
-		Options: words.Join(w.ofFiles(), w.ofData(), w.ofTimings(), w.ofSockets(), w.ofTLS(),
-			w.ofSSH(), w.ofLimits(), w.ofReports()),
+		Calls:    []string{"(--json | --csv | --sequence) FILE|URL.. [OPTION]..", "--help | --version"},
+		Help: `Follows files that validators write, or lists on web servers, and serves their
+payloads, merged, over the RPKI to Router protocol (RFC 6810, RFC 8210).`,
+		Options: words.Join(w.ofFiles(), w.settings.Reader.Options(), w.ofData(),
+			w.settings.Fetch.Options(), w.ofGuard(), w.ofTimings(), w.ofSockets(), w.ofTLS(), w.ofSSH(),
+			w.ofLimits(), w.ofReports(), w.log.Options()),
 	}
 	if err := program.Parse(line, os.Stdout); err != nil {
 		return nil, err
@@ -49,27 +53,36 @@ RPKI to Router protocol (RFC 6810, RFC 8210). It keeps session and serial number
 	return w, w.check()
 }
 
-// check says what a command line lacks as a whole.
+// check returns an error if the options don't fit together.
 func (w *wanted) check() error {
 	s := &w.settings
 	if len(s.Files) == 0 {
-		return errors.New("no file is named: by --json, --csv or --sequence")
+		return errors.New("no list is named: use --json, --csv or --sequence")
+	}
+	if err := s.Timing.Check(); err != nil {
+		return fmt.Errorf("--refresh %d --retry %d --expire %d: %w", s.Timing.Refresh, s.Timing.Retry,
+			s.Timing.Expire, err)
 	}
 	if (s.TLS.Certificate == "") != (s.TLS.Key == "") {
-		return errors.New("--tls-cert and --tls-key come together")
+		return errors.New("--tls-cert and --tls-key need each other")
 	}
 	if s.TLS.ClientCA != "" && s.TLS.Certificate == "" {
-		return errors.New("--tls-client-ca wants --tls-cert and --tls-key")
+		return errors.New("--tls-client-ca needs --tls-cert and --tls-key")
 	}
 	if (s.SSH.HostKey == "") != (s.SSH.Routers == "") {
-		return errors.New("--ssh-host-key and --ssh-routers come together")
+		return errors.New("--ssh-host-key and --ssh-routers need each other")
 	}
-	var err error
-	for _, file := range s.Files {
-		if file.Format != payloads.Sequence && s.Reader.Maker == "" {
-			s.Reader.Maker, err = beside.Find("rtr_make")
-		}
-		if err != nil {
+	if err := s.Reader.CheckSlurm(s.Files...); err != nil {
+		return err
+	}
+	return w.find()
+}
+
+// find finds the program that reads what validators print, if such a file is named.
+func (w *wanted) find() (err error) {
+	for _, file := range w.settings.Files {
+		if file.Format != payloads.Sequence {
+			w.settings.Reader.Maker, err = beside.Find("rtr_make")
 			return err
 		}
 	}

@@ -1,4 +1,5 @@
-// Rtr-cache serves what validators write into files to routers, over the RPKI to Router protocol.
+// Rtr-cache serves the payloads that validators write into files to routers, over the RPKI to
+// Router protocol.
 package main
 
 import (
@@ -9,59 +10,35 @@ import (
 	"os/signal"
 	"syscall"
 
-	"github.com/sirupsen/logrus"
-
 	"fishreef/programs/internal/cache"
 	"fishreef/programs/internal/words"
 )
 
-// The statuses of the program.
-const (
-	failed = 1
-	usage  = 2
-)
-
 func main() { os.Exit(run(os.Args[1:])) }
 
-// run is the program, and answers its status.
+// run runs the program, and returns its exit status.
 func run(line []string) int {
 	wanted, err := arguments(line)
 	if errors.Is(err, words.ErrHelp) {
-		return 0
+		return words.Good
 	}
 	if err != nil {
 		fmt.Fprintln(os.Stderr, "rtr-cache:", err)
-		return usage
+		return words.Usage
 	}
-	log := wanted.log.logger()
+	log := wanted.log.Logger()
 	ctx, stop := signal.NotifyContext(context.Background(), syscall.SIGINT, syscall.SIGTERM)
 	defer stop()
-	hup := make(chan os.Signal, 1)
-	signal.Notify(hup, syscall.SIGHUP)
+	reload, confirm := make(chan os.Signal, 1), make(chan os.Signal, 1)
+	signal.Notify(reload, syscall.SIGHUP)
+	signal.Notify(confirm, syscall.SIGUSR1)
 	running, err := cache.New(wanted.settings, log)
 	if err == nil {
-		err = running.Run(ctx, hup)
+		err = running.Run(ctx, cache.Signals{Reload: reload, Confirm: confirm})
 	}
 	if err != nil {
 		log.Error(err)
-		return failed
+		return words.StatusOf(err)
 	}
-	return 0
-}
-
-// logging is how the program says what it does.
-type logging struct {
-	json  bool
-	level logrus.Level
-}
-
-// logger writes lines on standard error.
-func (l logging) logger() *logrus.Logger {
-	log := logrus.New()
-	log.SetLevel(l.level)
-	log.SetFormatter(&logrus.TextFormatter{DisableColors: true, FullTimestamp: true})
-	if l.json {
-		log.SetFormatter(&logrus.JSONFormatter{})
-	}
-	return log
+	return words.Good
 }

@@ -3,12 +3,14 @@ package main
 import (
 	"context"
 	"fmt"
+	"net/netip"
 	"os"
 	"path/filepath"
 	"strings"
 	"testing"
 
 	"fishreef/programs/internal/trial"
+	"fishreef/programs/internal/words"
 	"fishreef/rtr"
 )
 
@@ -36,7 +38,7 @@ func fetched(t *testing.T, address string, version uint8) rtr.Data {
 	ctx, cancel := context.WithTimeout(context.Background(), trial.Wait)
 	defer cancel()
 	client := rtr.NewClient(address)
-	client.Version = version
+	client.AskIn(version)
 	data, err := client.Fetch(ctx)
 	if err != nil {
 		t.Fatal(err)
@@ -67,7 +69,8 @@ func TestServesFiles(t *testing.T) {
 	if _, err := rtr.NewDataOf([]rtr.VRP{{ASN: 64499}}, 1, 7, 9, rtr.RecommendedTiming); err == nil {
 		t.Fatal("a VRP without a prefix")
 	}
-	one, err := rtr.NewData(0, 7, 9, rtr.RecommendedTiming)
+	vrp := rtr.VRP{Prefix: netip.MustParsePrefix("192.0.2.0/24"), ASN: 64496}
+	one, err := rtr.NewDataOf([]rtr.VRP{vrp}, 0, 7, 9, rtr.RecommendedTiming)
 	if err != nil {
 		t.Fatal(err)
 	}
@@ -168,28 +171,38 @@ func TestWrongWords(t *testing.T) {
 	folder := t.TempDir()
 	trial.Write(t, folder+"/f", rows(1))
 	for _, row := range []struct{ words, says string }{
-		{"", "no file is named"},
-		{"f", `"f" is no option`},
-		{"--csv", "--csv lacks its FILE"},
+		{"", "no list is named"},
+		{"--sequence f --slurm s", "--slurm filters the lists of validators, and no units (sequence)"},
+		{"f", `"f" isn't an option`},
+		{"--csv", "--csv needs FILE"},
 		{"--csv=", "--csv: it is empty"},
 		{"--csv f --csv f", "--csv: f is named twice"},
-		{"--csv f --nothing", `no option "--nothing"`},
-		{"--csv f -x", `no option "-x"`},
-		{"--csv f --help", `no option "--help"`},
+		{"--csv f --nothing", `unknown option "--nothing"`},
+		{"--csv f -x", `unknown option "-x"`},
+		{"--csv f --help", `unknown option "--help"`},
 		{"--csv f --force=yes", "--force takes no argument"},
-		{"--csv f --guard 101%", `--guard: "101%" is no share`},
-		{"--csv f --guard half", `--guard: "half" is no share`},
-		{"--csv f --look 10", `--look: "10" is no time`},
-		{"--csv f --look 1ms", `--look: "1ms" is no time`},
-		{"--csv f --refresh 4294967296", `--refresh: "4294967296" is no number`},
-		{"--csv f --listen 3323", `--listen: "3323" is no ADDRESS:PORT`},
-		{"--csv f --listen quic:1.2.3.4:5", `--listen: "quic:1.2.3.4:5" is no ADDRESS:PORT`},
-		{"--csv f --metrics 9", `--metrics: "9" is no ADDRESS:PORT`},
-		{"--csv f --max-clients 0", `--max-clients: "0" is no number`},
+		{"--csv f --guard 101%", `--guard: "101%" isn't a share`},
+		{"--csv f --guard half", `--guard: "half" isn't a share`},
+		{"--csv f --guard-time 0s", `--guard-time: "0s" isn't a time`},
+		{"--csv f --hold=yes", "--hold takes no argument"},
+		{"--csv f --look 10", `--look: "10" isn't a time`},
+		{"--csv f --look 1ms", `--look: "1ms" isn't a time`},
+		{"--csv f --refresh 4294967296", `--refresh: "4294967296" isn't a number`},
+		{"--csv f --refresh 0", "--refresh 0 --retry 600 --expire 7200: rtr: no cache may name these " +
+			"times: the refresh time has to be 1 to 86400 seconds"},
+		{"--csv f --retry 7201 --expire 8000", "the retry time has to be 1 to 7200 seconds"},
+		{"--csv f --expire 10", "the expire time has to be 600 to 172800 seconds"},
+		{"--csv f --refresh 7200", "the expire time has to be longer than the refresh time"},
+		{"--csv f --retry 600 --refresh 60 --expire 600", "the expire time has to be longer than the " +
+			"retry time"},
+		{"--csv f --listen 3323", `--listen: "3323" isn't ADDRESS:PORT`},
+		{"--csv f --listen quic:1.2.3.4:5", `--listen: "quic:1.2.3.4:5" isn't ADDRESS:PORT`},
+		{"--csv f --metrics 9", `--metrics: "9" isn't ADDRESS:PORT`},
+		{"--csv f --max-clients 0", `--max-clients: "0" isn't a number`},
 		{"--csv f --state a --state b", "--state: it is given twice"},
-		{"--csv f --tls-cert a", "--tls-cert and --tls-key come together"},
-		{"--csv f --tls-client-ca a", "--tls-client-ca wants"},
-		{"--csv f --ssh-host-key a", "--ssh-host-key and --ssh-routers come together"},
+		{"--csv f --tls-cert a", "--tls-cert and --tls-key need each other"},
+		{"--csv f --tls-client-ca a", "--tls-client-ca needs"},
+		{"--csv f --ssh-host-key a", "--ssh-host-key and --ssh-routers need each other"},
 		{"--csv f --log-level loud", `--log-level: not a valid logrus Level: "loud"`},
 	} {
 		process := trial.Start(t, folder, strings.Fields(row.words)...)
@@ -201,29 +214,32 @@ func TestWrongWords(t *testing.T) {
 	}
 }
 
-// What can't be had at the beginning ends the program with status 1 and a line that names it.
+// What can't be had at the beginning ends the program by a line that names it.
 func TestWrongPlaces(t *testing.T) {
 	folder := t.TempDir()
 	trial.Write(t, folder+"/f", rows(1))
 	trial.Write(t, folder+"/file", "no certificate")
 	_, address := started(t, folder, "--csv", "f", "--state", "taken")
-	for _, row := range []struct{ words, says string }{
-		{"--listen " + address, address + ": bind: address already in use"},
-		{"--listen nowhere.invalid:3323", "nowhere.invalid"},
-		{"--listen 127.0.0.1:0 --metrics " + address, address + ": bind: address already in use"},
-		{"--listen 127.0.0.1:0 --state taken", "taken: another cache has this folder"},
-		{"--listen 127.0.0.1:0 --state f", "f/lock: not a directory"},
-		{"--listen 127.0.0.1:0 --state a/b", "a/b: no such file or directory"},
-		{"--listen tls:127.0.0.1:0", "TLS wants --tls-cert and --tls-key"},
-		{"--listen tls:127.0.0.1:0 --tls-cert none --tls-key file", "none: no such file"},
-		{"--listen tls:127.0.0.1:0 --tls-cert file --tls-key file", "file with file: "},
-		{"--listen ssh:127.0.0.1:0", "SSH wants --ssh-host-key and --ssh-routers"},
-		{"--listen ssh:127.0.0.1:0 --ssh-host-key none --ssh-routers file", "none: no such file"},
-		{"--listen ssh:127.0.0.1:0 --ssh-host-key file --ssh-routers file", "file: ssh: no key found"},
+	for _, row := range []struct {
+		words, says string
+		status      int
+	}{
+		{"--listen " + address, address + ": bind: address already in use", words.System},
+		{"--listen nowhere.invalid:3323", "nowhere.invalid", words.System},
+		{"--listen 127.0.0.1:0 --metrics " + address, address + ": bind: address already in use", words.System},
+		{"--listen 127.0.0.1:0 --state taken", "taken: another cache uses this folder", words.Failed},
+		{"--listen 127.0.0.1:0 --state f", "f/lock: not a directory", words.System},
+		{"--listen 127.0.0.1:0 --state a/b", "a/b: no such file or directory", words.System},
+		{"--listen tls:127.0.0.1:0", "TLS needs --tls-cert and --tls-key", words.Failed},
+		{"--listen tls:127.0.0.1:0 --tls-cert none --tls-key file", "none: no such file", words.System},
+		{"--listen tls:127.0.0.1:0 --tls-cert file --tls-key file", "file with file: ", words.Failed},
+		{"--listen ssh:127.0.0.1:0", "SSH needs --ssh-host-key and --ssh-routers", words.Failed},
+		{"--listen ssh:127.0.0.1:0 --ssh-host-key none --ssh-routers file", "none: no such file", words.System},
+		{"--listen ssh:127.0.0.1:0 --ssh-host-key file --ssh-routers file", "file: ssh: no key found", words.Failed},
 	} {
 		process := trial.Start(t, folder, append([]string{"--csv", "f"}, strings.Fields(row.words)...)...)
 		status, said := process.Status(), process.Said()
-		if status != 1 || !strings.Contains(said, row.says) || process.Lines("level=error") != 1 {
+		if status != row.status || !strings.Contains(said, row.says) || process.Lines("level=error") != 1 {
 			t.Errorf("%q: status %d, %s", row.words, status, said)
 		}
 	}
@@ -267,7 +283,7 @@ func TestWrongFiles(t *testing.T) {
 	if err := os.Mkdir(folder+"/good", 0o700); err != nil {
 		t.Fatal(err)
 	}
-	process.Says("good: it is no regular file", 1)
+	process.Says("good: not a regular file", 1)
 	if !fetched(t, address, 2).Equal(before) {
 		t.Error("a file that is gone changed what is served")
 	}

@@ -4,6 +4,7 @@ import (
 	"context"
 	"crypto/tls"
 	"crypto/x509"
+	"fmt"
 	"io"
 	"net"
 	"net/http"
@@ -184,7 +185,8 @@ func TestMetrics(t *testing.T) {
 	process, address := started(t, folder, "--json", "f", "--stale", "1h", "--metrics", "127.0.0.1:0")
 	url := strings.TrimSuffix(process.After("http://"), "/metrics")
 	process.Says("f: no such file", 1)
-	if status, text := read(t, "http://"+url+"/health"); status != 503 || text != "there are no data\n" {
+	if status, text := read(t, "http://"+url+"/health"); status != 503 ||
+		text != "there are no data\nf: no such file or directory\n" {
 		t.Error(status, text)
 	}
 	trial.Write(t, folder+"/f", validators)
@@ -217,6 +219,10 @@ func TestMetrics(t *testing.T) {
 		`rtr_cache_payloads{kind="router key"} 0`,
 		`rtr_cache_serial 1`,
 		`rtr_cache_file_refusals_total{file="f"} 1`,
+		`rtr_cache_changes_total{action="announced",kind="IPv6 prefix"} 1`,
+		`rtr_cache_changes_total{action="withdrawn",kind="IPv6 prefix"} 0`,
+		`rtr_cache_healthy 1`,
+		`rtr_cache_unhealthy{reason="stale"} 0`,
 		`rtr_cache_info{version="` + words.Version + `"} 1`,
 	} {
 		if !strings.Contains(text, line+"\n") {
@@ -230,7 +236,7 @@ func TestMetrics(t *testing.T) {
 	process.Says("f: nothing changed", 1)
 	process.Await("an old file", func() bool {
 		status, text := read(t, "http://"+url+"/health")
-		return status == 503 && text == "f: it was written 2h0m0s ago\n"
+		return status == 503 && strings.HasPrefix(text, "f: it was written 2h0m")
 	})
 	trial.Write(t, folder+"/f", "[")
 	process.Says("level=warning msg=\"f: ", 2)
@@ -288,7 +294,7 @@ type everywhere struct {
 // reachable writes what a cache wants for all transports into a folder.
 func reachable(t *testing.T, folder string) everywhere {
 	t.Helper()
-	e := everywhere{folder, trial.NewAuthority(t), unused(t), unused(t), unused(t)}
+	e := everywhere{folder, trial.NewAuthority(t), reserved(t), reserved(t), reserved(t)}
 	trial.Save(t, e.authority.Issue("127.0.0.1"), folder+"/cert", folder+"/key")
 	trial.Write(t, folder+"/routers", trial.ECDSA.Save(t, folder+"/router"))
 	host := trial.ECDSA.Save(t, folder+"/host")
@@ -342,15 +348,27 @@ func TestSocketActivation(t *testing.T) {
 	}
 }
 
-// unused is an address that nothing listens at.
-func unused(t *testing.T) string {
+// reserved is an address at which nothing listens, and of which the system gives the port to nobody
+// as long as the test runs: a socket is bound to it. Whoever asks for that port can listen there,
+// since neither socket minds another one (SO_REUSEADDR).
+func reserved(t *testing.T) string {
 	t.Helper()
-	listener, err := net.Listen("tcp", "127.0.0.1:0")
+	socket, err := syscall.Socket(syscall.AF_INET, syscall.SOCK_STREAM|syscall.SOCK_CLOEXEC, 0)
 	if err != nil {
 		t.Fatal(err)
 	}
-	defer listener.Close()
-	return listener.Addr().String()
+	t.Cleanup(func() { syscall.Close(socket) })
+	if err := syscall.SetsockoptInt(socket, syscall.SOL_SOCKET, syscall.SO_REUSEADDR, 1); err != nil {
+		t.Fatal(err)
+	}
+	if err := syscall.Bind(socket, &syscall.SockaddrInet4{Addr: [4]byte{127, 0, 0, 1}}); err != nil {
+		t.Fatal(err)
+	}
+	own, err := syscall.Getsockname(socket)
+	if err != nil {
+		t.Fatal(err)
+	}
+	return fmt.Sprintf("127.0.0.1:%d", own.(*syscall.SockaddrInet4).Port)
 }
 
 // hears waits for what systemd is told next.
@@ -375,12 +393,12 @@ func TestWrongClients(t *testing.T) {
 		"\x01\x04\x00\x00\x00\x00\x00\x14" + "0123456789ab": "reason=",
 		"\x01\x02\x00\x00\x00\x00\x00":                      "reason=unit",
 	} {
-		was := process.Lines("client=")
+		was := process.Lines("level=warning")
 		connection := dialed(t, address)
 		connection.Write([]byte(text))
 		connection.(*net.TCPConn).CloseWrite()
-		process.Says("client=", was+1)
-		if process.Lines(says) == 0 || process.Lines("client=") != was+1 {
+		process.Says("level=warning", was+1)
+		if process.Lines(says) == 0 || process.Lines("level=warning") != was+1 {
 			t.Errorf("%q: %s", text, process.Said())
 		}
 		if data := fetched(t, address, 1); data.Len() != 3 {

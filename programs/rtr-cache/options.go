@@ -6,113 +6,126 @@ import (
 	"net"
 	"time"
 
-	"github.com/sirupsen/logrus"
-
+	"fishreef/programs/internal/fetch"
 	"fishreef/programs/internal/payloads"
 	"fishreef/programs/internal/transport"
+	"fishreef/programs/internal/trust"
 	"fishreef/programs/internal/words"
 	"fishreef/rtr"
 )
 
-// ofFiles are the options about files and data.
+// ofFiles returns the options for files.
 func (w *wanted) ofFiles() []words.Option {
-	s := &w.settings
 	return []words.Option{
 		{
-			Name: "json", Argument: "FILE",
-			Help: "a file of JSON as validators print it; several files are merged",
-			Set:  w.file(payloads.JSON),
+			Name: "json", Argument: "FILE|URL",
+			Help: "Serve this JSON file, or the one at this http or https URL, as\n" +
+				"validators print it; several are merged",
+			Set: w.file(payloads.JSON),
 		},
 		{
-			Name: "csv", Argument: "FILE",
-			Help: "a file of lines of AS number, prefix and max length",
+			Name: "csv", Argument: "FILE|URL",
+			Help: "Serve this CSV file: an AS number, a prefix and a max length",
 			Set:  w.file(payloads.CSV),
 		},
 		{
-			Name: "sequence", Argument: "FILE",
-			Help: "a file of units, as rtr_make writes it",
-			Set:  w.file(payloads.Sequence),
-		},
-		{
-			Name: "ignore", Argument: "NAME",
-			Help: "what the JSON has under this name is passed over",
-			Set: func(name string) error {
-				s.Reader.Ignored = append(s.Reader.Ignored, name)
-				return nil
-			},
-		},
-		{
-			Name: "empty",
-			Help: "a file without payloads is taken, too",
-			Set:  words.Yes(&s.Reader.Empty),
+			Name: "sequence", Argument: "FILE|URL",
+			Help: "Serve this recording, or list of units (PDUs) as rtr_make\n" +
+				"writes it",
+			Set: w.file(payloads.Sequence),
 		},
 	}
 }
 
-// ofData are the options about data, and what they may change.
+// ofData returns the options for data, and what they may change.
 func (w *wanted) ofData() []words.Option {
 	s := &w.settings
 	return []words.Option{
 		{
 			Name: "state", Argument: "FOLDER",
-			Help: "session, serial number and changes are kept here over a restart",
-			Set:  words.Text(&s.State),
-		},
-		{
-			Name: "guard", Argument: "SHARE",
-			Help: "a file that would withdraw more of the payloads is refused until\n" +
-				"it is written once more: 50% if none is named",
-			Set: func(share string) (err error) {
-				s.Guard, err = payloads.ParseShare(share)
-				return err
-			},
-		},
-		{
-			Name: "force",
-			Help: "the first data may withdraw as much as they want to",
-			Set:  words.Yes(&s.Force),
+			Help: "Save session, serial number and changes in this folder for a\n" +
+				"restart",
+			Set: words.Text(&s.State),
 		},
 		{
 			Name: "look", Argument: "TIME",
-			Help: "the files are looked at so often, if no change is seen: 10s",
+			Help: "Check the files at least this often (default 10s)",
 			Set:  words.Wait(&s.Look, time.Second),
 		},
 		{
 			Name: "stale", Argument: "TIME",
-			Help: "/health says so where a file is older: 2h",
-			Set:  words.Wait(&s.Stale, time.Second),
+			Help: "Report a file that is older than this in /health (default 2h)",
+			Set:  words.Wait(&s.Rules.Stale, time.Second),
 		},
 	}
 }
 
-// ofTimings are the options about the times of data.
+// ofGuard returns the options for lists that aren't taken at once.
+func (w *wanted) ofGuard() []words.Option {
+	s := &w.settings
+	return []words.Option{
+		{
+			Name: "guard", Argument: "SHARE",
+			Help: "Hold a file that withdraws more than this share of the\n" +
+				"payloads, of a kind, or of a trust anchor (default 50%)",
+			Set: func(share string) (err error) {
+				s.Rules.Guard, err = trust.ParseShare(share)
+				return err
+			},
+		},
+		{
+			Name: "guard-time", Argument: "TIME",
+			Help: "Accept a held file, or a clock that was set, once it has stayed\n" +
+				"the same for this time (default 5m)",
+			Set: words.Wait(&s.Rules.Quiet, time.Second),
+		},
+		{
+			Name: "hold",
+			Help: "Accept a held file or clock only at SIGUSR1 or by --force",
+			Set:  words.Yes(&s.Rules.Hold),
+		},
+		{
+			Name: "force",
+			Help: "Accept the first list of each file after the start, however\n" +
+				"much it withdraws",
+			Set: words.Yes(&s.Force),
+		},
+	}
+}
+
+// ofTimings returns the options for the times of data.
 func (w *wanted) ofTimings() []words.Option {
 	s, usual := &w.settings, rtr.RecommendedTiming
+	seconds := func(what string, usual uint32) string {
+		return fmt.Sprintf("Send this %s interval, in seconds (default %d)", what, usual)
+	}
 	return []words.Option{
 		{
 			Name: "refresh", Argument: "N",
-			Help: fmt.Sprintf("the timings of the data in seconds: %d, %d and %d", usual.Refresh,
-				usual.Retry, usual.Expire),
-			Set: words.Seconds(&s.Timing.Refresh),
+			Help: seconds("refresh", usual.Refresh),
+			Set:  words.Seconds(&s.Timing.Refresh),
 		},
 		{
 			Name: "retry", Argument: "N",
-			Set: words.Seconds(&s.Timing.Retry),
+			Help: seconds("retry", usual.Retry),
+			Set:  words.Seconds(&s.Timing.Retry),
 		},
 		{
 			Name: "expire", Argument: "N",
-			Set: words.Seconds(&s.Timing.Expire),
+			Help: seconds("expire", usual.Expire),
+			Set:  words.Seconds(&s.Timing.Expire),
 		},
 	}
 }
 
-// ofSockets are the options about where routers come.
+// ofSockets returns the options for listening.
 func (w *wanted) ofSockets() []words.Option {
 	s := &w.settings
 	return []words.Option{
 		{
 			Name: "listen", Argument: "ADDRESS",
-			Help: "ADDRESS:PORT for TCP, or with tls: or ssh: before it; it may\ncome again: :3323",
+			Help: "Listen at this ADDRESS:PORT for TCP, or for TLS or SSH with\n" +
+				"tls: or ssh: before it; may be repeated (default :3323)",
 			Set: func(address string) error {
 				parsed, err := transport.ParseAddress(address)
 				s.Listen = append(s.Listen, parsed)
@@ -122,116 +135,112 @@ func (w *wanted) ofSockets() []words.Option {
 	}
 }
 
-// ofTLS are the options about TLS.
+// ofTLS returns the options for TLS.
 func (w *wanted) ofTLS() []words.Option {
 	s := &w.settings
 	return []words.Option{
 		{
 			Name: "tls-cert", Argument: "FILE",
-			Help: "the certificate for TLS, in PEM, with those above it",
+			Help: "Use this certificate for TLS, followed by its chain (PEM)",
 			Set:  words.Text(&s.TLS.Certificate),
 		},
 		{
 			Name: "tls-key", Argument: "FILE",
-			Help: "its key",
+			Help: "Use this private key for TLS (PEM)",
 			Set:  words.Text(&s.TLS.Key),
 		},
 		{
 			Name: "tls-client-ca", Argument: "FILE",
-			Help: "routers have to show a certificate by one of these authorities,\n" +
-				"which names the address that they have",
+			Help: "Require a certificate from routers, by one of these authorities,\n" +
+				"that names their address",
 			Set: words.Text(&s.TLS.ClientCA),
 		},
 		{
 			Name: "tls-any-address",
-			Help: "the certificate of a router may name another address",
+			Help: "Accept a router's certificate that names another address",
 			Set:  words.Yes(&s.TLS.AnyAddress),
 		},
 	}
 }
 
-// ofSSH are the options about SSH.
+// ofSSH returns the options for SSH.
 func (w *wanted) ofSSH() []words.Option {
 	s := &w.settings
 	return []words.Option{
 		{
 			Name: "ssh-host-key", Argument: "FILE",
-			Help: "the private key for SSH",
+			Help: "Use this private key for SSH",
 			Set:  words.Text(&s.SSH.HostKey),
 		},
 		{
 			Name: "ssh-routers", Argument: "FILE",
-			Help: "the public keys of routers, as in authorized_keys",
+			Help: "Accept routers with these public keys, as in authorized_keys",
 			Set:  words.Text(&s.SSH.Routers),
 		},
 	}
 }
 
-// ofLimits are the options about how many routers are served.
+// ofLimits returns the options for the number of routers.
 func (w *wanted) ofLimits() []words.Option {
 	s := &w.settings
 	return []words.Option{
 		{
 			Name: "max-clients", Argument: "N",
-			Help: "so many routers at once: 1024",
+			Help: "Serve at most N routers at once (default 1024)",
 			Set:  words.Count(&s.Clients, 1),
 		},
 		{
 			Name: "max-per-address", Argument: "N",
-			Help: "so many of one address at once: 100",
+			Help: "Serve at most N routers of one address at once (default 100)",
 			Set:  words.Count(&s.PerAddress, 1),
 		},
 		{
 			Name: "refuse",
-			Help: "a router with unknown data gets a report in place of a cache reset",
-			Set:  words.Yes(&s.Refuse),
+			Help: "Send an error report instead of a cache reset to a router with\n" +
+				"unknown data",
+			Set: words.Yes(&s.Refuse),
 		},
 	}
 }
 
-// ofReports are the options about metrics and the log.
+// ofReports returns the options for metrics.
 func (w *wanted) ofReports() []words.Option {
 	s := &w.settings
 	return []words.Option{
 		{
 			Name: "metrics", Argument: "ADDRESS",
-			Help: "/metrics for Prometheus, and /health, are at this ADDRESS:PORT",
+			Help: "Serve /metrics for Prometheus, /health and /clients at this\n" +
+				"ADDRESS:PORT by HTTP",
 			Set: func(address string) error {
 				if _, _, err := net.SplitHostPort(address); err != nil {
-					return fmt.Errorf("%q is no ADDRESS:PORT", address)
+					return fmt.Errorf("%q isn't ADDRESS:PORT", address)
 				}
 				return words.Text(&s.Metrics)(address)
-			},
-		},
-		{
-			Name: "log-json",
-			Help: "the log has JSON",
-			Set:  words.Yes(&w.log.json),
-		},
-		{
-			Name: "log-level", Argument: "LEVEL",
-			Help: "the log has lines of this level and above: debug, info,\n" +
-				"warning or error; info if none is named",
-			Set: func(level string) (err error) {
-				w.log.level, err = logrus.ParseLevel(level)
-				return err
 			},
 		},
 	}
 }
 
-// file is an option that names a file of a format.
+// file returns an option that names a file of a format.
 func (w *wanted) file(format payloads.Format) func(string) error {
 	return func(path string) error {
 		if path == "" {
 			return errors.New("it is empty")
 		}
-		for _, file := range w.settings.Files {
-			if file.Path == path {
-				return fmt.Errorf("%s is named twice", path)
+		file := payloads.File{Format: format, Path: path}
+		if fetch.IsURL(path) {
+			at, err := fetch.Parse(path)
+			if err != nil {
+				return err
+			}
+			file.URL, file.Path = at, at.Redacted()
+		}
+		for _, other := range w.settings.Files {
+			if other.Path == file.Path {
+				return fmt.Errorf("%s is named twice", file.Path)
 			}
 		}
-		w.settings.Files = append(w.settings.Files, payloads.File{Format: format, Path: path})
+		w.settings.Files = append(w.settings.Files, file)
 		return nil
 	}
 }

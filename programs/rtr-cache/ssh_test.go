@@ -20,7 +20,8 @@ func startedSSH(t *testing.T, keys trial.Keys) (process *trial.Process, address,
 	folder = t.TempDir()
 	trial.Write(t, folder+"/f", rows(3))
 	host := keys.Save(t, folder+"/host")
-	trial.Write(t, folder+"/routers", "# routers\n"+keys.Save(t, folder+"/router"))
+	trial.Write(t, folder+"/routers", "# routers\n"+keys.Save(t, folder+"/router")+"\n"+
+		keys.Save(t, folder+"/second")+"\n\n# the last one\n"+keys.Save(t, folder+"/third")+"\n")
 	keys.Save(t, folder+"/stranger")
 	process = trial.Start(t, folder, "--csv", "f", "--listen", "ssh:127.0.0.1:0", "--ssh-host-key", "host",
 		"--ssh-routers", "routers", "--metrics", "127.0.0.1:0")
@@ -31,7 +32,7 @@ func startedSSH(t *testing.T, keys trial.Keys) (process *trial.Process, address,
 	return process, address, folder
 }
 
-// overSSH is a client of a cache over SSH.
+// overSSH returns a client of a cache over SSH.
 func overSSH(t *testing.T, address, key, known string) *rtr.Client {
 	t.Helper()
 	dial, err := transport.SSHRouter{User: "rpki", Key: key, KnownHosts: known}.Dialer()
@@ -50,15 +51,15 @@ func TestSSH(t *testing.T) {
 	}
 }
 
-// knownOverSSH compares which routers are served over SSH, and which caches are taken, by keys.
+// knownOverSSH checks which routers are served over SSH, and which caches are accepted, by keys.
 func knownOverSSH(t *testing.T, keys trial.Keys) {
 	process, address, folder := startedSSH(t, keys)
 	ctx, cancel := context.WithTimeout(context.Background(), trial.Wait)
 	defer cancel()
-	for turn := 0; turn < 3; turn++ {
-		data, err := overSSH(t, address, folder+"/router", folder+"/known").Fetch(ctx)
+	for _, router := range []string{"router", "second", "third", "router"} {
+		data, err := overSSH(t, address, folder+"/"+router, folder+"/known").Fetch(ctx)
 		if err != nil || data.Len() != 3 {
-			t.Fatal(data.Len(), err)
+			t.Fatal(router, data.Len(), err)
 		}
 	}
 	if _, err := overSSH(t, address, folder+"/stranger", folder+"/known").Fetch(ctx); err == nil ||
@@ -77,7 +78,7 @@ func knownOverSSH(t *testing.T, keys trial.Keys) {
 	})
 }
 
-// A router over SSH follows changes; one that takes nothing is left, and others are served on.
+// A router over SSH follows changes; one that doesn't read is closed, and others are still served.
 func TestSSHFollows(t *testing.T) {
 	_, address, folder := startedSSH(t, trial.ECDSA)
 	ctx, cancel := context.WithCancel(context.Background())
@@ -100,13 +101,13 @@ func TestSSHFollows(t *testing.T) {
 	}
 }
 
-// What isn't SSH, or asks for something else than the subsystem, is refused by a line.
+// A client that doesn't speak SSH, or asks for another subsystem, is refused with a line.
 func TestWrongSSH(t *testing.T) {
 	process, address, _ := startedSSH(t, trial.ECDSA)
 	connection := dialed(t, address)
 	connection.Write([]byte("\x01\x02\x00\x00\x00\x00\x00\x08\r\n"))
 	connection.(*net.TCPConn).CloseWrite()
-	process.Says("client=", 1)
+	process.Says("the handshake of SSH: ", 1)
 	if process.Lines("the handshake of SSH: ") != 1 {
 		t.Error(process.Said())
 	}
@@ -119,7 +120,7 @@ func TestOpenSSH(t *testing.T) {
 	}
 }
 
-// byOpenSSH asks a cache by OpenSSH's client.
+// byOpenSSH asks a cache with OpenSSH's client.
 func byOpenSSH(t *testing.T, keys trial.Keys) {
 	path, err := exec.LookPath("ssh")
 	if err != nil {

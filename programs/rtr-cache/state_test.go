@@ -14,8 +14,8 @@ import (
 	"fishreef/rtr"
 )
 
-// A cache that was started again has its session and its serial number, and the changes from data
-// of before; one without a state folder begins another session.
+// A restarted cache has its session and its serial number, and the changes from earlier data;
+// without a state folder another session begins.
 func TestRestart(t *testing.T) {
 	folder := t.TempDir()
 	file := filepath.Join(folder, "f")
@@ -41,7 +41,8 @@ func TestRestart(t *testing.T) {
 	}
 }
 
-// leads asks for the changes from old data, and compares what they make of these with the new.
+// leads asks for the changes from old data, applies them, and compares the result with the new
+// data.
 func leads(t *testing.T, address string, old, new rtr.Data) {
 	t.Helper()
 	connection := dialed(t, address)
@@ -63,8 +64,7 @@ func leads(t *testing.T, address string, old, new rtr.Data) {
 	}
 }
 
-// What another process wrote into the state folder, or what was torn, is refused by name and kept
-// beside; another session begins.
+// A damaged file in the state folder is refused with a message and renamed; another session begins.
 func TestTornState(t *testing.T) {
 	folder := t.TempDir()
 	trial.Write(t, folder+"/f", rows(3))
@@ -102,8 +102,7 @@ func TestTornState(t *testing.T) {
 	}
 }
 
-// Half of a new file beside the old one, as a cache leaves it that was killed while it wrote, is
-// passed over.
+// Half of a new file next to the old one, as a killed cache leaves it, is ignored.
 func TestHalfWrittenState(t *testing.T) {
 	folder := t.TempDir()
 	trial.Write(t, folder+"/f", rows(3))
@@ -119,79 +118,15 @@ func TestHalfWrittenState(t *testing.T) {
 	}
 }
 
-// Data that can't be saved are served all the same, and told; a restart then begins another
-// session, since the folder knows nothing of these data.
-func TestUnsavedState(t *testing.T) {
-	folder := t.TempDir()
-	trial.Write(t, folder+"/f", rows(3))
-	process, address := started(t, folder, "--csv", "f", "--state", "state")
-	process.Says("3 payloads", 1)
-	if err := os.Mkdir(folder+"/state/editions.new", 0o700); err != nil {
-		t.Fatal(err)
-	}
-	trial.Write(t, folder+"/f", rows(4))
-	process.Says("is a directory: a restart will begin another session", 1)
-	process.Says("serial 2: 4 payloads", 1)
-	if data := fetched(t, address, 2); data.Len() != 4 {
-		t.Error(data.Len())
-	}
-	if _, err := os.Stat(folder + "/state/editions"); !os.IsNotExist(err) {
-		t.Error(err)
-	}
-	if err := os.Remove(folder + "/state/editions.new"); err != nil {
-		t.Fatal(err)
-	}
-	trial.Write(t, folder+"/f", rows(5))
-	process.Says("serial 3: 5 payloads", 1)
-	process.End()
-	process, _ = started(t, folder, "--csv", "f", "--state", "state")
-	process.Says("state: session", 1)
-	process.Says("serial 3: 5 payloads", 1)
-}
-
-// A file that would withdraw too much is refused until it is written once more, by SIGHUP too; a
-// good one between them begins anew. With --force the first data may.
-func TestGuard(t *testing.T) {
-	folder := t.TempDir()
-	file := folder + "/f"
-	trial.Write(t, file, rows(10))
-	process, _ := started(t, folder, "--csv", "f", "--state", "state", "--guard", "20%")
-	process.Says("10 payloads", 1)
-	trial.Write(t, file, rows(8))
-	process.Says("serial 2: 8 payloads", 1)
-	trial.Write(t, file, rows(6))
-	process.Says("it would withdraw 2 of 8 payloads, which is more than 20%", 1)
-	trial.Write(t, file, rows(9))
-	process.Says("serial 3: 9 payloads", 1)
-	trial.Write(t, file, rows(2))
-	process.Says("it would withdraw 7 of 9 payloads", 1)
-	process.Signal(hangup)
-	time.Sleep(time.Second)
-	if process.Lines("serial 4") != 0 {
-		t.Error(process.Said())
-	}
-	trial.Write(t, file, rows(1))
-	process.Says("serial 4: 1 payloads", 1)
-	trial.Write(t, file, rows(9))
-	process.Says("serial 5: 9 payloads", 1)
-	process.End()
-	trial.Write(t, file, rows(1))
-	process, _ = started(t, folder, "--csv", "f", "--state", "state", "--guard", "20%")
-	process.Says("it would withdraw 8 of 9 payloads", 1)
-	process.End()
-	process, _ = started(t, folder, "--csv", "f", "--state", "state", "--guard", "20%", "--force")
-	process.Says("serial 6: 1 payloads", 1)
-}
-
-// moments are when a cache is killed: as soon as the new file is there, when it has its name, and
-// anywhere around them.
+// moments are when a cache is killed: as soon as the new file exists, when it is renamed, and
+// anywhere around that.
 var moments = []func(folder string, since time.Time){
 	func(folder string, _ time.Time) { appears(folder + "/state/editions.new") },
 	func(folder string, since time.Time) { renamed(folder+"/state/editions", since) },
 	func(string, time.Time) { time.Sleep(time.Duration(90+rand.Intn(60)) * time.Millisecond) },
 }
 
-// appears waits until a file is there, or for a second.
+// appears waits until a file exists, or for a second.
 func appears(path string) {
 	for until := time.Now().Add(time.Second); time.Now().Before(until); {
 		if _, err := os.Stat(path); err == nil {
@@ -209,8 +144,8 @@ func renamed(path string, since time.Time) {
 	}
 }
 
-// A cache that is killed in each phase of saving new data has, once it runs again, no two data
-// under one serial number, and none of before those that clients had.
+// A cache that is killed in each phase of saving new data has, after a restart, never two data with
+// one serial number, and no older data than clients had.
 func TestKilled(t *testing.T) {
 	folder := t.TempDir()
 	file := folder + "/f"
@@ -244,14 +179,13 @@ func TestKilled(t *testing.T) {
 	}
 }
 
-// before says whether data have a serial number before that of others.
+// before reports whether data have a serial number before that of others.
 func before(data, others rtr.Data) bool {
 	order, ok := rtr.CompareSerials(data.Serial(), others.Serial())
 	return ok && order < 0
 }
 
-// polled fetches the data of a cache again and again until there is none, and gives those that are
-// other than before.
+// polled loads the data of a cache repeatedly until it stops, and returns the changed ones.
 func polled(address string) <-chan rtr.Data {
 	all := make(chan rtr.Data, 1000)
 	go func() {
@@ -273,7 +207,7 @@ func polled(address string) <-chan rtr.Data {
 	return all
 }
 
-// A file is read once more at SIGHUP, though it stays: what was wrong is told again.
+// An unchanged file is reread at SIGHUP: its fault is reported again.
 func TestHangUp(t *testing.T) {
 	folder := t.TempDir()
 	trial.Write(t, folder+"/f", strings.Repeat("x", 5))
@@ -289,4 +223,25 @@ func TestHangUp(t *testing.T) {
 	process.Says("2 payloads", 1)
 	process.Signal(hangup)
 	process.Says("f: nothing changed", 1)
+}
+
+// The state folder and its files are only accessible to the owner; an existing folder keeps its
+// permissions.
+func TestStateRights(t *testing.T) {
+	folder := t.TempDir()
+	trial.Write(t, folder+"/f", rows(3))
+	if err := os.Mkdir(folder+"/given", 0o750); err != nil {
+		t.Fatal(err)
+	}
+	for name, rights := range map[string]os.FileMode{"made": 0o700, "given": 0o750} {
+		process, _ := started(t, folder, "--csv", "f", "--state", name)
+		process.Says("3 payloads", 1)
+		for path, wanted := range map[string]os.FileMode{"": rights, "/lock": 0o600} {
+			info, err := os.Stat(folder + "/" + name + path)
+			if err != nil || info.Mode().Perm() != wanted {
+				t.Errorf("%s%s: %v, %v", name, path, info.Mode(), err)
+			}
+		}
+		process.End()
+	}
 }

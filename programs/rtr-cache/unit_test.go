@@ -9,10 +9,10 @@ import (
 	"fishreef/programs/internal/trial"
 )
 
-// unitFile is the unit of systemd, from where this test is.
+// unitFile is the path of systemd's unit, relative to this test.
 const unitFile = "../systemd/rtr-cache.service"
 
-// calls are the names of the calls of the system in a set of systemd-analyze, and of those in it.
+// calls returns the names of the system calls in a set of systemd-analyze, and in its subsets.
 func calls(t *testing.T, set string, found map[string]bool) {
 	t.Helper()
 	text, err := exec.Command("systemd-analyze", "syscall-filter", set).Output()
@@ -30,7 +30,7 @@ func calls(t *testing.T, set string, found map[string]bool) {
 	}
 }
 
-// allowed are the calls that the unit file leaves to the program, as strace reads them.
+// allowed returns the system calls that the unit file allows, in the syntax of strace.
 func allowed(t *testing.T) string {
 	t.Helper()
 	text, err := os.ReadFile(unitFile)
@@ -66,7 +66,7 @@ func allowed(t *testing.T) string {
 }
 
 // Under the unit file's filter of calls, which strace stands in for, all transports, metrics, the
-// state, a change and SIGHUP work, and no call is refused.
+// state, a list by URL, a change and SIGHUP work, and no call is refused.
 func TestUnitFilter(t *testing.T) {
 	for _, tool := range []string{"strace", "systemd-analyze"} {
 		if _, err := exec.LookPath(tool); err != nil {
@@ -78,13 +78,15 @@ func TestUnitFilter(t *testing.T) {
 	}
 	filter, folder := allowed(t), t.TempDir()
 	trial.Write(t, folder+"/f", rows(3))
-	e, metrics := reachable(t, folder), unused(t)
+	e, metrics := reachable(t, folder), reserved(t)
+	server := newWeb(t, text(rows(3)))
 	line := append([]string{"-D", "-f", "-o", "calls", "-e", "trace=!" + filter,
 		"-e", "inject=!" + filter + ":error=EPERM", os.Args[0], "--csv", "f", "--state", "state",
+		"--csv", strings.Replace(server.URL, "127.0.0.1", "localhost", 1),
 		"--metrics", metrics, "--listen", e.plain, "--listen", "tls:" + e.secured,
 		"--listen", "ssh:" + e.shelled}, secrets...)
 	process := trial.StartBy(t, folder, nil, exec.Command("strace", line...))
-	process.Says("3 payloads", 1)
+	process.Says("serial 1: 3 payloads", 1)
 	e.gives(t, 3)
 	trial.Write(t, folder+"/f", rows(4))
 	process.Says("serial 2: 4 payloads", 1)
@@ -93,12 +95,12 @@ func TestUnitFilter(t *testing.T) {
 		t.Error(status)
 	}
 	process.Signal(hangup)
-	process.Says("nothing changed", 1)
+	process.Says("f: nothing changed", 1)
 	if status := process.End(); status != 0 {
 		t.Error(status)
 	}
-	text, err := os.ReadFile(folder + "/calls")
-	if err != nil || strings.Contains(string(text), "INJECTED") {
-		t.Errorf("%v: %s", err, text)
+	traced, err := os.ReadFile(folder + "/calls")
+	if err != nil || strings.Contains(string(traced), "INJECTED") {
+		t.Errorf("%v: %s", err, traced)
 	}
 }

@@ -6,10 +6,10 @@ import (
 	"strings"
 )
 
-// colours are those of lines, by the sign that they begin with.
+// colours are the colours of lines, by their first sign.
 type colours map[string]string
 
-// The sequences that begin the colours of announcements and withdrawals, and the one that ends them
+// The escape sequences for announcements and withdrawals, and the one that resets the colour
 // (ECMA-48, SGR).
 const (
 	green = "\x1b[32m"
@@ -17,8 +17,8 @@ const (
 	plain = "\x1b[0m"
 )
 
-// coloursOf are those of an output: none but on a terminal, and none where the environment has
-// NO_COLOR (no-color.org) or a terminal without colours.
+// coloursOf returns the colours of an output: none unless it is a terminal, and none if the
+// environment has NO_COLOR (no-color.org) or a terminal without colours.
 func coloursOf(output io.Writer) colours {
 	file, is := output.(*os.File)
 	if !is || !isTerminal(file) || os.Getenv("NO_COLOR") != "" || os.Getenv("TERM") == "dumb" {
@@ -27,7 +27,7 @@ func coloursOf(output io.Writer) colours {
 	return colours{"+": green, "-": red}
 }
 
-// of gives a line its colour.
+// of returns a line in its colour.
 func (c colours) of(line string) string {
 	for sign, colour := range c {
 		if strings.HasPrefix(line, sign) {
@@ -37,7 +37,7 @@ func (c colours) of(line string) string {
 	return line
 }
 
-// isTerminal says whether a file is a terminal.
+// isTerminal reports whether a file is a terminal.
 func isTerminal(file *os.File) bool {
 	info, err := file.Stat()
 	return err == nil && info.Mode()&os.ModeCharDevice != 0

@@ -23,8 +23,10 @@ func TestColours(t *testing.T) {
 	}{
 		{"NO_COLOR= TERM=xterm", "", green + line + plain},
 		{"NO_COLOR=1 TERM=xterm", "", line},
+		{"NO_COLOR=yes TERM=xterm", "", line},
+		{"NO_COLOR=0 TERM=xterm", "", line},
 		{"NO_COLOR= TERM=dumb", "", line},
-		{"NO_COLOR= TERM=xterm", "--json", `{"kind":"ipv4_prefix","action":"announce"`},
+		{"NO_COLOR= TERM=xterm", "--json", `"kind":"ipv4_prefix","action":"announce"`},
 		{"NO_COLOR= TERM=xterm", "| cat", line},
 	} {
 		words := "exec"

@@ -29,7 +29,7 @@ func newCounts() *counts {
 	return &counts{connections: map[string]int{}, failures: map[string]int{}}
 }
 
-// counted is a dial whose connections are counted.
+// counted returns a dial function that counts the connections' bytes.
 func (c *counts) counted(connect transport.Dial) transport.Dial {
 	return func(ctx context.Context, network, address string) (net.Conn, error) {
 		connection, err := connect(ctx, network, address)
@@ -65,7 +65,7 @@ func (c *counts) changed(update rtr.Update) {
 	}
 }
 
-// say writes the statistics.
+// say prints the statistics.
 func (c *counts) say(output io.Writer) {
 	c.lock.Lock()
 	defer c.lock.Unlock()
@@ -110,7 +110,7 @@ func (c *countedConn) Write(bytes []byte) (int, error) {
 	return n, err
 }
 
-// CloseWrite says that nothing more is written.
+// CloseWrite closes the writing side.
 func (c *countedConn) CloseWrite() error {
 	if half, ok := c.Conn.(interface{ CloseWrite() error }); ok {
 		return half.CloseWrite()

@@ -1,5 +1,5 @@
-// Rtr-client follows the data of caches over the RPKI to Router protocol: it prints what changes,
-// keeps the newest data in a file, records, and says whether a route is valid.
+// Rtr-client follows the data of caches over the RPKI to Router protocol: it prints changes, writes
+// the newest data to a file, records sessions, and validates routes.
 package main
 
 import (
@@ -15,23 +15,17 @@ import (
 	"fishreef/rtr"
 )
 
-// The statuses of the program.
-const (
-	failed = 1
-	usage  = 2
-)
-
 func main() { os.Exit(run(os.Args[1:])) }
 
-// run is the program, and answers its status.
+// run runs the program, and returns its exit status.
 func run(line []string) int {
 	wanted, err := arguments(line)
 	if errors.Is(err, words.ErrHelp) {
-		return 0
+		return words.Good
 	}
 	if err != nil {
 		say(err)
-		return usage
+		return words.Usage
 	}
 	ctx, stop := signal.NotifyContext(context.Background(), syscall.SIGINT, syscall.SIGTERM)
 	defer stop()
@@ -39,9 +33,9 @@ func run(line []string) int {
 	signal.Notify(asked, syscall.SIGUSR1)
 	if err := follows(ctx, wanted, os.Stdout, asked); err != nil {
 		say(err)
-		return failed
+		return words.StatusOf(err)
 	}
-	return 0
+	return words.Good
 }
 
 // follows follows the caches until the context ends, or with --once until there are data.
@@ -76,7 +70,7 @@ func follows(ctx context.Context, w *wanted, output io.Writer, asked <-chan os.S
 	return err
 }
 
-// say writes a line on standard error.
+// say prints a line on standard error.
 func say(what ...any) {
 	fmt.Fprintln(os.Stderr, append([]any{"rtr-client:"}, what...)...)
 }

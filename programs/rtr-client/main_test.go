@@ -8,6 +8,7 @@ import (
 	"net/netip"
 	"os"
 	"os/exec"
+	"regexp"
 	"strconv"
 	"strings"
 	"syscall"
@@ -15,6 +16,7 @@ import (
 	"time"
 
 	"fishreef/programs/internal/trial"
+	"fishreef/programs/internal/words"
 	"fishreef/rtr"
 )
 
@@ -25,7 +27,7 @@ func vrp(prefix string, maxLength uint8) rtr.VRP {
 	return rtr.VRP{Prefix: netip.MustParsePrefix(prefix), MaxLength: maxLength, ASN: 64496}
 }
 
-// data are data of version 1 and session 7.
+// data returns data of version 1 and session 7.
 func data(t *testing.T, serial uint32, vrps ...rtr.VRP) rtr.Data {
 	t.Helper()
 	made, err := rtr.NewDataOf(vrps, 1, 7, serial, rtr.RecommendedTiming)
@@ -35,7 +37,7 @@ func data(t *testing.T, serial uint32, vrps ...rtr.VRP) rtr.Data {
 	return made
 }
 
-// cached is a cache with data at an address, and the address.
+// cached returns a cache with data at an address, and the address.
 func cached(t *testing.T, address string, first rtr.Data) (*rtr.Server, string) {
 	t.Helper()
 	listener, err := net.Listen("tcp", address)
@@ -54,49 +56,89 @@ func cached(t *testing.T, address string, first rtr.Data) (*rtr.Server, string) 
 	return server, listener.Addr().String()
 }
 
-// Changes are printed as lines or as JSON, as they come.
+// when is the pattern of the time in a line.
+var when = regexp.MustCompile(`20\d\d-\d\d-\d\dT\d\d:\d\d:\d\dZ`)
+
+// Changes are printed as lines or as JSON, as they come. JSON always has their time and cache, and
+// lines do with --times.
 func TestPrintsChanges(t *testing.T) {
+	const added, gone = "IPv6 prefix 2001:db8::/32-32 AS64496\n", "IPv4 prefix 192.0.2.0/24-26 AS64496\n"
+	object := func(serial int, rest string) string {
+		return fmt.Sprintf(`{"time":"TIME","cache":"CACHE","session_id":7,"serial_number":%d,%s}`+"\n", serial, rest)
+	}
 	for option, says := range map[string][2]string{
-		"--version=1": {
-			"+ IPv4 prefix 192.0.2.0/24-26 AS64496\n",
-			"+ IPv6 prefix 2001:db8::/32-32 AS64496\n- IPv4 prefix 192.0.2.0/24-26 AS64496\n",
+		"--version=1": {"+ " + gone, "+ " + added + "- " + gone},
+		"--times": {
+			"TIME CACHE session 7 serial 1: + " + gone,
+			"TIME CACHE session 7 serial 2: + " + added + "TIME CACHE session 7 serial 2: - " + gone,
 		},
 		"--json": {
-			`{"kind":"ipv4_prefix","action":"announce","prefix":"192.0.2.0","prefix_length":24,"max_length":26,"asn":64496}` + "\n",
-			`{"kind":"ipv6_prefix","action":"announce","prefix":"2001:db8::","prefix_length":32,"max_length":32,"asn":64496}` + "\n" +
-				`{"kind":"ipv4_prefix","action":"withdraw","prefix":"192.0.2.0","prefix_length":24,"max_length":26,"asn":64496}` + "\n",
+			object(1, `"kind":"ipv4_prefix","action":"announce","prefix":"192.0.2.0","prefix_length":24,"max_length":26,"asn":64496`),
+			object(2, `"kind":"ipv6_prefix","action":"announce","prefix":"2001:db8::","prefix_length":32,"max_length":32,"asn":64496`) +
+				object(2, `"kind":"ipv4_prefix","action":"withdraw","prefix":"192.0.2.0","prefix_length":24,"max_length":26,"asn":64496`),
 		},
 	} {
 		server, address := cached(t, "127.0.0.1:0", data(t, 1, vrp("192.0.2.0/24", 26)))
 		process := trial.Start(t, t.TempDir(), address, option)
-		process.Await("the first data", func() bool { return process.Output() == says[0] })
+		printed := func() string {
+			return strings.ReplaceAll(when.ReplaceAllString(process.Output(), "TIME"), address, "CACHE")
+		}
+		process.Await("the first data", func() bool { return printed() == says[0] })
 		if err := server.Update(data(t, 2, vrp("2001:db8::/32", 32))); err != nil {
 			t.Fatal(err)
 		}
-		process.Await("the change", func() bool { return process.Output() == says[0]+says[1] })
+		process.Await("the change", func() bool { return printed() == says[0]+says[1] })
 		process.Says("session 7 serial 2", 1)
+		if timed := when.MatchString(process.Said()); timed != (option == "--times") {
+			t.Errorf("%s: %s", option, process.Said())
+		}
+		for _, text := range when.FindAllString(process.Output(), -1) {
+			at, err := time.Parse(time.RFC3339, text)
+			if since := time.Since(at); err != nil || since < -time.Second || since > trial.Wait {
+				t.Errorf("%s: %s", option, text)
+			}
+		}
 		if status := process.End(); status != 0 {
 			t.Error(status)
 		}
 	}
 }
 
-// With --once the program ends after the first data, or with status 1 where there are none.
+// Dropped data have no session, and validity has its time and cache, too.
+func TestStamps(t *testing.T) {
+	none := stampOf("cache:323", rtr.Data{})
+	none.Time = "TIME"
+	if got := none.text() + "- x"; got != "TIME cache:323 no data: - x" {
+		t.Error(got)
+	}
+	if got := none.json(); got != `{"time":"TIME","cache":"cache:323","session_id":null,"serial_number":null,` {
+		t.Error(got)
+	}
+	_, address := cached(t, "127.0.0.1:0", data(t, 1, vrp("192.0.2.0/24", 26)))
+	for option, wanted := range map[string]string{
+		"--times": "TIME CACHE session 7 serial 1: 192.0.2.0/24 AS64496 valid\n",
+		"--json":  `{"time":"TIME","cache":"CACHE","session_id":7,"serial_number":1,"prefix":"192.0.2.0/24","asn":64496,"state":"valid"`,
+	} {
+		process := trial.Start(t, t.TempDir(), address, option, "--once", "--validate", "192.0.2.0/24", "AS64496")
+		status := process.Status()
+		said := strings.ReplaceAll(when.ReplaceAllString(process.Output(), "TIME"), address, "CACHE")
+		if status != 0 || !strings.HasPrefix(said, wanted) || strings.Count(said, "\n") != 1 {
+			t.Errorf("%s: status %d, %s", option, status, said)
+		}
+	}
+}
+
+// With --once the program exits after the first data, or with status 1 if there are none.
 func TestOnce(t *testing.T) {
 	_, empty := cached(t, "127.0.0.1:0", rtr.Data{})
 	_, full := cached(t, "127.0.0.1:0", data(t, 1, vrp("192.0.2.0/24", 24)))
-	listener, err := net.Listen("tcp", "127.0.0.1:0")
-	if err != nil {
-		t.Fatal(err)
-	}
-	nobody := listener.Addr().String()
-	listener.Close()
+	nobody := trial.Reserved(t)
 	for _, row := range []struct {
 		words, output string
 		status        int
 		says          []string
 	}{
-		{full, "+ IPv4 prefix 192.0.2.0/24-24 AS64496\n", 0, []string{full + ": session 7 serial 1 version 2: 1 payloads"}},
+		{full, "+ IPv4 prefix 192.0.2.0/24-24 AS64496\n", 0, []string{full + ": session 7 serial 1 version 2: 1 payload"}},
 		{empty, "", 1, []string{empty + ": the peer reports: No Data Available", "there are no data"}},
 		{nobody, "", 1, []string{nobody + ": dial tcp", "connection refused"}},
 		{nobody + " " + empty + " " + full, "+ IPv4 prefix 192.0.2.0/24-24 AS64496\n", 0,
@@ -154,10 +196,10 @@ func TestOut(t *testing.T) {
 	}
 }
 
-// A recording has both directions, and the programs read it; each connection has its own, and a
-// file that is there stays.
+// A recording has both directions, and the programs read it; each connection has its own, and an
+// existing file stays.
 func TestRecord(t *testing.T) {
-	server, address := cached(t, "127.0.0.1:0", data(t, 1, vrp("192.0.2.0/24", 26)))
+	server, address := cached(t, trial.Reserved(t), data(t, 1, vrp("192.0.2.0/24", 26)))
 	folder := t.TempDir()
 	process := trial.Start(t, folder, address, "--version", "1", "--record", "r")
 	process.Says("serial 1", 1)
@@ -198,12 +240,12 @@ func TestRecord(t *testing.T) {
 		t.Error(info, err)
 	}
 	process = trial.Start(t, folder, address, "--record", "r", "--once")
-	if status := process.Status(); status != 1 || process.Lines("r: file exists") != 1 {
+	if status := process.Status(); status != words.System || process.Lines("r: file exists") != 1 {
 		t.Error(status, process.Said())
 	}
 }
 
-// lists compares what rtr_list prints of a recording.
+// lists compares the output of rtr_list for a recording.
 func lists(t *testing.T, folder, file string, lines ...string) {
 	t.Helper()
 	input, err := os.Open(folder + "/" + file)
@@ -219,32 +261,70 @@ func lists(t *testing.T, folder, file string, lines ...string) {
 	}
 }
 
-// The first cache that has data is followed. While it fails the next one is asked, and it is left
-// again; data that were shown stay while they live.
+// The first cache that has data is followed. While it fails the next one is asked, until the first
+// is back; shown data stay until they expire.
 func TestPreference(t *testing.T) {
-	gone, first := cached(t, "127.0.0.1:0", data(t, 1, vrp("192.0.2.0/24", 24)))
-	gone.Close()
+	first := trial.Reserved(t)
 	_, second := cached(t, "127.0.0.1:0", data(t, 5, vrp("198.51.100.0/24", 24)))
 	process := trial.Start(t, t.TempDir(), first, second)
 	process.Says(second+": session 7 serial 5", 1)
 	one, _ := cached(t, first, data(t, 1, vrp("192.0.2.0/24", 24)))
 	process.Says(first+": session 7 serial 1", 1)
-	failures := process.Lines(first + ": ")
 	one.Close()
-	process.Says(first+": ", failures+1)
+	process.Says(second+": session 7 serial 5", 2)
 	cached(t, first, data(t, 2, vrp("192.0.2.0/24", 25)))
 	process.Says(first+": session 7 serial 2", 1)
 	want := "+ IPv4 prefix 198.51.100.0/24-24 AS64496\n" +
 		"+ IPv4 prefix 192.0.2.0/24-24 AS64496\n- IPv4 prefix 198.51.100.0/24-24 AS64496\n" +
-		"+ IPv4 prefix 192.0.2.0/24-25 AS64496\n- IPv4 prefix 192.0.2.0/24-24 AS64496\n"
+		"+ IPv4 prefix 198.51.100.0/24-24 AS64496\n- IPv4 prefix 192.0.2.0/24-24 AS64496\n" +
+		"+ IPv4 prefix 192.0.2.0/24-25 AS64496\n- IPv4 prefix 198.51.100.0/24-24 AS64496\n"
 	process.Await("the way back", func() bool { return process.Output() == want })
 	process.End()
-	if process.Lines(second+": session") != 1 {
+	if process.Lines(second+": session") != 2 {
 		t.Error(process.Said())
 	}
 }
 
-// Over TLS a cache has to be of an authority, and gets the router's certificate.
+// A cache without payloads is a failure if there is another one, and a silent one costs five
+// seconds.
+func TestNoPayloads(t *testing.T) {
+	_, empty := cached(t, "127.0.0.1:0", data(t, 1))
+	_, other := cached(t, "127.0.0.1:0", data(t, 2))
+	_, second := cached(t, "127.0.0.1:0", data(t, 5, vrp("198.51.100.0/24", 24)))
+	silent, err := net.Listen("tcp", "127.0.0.1:0")
+	if err != nil {
+		t.Fatal(err)
+	}
+	defer silent.Close()
+	const line = "+ IPv4 prefix 198.51.100.0/24-24 AS64496\n"
+	for _, row := range []struct {
+		words  []string
+		status int
+		output string
+	}{
+		{[]string{empty, second}, 0, line},
+		{[]string{silent.Addr().String(), second}, 0, line},
+		{[]string{empty, other}, 1, ""},
+		{[]string{empty}, 0, ""},
+	} {
+		began := time.Now()
+		process := trial.Start(t, t.TempDir(), append(row.words, "--once")...)
+		if got := process.Status(); got != row.status || process.Output() != row.output {
+			t.Errorf("%v: status %d, %s", row.words, got, process.Said())
+		}
+		said := process.Lines(row.words[0] + ": the cache has no payloads")
+		if wanted := row.words[0] == empty && len(row.words) > 1; (said == 1) != wanted {
+			t.Errorf("%v: %s", row.words, process.Said())
+		}
+		took := time.Since(began)
+		if row.words[0] == silent.Addr().String() && took < 5*time.Second {
+			t.Error(took)
+		}
+	}
+}
+
+// Over TLS a cache's certificate has to be by the authority, and the cache gets the router's
+// certificate.
 func TestTLS(t *testing.T) {
 	folder := t.TempDir()
 	ours, others := trial.NewAuthority(t), trial.NewAuthority(t)
@@ -279,8 +359,8 @@ func TestTLS(t *testing.T) {
 	}
 }
 
-// Wrong words end the program with status 2 and one line that names the word; wrong files with
-// status 1.
+// Wrong arguments end the program with status 2 and one line that names the argument; wrong files
+// with status 1.
 func TestWrongWords(t *testing.T) {
 	folder := t.TempDir()
 	trial.Write(t, folder+"/file", "no certificate")
@@ -289,29 +369,29 @@ func TestWrongWords(t *testing.T) {
 		status int
 		says   string
 	}{
-		{"", 2, "no HOST:PORT is named"},
-		{"localhost", 2, `"localhost" is no HOST:PORT`},
+		{"", 2, "no cache is named: HOST:PORT"},
+		{"localhost", 2, `"localhost" isn't HOST:PORT`},
 		{"a:1 a:1", 2, "a:1 is named twice"},
 		{"a:1 a:2 a:3 a:4 a:5 a:6 a:7 a:8 a:9 b:1 b:2 b:3 b:4 b:5 b:6 b:7 b:8", 2,
 			"more than 16 caches are named"},
-		{"a:1 --version 3", 2, `--version: "3" is no version`},
-		{"a:1 --version", 2, "--version lacks its 0|1|2"},
-		{"a:1 --nothing", 2, `no option "--nothing"`},
-		{"a:1 --out", 2, "--out lacks its FILE"},
-		{"a:1 --validate 10.0.0.0/8", 2, "--validate lacks its PREFIX ASN"},
-		{"a:1 --validate 10.0.0.0 AS1", 2, `--validate: "10.0.0.0" is no prefix`},
-		{"a:1 --validate 10.0.0.0/8 ASx", 2, `--validate: "ASx" is no AS number`},
-		{"a:1 --tls-ca x", 2, "--tls is missing"},
-		{"a:1 --tls --tls-cert x", 2, "--tls-cert and --tls-key come together"},
-		{"a:1 --ssh rpki", 2, "--ssh, --ssh-key and --ssh-known-hosts come together"},
+		{"a:1 --version 3", 2, `--version: "3" isn't a version`},
+		{"a:1 --version", 2, "--version needs 0|1|2"},
+		{"a:1 --nothing", 2, `unknown option "--nothing"`},
+		{"a:1 --out", 2, "--out needs FILE"},
+		{"a:1 --validate 10.0.0.0/8", 2, "--validate needs PREFIX ASN"},
+		{"a:1 --validate 10.0.0.0 AS1", 2, `--validate: "10.0.0.0" isn't a prefix`},
+		{"a:1 --validate 10.0.0.0/8 ASx", 2, `--validate: "ASx" isn't an AS number`},
+		{"a:1 --tls-ca x", 2, "the options about TLS need --tls"},
+		{"a:1 --tls --tls-cert x", 2, "--tls-cert and --tls-key need each other"},
+		{"a:1 --ssh rpki", 2, "--ssh, --ssh-key and --ssh-known-hosts need each other"},
 		{"a:1 --ssh rpki --tls", 2, "--tls and --ssh exclude each other"},
-		{"a:1 --ssh rpki --ssh-key none --ssh-known-hosts none", 1, "none: no such file"},
+		{"a:1 --ssh rpki --ssh-key none --ssh-known-hosts none", 3, "none: no such file"},
 		{"a:1 --ssh rpki --ssh-key file --ssh-known-hosts none", 1, "file: ssh: no key found"},
 		{"a:1 --once=1", 2, "--once takes no argument"},
-		{"a:1 --tls --tls-ca none", 1, "none: no such file"},
+		{"a:1 --tls --tls-ca none", 3, "none: no such file"},
 		{"a:1 --tls --tls-ca file", 1, "file: there is no certificate in it"},
 		{"a:1 --tls --tls-cert file --tls-key file", 1, "file with file: "},
-		{"a:1 --record none/r", 1, "none/r: no such file"},
+		{"a:1 --record none/r", 3, "none/r: no such file"},
 	} {
 		process := trial.Start(t, folder, strings.Fields(row.words)...)
 		status, said := process.Status(), process.Said()
@@ -339,7 +419,7 @@ func TestStatistics(t *testing.T) {
 	process.Says("payloads 2, changes of the data 2, announced 3, withdrawn 1", 2)
 }
 
-// proxy passes connections on to an address, and cuts each after some bytes.
+// proxy forwards connections to an address, and cuts each after some bytes.
 func proxy(t *testing.T, to string) string {
 	listener, err := net.Listen("tcp", "127.0.0.1:0")
 	if err != nil {
@@ -413,11 +493,38 @@ func TestCuts(t *testing.T) {
 	})
 }
 
-// An output that can't be written ends the program.
+// A failed write of the output ends the program.
 func TestNoOutput(t *testing.T) {
 	_, address := cached(t, "127.0.0.1:0", data(t, 1, vrp("192.0.2.0/24", 24)))
 	process := trial.Start(t, t.TempDir(), address, "--out", "none/vrps.json")
-	if status := process.Status(); status != 1 || process.Lines("none/") != 1 {
+	if status := process.Status(); status != words.System || process.Lines("none/") != 1 {
 		t.Error(status, process.Said())
+	}
+}
+
+// The version that the help and the man page name as the default is the one that is asked in first.
+func TestDocumentedVersion(t *testing.T) {
+	page, err := os.ReadFile("../../docs/man/rtr-client.1")
+	if err != nil {
+		t.Fatal(err)
+	}
+	process := trial.Start(t, t.TempDir(), "--help")
+	if process.Status(); !strings.Contains(process.Output(), "Ask in this protocol version at most (default 2)\n") ||
+		!strings.Contains(string(page), "\nThe highest version of the protocol to use (default 2);") {
+		t.Error(process.Output())
+	}
+	listener, err := net.Listen("tcp", "127.0.0.1:0")
+	if err != nil {
+		t.Fatal(err)
+	}
+	defer listener.Close()
+	trial.Start(t, t.TempDir(), listener.Addr().String())
+	connection, err := listener.Accept()
+	if err != nil {
+		t.Fatal(err)
+	}
+	defer connection.Close()
+	if unit, err := rtr.NewReader(connection).Next(); err != nil || unit.Version != 2 || unit.Kind != rtr.ResetQuery {
+		t.Error(unit, err)
 	}
 }

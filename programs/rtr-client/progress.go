@@ -7,13 +7,13 @@ import (
 	"time"
 )
 
-// How often the line of progress is written, and after how many bytes the first time.
+// How often the line of progress is written, and after how many bytes first.
 const (
 	pace  = 200 * time.Millisecond
 	least = 1 << 16
 )
 
-// progress is a line on a terminal that says how much of an answer has come.
+// progress is a line on a terminal that shows how much of an answer has come.
 type progress struct {
 	terminal *os.File
 	counts   *counts
@@ -21,7 +21,7 @@ type progress struct {
 	ended    sync.WaitGroup
 
 	lock  sync.Mutex
-	since int64 // bytes that had come when the line was cleared last
+	since int64 // bytes received when the line was last cleared
 	shown bool
 }
 
@@ -61,7 +61,7 @@ func (p *progress) show() {
 	}
 }
 
-// clear takes the line away, before another one is written.
+// clear removes the line, before another one is written.
 func (p *progress) clear() {
 	p.lock.Lock()
 	defer p.lock.Unlock()
@@ -71,7 +71,7 @@ func (p *progress) clear() {
 	p.since, p.shown = p.counts.received.Load(), false
 }
 
-// end ends it.
+// end stops it.
 func (p *progress) end() {
 	close(p.stop)
 	p.ended.Wait()

@@ -13,7 +13,7 @@ import (
 	"fishreef/rtr"
 )
 
-// slowly passes on what comes from an address, a piece at a time, with pauses.
+// slowly forwards the bytes of an address, a piece at a time, with pauses.
 func slowly(t *testing.T, from string) string {
 	listener, err := net.Listen("tcp", "127.0.0.1:0")
 	if err != nil {

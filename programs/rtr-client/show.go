@@ -7,17 +7,16 @@ import (
 	"errors"
 	"fmt"
 	"io"
-	"os"
-	"path/filepath"
 	"strings"
 
+	"fishreef/programs/internal/words"
 	"fishreef/rtr"
 )
 
-// errEnough ends the program, which has what was wanted.
+// errEnough ends the program successfully.
 var errEnough = errors.New("enough")
 
-// show is told what comes of the caches, and does with it what was wanted.
+// show handles the news of the caches as the command line says.
 type show struct {
 	wanted   *wanted
 	ctx      context.Context
@@ -25,40 +24,47 @@ type show struct {
 	output   io.Writer
 	colours  colours
 	progress *progress
-	said     map[route]string // of the routes, what was printed last
+	said     map[route]string // the last printed validity of each route
+	failed   map[*rtr.Client]bool
 }
 
-// Failed says why a connection ended. With --once it ends the program after the last cache.
+// Failed prints why a connection ended. With --once it ends the program after the last cache
+// failed.
 func (s *show) Failed(source rtr.Source, err error) error {
 	s.progress.clear()
 	s.counts.failed(source.Name)
-	say(source.Name+":", strings.ReplaceAll(err.Error(), "rtr: ", ""))
-	if s.wanted.once && source.Name == s.wanted.addresses[len(s.wanted.addresses)-1] {
+	s.say(source.Name+":", strings.ReplaceAll(err.Error(), "rtr: ", ""))
+	if s.failed == nil {
+		s.failed = make(map[*rtr.Client]bool)
+	}
+	s.failed[source.Client] = true
+	if s.wanted.once && len(s.failed) == len(s.wanted.addresses) {
 		return errors.New("there are no data")
 	}
 	return nil
 }
 
-// Data shows other data than before.
+// Data shows new data.
 func (s *show) Data(source rtr.Source, update rtr.Update) error {
 	s.progress.clear()
 	s.counts.changed(update)
 	data := update.Data
+	stamp := stampOf(source.Name, data)
 	if data.IsZero() {
-		say(source.Name + ": there are no data any more")
+		s.say(source.Name + ": there are no data any more")
 	} else {
-		say(fmt.Sprintf("%s: session %d serial %d version %d: %d payloads",
-			source.Name, data.Session(), data.Serial(), data.Version(), data.Len()))
+		s.say(fmt.Sprintf("%s: session %d serial %d version %d: %s", source.Name,
+			data.Session(), data.Serial(), data.Version(), words.Number(data.Len(), "payload")))
 	}
 	var err error
 	switch {
 	case len(s.wanted.routes) > 0:
-		err = s.validate(data)
-	case s.wanted.out == "":
-		err = s.print(update.Changes())
+		err = s.validate(data, stamp)
+	case s.wanted.out == nil:
+		err = s.print(update.Changes(), stamp)
 	}
-	if err == nil && s.wanted.out != "" && !data.IsZero() {
-		err = s.keep(data)
+	if err == nil && s.wanted.out != nil {
+		err = s.keep(source, data)
 	}
 	if err == nil && s.wanted.once {
 		err = errEnough
@@ -66,47 +72,58 @@ func (s *show) Data(source rtr.Source, update rtr.Update) error {
 	return err
 }
 
-// print prints changes.
-func (s *show) print(changes *rtr.Units) error {
-	words := rtr.ChangeLine
-	if s.wanted.json {
-		words = rtr.ChangeJSON
+// say prints a line on standard error, with the time if asked for.
+func (s *show) say(what ...any) {
+	if s.wanted.times {
+		what = append([]any{now()}, what...)
 	}
+	say(what...)
+}
+
+// print prints changes.
+func (s *show) print(changes *rtr.Units, stamp stamp) error {
 	output := bufio.NewWriter(s.output)
 	for changes.Scan() {
-		output.WriteString(s.colours.of(words(changes.Unit())))
+		line := s.colours.of(rtr.ChangeLine(changes.Unit()))
+		if s.wanted.json {
+			line = rtr.ChangeJSON(changes.Unit())
+		}
+		output.WriteString(s.stamped(line, stamp))
 		output.WriteByte('\n')
 	}
 	return output.Flush()
 }
 
-// keep writes data into the file, by another one beside it, which then gets its name.
-func (s *show) keep(data rtr.Data) error {
-	text, _, err := s.wanted.lister.Run(s.ctx, bytes.NewReader(data.Bytes()), s.wanted.format)
-	if err != nil {
-		return err
+// stamped returns a line or an object of the output, with its stamp if asked for.
+func (s *show) stamped(line string, stamp stamp) string {
+	switch {
+	case s.wanted.json:
+		return stamp.json() + strings.TrimPrefix(line, "{")
+	case s.wanted.times:
+		return stamp.text() + line
 	}
-	path := s.wanted.out
-	file, err := os.CreateTemp(filepath.Dir(path), "."+filepath.Base(path)+".")
-	if err != nil {
-		return err
-	}
-	defer os.Remove(file.Name())
-	defer file.Close()
-	if _, err = file.Write(text); err == nil {
-		err = file.Chmod(0o644)
-	}
-	if err == nil {
-		err = file.Sync()
-	}
-	if err != nil {
-		return err
-	}
-	return os.Rename(file.Name(), path)
+	return line
 }
 
-// validate prints whether the routes are valid, where that is new.
-func (s *show) validate(data rtr.Data) error {
+// keep writes data into the file, or removes it if there are none any more (RFC 8210 section 6).
+func (s *show) keep(source rtr.Source, data rtr.Data) error {
+	out := s.wanted.out
+	if data.IsZero() {
+		removed, err := out.drop()
+		if removed && err == nil {
+			s.say(source.Name + ": " + out.path + " is removed")
+		}
+		return err
+	}
+	lacking, err := out.keep(s.ctx, data)
+	if err == nil && lacking != "" {
+		s.say(out.path + ": " + lacking)
+	}
+	return err
+}
+
+// validate prints the validity of the routes whose validity is new.
+func (s *show) validate(data rtr.Data, stamp stamp) error {
 	if s.said == nil {
 		s.said = map[route]string{}
 	}
@@ -126,7 +143,12 @@ func (s *show) validate(data rtr.Data) error {
 			continue
 		}
 		s.said[route] = string(text)
-		if _, err := s.output.Write(text); err != nil {
+		for _, line := range strings.SplitAfter(strings.TrimSuffix(string(text), "\n"), "\n") {
+			if _, err := io.WriteString(s.output, s.stamped(line, stamp)); err != nil {
+				return err
+			}
+		}
+		if _, err := io.WriteString(s.output, "\n"); err != nil {
 			return err
 		}
 	}

@@ -2,11 +2,7 @@ package main
 
 import (
 	"context"
-	"crypto/tls"
-	"crypto/x509"
-	"fmt"
 	"net"
-	"os"
 
 	"fishreef/programs/internal/record"
 	"fishreef/programs/internal/transport"
@@ -29,14 +25,14 @@ func (w *wanted) sources(counts *counts) ([]rtr.Source, error) {
 	var sources []rtr.Source
 	for _, address := range w.addresses {
 		client := rtr.NewClient(address)
-		client.Version = uint8(w.version)
+		client.AskIn(uint8(w.version))
 		client.Dial = counts.counted(connect)
 		sources = append(sources, rtr.Source{Name: address, Client: client})
 	}
 	return sources, nil
 }
 
-// recorded is a dial whose connections are recorded.
+// recorded returns a dial function that records the connections.
 func recorded(connect transport.Dial, recorder *record.Recorder) transport.Dial {
 	return func(ctx context.Context, network, address string) (net.Conn, error) {
 		connection, err := connect(ctx, network, address)
@@ -52,31 +48,13 @@ func recorded(connect transport.Dial, recorder *record.Recorder) transport.Dial 
 	}
 }
 
-// connect is how connections are made.
+// connect returns the dial function.
 func (w *wanted) connect() (transport.Dial, error) {
-	if w.ssh.User != "" {
+	switch {
+	case w.ssh.User != "":
 		return w.ssh.Dialer()
+	case w.useTLS:
+		return w.tls.Dialer()
 	}
-	if !w.tls.use {
-		return new(net.Dialer).DialContext, nil
-	}
-	config := &tls.Config{ServerName: w.tls.name, MinVersion: tls.VersionTLS12}
-	if w.tls.authority != "" {
-		text, err := os.ReadFile(w.tls.authority)
-		if err != nil {
-			return nil, err
-		}
-		config.RootCAs = x509.NewCertPool()
-		if !config.RootCAs.AppendCertsFromPEM(text) {
-			return nil, fmt.Errorf("%s: there is no certificate in it", w.tls.authority)
-		}
-	}
-	if w.tls.certificate != "" {
-		certificate, err := tls.LoadX509KeyPair(w.tls.certificate, w.tls.key)
-		if err != nil {
-			return nil, fmt.Errorf("%s with %s: %w", w.tls.certificate, w.tls.key, err)
-		}
-		config.Certificates = []tls.Certificate{certificate}
-	}
-	return (&tls.Dialer{Config: config}).DialContext, nil
+	return new(net.Dialer).DialContext, nil
 }

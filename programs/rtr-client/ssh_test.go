@@ -10,16 +10,17 @@ import (
 	"fishreef/rtr"
 )
 
-// nobody is told what goes over connections, and does nothing with it.
+// nobody is an observer that ignores all events.
 type nobody struct{}
 
-func (nobody) Opened(transport.Kind)                          {}
-func (nobody) Speaks(transport.Kind, uint8)                   {}
-func (nobody) Leaves(transport.Kind, uint8)                   {}
-func (nobody) Moved(transport.Kind, transport.Direction, int) {}
-func (nobody) Reported(transport.Direction, rtr.ErrorCode)    {}
+func (nobody) Opened(*transport.Peer)                                       {}
+func (nobody) Speaks(*transport.Peer, uint8)                                {}
+func (nobody) Leaves(*transport.Peer, uint8)                                {}
+func (nobody) Came(*transport.Peer, *rtr.Unit)                              {}
+func (nobody) Moved(*transport.Peer, transport.Direction, int)              {}
+func (nobody) Reported(*transport.Peer, transport.Direction, rtr.ErrorCode) {}
 
-// Over SSH a cache is followed whose key is known, with a key that it knows.
+// A cache with a trusted key is followed over SSH, with a key that it trusts.
 func TestSSH(t *testing.T) {
 	folder := t.TempDir()
 	host := trial.RSA.Save(t, folder+"/host")
@@ -35,7 +36,7 @@ func TestSSH(t *testing.T) {
 	if err != nil {
 		t.Fatal(err)
 	}
-	gate := transport.NewGate(10, func(net.Addr, error) {})
+	gate := transport.NewGate(10, nil)
 	t.Cleanup(gate.Close)
 	server := rtr.NewServer()
 	if err := server.Update(data(t, 1, vrp("192.0.2.0/24", 24))); err != nil {

@@ -10,7 +10,7 @@ import (
 	"fishreef/programs/internal/words"
 )
 
-// wanted is what the command line asks for.
+// wanted is the content of the command line.
 type wanted struct {
 	capture string
 	port    string
@@ -21,16 +21,16 @@ type wanted struct {
 	lister, tshark beside.Program
 }
 
-// arguments reads a command line.
+// arguments parses a command line.
 func arguments(line []string) (*wanted, error) {
 	w := &wanted{port: "323"}
 	program := words.Program{
 		Name:     "rtr-pcap",
 		Sentence: "list the RTR sessions of a packet capture",
 		Calls:    []string{"FILE [OPTION]..", "--help | --version"},
-		Help: `It lists the units of each connection of a pcap or pcapng file, of both sides in the
-order in which they came. tshark puts the connections together, and rtr_list lists
-the units. Standard error has each call of tshark.`,
+		Help: `Lists the units (PDUs) of each connection of a pcap or pcapng file, of both sides in
+the order in which they came, and says which bytes are missing. tshark reads the
+packets, and rtr_list lists the units.`,
 		Options: words.Join(w.ofConnections(), w.ofForms()),
 		Operand: w.file,
 	}
@@ -40,34 +40,34 @@ the units. Standard error has each call of tshark.`,
 	return w, w.check()
 }
 
-// ofConnections are the options about connections.
+// ofConnections returns the options for connections.
 func (w *wanted) ofConnections() []words.Option {
 	return []words.Option{
 		{
 			Name: "port", Argument: "PORT",
-			Help: "the port of the cache: 323",
+			Help: "Read connections of this port of the cache (default 323)",
 			Set:  number("port", &w.port, 1, 65535),
 		},
 		{
 			Name: "connection", Argument: "N",
-			Help: "only the connection that tshark gives this number",
+			Help: "Read only the connection with this number of tshark",
 			Set:  number("connection", &w.only, 0, 1<<31-1),
 		},
 	}
 }
 
-// ofForms are the options about what is written.
+// ofForms returns the options for output formats.
 func (w *wanted) ofForms() []words.Option {
 	options := []words.Option{{
 		Name: "raw",
-		Help: "write the units as they are, for the other programs",
+		Help: "Write the raw units, for the other programs",
 		Set:  words.Yes(&w.raw),
 	}}
 	for _, name := range []string{"json", "check", "csv", "vrps"} {
 		word := "--" + name
 		options = append(options, words.Option{
 			Name: name,
-			Help: "as rtr_list " + word,
+			Help: "List as rtr_list " + word,
 			Set: func(string) error {
 				w.form = append(w.form, word)
 				return nil
@@ -77,19 +77,19 @@ func (w *wanted) ofForms() []words.Option {
 	return options
 }
 
-// number is an option whose argument is a number between these.
+// number returns an option whose argument is a number in this range.
 func number(name string, to *string, least, most int) func(string) error {
 	return func(argument string) error {
 		value, err := strconv.Atoi(argument)
 		if err != nil || value < least || value > most {
-			return fmt.Errorf("%q is no %s", argument, name)
+			return fmt.Errorf("%q isn't a %s", argument, name)
 		}
 		*to = strconv.Itoa(value)
 		return nil
 	}
 }
 
-// file is the capture.
+// file sets the capture.
 func (w *wanted) file(word string) error {
 	if w.capture != "" {
 		return errors.New("more than one FILE is named")
@@ -98,7 +98,7 @@ func (w *wanted) file(word string) error {
 	return nil
 }
 
-// check says what a command line lacks as a whole, and finds the programs that it wants.
+// check returns an error if the options don't fit together, and finds the programs that they need.
 func (w *wanted) check() (err error) {
 	switch {
 	case w.capture == "":

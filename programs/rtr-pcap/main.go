@@ -1,5 +1,5 @@
-// Rtr-pcap takes the sessions of the RPKI to Router protocol out of a packet capture: tshark puts
-// together what each side of a connection sent, and rtr_list lists the units.
+// Rtr-pcap extracts the sessions of the RPKI to Router protocol from a packet capture: tshark reads
+// the packets, and rtr_list lists the units.
 package main
 
 import (
@@ -16,23 +16,17 @@ import (
 	"fishreef/programs/internal/words"
 )
 
-// The statuses of the program.
-const (
-	failed = 1
-	usage  = 2
-)
-
 func main() { os.Exit(run(os.Args[1:])) }
 
-// run is the program, and answers its status.
+// run runs the program, and returns its exit status.
 func run(line []string) int {
 	wanted, err := arguments(line)
 	if errors.Is(err, words.ErrHelp) {
-		return 0
+		return words.Good
 	}
 	if err != nil {
 		say(err)
-		return usage
+		return words.Usage
 	}
 	ctx, stop := signal.NotifyContext(context.Background(), syscall.SIGINT, syscall.SIGTERM)
 	defer stop()
@@ -40,42 +34,89 @@ func run(line []string) int {
 		if !errors.Is(err, errSaid) {
 			say(err)
 		}
-		return failed
+		return words.StatusOf(err)
 	}
-	return 0
+	return words.Good
 }
 
-// errSaid is of a run whose failures were said when they came.
+// errSaid is the error of a run whose failures were already printed.
 var errSaid = errors.New("some connections failed")
 
 // list lists the connections of the capture, or writes their units.
 func (w *wanted) list(ctx context.Context, output io.Writer) error {
-	numbers, err := w.connections(ctx)
+	connections, err := w.connections(ctx)
 	if err != nil {
 		return err
 	}
-	if len(numbers) == 0 {
-		return fmt.Errorf("%s: no connection of port %s brings data", w.capture, w.port)
-	}
 	var all error
-	for _, number := range numbers {
-		found, err := w.follow(ctx, number)
-		if err != nil {
-			return err
-		}
-		say(fmt.Sprintf("connection %s: %s with %s: %d bytes",
-			number, found.nodes[0], found.nodes[1], len(found.units)))
-		if w.raw {
-			_, err = output.Write(found.units)
-		} else {
-			err = w.show(ctx, found.units, output)
-		}
-		if err != nil {
-			say(fmt.Sprintf("connection %s: %v", number, err))
+	for _, c := range connections {
+		for _, err := range w.listOne(ctx, c, output) {
+			err = fmt.Errorf("connection %s: %w", c.number, err)
+			if words.StatusOf(err) == words.System {
+				return err
+			}
+			say(err)
 			all = errSaid
 		}
 	}
 	return all
+}
+
+// connections returns the connections with data, in the order in which they begin.
+func (w *wanted) connections(ctx context.Context) (all []*connection, err error) {
+	known := map[string]*connection{}
+	var seen []*connection
+	err = w.read(ctx, func(p packet) {
+		c := known[p.stream]
+		if c == nil {
+			c = &connection{number: p.stream}
+			known[p.stream], seen = c, append(seen, c)
+		}
+		c.take(p)
+	})
+	for _, c := range seen {
+		if len(c.packets) > 0 {
+			all = append(all, c)
+		}
+	}
+	if err == nil && len(all) == 0 {
+		err = fmt.Errorf("%s: no connection of port %s brings data", w.capture, w.port)
+	}
+	return all, err
+}
+
+// listOne lists a connection, or writes its units, and returns its problems.
+func (w *wanted) listOne(ctx context.Context, c *connection, output io.Writer) (faults []error) {
+	units := c.units()
+	say(fmt.Sprintf("connection %s: %s: %s", c.number, c.nodes(),
+		words.Number(len(units), "byte")))
+	for _, side := range c.sides {
+		if !side.opened && side.begun {
+			say(fmt.Sprintf("connection %s: %s: the capture begins after the connection did",
+				c.number, side.node))
+		}
+		for _, line := range side.lacks() {
+			faults = append(faults, errors.New(line))
+		}
+	}
+	var err error
+	if w.raw {
+		_, err = output.Write(units)
+	} else {
+		err = w.show(ctx, units, output)
+	}
+	if err != nil {
+		faults = append(faults, err)
+	}
+	return faults
+}
+
+// nodes returns the addresses of both sides.
+func (c *connection) nodes() string {
+	if len(c.sides) == 1 {
+		return c.sides[0].node + " alone"
+	}
+	return c.sides[0].node + " with " + c.sides[1].node
 }
 
 // show lists the units of a connection.
@@ -88,7 +129,7 @@ func (w *wanted) show(ctx context.Context, units []byte, output io.Writer) error
 	return nil
 }
 
-// say writes a line on standard error.
+// say prints a line on standard error.
 func say(what ...any) {
 	fmt.Fprintln(os.Stderr, append([]any{"rtr-pcap:"}, what...)...)
 }

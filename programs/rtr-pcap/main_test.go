@@ -3,12 +3,14 @@ package main
 import (
 	"bytes"
 	"encoding/binary"
+	"os"
 	"os/exec"
 	"path/filepath"
 	"strings"
 	"testing"
 
 	"fishreef/programs/internal/trial"
+	"fishreef/programs/internal/words"
 )
 
 func TestMain(tests *testing.M) { trial.Main(tests, run) }
@@ -18,14 +20,23 @@ const (
 	cache  = 323
 )
 
-// sent is what a side sends: from its port, at a place of its stream.
+// sent is what a side sends: from its port, at an offset of its stream.
 type sent struct {
 	from, to uint16
 	place    int
 	bytes    string
+	more     more
 }
 
-// packet is one of IPv4 and TCP.
+// more is what few packets have.
+type more struct {
+	flags byte   // in place of ACK and PSH
+	ack   uint32 // one is added
+	cut   int    // so many bytes at the end aren't in the capture
+	base  uint32 // of the sequence numbers, in place of 1
+}
+
+// packet is one of IPv4 and TCP, of which the capture has all but what is cut.
 func (s sent) packet() []byte {
 	head := make([]byte, 40)
 	head[0], head[8], head[9] = 0x45, 64, 6
@@ -33,9 +44,16 @@ func (s sent) packet() []byte {
 	copy(head[12:], []byte{127, 0, 0, 1, 127, 0, 0, 1})
 	binary.BigEndian.PutUint16(head[20:], s.from)
 	binary.BigEndian.PutUint16(head[22:], s.to)
-	binary.BigEndian.PutUint32(head[24:], uint32(s.place+1))
-	binary.BigEndian.PutUint32(head[28:], 1)
+	base := s.more.base
+	if base == 0 {
+		base = 1
+	}
+	binary.BigEndian.PutUint32(head[24:], base+uint32(s.place))
+	binary.BigEndian.PutUint32(head[28:], s.more.ack+1)
 	head[32], head[33] = 0x50, 0x18
+	if s.more.flags != 0 {
+		head[33] = s.more.flags
+	}
 	binary.BigEndian.PutUint16(head[34:], 65535)
 	return append(head, s.bytes...)
 }
@@ -51,14 +69,34 @@ func capture(t *testing.T, name string, packets ...sent) string {
 	}
 	for i, s := range packets {
 		packet := s.packet()
-		for _, number := range []uint32{1, uint32(i), uint32(len(packet)), uint32(len(packet))} {
+		had := len(packet) - s.more.cut
+		for _, number := range []uint32{1, uint32(i), uint32(had), uint32(len(packet))} {
 			binary.Write(&file, binary.LittleEndian, number)
 		}
-		file.Write(packet)
+		file.Write(packet[:had])
 	}
 	path := filepath.Join(t.TempDir(), name)
 	trial.Write(t, path, file.String())
 	return path
+}
+
+// header is what stands before a packet of a pcap file, all of which is in the capture.
+func header(size int) string {
+	var file bytes.Buffer
+	for _, number := range []uint32{1, 0, uint32(size), uint32(size)} {
+		binary.Write(&file, binary.LittleEndian, number)
+	}
+	return file.String()
+}
+
+// readAll returns the text of a file.
+func readAll(t *testing.T, path string) string {
+	t.Helper()
+	text, err := os.ReadFile(path)
+	if err != nil {
+		t.Fatal(err)
+	}
+	return string(text)
 }
 
 // The units of a session of version 1.
@@ -70,26 +108,26 @@ const (
 		"\x00\x00\x0e\x10\x00\x00\x02\x58\x00\x00\x1c\x20"
 )
 
-// session is a session from a port of a router, whose answer comes in pieces: a unit is cut in two,
-// a piece comes twice, and two come in the other order.
+// session returns a session from a port of a router, whose answer comes in pieces: a unit is split
+// in two, a piece comes twice, and two come in the other order.
 func session(port, to uint16) []sent {
 	return []sent{
-		{port, to, 0, query},
-		{to, port, 0, response + prefix[:5]},
-		{to, port, 0, response + prefix[:5]},
-		{to, port, 28, end},
-		{to, port, 13, prefix[5:]},
+		{port, to, 0, query, more{}},
+		{to, port, 0, response + prefix[:5], more{}},
+		{to, port, 0, response + prefix[:5], more{}},
+		{to, port, 28, end, more{}},
+		{to, port, 13, prefix[5:], more{}},
 	}
 }
 
-// lines are those of rtr_list of a session.
+// lines returns the lines of rtr_list for a session.
 const lines = `0 v1 reset query
 8 v1 cache response session 4660
 16 v1 IPv4 prefix announce 192.0.2.0/24-24 AS64496
 36 v1 end of data session 4660 serial 7 refresh 3600 retry 600 expire 7200
 `
 
-// wants skips a test where a program isn't installed.
+// wants skips a test if a program isn't installed.
 func wants(t *testing.T, names ...string) {
 	t.Helper()
 	for _, name := range names {
@@ -99,18 +137,19 @@ func wants(t *testing.T, names ...string) {
 	}
 }
 
-// Each connection of the port is listed, of both sides in the order in which they came, and what is
-// run is said.
+// Each connection of the port is listed, both sides in the order in which they came, and the
+// command that is run is printed.
 func TestListsConnections(t *testing.T) {
 	wants(t, "tshark", "rtr_list")
 	path := capture(t, "it's.pcap", append(append(session(router, cache),
-		sent{router, 80, 0, "GET / HTTP/1.0\r\n\r\n"}), session(router+1, cache)...)...)
+		sent{router, 80, 0, "GET / HTTP/1.0\r\n\r\n", more{}}), session(router+1, cache)...)...)
 	process := trial.Start(t, t.TempDir(), path)
 	if status := process.Status(); status != 0 || process.Output() != lines+lines {
 		t.Fatalf("status %d, %q, %q", status, process.Output(), process.Said())
 	}
-	process.Says("rtr-pcap: runs tshark -n -r '"+strings.ReplaceAll(path, "'", `'\''`)+"' ", 3)
-	process.Says("-q -z follow,tcp,raw,0", 1)
+	process.Says("rtr-pcap: runs tshark -n -r '"+strings.ReplaceAll(path, "'", `'\''`)+"' ", 1)
+	process.Says("-T fields", 1)
+	process.Says("connection 0: 127.0.0.1:40000 with 127.0.0.1:323: 60 bytes", 1)
 	process.Says(": 60 bytes", 2)
 }
 
@@ -119,7 +158,10 @@ func TestOptions(t *testing.T) {
 	wants(t, "tshark", "rtr_list")
 	other := session(router, 3323)
 	soiled := strings.Replace(prefix, "\xc0\x00\x02\x00", "\xc0\x00\x02\x01", 1)
-	broken := []sent{{router + 2, 3324, 0, query}, {3324, router + 2, 0, response + soiled + end}}
+	broken := []sent{
+		{router + 2, 3324, 0, query, more{}},
+		{3324, router + 2, 0, response + soiled + end, more{}},
+	}
 	path := capture(t, "file.pcap", append(append(other, session(router+1, cache)...), broken...)...)
 	for _, c := range []struct {
 		options, says string
@@ -130,9 +172,9 @@ func TestOptions(t *testing.T) {
 		{"--raw", query + response + prefix + end, 0},
 		{"--csv", "ASN,IP Prefix,Max Length\nAS64496,192.0.2.0/24,24\n", 0},
 		{"--check", "", 0},
-		{"--port 3324 --check", "offset 16: host bits of the prefix are not zero\n", failed},
-		{"--connection 0", "", failed},
-		{"--port 3325", "", failed},
+		{"--port 3324 --check", "offset 16: host bits of the prefix are not zero\n", words.Failed},
+		{"--connection 0", "", words.Failed},
+		{"--port 3325", "", words.Failed},
 	} {
 		process := trial.Start(t, t.TempDir(), append([]string{path}, strings.Fields(c.options)...)...)
 		if status := process.Status(); status != c.status || process.Output() != c.says {
@@ -141,45 +183,51 @@ func TestOptions(t *testing.T) {
 	}
 }
 
-// What isn't a whole unit at the end of a side stays, and rtr_list says so.
-func TestCutSession(t *testing.T) {
-	wants(t, "tshark", "rtr_list")
-	path := capture(t, "cut.pcap", session(router, cache)[:2]...)
-	process := trial.Start(t, t.TempDir(), path)
-	if status := process.Status(); status != failed {
-		t.Error(status)
-	}
-	process.Says("rtr_list: offset 16: ", 1)
-	raw := trial.Start(t, t.TempDir(), path, "--raw")
-	if status := raw.Status(); status != 0 || raw.Output() != query+response+prefix[:5] {
-		t.Errorf("status %d, %q", status, raw.Output())
-	}
-}
-
-// A wrong word and a wrong file get one line that names it.
+// A wrong argument and a wrong file get one line that names it.
 func TestRefuses(t *testing.T) {
 	wants(t, "tshark", "rtr_list")
 	folder, empty := t.TempDir(), capture(t, "empty.pcap")
+	text := folder + "/text"
+	trial.Write(t, text, "no capture")
 	for _, c := range []struct {
 		line   []string
 		says   string
 		status int
 	}{
-		{nil, "no FILE is named", usage},
-		{[]string{"a", "b"}, "more than one FILE is named", usage},
-		{[]string{"a", "--json", "--csv"}, "more than one form is named", usage},
-		{[]string{"a", "--raw", "--csv"}, "more than one form is named", usage},
-		{[]string{"a", "--port", "0"}, `--port: "0" is no port`, usage},
-		{[]string{"a", "--connection", "-1"}, `--connection: "-1" is no connection`, usage},
-		{[]string{"a", "--pcap"}, `there is no option "--pcap"`, usage},
-		{[]string{"missing"}, "stat missing: no such file or directory", failed},
-		{[]string{folder}, "rtr-pcap: tshark: exit status ", failed},
-		{[]string{empty}, empty + ": no connection of port 323 brings data", failed},
+		{nil, "no FILE is named", words.Usage},
+		{[]string{"a", "b"}, "more than one FILE is named", words.Usage},
+		{[]string{"a", "--json", "--csv"}, "more than one form is named", words.Usage},
+		{[]string{"a", "--raw", "--csv"}, "more than one form is named", words.Usage},
+		{[]string{"a", "--port", "0"}, `--port: "0" isn't a port`, words.Usage},
+		{[]string{"a", "--connection", "-1"}, `--connection: "-1" isn't a connection`, words.Usage},
+		{[]string{"a", "--pcap"}, `unknown option "--pcap"`, words.Usage},
+		{[]string{"missing"}, "open missing: no such file or directory", words.System},
+		{[]string{folder}, "read " + folder + ": is a directory", words.System},
+		{[]string{text}, "rtr-pcap: tshark: exit status ", words.Failed},
+		{[]string{empty}, empty + ": no connection of port 323 brings data", words.Failed},
 	} {
 		process := trial.Start(t, t.TempDir(), c.line...)
 		if status := process.Status(); status != c.status || process.Output() != "" {
 			t.Errorf("%q: status %d, %q", c.line, status, process.Output())
 		}
 		process.Says(c.says, 1)
+	}
+}
+
+// The port that the help and the man page name as the default is the one of the program.
+func TestDocumentedPort(t *testing.T) {
+	page, err := os.ReadFile("../../docs/man/rtr-pcap.1")
+	if err != nil {
+		t.Fatal(err)
+	}
+	process := trial.Start(t, t.TempDir(), "--help")
+	if process.Status(); !strings.Contains(process.Output(), "Read connections of this port of the cache (default 323)\n") ||
+		!strings.Contains(string(page), "\nThe port of the cache (default 323).\n") {
+		t.Error(process.Output())
+	}
+	wants(t, "tshark", "rtr_list")
+	asked := trial.Start(t, t.TempDir(), capture(t, "one.pcap", sent{router, cache, 0, query, more{}}))
+	if asked.Status(); asked.Lines("tcp.port==323,data") != 1 {
+		t.Error(asked.Said())
 	}
 }

@@ -1,31 +1,171 @@
 package main
 
 import (
+	"bufio"
 	"bytes"
 	"context"
 	"encoding/hex"
+	"errors"
 	"fmt"
+	"io"
+	"net"
 	"os"
 	"os/exec"
+	"strconv"
 	"strings"
-
-	"fishreef/rtr"
 )
 
-// run runs tshark on the capture, says so before, and gives what it writes.
-func (w *wanted) run(ctx context.Context, line ...string) (string, error) {
-	line = append([]string{"-n", "-r", w.capture}, line...)
-	say("runs tshark", quoted(line))
-	run := exec.CommandContext(ctx, string(w.tshark), line...)
-	var output, said bytes.Buffer
-	run.Stdout, run.Stderr = &output, &said
-	if err := run.Run(); err != nil {
-		return "", fmt.Errorf("tshark: %w: %s", err, lastLine(said.String()))
-	}
-	return output.String(), nil
+// The fields that tshark prints for each packet, in this order. All are from the packet's headers
+// but the last, its payload in hex: none is a text of tshark's own.
+var fields = []string{
+	"tcp.stream", "ip.src", "ipv6.src", "tcp.srcport", "tcp.seq_raw", "tcp.ack_raw",
+	"tcp.flags", "tcp.len", "tcp.payload",
 }
 
-// quoted are words as a shell reads them.
+// The indexes of the fields in a line.
+const (
+	streamField = iota
+	ipv4Field
+	ipv6Field
+	portField
+	seqField
+	ackField
+	flagsField
+	lengthField
+	payloadField
+)
+
+// The flags of TCP (RFC 9293 section 3.1).
+const (
+	finFlag = 1 << 0
+	synFlag = 1 << 1
+	rstFlag = 1 << 2
+	ackFlag = 1 << 4
+)
+
+// packet is a packet of a connection.
+type packet struct {
+	stream  string // tshark's number of the connection
+	from    string // the address and port of its sender
+	seq     uint32
+	ack     uint32
+	flags   uint64
+	length  int    // of its payload, from its headers
+	payload []byte // the captured part of it
+}
+
+// has reports whether the packet has one of these flags.
+func (p *packet) has(flags uint64) bool { return p.flags&flags != 0 }
+
+// read prints and runs the command of tshark for the capture, and calls a function with each packet
+// of the port. Packets quoted in ICMP messages don't belong to the connection.
+func (w *wanted) read(ctx context.Context, each func(packet)) error {
+	if err := readable(w.capture); err != nil {
+		return err
+	}
+	line := []string{
+		"-n", "-r", w.capture, "-d", "tcp.port==" + w.port + ",data",
+		"-o", "tcp.desegment_tcp_streams:FALSE", "-Y", w.filter(),
+		"-T", "fields", "-E", "occurrence=l",
+	}
+	for _, field := range fields {
+		line = append(line, "-e", field)
+	}
+	say("runs tshark", quoted(line))
+	run := exec.CommandContext(ctx, string(w.tshark), line...)
+	var stderr bytes.Buffer
+	run.Stderr = &stderr
+	output, err := run.StdoutPipe()
+	if err == nil {
+		err = run.Start()
+	}
+	if err != nil {
+		return fmt.Errorf("tshark: %w", err)
+	}
+	failed := readLines(output, each)
+	if failed != nil {
+		run.Process.Kill()
+	}
+	if err := run.Wait(); err != nil && failed == nil {
+		return fmt.Errorf("tshark: %w: %s", err, lastLine(stderr.String()))
+	}
+	return failed
+}
+
+// readable returns an error if a file can't be read.
+func readable(path string) error {
+	file, err := os.Open(path)
+	if err != nil {
+		return err
+	}
+	defer file.Close()
+	if _, err = file.Read(make([]byte, 1)); errors.Is(err, io.EOF) {
+		return nil
+	}
+	return err
+}
+
+// filter returns the display filter for the packets of the port.
+func (w *wanted) filter() string {
+	filter := "tcp.port == " + w.port + " && !icmp && !icmpv6"
+	if w.only != "" {
+		filter += " && tcp.stream == " + w.only
+	}
+	return filter
+}
+
+// readLines calls a function with the packet of each line.
+func readLines(input io.Reader, each func(packet)) error {
+	lines := bufio.NewReader(input)
+	for {
+		line, err := lines.ReadString('\n')
+		if errors.Is(err, io.EOF) && line == "" {
+			return nil
+		}
+		if err != nil && !errors.Is(err, io.EOF) {
+			return fmt.Errorf("tshark: %w", err)
+		}
+		next, err := parsePacket(strings.TrimSuffix(line, "\n"))
+		if err != nil {
+			return fmt.Errorf("tshark printed %.80q: %w", line, err)
+		}
+		each(next)
+	}
+}
+
+// parsePacket parses the packet of a line of fields.
+func parsePacket(line string) (p packet, err error) {
+	words := strings.Split(line, "\t")
+	if len(words) != len(fields) {
+		return p, fmt.Errorf("it has %d fields, not %d", len(words), len(fields))
+	}
+	address := words[ipv4Field]
+	if address == "" {
+		address = words[ipv6Field]
+	}
+	p.stream, p.from = words[streamField], net.JoinHostPort(address, words[portField])
+	numbers := []struct {
+		field, size int
+		to          *uint64
+	}{
+		{seqField, 32, new(uint64)}, {ackField, 32, new(uint64)}, {flagsField, 16, &p.flags},
+		{lengthField, 31, new(uint64)},
+	}
+	for _, number := range numbers {
+		if *number.to, err = strconv.ParseUint(words[number.field], 0, number.size); err != nil {
+			return p, err
+		}
+	}
+	p.seq, p.ack = uint32(*numbers[0].to), uint32(*numbers[1].to)
+	p.length = int(*numbers[3].to)
+	p.payload, err = hex.DecodeString(strings.ReplaceAll(words[payloadField], ":", ""))
+	if err == nil && len(p.payload) > p.length {
+		err = fmt.Errorf("there are %d bytes of a payload of %d", len(p.payload), p.length)
+	}
+	return p, err
+}
+
+// quoted returns words quoted for a shell.
 func quoted(line []string) string {
 	var shown []string
 	for _, word := range line {
@@ -37,86 +177,8 @@ func quoted(line []string) string {
 	return strings.Join(shown, " ")
 }
 
-// lastLine is the last line of a text.
+// lastLine returns the last line of a text.
 func lastLine(text string) string {
 	lines := strings.Split(strings.TrimSpace(text), "\n")
 	return lines[len(lines)-1]
-}
-
-// connections are the numbers of those that bring data.
-func (w *wanted) connections(ctx context.Context) ([]string, error) {
-	if _, err := os.Stat(w.capture); err != nil {
-		return nil, err
-	}
-	text, err := w.run(ctx, "-Y", "tcp.port == "+w.port+" && tcp.len > 0",
-		"-T", "fields", "-e", "tcp.stream")
-	if err != nil {
-		return nil, err
-	}
-	var numbers []string
-	seen := map[string]bool{}
-	for _, number := range strings.Fields(text) {
-		if !seen[number] && (w.only == "" || w.only == number) {
-			numbers = append(numbers, number)
-		}
-		seen[number] = true
-	}
-	return numbers, nil
-}
-
-// found is a connection: the addresses of its sides, and their units.
-type found struct {
-	nodes [2]string
-	units []byte
-}
-
-// follow gives a connection.
-func (w *wanted) follow(ctx context.Context, number string) (*found, error) {
-	text, err := w.run(ctx, "-q", "-z", "follow,tcp,raw,"+number)
-	if err != nil {
-		return nil, err
-	}
-	f := &found{}
-	var sides [2]side
-	for _, line := range strings.Split(text, "\n") {
-		for i := range f.nodes {
-			if head := fmt.Sprintf("Node %d: ", i); strings.HasPrefix(line, head) {
-				f.nodes[i] = strings.TrimPrefix(line, head)
-			}
-		}
-		from := 0
-		if strings.HasPrefix(line, "\t") {
-			from = 1
-		}
-		piece, err := hex.DecodeString(strings.TrimSpace(line))
-		if err != nil {
-			continue // a line around the pieces
-		}
-		f.units = append(f.units, sides[from].whole(piece)...)
-	}
-	for _, side := range sides {
-		f.units = append(f.units, side.came...) // which is no whole unit
-	}
-	return f, nil
-}
-
-// side is what one side sent.
-type side struct {
-	came []byte // and is no whole unit yet
-}
-
-// whole gives the units that are whole with one more piece.
-func (s *side) whole(piece []byte) []byte {
-	s.came = append(s.came, piece...)
-	size := 0
-	for {
-		next, err := rtr.UnitSize(s.came[size:])
-		if err != nil || next > len(s.came)-size {
-			break
-		}
-		size += next
-	}
-	units := append([]byte(nil), s.came[:size]...)
-	s.came = append(s.came[:0], s.came[size:]...)
-	return units
 }

@@ -1,4 +1,4 @@
-// Package beside runs the proved programs that lie beside this one: each reads its standard input,
+// Package beside runs the proved programs in this program's folder: each reads its standard input,
 // and writes its standard output.
 package beside
 
@@ -15,13 +15,13 @@ import (
 	"time"
 )
 
-// patience is how long a program may run.
+// patience is the time limit of a program.
 const patience = 5 * time.Minute
 
 // Program is the path of a program; "" for none.
 type Program string
 
-// Find gives the program of a name: beside this one, or else in PATH.
+// Find returns the program of a name: in this program's folder, or else in PATH.
 func Find(name string) (Program, error) {
 	if self, err := os.Executable(); err == nil {
 		beside := filepath.Join(filepath.Dir(self), name)
@@ -31,34 +31,42 @@ func Find(name string) (Program, error) {
 	}
 	path, err := exec.LookPath(name)
 	if err != nil {
-		return "", fmt.Errorf("%s is neither beside this program nor in PATH", name)
+		return "", fmt.Errorf("%s isn't in this program's folder or in PATH", name)
 	}
 	return Program(path), nil
 }
 
-// Run runs the program with this command line, and gives what it writes, and what it says on
-// standard error.
+// Unnamed returns a text of the program without its name at the start of each line.
+func (p Program) Unnamed(text string) string {
+	lines := strings.Split(strings.TrimSpace(text), "\n")
+	for i := range lines {
+		lines[i] = strings.TrimPrefix(lines[i], filepath.Base(string(p))+": ")
+	}
+	return strings.Join(lines, "\n")
+}
+
+// Run runs the program with these arguments, and returns its standard output and standard error.
 //
-// Errors: what it says on standard error, if it ends with another status than 0; else those of the
-// system, and of the context.
+// Errors: its standard error, if it exits with another status than 0; else those of the system, and
+// of the context.
 func (p Program) Run(
 	ctx context.Context, input io.Reader, line ...string,
-) (written, told []byte, err error) {
+) (written, messages []byte, err error) {
 	ctx, cancel := context.WithTimeout(ctx, patience)
 	defer cancel()
-	var output, said bytes.Buffer
+	var output, stderr bytes.Buffer
 	run := exec.CommandContext(ctx, string(p), line...)
-	run.Stdin, run.Stdout, run.Stderr = input, &output, &said
+	run.Stdin, run.Stdout, run.Stderr = input, &output, &stderr
 	err = run.Run()
-	text := strings.TrimSpace(said.String())
+	text := strings.TrimSpace(stderr.String())
 	name := filepath.Base(string(p))
 	switch {
 	case ctx.Err() != nil:
 		return nil, nil, fmt.Errorf("%s: %w", name, ctx.Err())
 	case err != nil && text != "":
-		return nil, nil, errors.New(strings.ReplaceAll(text, "\n", "; "))
+		return nil, nil, errors.New(text)
 	case err != nil:
 		return nil, nil, fmt.Errorf("%s: %w", name, err)
 	}
-	return output.Bytes(), said.Bytes(), nil
+	return output.Bytes(), stderr.Bytes(), nil
 }

@@ -6,7 +6,7 @@ import (
 	"encoding/binary"
 	"errors"
 	"fmt"
-	"net"
+	"math"
 	"os"
 	"runtime/debug"
 	"sync"
@@ -14,40 +14,56 @@ import (
 
 	"github.com/sirupsen/logrus"
 
+	"fishreef/programs/internal/clients"
 	"fishreef/programs/internal/metrics"
 	"fishreef/programs/internal/payloads"
 	"fishreef/programs/internal/state"
+	"fishreef/programs/internal/trust"
+	"fishreef/programs/internal/words"
 	"fishreef/rtr"
 )
 
-// Cache is a cache that runs.
+// Cache is a running cache.
 type Cache struct {
 	settings Settings
 	log      *logrus.Logger
 	metrics  *metrics.Metrics
+	clients  *clients.Clients
 	server   *rtr.Server
 	folder   *state.Folder // nil for none
 	files    []*followed
-	force    bool // the next data may withdraw as much as they want to
+	fetched  chan struct{} // has a value when a fetch ended
+	time     func() (system time.Time, running time.Duration)
 
-	lock    sync.Mutex // of what follows, and of the problems and stamps of files
-	present rtr.Data   // that are served
+	lock      sync.Mutex // guards the fields below, and the files
+	present   rtr.Data   // the data that are served
+	had       bool       // there were payloads before
+	unsaved   error      // why the data aren't saved
+	clock     trust.Clock
+	confirmed bool // a person confirmed the held list
 }
 
-// New makes a cache with what its state folder has.
+// New returns a cache with the data of its state folder.
 //
-// Errors: those of the folder, and of the system where it has no random number.
+// Errors: those of the folder, of the file of authorities, and of the system if it has no random
+// number.
 func New(settings Settings, log *logrus.Logger) (*Cache, error) {
 	c := &Cache{
-		settings: settings, log: log, metrics: metrics.New(), server: rtr.NewServer(),
-		force: settings.Force,
+		settings: settings, log: log, metrics: metrics.New(), clients: clients.New(),
+		server: rtr.NewServer(), time: systemTime(), confirmed: settings.Force,
+		fetched: make(chan struct{}, 1),
 	}
 	c.server.Limits.Connections = settings.Clients
 	c.server.Limits.Refuse = settings.Refuse
-	c.server.Ended = c.ended
+	c.server.Log = c.tells
 	for _, file := range settings.Files {
 		c.files = append(c.files, &followed{File: file})
 		c.metrics.Follows(file.Path)
+	}
+	c.metrics.Judges(c.health)
+	c.metrics.Collects(c.clients)
+	if err := c.remotes(); err != nil {
+		return nil, err
 	}
 	if settings.State == "" {
 		return c, nil
@@ -59,9 +75,9 @@ func New(settings Settings, log *logrus.Logger) (*Cache, error) {
 	c.folder = folder
 	switch data, err := folder.Restore(c.server); {
 	case err == nil:
-		c.serves(data, settings.State)
+		c.serves(data, settings.State, nil)
 	case errors.Is(err, os.ErrNotExist):
-	case errors.Is(err, rtr.ErrTorn):
+	case errors.Is(err, rtr.ErrTorn), errors.Is(err, rtr.ErrTiming):
 		log.Warnf("%s: another session begins", plainText(err))
 	default:
 		folder.Close()
@@ -70,8 +86,18 @@ func New(settings Settings, log *logrus.Logger) (*Cache, error) {
 	return c, nil
 }
 
-// Close ends all connections, and gives the state folder back. Answers that have begun end first,
-// unless the context ends.
+// systemTime returns the system's time, and the machine's uptime, which doesn't change when the
+// clock is set.
+func systemTime() func() (time.Time, time.Duration) {
+	start := time.Now()
+	return func() (time.Time, time.Duration) {
+		now := time.Now()
+		return now, now.Sub(start)
+	}
+}
+
+// Close closes all connections, and releases the state folder. It first waits for answers that have
+// begun, unless the context ends.
 func (c *Cache) Close(ctx context.Context) {
 	if err := c.server.Shutdown(ctx); err != nil {
 		c.log.Warnf("answers were cut off: %v", err)
@@ -81,66 +107,119 @@ func (c *Cache) Close(ctx context.Context) {
 	}
 }
 
-// serves notes which data are served, and where they are from.
-func (c *Cache) serves(data rtr.Data, from string) {
+// serves records which data are served, where they are from, and the size of the change; nil if
+// that isn't known.
+func (c *Cache) serves(data rtr.Data, from string, size *payloads.Size) {
 	c.lock.Lock()
 	defer c.lock.Unlock()
 	c.present = data
+	c.had = c.had || data.Len() > 0
 	c.metrics.Serves(data, time.Now())
-	c.log.Infof("%s: session %d serial %d: %d payloads",
-		from, data.Session(), data.Serial(), data.Len())
+	c.clients.Serves(data)
+	line := fmt.Sprintf("%s: session %d serial %d: %s",
+		from, data.Session(), data.Serial(), words.Number(data.Len(), "payload"))
+	if size != nil {
+		c.metrics.Changes(*size)
+		line += ", " + size.String()
+	}
+	if data.Len() == 0 && c.had {
+		c.log.Warn(line)
+		return
+	}
+	c.log.Info(line)
 }
 
-// update serves other payloads, under the next serial number.
-func (c *Cache) update(merged rtr.Data, from string) error {
-	session, serial := c.present.Session(), c.present.Serial()+1
+// update serves other payloads, under the next serial number. If they can't be saved, and the state
+// folder has older data of their session, they get another session.
+func (c *Cache) update(merged rtr.Data, from string, size payloads.Size) error {
+	session, serial := c.present.Session(), after(c.present.Serial())
+	var err error
 	if c.present.IsZero() {
-		var chance [2]byte
-		if _, err := rand.Read(chance[:]); err != nil {
-			return fmt.Errorf("a new session: %w", err)
+		session, err = anotherSession(nil)
+	}
+	var data rtr.Data
+	if err == nil {
+		data, err = c.under(merged, session, serial)
+	}
+	if errors.Is(err, state.ErrSession) {
+		if session, err = anotherSession(&session); err == nil {
+			c.log.Warnf("%s: %v: another session begins", c.settings.State, state.ErrSession)
+			data, err = c.under(merged, session, serial)
 		}
-		session = binary.BigEndian.Uint16(chance[:])
 	}
-	data, err := payloads.Under(merged, session, serial, c.settings.Timing)
-	if err != nil {
+	if !c.saves(err) {
 		return err
 	}
-	if c.folder != nil {
-		err = c.folder.Update(c.server, data)
-	} else {
-		err = c.server.Update(data)
-	}
-	var unsaved *state.Unsaved
-	if errors.As(err, &unsaved) {
-		c.metrics.Unsaved()
-		c.log.Errorf("%s: %v", c.settings.State, unsaved)
-		err = nil
-	}
-	if err != nil {
-		return err
-	}
-	c.serves(data, from)
-	debug.FreeOSMemory() // what was read, and the data before
+	c.serves(data, from, &size)
+	debug.FreeOSMemory() // the file's content, and the former data
 	return nil
 }
 
-// same says whether these payloads are those that are served, with the same times.
+// after returns the serial number after this one. It is never 0, since a router that lost its first
+// answer asks for changes since 0.
+func after(serial uint32) uint32 {
+	if serial == math.MaxUint32 {
+		return 1
+	}
+	return serial + 1
+}
+
+// anotherSession returns a random session, other than the one before if there is one.
+func anotherSession(before *uint16) (session uint16, err error) {
+	for {
+		var chance [2]byte
+		if _, err := rand.Read(chance[:]); err != nil {
+			return 0, fmt.Errorf("a new session: %w", err)
+		}
+		session = binary.BigEndian.Uint16(chance[:])
+		if before == nil || session != *before {
+			return session, nil
+		}
+	}
+}
+
+// under serves payloads with a session and a serial number.
+func (c *Cache) under(merged rtr.Data, session uint16, serial uint32) (rtr.Data, error) {
+	data, err := payloads.Under(merged, session, serial, c.settings.Timing)
+	switch {
+	case err != nil:
+		return rtr.Data{}, err
+	case c.folder != nil:
+		return data, c.folder.Update(c.server, data)
+	}
+	return data, c.server.Update(data)
+}
+
+// saves records whether data were saved, and reports whether they are served.
+func (c *Cache) saves(err error) bool {
+	var unsaved *state.Unsaved
+	if err != nil && !errors.As(err, &unsaved) {
+		return false
+	}
+	c.lock.Lock()
+	defer c.lock.Unlock()
+	before := c.unsaved
+	c.unsaved = nil
+	if unsaved != nil {
+		c.unsaved = unsaved.Reason
+		c.metrics.Unsaved()
+		c.log.Errorf("%s: the data aren't saved: %v: a restart now will begin another session",
+			c.settings.State, unsaved)
+	} else if before != nil {
+		c.log.Infof("%s: the data are saved again", c.settings.State)
+	}
+	return true
+}
+
+// save retries to save data that couldn't be saved.
+func (c *Cache) save() {
+	if c.unsaved != nil && c.folder.Save(c.server, c.present) == nil {
+		c.saves(nil)
+	}
+}
+
+// same reports whether these payloads are already served, with the same times.
 func (c *Cache) same(merged rtr.Data) bool {
 	return !c.present.IsZero() && c.present.Timing() == c.settings.Timing &&
 		payloads.Same(c.present, merged)
-}
-
-// ended notes why the connection of a client ended.
-func (c *Cache) ended(client net.Addr, err error) {
-	if errors.Is(err, rtr.ErrServerClosed) {
-		return
-	}
-	reason := reasonOf(err)
-	c.metrics.Ended(reason)
-	line := c.log.WithFields(logrus.Fields{"client": client.String(), "reason": reason})
-	if reason == lost {
-		line.Info(plainText(err))
-		return
-	}
-	line.Warn(plainText(err))
 }

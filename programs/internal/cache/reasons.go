@@ -10,7 +10,7 @@ import (
 // lost is the reason of connections that the network or the client ended.
 const lost = "lost"
 
-// reasonOf is the reason of an end in one word, as metrics have it.
+// reasonOf returns the reason of an end in one word, as metrics have it.
 func reasonOf(err error) string {
 	switch {
 	case errors.As(err, new(*rtr.Fault)):
@@ -33,7 +33,7 @@ func reasonOf(err error) string {
 	return lost
 }
 
-// plainText is the text of an error in one line, without the library's name.
+// plainText returns the text of an error in one line, without the library's name.
 func plainText(err error) string {
 	text := strings.ReplaceAll(err.Error(), "rtr: ", "")
 	return strings.ReplaceAll(text, "\n", "; ")

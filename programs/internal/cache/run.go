@@ -13,14 +13,19 @@ import (
 	"fishreef/rtr"
 )
 
-// How long answers that have begun may take at the end.
+// The time limit for answers that have begun when the cache stops.
 const lastAnswers = 10 * time.Second
 
-// Run serves until the context ends, and closes the cache. A value of hup has it read everything
-// anew: files, and certificates.
+// Signals are the commands of a person to a running cache.
+type Signals struct {
+	Reload  <-chan os.Signal // reloads everything: files and certificates
+	Confirm <-chan os.Signal // takes the held lists
+}
+
+// Run serves until the context ends, and then closes the cache.
 //
-// Errors: of an address, a socket or a certificate at the beginning; of a listener that fails.
-func (c *Cache) Run(ctx context.Context, hup <-chan os.Signal) error {
+// Errors: of an address, a socket or a certificate at the start; of a failing listener.
+func (c *Cache) Run(ctx context.Context, signals Signals) error {
 	inner, stop := context.WithCancel(ctx)
 	defer stop()
 	s, err := c.open()
@@ -28,18 +33,22 @@ func (c *Cache) Run(ctx context.Context, hup <-chan os.Signal) error {
 		c.Close(ctx)
 		return err
 	}
+	seen := observer{c.metrics, c.clients, c.log}
 	for _, bound := range s.bound {
 		bound := bound
 		c.log.Infof("listening at %v for %s", bound.Listener.Addr(), bound.Kind)
-		listener := transport.Guarded(bound, s.secured[bound.Kind], s.gate, c.metrics)
+		listener := transport.Guarded(bound, s.secured[bound.Kind], s.gate, seen)
 		go func() { s.failed <- c.server.Serve(listener) }()
 	}
 	if s.metrics != nil {
 		c.log.Infof("metrics are at http://%v/metrics", s.metrics.Addr())
-		go func() { s.failed <- c.metrics.Serve(inner, s.metrics, c.healthy) }()
+		go func() { s.failed <- c.metrics.Serve(inner, s.metrics, c.clients) }()
 	}
-	err = c.follow(inner, hup, s)
+	ended := c.fetch(inner)
+	err = c.follow(inner, signals, s)
 	c.notify(daemon.SdNotifyStopping)
+	stop()
+	ended()
 	last, end := context.WithTimeout(context.Background(), lastAnswers)
 	defer end()
 	s.gate.Close()
@@ -50,17 +59,17 @@ func (c *Cache) Run(ctx context.Context, hup <-chan os.Signal) error {
 	return err
 }
 
-// sockets are what a cache listens at.
+// sockets are the listeners of a cache.
 type sockets struct {
 	bound   []transport.Bound
 	metrics net.Listener
 	secured map[transport.Kind]transport.Secured
-	reload  []func() error // what reads certificates and keys anew
+	reload  []func() error // the functions that reload certificates and keys
 	gate    *transport.Gate
 	failed  chan error
 }
 
-// open takes all sockets and certificates, or none.
+// open opens all sockets and certificates, or none.
 func (c *Cache) open() (s *sockets, err error) {
 	s = &sockets{secured: map[transport.Kind]transport.Secured{transport.TCP: transport.Plain}}
 	defer func() {
@@ -91,14 +100,14 @@ func (c *Cache) open() (s *sockets, err error) {
 		}
 	}
 	s.failed = make(chan error, len(s.bound)+1)
-	s.gate = transport.NewGate(c.settings.PerAddress, c.ended)
+	s.gate = transport.NewGate(c.settings.PerAddress, c.tells)
 	return s, c.secure(s)
 }
 
-// anywhere is where a cache listens that isn't told where: at a port that needs no rights.
+// anywhere is the default address of a cache: a port that needs no privileges.
 const anywhere = ":3323"
 
-// secure reads the certificates and keys of the transports that are listened for.
+// secure reads the certificates and keys of the transports in use.
 func (c *Cache) secure(s *sockets) error {
 	for _, bound := range s.bound {
 		if s.secured[bound.Kind] != nil {
@@ -107,7 +116,7 @@ func (c *Cache) secure(s *sockets) error {
 		switch bound.Kind {
 		case transport.TLS:
 			if c.settings.TLS.Certificate == "" || c.settings.TLS.Key == "" {
-				return errors.New("TLS wants --tls-cert and --tls-key")
+				return errors.New("TLS needs --tls-cert and --tls-key")
 			}
 			identity, err := transport.NewIdentity(c.settings.TLS)
 			if err != nil {
@@ -117,7 +126,7 @@ func (c *Cache) secure(s *sockets) error {
 			s.reload = append(s.reload, identity.Load)
 		case transport.SSH:
 			if c.settings.SSH.HostKey == "" || c.settings.SSH.Routers == "" {
-				return errors.New("SSH wants --ssh-host-key and --ssh-routers")
+				return errors.New("SSH needs --ssh-host-key and --ssh-routers")
 			}
 			host, err := transport.NewHost(c.settings.SSH)
 			if err != nil {
@@ -143,9 +152,9 @@ func (s *sockets) close() {
 	}
 }
 
-// notify tells systemd of the state of the cache, if it wants to know.
+// notify sends the state of the cache to systemd, if it listens.
 func (c *Cache) notify(state string) {
 	if _, err := daemon.SdNotify(false, state); err != nil {
-		c.log.Warnf("systemd can't be told: %v", err)
+		c.log.Warnf("notifying systemd failed: %v", err)
 	}
 }

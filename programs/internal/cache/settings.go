@@ -1,32 +1,34 @@
-// Package cache is a cache that serves what validators write into files: it follows the files, and
-// keeps session and serial number itself.
+// Package cache is a cache that serves the payloads that validators write into files: it follows
+// the files, and manages session and serial number itself.
 package cache
 
 import (
 	"time"
 
+	"fishreef/programs/internal/fetch"
 	"fishreef/programs/internal/payloads"
 	"fishreef/programs/internal/transport"
+	"fishreef/programs/internal/trust"
 	"fishreef/rtr"
 )
 
-// Settings are what the command line of a cache says.
+// Settings are the settings of a cache's command line.
 type Settings struct {
 	Files  []payloads.File
 	Reader payloads.Reader
-	State  string // a folder; "" for none
+	Fetch  fetch.Settings // except for the folder
+	State  string         // a folder; "" for none
 	Timing rtr.Timing
 
-	Guard payloads.Share // more than this of the payloads isn't withdrawn at once
-	Force bool           // the first data may withdraw more
-	Look  time.Duration  // between two looks at the files, at most
-	Stale time.Duration  // a file that is older isn't healthy
+	Rules trust.Rules
+	Force bool          // the first lists after the start may withdraw more than Guard allows
+	Look  time.Duration // the longest time between two checks of the files
 
 	Listen     []transport.Address
 	TLS        transport.TLSFiles
 	SSH        transport.SSHFiles
-	Clients    int // at once
-	PerAddress int // of these
+	Clients    int // the most clients at once
+	PerAddress int // the most clients of one address at once
 	Refuse     bool
 	Metrics    string // an address; "" for none
 }

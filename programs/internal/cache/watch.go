@@ -2,7 +2,6 @@ package cache
 
 import (
 	"context"
-	"os"
 	"path/filepath"
 	"time"
 
@@ -10,16 +9,16 @@ import (
 	"github.com/fsnotify/fsnotify"
 )
 
-// Writers write in pieces: a file is looked at once nothing was written for this time.
+// Writers write in pieces: a file is checked once nothing was written for this time.
 const quiet = 100 * time.Millisecond
 
-// The system's clock may be set: the next expiry is looked for again after this time.
+// The system's clock may be set: the next expiry is computed again after this time.
 const longest = time.Hour
 
-// untilExpiry is how long it takes until the next item of a file expires.
+// untilExpiry returns the time until the next item of a file expires.
 func (c *Cache) untilExpiry() time.Duration {
 	next := c.nextExpiry()
-	switch wait := time.Until(next); {
+	switch wait := next.Sub(c.clock.Now()); {
 	case next.IsZero() || wait > longest:
 		return longest
 	case wait < quiet:
@@ -29,10 +28,10 @@ func (c *Cache) untilExpiry() time.Duration {
 	}
 }
 
-// follow looks at the files when something is written in their folders, when it is told to, when an
-// item expires, and by time, until the context ends or a listener fails. It answers the listener's
+// follow checks the files when something is written in their folders, on signals, when an item
+// expires, and periodically, until the context ends or a listener fails. It returns the listener's
 // error.
-func (c *Cache) follow(ctx context.Context, hup <-chan os.Signal, s *sockets) error {
+func (c *Cache) follow(ctx context.Context, signals Signals, s *sockets) error {
 	events, stop := c.watch()
 	defer stop()
 	ticks := time.NewTicker(c.settings.Look)
@@ -53,13 +52,15 @@ func (c *Cache) follow(ctx context.Context, hup <-chan os.Signal, s *sockets) er
 				soon.Reset(quiet)
 			}
 			continue
-		case <-hup:
+		case <-signals.Confirm:
+			c.log.Info("SIGUSR1: accepting what is held")
+			c.confirmed = true
+		case <-signals.Reload:
 			c.notify(daemon.SdNotifyReloading)
-			c.reload(s)
-			c.lookAndWait(ctx, true, soon, expiry)
-			c.notify(daemon.SdNotifyReady)
+			c.reload(ctx, s, soon, expiry)
 			continue
 		case <-soon.C:
+		case <-c.fetched:
 		case <-ticks.C:
 		case <-expiry.C:
 		}
@@ -71,8 +72,8 @@ func (c *Cache) follow(ctx context.Context, hup <-chan os.Signal, s *sockets) er
 	}
 }
 
-// lookAndWait looks at the files, and sets when they are looked at again: soon after a change, and
-// when the next item expires.
+// lookAndWait checks the files, and sets when to check them again: soon after a change, and when
+// the next item expires.
 func (c *Cache) lookAndWait(ctx context.Context, asked bool, soon, expiry *time.Timer) {
 	if c.look(ctx, asked) {
 		soon.Reset(quiet)
@@ -80,44 +81,58 @@ func (c *Cache) lookAndWait(ctx context.Context, asked bool, soon, expiry *time.
 	expiry.Reset(c.untilExpiry())
 }
 
-// follows says whether this is the path of a file that the cache follows.
-func (c *Cache) follows(path string) bool {
+// paths returns the local files that the cache follows: lists and SLURM files.
+func (c *Cache) paths() []string {
+	all := append([]string(nil), c.settings.Reader.Slurm...)
 	for _, file := range c.files {
-		if filepath.Clean(file.Path) == filepath.Clean(path) {
+		if file.remote == nil {
+			all = append(all, file.Path)
+		}
+	}
+	return all
+}
+
+// follows reports whether this is the path of a file that the cache follows.
+func (c *Cache) follows(path string) bool {
+	for _, followed := range c.paths() {
+		if filepath.Clean(followed) == filepath.Clean(path) {
 			return true
 		}
 	}
 	return false
 }
 
-// reload reads certificates and keys anew. Where one is wrong the one before stays.
-func (c *Cache) reload(s *sockets) {
+// reload reloads all files, certificates and keys, and fetches all lists. If a certificate or a key
+// is wrong, the former one stays.
+func (c *Cache) reload(ctx context.Context, s *sockets, soon, expiry *time.Timer) {
 	for _, load := range s.reload {
 		if err := load(); err != nil {
-			c.log.Errorf("%v: the one before stays", err)
+			c.log.Errorf("%v: the previous one stays in use", err)
 		}
 	}
+	c.fetchAgain()
+	c.lookAndWait(ctx, true, soon, expiry)
+	c.notify(daemon.SdNotifyReady)
 }
 
-// watch gives a value when something is written in a folder of the files. Where the system can't
-// tell, files are looked at by time alone.
+// watch sends a value when something is written in a folder of the files. If the system can't
+// report that, files are only checked periodically.
 func (c *Cache) watch() (events <-chan fsnotify.Event, stop func()) {
 	watcher, err := fsnotify.NewWatcher()
 	if err != nil {
-		c.log.Warnf("files are looked at every %v, and not when they change: %v",
+		c.log.Warnf("files are checked every %v, and not when they change: %v",
 			c.settings.Look, err)
 		return nil, func() {}
 	}
-	for _, file := range c.files {
-		folder := filepath.Dir(file.Path)
-		if err := watcher.Add(folder); err != nil {
-			c.log.Warnf("%s is looked at every %v, and not when it changes: %v",
-				file.Path, c.settings.Look, err)
+	for _, path := range c.paths() {
+		if err := watcher.Add(filepath.Dir(path)); err != nil {
+			c.log.Warnf("%s is checked every %v, and not when it changes: %v",
+				path, c.settings.Look, err)
 		}
 	}
 	go func() {
 		for err := range watcher.Errors {
-			c.log.Warnf("a change of a file may be seen late: %v", err)
+			c.log.Warnf("a change of a file may be noticed late: %v", err)
 		}
 	}()
 	return watcher.Events, func() { watcher.Close() }

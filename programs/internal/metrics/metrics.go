@@ -8,47 +8,57 @@ import (
 	"github.com/prometheus/client_golang/prometheus"
 	"github.com/prometheus/client_golang/prometheus/collectors"
 
+	"fishreef/programs/internal/fetch"
 	"fishreef/programs/internal/payloads"
 	"fishreef/programs/internal/transport"
+	"fishreef/programs/internal/trust"
 	"fishreef/programs/internal/words"
 	"fishreef/rtr"
 )
 
-// Metrics are the metrics of a cache. It is a transport.Observer.
+// Metrics are the metrics of a cache. It has the methods of a transport.Observer except Came.
 type Metrics struct {
 	registry *prometheus.Registry
 
-	connections, bytes, reports, ended, refusals *prometheus.CounterVec
-	clients, served, read, written, expired      *prometheus.GaugeVec
-	session, serial, changed                     prometheus.Gauge
-	unsaved                                      prometheus.Counter
+	connections, bytes, reports, ended, refusals, changes, fetches *prometheus.CounterVec
+	clients, served, read, written, expired, confirmed             *prometheus.GaugeVec
+	session, serial, changed                                       prometheus.Gauge
+	unsaved                                                        prometheus.Counter
+
+	faults func() []trust.Fault
 }
 
-// New makes the metrics of a cache that has done nothing yet.
+// New returns the metrics of a new cache.
 func New() *Metrics {
 	m := &Metrics{
 		registry: prometheus.NewRegistry(),
+		faults:   func() []trust.Fault { return nil },
 
 		connections: counters("connections_total",
-			"Connections that were taken.", "transport"),
+			"Connections accepted.", "transport"),
 		bytes: counters("bytes_total",
-			"Bytes of units.", "transport", "direction"),
+			"Bytes of units (PDUs) sent and received.", "transport", "direction"),
 		reports: counters("error_reports_total",
-			"Error reports, by their code.", "direction", "code"),
+			"Error reports sent and received, by code.", "direction", "code"),
 		ended: counters("ends_total",
-			"Ends of connections, but by a close of the client between units.", "reason"),
+			"Connections that ended abnormally, by reason.", "reason"),
 		refusals: counters("file_refusals_total",
-			"Times that a file was refused.", "file"),
+			"How often a file was refused or held.", "file"),
+		changes: counters("changes_total",
+			"Payloads announced and withdrawn, by kind.", "action", "kind"),
+		fetches: counters("fetches_total",
+			"Fetches of a list by URL, by result.", "file", "result"),
 		clients: gauges("clients",
-			"Clients, by the version of their first query.", "transport", "version"),
-		served: gauges("payloads",
-			"Payloads that are served, by kind.", "kind"),
+			"Connected routers, by the version of their first query.", "transport", "version"),
+		served: gauges("payloads", "Payloads served, by kind.", "kind"),
 		read: gauges("file_read_timestamp_seconds",
-			"When a file was taken last.", "file"),
+			"When the file was accepted last.", "file"),
 		written: gauges("file_modified_timestamp_seconds",
-			"When the file that was taken last was written.", "file"),
+			"When the file that was accepted last was written.", "file"),
 		expired: gauges("expired_items",
-			"Items of the file that was taken last that had expired.", "file"),
+			"Expired items of the file when it was accepted last.", "file"),
+		confirmed: gauges("file_fetched_timestamp_seconds",
+			"When the server of a list had it last, new or unchanged.", "file"),
 		session: gauge("session", "Session of the data."),
 		serial:  gauge("serial", "Serial number of the data."),
 		changed: gauge("changed_timestamp_seconds", "When the data changed last."),
@@ -60,21 +70,21 @@ func New() *Metrics {
 	return m
 }
 
-// register has the registry know all of them, the version, and what is usual of a process in Go.
+// register registers all of them, the version, and the standard metrics of a process in Go.
 func (m *Metrics) register() {
 	version := prometheus.NewGaugeFunc(prometheus.GaugeOpts{
 		Namespace: namespace, Name: "info", Help: "The version of the program.",
 		ConstLabels: prometheus.Labels{"version": words.Version},
 	}, func() float64 { return 1 })
 	m.registry.MustRegister(
-		m.connections, m.bytes, m.reports, m.ended, m.refusals, m.clients, m.served, m.read,
-		m.written, m.expired, m.session, m.serial, m.changed, m.unsaved, version,
+		m.connections, m.bytes, m.reports, m.ended, m.refusals, m.changes, m.fetches,
+		m.clients, m.served, m.confirmed, m.read, m.written, m.expired, m.session, m.serial, m.changed, m.unsaved, version,
 		collectors.NewGoCollector(),
 		collectors.NewProcessCollector(collectors.ProcessCollectorOpts{}),
 	)
 }
 
-// namespace is what the names of all metrics begin with.
+// namespace is the prefix of the names of all metrics.
 const namespace = "rtr_cache"
 
 func counters(name, help string, labels ...string) *prometheus.CounterVec {
@@ -92,30 +102,30 @@ func gauge(name, help string) prometheus.Gauge {
 }
 
 // Opened counts a connection.
-func (m *Metrics) Opened(kind transport.Kind) {
-	m.connections.WithLabelValues(string(kind)).Inc()
+func (m *Metrics) Opened(peer *transport.Peer) {
+	m.connections.WithLabelValues(string(peer.Kind)).Inc()
 }
 
 // Speaks counts a client.
-func (m *Metrics) Speaks(kind transport.Kind, version uint8) {
-	m.clients.WithLabelValues(string(kind), strconv.Itoa(int(version))).Inc()
+func (m *Metrics) Speaks(peer *transport.Peer, version uint8) {
+	m.clients.WithLabelValues(string(peer.Kind), strconv.Itoa(int(version))).Inc()
 }
 
-// Leaves counts a client no more.
-func (m *Metrics) Leaves(kind transport.Kind, version uint8) {
-	m.clients.WithLabelValues(string(kind), strconv.Itoa(int(version))).Dec()
+// Leaves stops counting a client.
+func (m *Metrics) Leaves(peer *transport.Peer, version uint8) {
+	m.clients.WithLabelValues(string(peer.Kind), strconv.Itoa(int(version))).Dec()
 }
 
 // Moved counts bytes.
-func (m *Metrics) Moved(kind transport.Kind, direction transport.Direction, bytes int) {
-	m.bytes.WithLabelValues(string(kind), string(direction)).Add(float64(bytes))
+func (m *Metrics) Moved(peer *transport.Peer, direction transport.Direction, bytes int) {
+	m.bytes.WithLabelValues(string(peer.Kind), string(direction)).Add(float64(bytes))
 }
 
-// Codes from this one on are counted together, since a client may send any.
+// Codes from this one on are counted together, since a client may send any code.
 const otherCodes = 16
 
 // Reported counts an error report.
-func (m *Metrics) Reported(direction transport.Direction, code rtr.ErrorCode) {
+func (m *Metrics) Reported(_ *transport.Peer, direction transport.Direction, code rtr.ErrorCode) {
 	label := "other"
 	if code < otherCodes {
 		label = strconv.Itoa(int(code))
@@ -126,7 +136,7 @@ func (m *Metrics) Reported(direction transport.Direction, code rtr.ErrorCode) {
 // Ended counts the end of a connection.
 func (m *Metrics) Ended(reason string) { m.ended.WithLabelValues(reason).Inc() }
 
-// Serves notes the data that are served, since a time.
+// Serves records the data that are served, since a time.
 func (m *Metrics) Serves(data rtr.Data, since time.Time) {
 	m.session.Set(float64(data.Session()))
 	m.serial.Set(float64(data.Serial()))
@@ -136,19 +146,74 @@ func (m *Metrics) Serves(data rtr.Data, since time.Time) {
 	}
 }
 
+// Changes counts the payloads of a change.
+func (m *Metrics) Changes(size payloads.Size) {
+	for _, kind := range trust.Kinds {
+		name := kind.String()
+		m.changes.WithLabelValues("announced", name).Add(float64(size.Announced[kind]))
+		m.changes.WithLabelValues("withdrawn", name).Add(float64(size.Withdrawn[kind]))
+	}
+}
+
+// Collects adds the metrics of another collector.
+func (m *Metrics) Collects(others prometheus.Collector) { m.registry.MustRegister(others) }
+
+// Judges adds gauges of the health: of all together, and of each reason.
+func (m *Metrics) Judges(faults func() []trust.Fault) {
+	m.faults = faults
+	has := func(reason trust.Reason) float64 {
+		for _, fault := range faults() {
+			if fault.Reason == reason || reason == "" {
+				return 1
+			}
+		}
+		return 0
+	}
+	m.registry.MustRegister(prometheus.NewGaugeFunc(prometheus.GaugeOpts{
+		Namespace: namespace, Name: "healthy", Help: "1 where /health is good, else 0.",
+	}, func() float64 { return 1 - has("") }))
+	for _, reason := range trust.Reasons {
+		reason := reason
+		m.registry.MustRegister(prometheus.NewGaugeFunc(prometheus.GaugeOpts{
+			Namespace: namespace, Name: "unhealthy", Help: "1 for each reason why /health isn't good.",
+			ConstLabels: prometheus.Labels{"reason": string(reason)},
+		}, func() float64 { return has(reason) }))
+	}
+}
+
 // Unsaved counts data that couldn't be saved.
 func (m *Metrics) Unsaved() { m.unsaved.Inc() }
 
 // Follows begins the counts of a file.
 func (m *Metrics) Follows(path string) { m.refusals.WithLabelValues(path) }
 
-// Took notes that a file was taken, which was written at this time.
-func (m *Metrics) Took(path string, written time.Time) {
-	m.read.WithLabelValues(path).Set(seconds(time.Now()))
-	m.written.WithLabelValues(path).Set(seconds(written))
+// Fetches begins the counts of a list that is fetched.
+func (m *Metrics) Fetches(path string) {
+	for _, result := range append([]fetch.Reason{fetch.NewList, fetch.SameList}, fetch.Failures...) {
+		m.fetches.WithLabelValues(path, string(result))
+	}
 }
 
-// Expired notes how many items of a file had expired when it was taken.
+// Fetched counts a fetch by its result.
+func (m *Metrics) Fetched(path, result string) { m.fetches.WithLabelValues(path, result).Inc() }
+
+// Confirmed records when the server last had the list.
+func (m *Metrics) Confirmed(path string, at time.Time) {
+	m.confirmed.WithLabelValues(path).Set(seconds(at))
+}
+
+// Written records when the taken list was written.
+func (m *Metrics) Written(path string, at time.Time) {
+	m.written.WithLabelValues(path).Set(seconds(at))
+}
+
+// Took records that a file was taken, which was written at this time.
+func (m *Metrics) Took(path string, written time.Time) {
+	m.read.WithLabelValues(path).Set(seconds(time.Now()))
+	m.Written(path, written)
+}
+
+// Expired records how many items of a file had expired when it was taken.
 func (m *Metrics) Expired(path string, count int) {
 	m.expired.WithLabelValues(path).Set(float64(count))
 }
@@ -156,5 +221,5 @@ func (m *Metrics) Expired(path string, count int) {
 // Refused counts the refusal of a file.
 func (m *Metrics) Refused(path string) { m.refusals.WithLabelValues(path).Inc() }
 
-// seconds are those since 1970.
+// seconds returns the seconds since 1970.
 func seconds(at time.Time) float64 { return float64(at.UnixMilli()) / 1000 }

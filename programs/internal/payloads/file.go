@@ -2,8 +2,11 @@ package payloads
 
 import (
 	"context"
+	"crypto/sha256"
 	"errors"
 	"fmt"
+	"io"
+	"net/url"
 	"os"
 	"strconv"
 	"strings"
@@ -14,10 +17,11 @@ import (
 	"fishreef/rtr"
 )
 
-// Format is what a file has in it.
+// Format is the format of a file.
 type Format string
 
-// The formats of files: the first two are what validators print, the last one units.
+// The formats of files: the first two are those of validators, the last is units: a recording of
+// one or several answers, or a list, in any order.
 const (
 	JSON     Format = "json"
 	CSV      Format = "csv"
@@ -27,116 +31,225 @@ const (
 // File is a file of payloads.
 type File struct {
 	Format Format
-	Path   string
+	Path   string   // or its URL, without a password
+	URL    *url.URL // where it is fetched; nil for a local file
 }
 
-// Stamp says which state of a file was read. The zero one is that of a file that isn't there.
+// Body is a fetched list, in a file without a name.
+type Body struct {
+	File  *os.File
+	State Stamp // different from those of earlier lists
+}
+
+// Close removes the list.
+func (b *Body) Close() error { return b.File.Close() }
+
+// Stamp identifies the state of a file. The zero Stamp is that of a missing file.
 type Stamp struct {
 	Device, Inode     uint64
 	Size              int64
 	Modified, Changed syscall.Timespec
+	Slurm             [sha256.Size]byte // of the states of SLURM files; zero for none
 }
 
-// StampOf is that of the file of this path now.
+// StampOf returns the present stamp of the file of this path.
 func StampOf(path string) Stamp {
 	var now syscall.Stat_t
 	if syscall.Stat(path, &now) != nil {
 		return Stamp{}
 	}
-	return Stamp{uint64(now.Dev), now.Ino, now.Size, now.Mtim, now.Ctim}
+	return Stamp{
+		Device: uint64(now.Dev), Inode: now.Ino, Size: now.Size, Modified: now.Mtim, Changed: now.Ctim,
+	}
 }
 
-// Time is when the file was written.
+// SameContent reports whether nothing was written between two states of a file: its owner or its
+// permissions may have changed.
+func (s Stamp) SameContent(other Stamp) bool {
+	s.Changed = other.Changed
+	return s == other
+}
+
+// Time returns when the file was written.
 func (s Stamp) Time() time.Time {
 	return time.Unix(s.Modified.Unix())
 }
 
-// Reader reads files. What validators print is read by the program rtr_make, which is proved.
+// Reader reads files. What validators print is read by the proved program rtr_make.
 type Reader struct {
 	Maker   beside.Program // rtr_make
-	Ignored []string       // names that are passed over in JSON
+	Ignored []string       // names that are ignored in JSON
+	Slurm   []string       // SLURM files (RFC 8416), which rtr_make applies to each list
 	Empty   bool           // a file without payloads is taken, too
 }
 
-// ErrChanged is of a file that was changed while it was read.
+// ErrChanged is the error of a file that changed while it was read.
 var ErrChanged = errors.New("the file was changed while it was read")
 
-// Expired says what a file had of expired items when it was read.
+// Expired is the expired items of a file when it was read.
 type Expired struct {
-	LeftOut int       // so many were left out
-	Next    time.Time // when the next of the others expires; zero for none
+	LeftOut int       // how many items were left out
+	Next    time.Time // when the next item expires; zero for none
 }
 
-// Has says whether more of the file has expired since.
+// Has reports whether more items of the file have expired since.
 func (e Expired) Has(now time.Time) bool { return !e.Next.IsZero() && !now.Before(e.Next) }
 
-// Read reads the payloads of a file, without those that have expired, and says which state of the
-// file it was. Where it is read again since items expire, there may be none left.
+// Read is the options for reading a file.
+type Read struct {
+	Now     time.Time // items that have expired by this time are left out
+	Expires bool      // the file was taken before, so it may have no items left
+	Body    *Body     // the fetched list to read; nil for a local file
+}
+
+// List is the content of a file.
+type List struct {
+	Data    rtr.Data
+	State   Stamp // the state of the file
+	Expired Expired
+	Anchors Anchors // its items by trust anchor, if they name it
+	Notes   string  // the messages about it
+}
+
+// Read reads the payloads of a file, without those that have expired.
 //
-// Errors: ErrChanged; those of the system; what rtr_make says of a file, or the library of a
-// sequence.
-func (r *Reader) Read(ctx context.Context, file File, expires bool) (
-	data rtr.Data, state Stamp, expired Expired, err error,
-) {
-	state = StampOf(file.Path)
-	if data, expired, err = r.read(ctx, file, expires); err == nil {
-		data, err = plain(data)
+// Errors: ErrChanged; those of the system; what rtr_make says of a file, or why units aren't loaded,
+// with the offset.
+func (r *Reader) Read(ctx context.Context, file File, how Read) (list List, err error) {
+	state := r.StateOf(file, how.Body)
+	if list, err = r.read(ctx, file, how); err == nil {
+		list.Data, err = plain(list.Data)
 	}
-	if StampOf(file.Path) != state {
-		return rtr.Data{}, state, Expired{}, ErrChanged
+	list.State = state
+	if r.StateOf(file, how.Body) != state {
+		return List{State: state}, ErrChanged
 	}
-	return data, state, expired, err
+	return list, err
+}
+
+// StateOf returns the state of an input and of the SLURM files; the zero one if there is no input.
+func (r *Reader) StateOf(file File, body *Body) Stamp {
+	var state Stamp
+	if body != nil {
+		state = body.State
+	} else {
+		state = StampOf(file.Path)
+	}
+	if gone := (Stamp{}); state == gone || len(r.Slurm) == 0 {
+		return state
+	}
+	sum := sha256.New()
+	for _, path := range r.Slurm {
+		fmt.Fprintf(sum, "%q %+v\n", path, StampOf(path))
+	}
+	sum.Sum(state.Slurm[:0])
+	return state
+}
+
+// input is a file, or a fetched list, from its start.
+type input interface {
+	io.Reader
+	io.ReaderAt
+	io.Closer
+}
+
+// fetched is a fetched list, which stays open.
+type fetched struct{ *io.SectionReader }
+
+// Close does nothing.
+func (fetched) Close() error { return nil }
+
+// open opens the input.
+func (r Read) open(file File) (input, error) {
+	if r.Body != nil {
+		return fetched{io.NewSectionReader(r.Body.File, 0, r.Body.State.Size)}, nil
+	}
+	return opened(file.Path)
 }
 
 // read reads a file of any format.
-func (r *Reader) read(ctx context.Context, file File, expires bool) (rtr.Data, Expired, error) {
-	info, err := os.Stat(file.Path)
-	var failed *os.PathError
-	switch {
-	case errors.As(err, &failed):
-		return rtr.Data{}, Expired{}, failed.Err
-	case !info.Mode().IsRegular():
-		return rtr.Data{}, Expired{}, errors.New("it is no regular file")
-	case info.Size() > rtr.MostDataBytes:
-		return rtr.Data{}, Expired{}, fmt.Errorf("it has more than %d bytes", rtr.MostDataBytes)
-	case file.Format == Sequence:
-		data, err := rtr.LoadData(file.Path)
-		if why := errors.Unwrap(err); why != nil {
-			err = why // without the path, which the caller names
-		}
-		return data, Expired{}, err
-	}
-	return r.made(ctx, file, expires)
-}
-
-// made are the data that rtr_make makes of a file now.
-func (r *Reader) made(ctx context.Context, file File, expires bool) (rtr.Data, Expired, error) {
-	input, err := os.Open(file.Path)
+func (r *Reader) read(ctx context.Context, file File, how Read) (list List, err error) {
+	input, err := how.open(file)
 	if err != nil {
-		return rtr.Data{}, Expired{}, err
+		return List{}, err
 	}
 	defer input.Close()
-	output, told, err := r.Maker.Run(ctx, input, r.words(file.Format, time.Now(), expires)...)
-	if err != nil {
-		return rtr.Data{}, Expired{}, err
+	if file.Format == Sequence {
+		return r.loaded(input)
 	}
-	expired, err := expiredOf(string(told))
-	if err != nil {
-		return rtr.Data{}, Expired{}, err
+	if list, err = r.made(ctx, input, r.words(file.Format, how)); err == nil {
+		list.Anchors, err = anchorsOf(io.NewSectionReader(input, 0, rtr.MostDataBytes), file.Format)
 	}
-	data, err := rtr.ParseData(output)
-	return data, expired, err
+	return list, err
 }
 
-// The last line of rtr_make at a time, where others will expire, and where none will.
+// loaded are the data that a recording or a list of units leaves. Nothing in it expires.
+func (r *Reader) loaded(input io.Reader) (list List, err error) {
+	units, err := io.ReadAll(io.LimitReader(input, rtr.MostDataBytes))
+	if err != nil {
+		return List{}, err
+	}
+	data, hasCut, err := rtr.Load(units)
+	var fault *rtr.Fault
+	switch {
+	case errors.As(err, &fault):
+		return List{}, fmt.Errorf("offset %d: %s", fault.Offset, fault.Text())
+	case err != nil:
+		return List{}, err
+	case data.Len() == 0 && !r.Empty:
+		return List{}, errors.New("input: no payloads: give --empty if that is meant")
+	case hasCut:
+		list.Notes = "left out: an answer without an end of data"
+	}
+	list.Data = data
+	return list, nil
+}
+
+// opened is a file of payloads that is open.
+//
+// Errors: those of the system, without the path, which the caller names.
+func opened(path string) (input, error) {
+	file, err := os.OpenFile(path, os.O_RDONLY|syscall.O_NONBLOCK, 0)
+	var failed *os.PathError
+	if errors.As(err, &failed) {
+		return nil, failed.Err
+	}
+	info, err := file.Stat()
+	switch {
+	case err != nil:
+	case !info.Mode().IsRegular():
+		err = errors.New("not a regular file")
+	case info.Size() > rtr.MostDataBytes:
+		err = fmt.Errorf("larger than %d bytes", rtr.MostDataBytes)
+	default:
+		return file, nil
+	}
+	file.Close()
+	return nil, err
+}
+
+// made returns the data that rtr_make makes of an input.
+func (r *Reader) made(ctx context.Context, input io.Reader, line []string) (list List, err error) {
+	output, told, err := r.Maker.Run(ctx, input, line...)
+	if err != nil {
+		return List{}, errors.New(r.Maker.Unnamed(err.Error()))
+	}
+	if list.Expired, err = expiredOf(r.Maker.Unnamed(string(told))); err != nil {
+		return List{}, err
+	}
+	list.Data, err = rtr.ParseData(output)
+	return list, err
+}
+
+// The last line of rtr_make for a time, if other items will expire, and if none will.
 const (
 	someExpire = "left out %d that have expired; the next expires at %d"
 	noneExpire = "left out %d that have expired; none of the others will"
 )
 
-// expiredOf reads what rtr_make says of items that have expired: its last line.
+// expiredOf parses the last line of rtr_make, about expired items.
 //
-// Errors: that it is another one, since then nothing would be left out at its time.
+// Errors: the line has another form, since then items would expire unnoticed.
 func expiredOf(told string) (expired Expired, err error) {
 	lines := strings.Split(strings.TrimSpace(told), "\n")
 	last := lines[len(lines)-1]
@@ -152,13 +265,16 @@ func expiredOf(told string) (expired Expired, err error) {
 	return Expired{}, fmt.Errorf("rtr_make says %q of what has expired", last)
 }
 
-// words is the command line of rtr_make for a format, at a time.
-func (r *Reader) words(format Format, now time.Time, expires bool) []string {
+// words returns the arguments of rtr_make for a format.
+func (r *Reader) words(format Format, how Read) []string {
 	line := []string{"--" + string(format)}
-	if r.Empty || expires {
+	if r.Empty || how.Expires {
 		line = append(line, "--empty")
 	}
-	line = append(line, "--at", strconv.FormatInt(now.Unix(), 10))
+	line = append(line, "--at", strconv.FormatInt(how.Now.Unix(), 10))
+	for _, path := range r.Slurm {
+		line = append(line, "--slurm", path)
+	}
 	if format != JSON {
 		return line
 	}

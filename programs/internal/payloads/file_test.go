@@ -9,19 +9,25 @@ import (
 	"time"
 
 	"fishreef/programs/internal/beside"
+	"fishreef/programs/internal/trial"
 )
 
-// written is a file of this format and text.
+func TestMain(tests *testing.M) {
+	trial.WithPrebuilt()
+	os.Exit(tests.Run())
+}
+
+// written returns a file of this format and text.
 func written(t *testing.T, format Format, text string) File {
 	t.Helper()
 	path := filepath.Join(t.TempDir(), "f")
 	if err := os.WriteFile(path, []byte(text), 0o600); err != nil {
 		t.Fatal(err)
 	}
-	return File{format, path}
+	return File{Format: format, Path: path}
 }
 
-// What rtr_make says of items that have expired is understood, of JSON as of CSV.
+// The message of rtr_make about expired items is parsed, for JSON and CSV.
 func TestExpired(t *testing.T) {
 	maker, err := beside.Find("rtr_make")
 	if err != nil {
@@ -54,7 +60,8 @@ func TestExpired(t *testing.T) {
 		{JSON, `{"roas": [` + plain + "]}", 1, 0, 0},
 	} {
 		file := written(t, try.format, try.text)
-		data, _, expired, err := reader.Read(context.Background(), file, false)
+		list, err := reader.Read(context.Background(), file, Read{Now: time.Now()})
+		data, expired := list.Data, list.Expired
 		if err != nil {
 			t.Errorf("%s: %v", try.text, err)
 			continue
@@ -70,7 +77,7 @@ func TestExpired(t *testing.T) {
 	}
 }
 
-// A time in CSV that is none is refused by its line.
+// An invalid time in CSV is refused with its line number.
 func TestWrongTime(t *testing.T) {
 	maker, err := beside.Find("rtr_make")
 	if err != nil {
@@ -79,13 +86,13 @@ func TestWrongTime(t *testing.T) {
 	reader := Reader{Maker: maker}
 	file := written(t, CSV, "ASN,IP Prefix,Max Length,Trust Anchor,Expires\n"+
 		"AS64496,10.0.0.0/16,16,made-up,soon\n")
-	_, _, _, err = reader.Read(context.Background(), file, false)
+	_, err = reader.Read(context.Background(), file, Read{Now: time.Now()})
 	if err == nil || err.Error() != "line 2: invalid time" {
 		t.Error(err)
 	}
 }
 
-// Another line than those that rtr_make writes is no answer.
+// A line that rtr_make doesn't write is an error.
 func TestOtherLine(t *testing.T) {
 	for _, line := range []string{
 		"", "left out 3 that have expired", "left out x that have expired; none of the others will",

@@ -1,17 +1,20 @@
-// Package payloads has the payloads of files: it reads files, merges what several have, and says
-// what changes between two. All rules are those of the library, and of the program rtr_make.
+// Package payloads has the payloads of files: it reads files, merges those of several, and computes
+// the changes between two. All rules are those of the library, and of the programs rtr_make and
+// rtr_list.
 package payloads
 
 import (
+	"fmt"
 	"strings"
 
+	"fishreef/programs/internal/trust"
 	"fishreef/rtr"
 )
 
-// Version is that of all data here. Caches make of them those for clients of lower versions.
+// Version is that of all data here. Caches convert them for clients of lower versions.
 const Version = 2
 
-// Under are the payloads of data of version 2, with another session, serial number and timing.
+// Under returns the payloads of data of version 2 with another session, serial number and timing.
 func Under(data rtr.Data, session uint16, serial uint32, timing rtr.Timing) (rtr.Data, error) {
 	end, err := rtr.NewData(Version, session, serial, timing)
 	if err != nil {
@@ -20,7 +23,8 @@ func Under(data rtr.Data, session uint16, serial uint32, timing rtr.Timing) (rtr
 	return rtr.ParseData(append(units(data), end.Bytes()...))
 }
 
-// plain are the payloads of data, under the end of data that all have here before they are served.
+// plain returns the payloads of data, with the end of data that all have here before they are
+// served.
 func plain(data rtr.Data) (rtr.Data, error) {
 	data, err := data.For(Version)
 	if err != nil {
@@ -29,7 +33,18 @@ func plain(data rtr.Data) (rtr.Data, error) {
 	return Under(data, 0, 0, rtr.RecommendedTiming)
 }
 
-// units is a copy of the payload units of data of version 2, with room for an end of data.
+// In returns the payloads of data that a version has, with the end of data that all have here.
+//
+// Errors: a Fault for an unknown version.
+func In(data rtr.Data, version uint8) (rtr.Data, error) {
+	data, err := data.For(version)
+	if err != nil {
+		return rtr.Data{}, err
+	}
+	return plain(data)
+}
+
+// units returns a copy of the payload units of data of version 2, with capacity for an end of data.
 func units(data rtr.Data) []byte {
 	end, err := rtr.NewData(data.Version(), 0, 0, rtr.Timing{})
 	if err != nil || data.IsZero() {
@@ -39,12 +54,12 @@ func units(data rtr.Data) []byte {
 	return append(make([]byte, 0, len(all)), all[:len(all)-len(end.Bytes())]...)
 }
 
-// Same says whether two data have the same payloads.
+// Same reports whether two data have the same payloads.
 func Same(left, right rtr.Data) bool {
 	return left.Len() == right.Len() && string(units(left)) == string(units(right))
 }
 
-// Merged has the payloads of all of these data, each once.
+// Merged returns the payloads of all of these data, each once.
 //
 // Errors: a Contradiction.
 func Merged(all ...rtr.Data) (rtr.Data, error) {
@@ -75,7 +90,7 @@ func Merged(all ...rtr.Data) (rtr.Data, error) {
 	return merged, nil
 }
 
-// inOrder are the data of payload units in any order.
+// inOrder returns the data of payload units in any order.
 func inOrder(units []byte) (rtr.Data, error) {
 	end, err := rtr.NewData(Version, 0, 0, rtr.RecommendedTiming)
 	if err != nil {
@@ -88,7 +103,7 @@ func inOrder(units []byte) (rtr.Data, error) {
 	return rtr.ParseData(ordered)
 }
 
-// customers are those that have an ASPA.
+// customers returns those that have an ASPA.
 func customers(data rtr.Data) map[uint32]bool {
 	all := map[uint32]bool{}
 	for units := data.Units(); units.Scan(); {
@@ -108,7 +123,7 @@ func (c *Contradiction) Error() string {
 	return line + ": another file has other providers of this customer"
 }
 
-// Changes are the units that lead from old data to new ones, of any sessions and versions. The zero
+// Changes returns the units that change old data into new, of any sessions and versions. The zero
 // data stand for none.
 func Changes(old, new rtr.Data) ([]byte, error) {
 	for _, side := range []*rtr.Data{&old, &new} {
@@ -124,29 +139,56 @@ func Changes(old, new rtr.Data) ([]byte, error) {
 	return rtr.Delta(old, new)
 }
 
-// Changed says how many payloads the new data announce, and how many of the old ones they withdraw.
-func Changed(old, new rtr.Data) (announced, withdrawn int, err error) {
+// Size is the size of a change of the data.
+type Size struct{ Had, Announced, Withdrawn trust.Counts }
+
+// String returns how many payloads are announced and withdrawn, of which kinds.
+func (s Size) String() string {
+	return fmt.Sprintf("%d announced%s, %d withdrawn%s", s.Announced.Total(), kinds(s.Announced),
+		s.Withdrawn.Total(), kinds(s.Withdrawn))
+}
+
+// kinds returns the counts of each kind in brackets, if there are any.
+func kinds(counts trust.Counts) string {
+	var all []string
+	for _, kind := range trust.Kinds {
+		if count := counts[kind]; count > 0 {
+			all = append(all, fmt.Sprintf("%d %s", count, trust.Plural(kind, count)))
+		}
+	}
+	if len(all) == 0 {
+		return ""
+	}
+	return " (" + strings.Join(all, ", ") + ")"
+}
+
+// Changed returns the size of the change from old data to new.
+func Changed(old, new rtr.Data) (size Size, err error) {
+	size = Size{Kinds(old), trust.Counts{}, trust.Counts{}}
 	changes, err := Changes(old, new)
 	Each(changes, func(unit *rtr.Unit, _ []byte) {
 		if unit.Announce {
-			announced++
+			size.Announced[unit.Kind]++
 		} else {
-			withdrawn++
+			size.Withdrawn[unit.Kind]++
 		}
 	})
-	return announced, withdrawn, err
+	return size, err
 }
 
-// Kinds says how many payloads of each kind there are.
-func Kinds(data rtr.Data) map[rtr.Kind]int {
-	kinds := map[rtr.Kind]int{rtr.IPv4Prefix: 0, rtr.IPv6Prefix: 0, rtr.RouterKey: 0, rtr.ASPA: 0}
-	for units := data.Units(); units.Scan(); {
-		kinds[units.Unit().Kind]++
+// Kinds returns how many payloads of each kind there are.
+func Kinds(data rtr.Data) trust.Counts {
+	counts := trust.Counts{}
+	for _, kind := range trust.Kinds {
+		counts[kind] = 0
 	}
-	return kinds
+	for units := data.Units(); units.Scan(); {
+		counts[units.Unit().Kind]++
+	}
+	return counts
 }
 
-// Each goes over the payload units of a sequence that was checked, with their bytes.
+// Each iterates over the payload units of a checked sequence, with their bytes.
 func Each(sequence []byte, do func(unit *rtr.Unit, bytes []byte)) {
 	for len(sequence) > 0 {
 		unit, rest, err := rtr.Next(sequence)

@@ -1,5 +1,5 @@
-// Package record keeps what goes over connections to a cache, byte for byte, for the programs that
-// read recordings.
+// Package record records the bytes of connections to a cache, for the programs that read
+// recordings.
 package record
 
 import (
@@ -13,10 +13,10 @@ import (
 	"fishreef/rtr"
 )
 
-// Recorder keeps each connection in a file of its own: the first in the one that it is made for,
-// the others with .2, .3 and so on behind its name. Whole units of both directions stand in them in
-// the order in which they were sent or had come. Beside each is one with .times behind its name,
-// with a line for each piece: where it begins in the file, when it came, and which way it went.
+// Recorder records each connection in a file of its own: the first in the named file, the others
+// with .2, .3 and so on after its name. They have the whole units of both directions, in the order
+// in which they were sent or received. A second file, with .times after its name, has a line for
+// each piece: its offset in the file, its time, and its direction.
 type Recorder struct {
 	path string
 	told func(error)
@@ -25,9 +25,9 @@ type Recorder struct {
 	count int
 }
 
-// New makes a recorder. It is told why a piece couldn't be kept.
+// New returns a recorder. It calls the function with the reason if a piece couldn't be recorded.
 //
-// Errors: those of the system for the first file, and one if it is there already.
+// Errors: those of the system for the first file, and one if it exists.
 func New(path string, told func(error)) (*Recorder, error) {
 	file, err := os.OpenFile(path, os.O_WRONLY|os.O_CREATE|os.O_EXCL, 0o644)
 	if err != nil {
@@ -36,7 +36,7 @@ func New(path string, told func(error)) (*Recorder, error) {
 	return &Recorder{path: path, told: told}, file.Close()
 }
 
-// Record keeps what goes over a connection.
+// Record records a connection.
 func (r *Recorder) Record(connection net.Conn) (net.Conn, error) {
 	file, err := r.next()
 	if err != nil {
@@ -50,7 +50,7 @@ func (r *Recorder) Record(connection net.Conn) (net.Conn, error) {
 	return &recorded{Conn: connection, file: file, times: times, told: r.told}, nil
 }
 
-// next is the file of the next connection. Those that were there before stay.
+// next returns the file of the next connection. Existing files stay.
 func (r *Recorder) next() (*os.File, error) {
 	r.lock.Lock()
 	defer r.lock.Unlock()
@@ -67,7 +67,7 @@ func (r *Recorder) next() (*os.File, error) {
 	}
 }
 
-// way is that of a piece.
+// way is the direction of a piece.
 type way string
 
 const (
@@ -75,7 +75,7 @@ const (
 	sent     way = "sent"
 )
 
-// recorded is a connection that is kept.
+// recorded is a connection that is recorded.
 type recorded struct {
 	net.Conn
 	told func(error)
@@ -83,11 +83,11 @@ type recorded struct {
 	lock        sync.Mutex
 	file, times *os.File
 	offset      int
-	came        []byte // and is no whole unit yet
+	came        []byte // the start of a unit, not recorded yet
 	closed      bool
 }
 
-// Read reads, and keeps the units that are whole now.
+// Read reads, and records the units that are whole now.
 func (r *recorded) Read(buffer []byte) (int, error) {
 	n, err := r.Conn.Read(buffer)
 	r.lock.Lock()
@@ -97,7 +97,7 @@ func (r *recorded) Read(buffer []byte) (int, error) {
 	for {
 		size, err := rtr.UnitSize(r.came[whole:])
 		if err != nil && !errors.Is(err, rtr.Short) {
-			whole = len(r.came) // no units come any more
+			whole = len(r.came) // the rest of the stream isn't units
 			break
 		}
 		if err != nil || size > len(r.came)-whole {
@@ -110,7 +110,7 @@ func (r *recorded) Read(buffer []byte) (int, error) {
 	return n, err
 }
 
-// Write writes, and keeps what was written.
+// Write writes, and records the bytes written.
 func (r *recorded) Write(bytes []byte) (int, error) {
 	n, err := r.Conn.Write(bytes)
 	r.lock.Lock()
@@ -135,7 +135,7 @@ func (r *recorded) keep(way way, piece []byte) {
 	}
 }
 
-// CloseWrite says that nothing more is written.
+// CloseWrite closes the writing side.
 func (r *recorded) CloseWrite() error {
 	if half, ok := r.Conn.(interface{ CloseWrite() error }); ok {
 		return half.CloseWrite()
@@ -143,7 +143,7 @@ func (r *recorded) CloseWrite() error {
 	return net.ErrClosed
 }
 
-// Close ends the connection, and keeps what came last and is no whole unit.
+// Close closes the connection, and records an incomplete last unit.
 func (r *recorded) Close() error {
 	err := r.Conn.Close()
 	r.lock.Lock()

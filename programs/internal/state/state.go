@@ -1,5 +1,5 @@
-// Package state keeps in a folder what a cache needs after a restart: its session, its serial
-// number, and what leads back to data before the present ones. All of it is in one file.
+// Package state saves in a folder what a cache needs after a restart: its session, its serial
+// number, and the changes from earlier data. All of it is in one file.
 package state
 
 import (
@@ -21,13 +21,15 @@ const (
 
 // Folder is the folder of one cache.
 type Folder struct {
-	path string
-	lock *os.File
+	path    string
+	lock    *os.File
+	saved   bool   // the file may have data
+	session uint16 // of this session
 }
 
-// Open takes the folder for this process, and makes it where it isn't there.
+// Open locks the folder for this process, and creates it if it is missing.
 //
-// Errors: those of the system; one that says that another process has the folder.
+// Errors: those of the system; one if another process has locked the folder.
 func Open(path string) (*Folder, error) {
 	if err := os.Mkdir(path, 0o700); err != nil && !errors.Is(err, os.ErrExist) {
 		return nil, err
@@ -38,29 +40,29 @@ func Open(path string) (*Folder, error) {
 	}
 	err = syscall.Flock(int(lock.Fd()), syscall.LOCK_EX|syscall.LOCK_NB)
 	if err == nil {
-		return &Folder{path, lock}, nil
+		return &Folder{path: path, lock: lock}, nil
 	}
 	lock.Close()
 	if errors.Is(err, syscall.EWOULDBLOCK) {
-		return nil, fmt.Errorf("%s: another cache has this folder", path)
+		return nil, fmt.Errorf("%s: another cache uses this folder", path)
 	}
 	return nil, fmt.Errorf("%s: %w", lock.Name(), err)
 }
 
-// Close gives the folder to other processes.
+// Close unlocks the folder.
 func (f *Folder) Close() error {
 	return f.lock.Close()
 }
 
-// editions is the path of the file.
+// editions returns the path of the file.
 func (f *Folder) editions() string {
 	return filepath.Join(f.path, editionsName)
 }
 
-// Restore gives a server what the folder has. A file that isn't as it was written gets another
-// name, for whoever wants to look at it.
+// Restore loads the folder's data into a server. A damaged file is renamed, so that it can be
+// examined.
 //
-// Errors: os.ErrNotExist where the folder has nothing; those of the system; rtr.ErrTorn.
+// Errors: os.ErrNotExist if the folder has no data; those of the system; rtr.ErrTorn.
 func (f *Folder) Restore(server *rtr.Server) (rtr.Data, error) {
 	data, err := server.Restore(f.editions())
 	if errors.Is(err, rtr.ErrTorn) {
@@ -70,36 +72,58 @@ func (f *Folder) Restore(server *rtr.Server) (rtr.Data, error) {
 		}
 		err = fmt.Errorf("%w; it is now %s", err, refused)
 	}
+	f.saved, f.session = err == nil, data.Session()
 	return data, err
 }
 
-// Unsaved is the error of data that are served and couldn't be saved. The folder has nothing then,
-// so that after a restart another session begins.
+// Unsaved is the error of data that are served and couldn't be saved. The folder has no data of
+// their session then, so that after a restart no other data get their serial number.
 type Unsaved struct{ Reason error }
 
-// Error says why.
-func (u *Unsaved) Error() string {
-	return fmt.Sprintf("%v: a restart will begin another session", u.Reason)
-}
+// Error returns the reason as text.
+func (u *Unsaved) Error() string { return u.Reason.Error() }
 
-// Unwrap gives the reason.
+// Unwrap returns the reason.
 func (u *Unsaved) Unwrap() error { return u.Reason }
 
-// Update saves new data, and then gives them to the server.
+// ErrSession is the error of data that can't be saved while the folder has data of their session
+// that can't be removed: after a restart other data could get their serial number. Nothing changes
+// then; the data can be served in another session.
+var ErrSession = errors.New("the folder has older data of this session, which can't be removed")
+
+// Update saves new data, and then gives them to the server. If they can't be saved, the server
+// still gets them.
 //
-// Errors: an Unsaved; those of rtr.Server.Update, and those of the system, with which nothing
-// changes.
+// Errors: an Unsaved; ErrSession; those of rtr.Server.Update, after which nothing has changed.
 func (f *Folder) Update(server *rtr.Server, data rtr.Data) error {
 	err := server.UpdateSaved(data, f.editions())
 	if err == nil || !errors.As(err, new(syscall.Errno)) {
+		f.note(data, err)
 		return err
 	}
-	// The file may have a serial number that is given to these data now.
-	if failed := os.Remove(f.editions()); failed != nil && !errors.Is(failed, os.ErrNotExist) {
-		return err
+	if f.saved && f.session == data.Session() {
+		failed := os.Remove(f.editions())
+		if failed != nil && !errors.Is(failed, os.ErrNotExist) {
+			return ErrSession
+		}
+		f.saved = false
 	}
 	if failed := server.Update(data); failed != nil {
 		return failed
 	}
 	return &Unsaved{err}
+}
+
+// Save saves the data of a server that couldn't be saved before.
+func (f *Folder) Save(server *rtr.Server, data rtr.Data) error {
+	err := server.Save(f.editions())
+	f.note(data, err)
+	return err
+}
+
+// note records the session of the data in the file.
+func (f *Folder) note(data rtr.Data, err error) {
+	if err == nil {
+		f.saved, f.session = true, data.Session()
+	}
 }

@@ -1,5 +1,5 @@
-// Package transport has the ways by which routers reach a cache: TCP, TLS and SSH (RFC 8210 section
-// 9), with limits by address, and with counts of what goes over them.
+// Package transport has the transports between routers and a cache: TCP, TLS and SSH (RFC 8210
+// section 9), with limits by address, and counts of their traffic.
 package transport
 
 import (
@@ -20,14 +20,14 @@ const (
 	SSH Kind = "ssh"
 )
 
-// Address is where a cache listens, and for which transport.
+// Address is an address at which a cache listens, and its transport.
 type Address struct {
 	Kind    Kind
 	Address string // as net.Listen takes it
 }
 
-// ParseAddress reads ADDRESS:PORT, with the transport before it, as tls:ADDRESS:PORT, unless it is
-// TCP.
+// ParseAddress parses ADDRESS:PORT, with the transport before it, such as tls:ADDRESS:PORT, unless
+// it is TCP.
 func ParseAddress(word string) (Address, error) {
 	address := Address{TCP, word}
 	for _, kind := range []Kind{TCP, TLS, SSH} {
@@ -37,7 +37,7 @@ func ParseAddress(word string) (Address, error) {
 	}
 	if _, _, err := net.SplitHostPort(address.Address); err != nil {
 		return Address{}, fmt.Errorf(
-			"%q is no ADDRESS:PORT, nor one with tcp:, tls: or ssh: before it", word)
+			"%q isn't ADDRESS:PORT, tls:ADDRESS:PORT or ssh:ADDRESS:PORT", word)
 	}
 	return address, nil
 }
@@ -54,8 +54,8 @@ func (a Address) Listen() (Bound, error) {
 	return Bound{a.Kind, listener}, err
 }
 
-// Activated are the listeners that systemd gave, each for the transport that it has as a name; or
-// TCP, if it has another one.
+// Activated returns the listeners of systemd's socket activation, each for the transport that its
+// name is; TCP for other names.
 func Activated() ([]Bound, error) {
 	var all []Bound
 	for _, file := range activation.Files(true) {

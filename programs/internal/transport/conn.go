@@ -10,7 +10,7 @@ import (
 	"fishreef/rtr"
 )
 
-// Direction is that of what goes over a connection.
+// Direction is the direction of bytes on a connection.
 type Direction string
 
 // The directions, as the cache sees them.
@@ -19,23 +19,32 @@ const (
 	Received Direction = "received"
 )
 
-// Observer is told what goes over connections. Several goroutines call it at once.
-type Observer interface {
-	// Opened is of each connection.
-	Opened(Kind)
-	// Speaks is of each client whose version is known, Leaves of its end.
-	Speaks(Kind, uint8)
-	Leaves(Kind, uint8)
-	// Moved is of bytes.
-	Moved(Kind, Direction, int)
-	// Reported is of an error report.
-	Reported(Direction, rtr.ErrorCode)
+// Peer is the other end of a connection, as its remote address: each connection has its own
+// pointer.
+type Peer struct {
+	net.Addr
+	Kind Kind
 }
 
-// conn is a connection whose bytes and units are counted.
+// Observer gets the events of connections. Its methods are called concurrently.
+type Observer interface {
+	// Opened is called for each connection.
+	Opened(*Peer)
+	// Speaks is called once the version of a client is known, Leaves at its end.
+	Speaks(*Peer, uint8)
+	Leaves(*Peer, uint8)
+	// Came is called for each unit of the client.
+	Came(*Peer, *rtr.Unit)
+	// Moved is called with counts of bytes.
+	Moved(*Peer, Direction, int)
+	// Reported is called for an error report.
+	Reported(*Peer, Direction, rtr.ErrorCode)
+}
+
+// conn counts the bytes and units of a connection.
 type conn struct {
 	net.Conn
-	kind     Kind
+	peer     *Peer
 	observer Observer
 	leave    func()
 	ended    sync.Once
@@ -45,21 +54,25 @@ type conn struct {
 	known   bool // a unit has come, of this version
 	version uint8
 
-	came []byte // and is no whole unit yet; nil once the units can't be followed
+	came []byte // the start of a unit; nil once the units can't be followed
 }
 
-// newConn counts what goes over a connection. leave is called once when it is closed.
+// newConn wraps a connection to count its traffic. leave is called once when it is closed.
 func newConn(connection net.Conn, kind Kind, observer Observer, leave func()) *conn {
-	observer.Opened(kind)
+	peer := &Peer{connection.RemoteAddr(), kind}
+	observer.Opened(peer)
 	return &conn{
-		Conn: connection, kind: kind, observer: observer, leave: leave, came: make([]byte, 0, 64),
+		Conn: connection, peer: peer, observer: observer, leave: leave, came: make([]byte, 0, 64),
 	}
 }
+
+// RemoteAddr returns the peer.
+func (c *conn) RemoteAddr() net.Addr { return c.peer }
 
 // Read reads, and counts.
 func (c *conn) Read(buffer []byte) (int, error) {
 	n, err := c.Conn.Read(buffer)
-	c.observer.Moved(c.kind, Received, n)
+	c.observer.Moved(c.peer, Received, n)
 	if n > 0 && c.came != nil {
 		c.came = append(c.came, buffer[:n]...)
 		c.follow()
@@ -67,35 +80,36 @@ func (c *conn) Read(buffer []byte) (int, error) {
 	return n, err
 }
 
-// mostFollowed is how long a unit of a client may be that is looked at.
+// mostFollowed is the longest unit of a client that is read.
 const mostFollowed = 1 << 16
 
-// follow looks at the units that have come.
+// follow reads the units that have come.
 func (c *conn) follow() {
 	for len(c.came) > 0 {
 		unit, rest, err := rtr.Next(c.came)
 		if errors.Is(err, rtr.Short) && len(c.came) < mostFollowed {
-			return // the rest of it comes
+			return // the rest is still to come
 		}
 		if err != nil {
 			c.came = nil
 			return
 		}
 		c.speaks(unit.Version)
+		c.observer.Came(c.peer, &unit)
 		if unit.Kind == rtr.ErrorReport {
-			c.observer.Reported(Received, unit.Code)
+			c.observer.Reported(c.peer, Received, unit.Code)
 		}
 		c.came = append(c.came[:0], rest...)
 	}
 }
 
-// speaks notes the version of the first unit.
+// speaks records the version of the first unit.
 func (c *conn) speaks(version uint8) {
 	c.lock.Lock()
 	defer c.lock.Unlock()
 	if !c.known && !c.closed {
 		c.known, c.version = true, version
-		c.observer.Speaks(c.kind, version)
+		c.observer.Speaks(c.peer, version)
 	}
 }
 
@@ -106,7 +120,7 @@ func (c *conn) Write(bytes []byte) (int, error) {
 	return n, err
 }
 
-// SyscallConn is the socket, where bytes go over it as they are.
+// SyscallConn returns the socket, if bytes go over it as they are.
 func (c *conn) SyscallConn() (syscall.RawConn, error) {
 	if socket, ok := c.Conn.(*net.TCPConn); ok {
 		return socket.SyscallConn()
@@ -114,17 +128,17 @@ func (c *conn) SyscallConn() (syscall.RawConn, error) {
 	return nil, net.ErrClosed
 }
 
-// Wrote counts what was to be written, and how much of it was.
+// Wrote counts the bytes to write, and how many were written.
 func (c *conn) Wrote(bytes []byte, taken int) {
-	// A report is written alone, and long answers in chunks, which begin anywhere.
+	// A report is written by itself, and long answers in chunks, which begin anywhere.
 	unit, rest, failed := rtr.Next(bytes)
 	if failed == nil && unit.Kind == rtr.ErrorReport && len(rest) == 0 {
-		c.observer.Reported(Sent, unit.Code)
+		c.observer.Reported(c.peer, Sent, unit.Code)
 	}
-	c.observer.Moved(c.kind, Sent, taken)
+	c.observer.Moved(c.peer, Sent, taken)
 }
 
-// HandshakeContext makes the handshake, where the transport has one that has to be made first.
+// HandshakeContext runs the handshake, if the transport has one that has to come first.
 func (c *conn) HandshakeContext(ctx context.Context) error {
 	if shaking, ok := c.Conn.(interface{ HandshakeContext(context.Context) error }); ok {
 		return shaking.HandshakeContext(ctx)
@@ -132,7 +146,7 @@ func (c *conn) HandshakeContext(ctx context.Context) error {
 	return nil
 }
 
-// CloseWrite says that nothing more is written, where the transport has a way to.
+// CloseWrite closes the writing side, if the transport supports it.
 func (c *conn) CloseWrite() error {
 	if half, ok := c.Conn.(interface{ CloseWrite() error }); ok {
 		return half.CloseWrite()
@@ -147,7 +161,7 @@ func (c *conn) Close() error {
 		c.lock.Lock()
 		c.closed = true
 		if c.known {
-			c.observer.Leaves(c.kind, c.version)
+			c.observer.Leaves(c.peer, c.version)
 		}
 		c.lock.Unlock()
 		c.leave()

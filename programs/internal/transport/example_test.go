@@ -20,14 +20,14 @@ import (
 	"fishreef/rtr"
 )
 
-// overSSH is a listener whose connections go over SSH to the subsystem rpki-rtr (RFC 8210 section
-// 9.1).
+// overSSH returns a listener whose connections go over SSH to the subsystem rpki-rtr (RFC 8210
+// section 9.1).
 type overSSH struct {
 	net.Listener
 	host *transport.Host
 }
 
-// Accept gives the next connection.
+// Accept returns the next connection.
 func (l overSSH) Accept() (net.Conn, error) {
 	connection, err := l.Listener.Accept()
 	if err != nil {
@@ -36,7 +36,7 @@ func (l overSSH) Accept() (net.Conn, error) {
 	return l.host.Secure(connection), nil
 }
 
-// newKey makes a key in a file, and gives its public part.
+// newKey writes a key to a file, and returns its public part.
 func newKey(path string) (ssh.PublicKey, error) {
 	key, err := ecdsa.GenerateKey(elliptic.P256(), rand.Reader)
 	if err != nil {
@@ -53,14 +53,14 @@ func newKey(path string) (ssh.PublicKey, error) {
 	return ssh.NewPublicKey(key.Public())
 }
 
-// onePayload are data of one VRP.
+// onePayload returns data of one VRP.
 func onePayload() (rtr.Data, error) {
 	vrp := rtr.VRP{Prefix: netip.MustParsePrefix("192.0.2.0/24"), ASN: 64496}
 	return rtr.NewDataOf([]rtr.VRP{vrp}, 1, 7, 1, rtr.RecommendedTiming)
 }
 
-// served begins a cache over SSH, whose key goes to the file known, and that knows a router by the
-// file router. It gives its address, and what ends it.
+// served starts a cache over SSH, whose key goes to the file known, and that trusts a router by the
+// file router. It returns its address, and a function that stops it.
 func served(folder string, server *rtr.Server) (address string, err error) {
 	host, err := newKey(folder + "/host")
 	if err != nil {
@@ -96,7 +96,7 @@ func served(folder string, server *rtr.Server) (address string, err error) {
 	return address, os.WriteFile(folder+"/known", []byte(line+"\n"), 0o600)
 }
 
-// dialed is a client of a cache over SSH, by the files of a folder.
+// dialed returns a client of a cache over SSH, by the files of a folder.
 func dialed(folder, address string) (*rtr.Client, error) {
 	router := transport.SSHRouter{
 		User: "rpki", Key: folder + "/router", KnownHosts: folder + "/known",
@@ -110,7 +110,7 @@ func dialed(folder, address string) (*rtr.Client, error) {
 	return client, nil
 }
 
-// A router over SSH, which knows the cache by its key, and is known by its own.
+// A router over SSH, which trusts the cache by its key, and is trusted by its own.
 func Example() {
 	folder, err := os.MkdirTemp("", "rtr")
 	if err != nil {

@@ -9,9 +9,9 @@ import (
 )
 
 // Gate counts the clients of each address, and refuses those above a limit. Several listeners may
-// have one.
+// share it.
 type Gate struct {
-	Most int // clients of one address at once
+	Most int // the most clients of one address at once
 
 	lock    sync.Mutex
 	clients map[netip.Addr]int
@@ -19,22 +19,22 @@ type Gate struct {
 	above   *queue
 }
 
-// NewGate makes a gate with a limit. told is told why the connection of each refused client ended.
-func NewGate(most int, told func(net.Addr, error)) *Gate {
+// NewGate returns a gate with a limit. It logs each refused client.
+func NewGate(most int, log rtr.Log) *Gate {
 	g := &Gate{
 		Most: most, clients: map[netip.Addr]int{}, refuser: rtr.NewServer(), above: newQueue(),
 	}
-	// A server that may have no clients tells each so, as the protocol has it.
+	// A server with a limit of 0 refuses each client as the protocol says.
 	g.refuser.Limits.Connections = 0
-	g.refuser.Ended = told
+	g.refuser.Log = log
 	go g.refuser.Serve(g.above)
 	return g
 }
 
-// Close ends the connections of those that are refused.
+// Close closes the connections of refused clients.
 func (g *Gate) Close() { g.refuser.Close() }
 
-// enter counts a client, and says whether it may come in.
+// enter counts a client, and reports whether it is accepted.
 func (g *Gate) enter(address netip.Addr) bool {
 	g.lock.Lock()
 	defer g.lock.Unlock()
@@ -45,7 +45,7 @@ func (g *Gate) enter(address netip.Addr) bool {
 	return true
 }
 
-// leave counts a client no more.
+// leave stops counting a client.
 func (g *Gate) leave(address netip.Addr) {
 	g.lock.Lock()
 	defer g.lock.Unlock()
@@ -54,7 +54,7 @@ func (g *Gate) leave(address netip.Addr) {
 	}
 }
 
-// addressOf is the address of a peer, without its port.
+// addressOf returns the address of a peer, without its port.
 func addressOf(connection net.Conn) netip.Addr {
 	peer, err := netip.ParseAddrPort(connection.RemoteAddr().String())
 	if err != nil {
@@ -63,13 +63,13 @@ func addressOf(connection net.Conn) netip.Addr {
 	return peer.Addr().Unmap().WithZone("")
 }
 
-// Secured has a connection go over TLS or SSH.
+// Secured wraps a connection in TLS or SSH.
 type Secured func(net.Conn) net.Conn
 
-// Plain leaves a connection as it is.
+// Plain returns a connection as it is.
 func Plain(connection net.Conn) net.Conn { return connection }
 
-// listener gives the connections of another one that come through the gate.
+// listener returns the connections of another listener that the gate accepts.
 type listener struct {
 	net.Listener
 	kind     Kind
@@ -78,16 +78,16 @@ type listener struct {
 	observer Observer
 }
 
-// Guarded is a listener whose connections go through the gate and over a transport, and are
+// Guarded returns a listener whose connections go through the gate and over a transport, and are
 // counted.
 func Guarded(bound Bound, secured Secured, gate *Gate, observer Observer) net.Listener {
 	return &listener{bound.Listener, bound.Kind, secured, gate, observer}
 }
 
-// How much of what is written to a client the system buffers.
+// The send buffer of the system for a client.
 const writeBuffer = 1 << 17
 
-// Accept gives the next connection that comes in. It never waits for the peer.
+// Accept returns the next accepted connection. It never waits for the peer.
 func (l *listener) Accept() (net.Conn, error) {
 	for {
 		connection, err := l.Listener.Accept()
@@ -106,7 +106,7 @@ func (l *listener) Accept() (net.Conn, error) {
 	}
 }
 
-// queue is a listener of connections that somebody else has accepted.
+// queue is a listener of connections that were accepted elsewhere.
 type queue struct {
 	waiting chan net.Conn
 	ended   chan struct{}
@@ -117,7 +117,7 @@ func newQueue() *queue {
 	return &queue{waiting: make(chan net.Conn, 16), ended: make(chan struct{})}
 }
 
-// put hands a connection over, or closes it where too many wait.
+// put adds a connection, or closes it if too many wait.
 func (q *queue) put(connection net.Conn) {
 	select {
 	case q.waiting <- connection:
@@ -142,5 +142,5 @@ func (q *queue) Close() error {
 	return nil
 }
 
-// Addr is none.
+// Addr returns nil.
 func (q *queue) Addr() net.Addr { return &net.TCPAddr{} }

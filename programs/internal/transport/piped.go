@@ -8,17 +8,17 @@ import (
 )
 
 // piped is the near end of two pipes, one for each direction, to a channel of SSH. Pipes have
-// deadlines, which such a channel lacks, and one of them may end before the other.
+// deadlines, which such a channel lacks, and can be closed one by one.
 type piped struct {
 	input, output net.Conn
 	under         net.Conn              // the connection under the channel
-	failed        atomic.Pointer[error] // why there is no channel
+	failed        atomic.Pointer[error] // the error of the handshake
 }
 
 // far is the far end of the pipes.
 type far struct{ input, output net.Conn }
 
-// newPiped makes both ends of pipes to a channel over a connection.
+// newPiped returns both ends of pipes to a channel over a connection.
 func newPiped(under net.Conn) (*piped, *far) {
 	nearInput, farInput := net.Pipe()
 	nearOutput, farOutput := net.Pipe()
@@ -31,9 +31,9 @@ func (f *far) close() {
 	f.output.Close()
 }
 
-// pass passes bytes between a channel and the pipes, until nothing more is to be written, and
-// closes the channel and the connection under it. Where the peer writes no more it is still written
-// to.
+// pass copies bytes between a channel and the pipes until nothing more is to be written, and closes
+// the channel and the connection under it. After the peer has closed its writing side, it still
+// gets bytes.
 func (f *far) pass(channel io.ReadWriteCloser, under net.Conn) {
 	ended := make(chan struct{})
 	go func() {
@@ -48,7 +48,7 @@ func (f *far) pass(channel io.ReadWriteCloser, under net.Conn) {
 	under.Close()
 }
 
-// Read reads, and says why there is nothing to be read where the handshake failed.
+// Read reads; if the handshake failed, it returns that error.
 func (p *piped) Read(buffer []byte) (int, error) {
 	n, err := p.input.Read(buffer)
 	return n, p.reason(err)
@@ -60,7 +60,7 @@ func (p *piped) Write(bytes []byte) (int, error) {
 	return n, p.reason(err)
 }
 
-// reason is the error of the handshake, where that is why there is one.
+// reason returns the error of the handshake instead, if that is the cause of an error.
 func (p *piped) reason(err error) error {
 	if why := p.failed.Load(); err != nil && why != nil {
 		return *why
@@ -68,17 +68,17 @@ func (p *piped) reason(err error) error {
 	return err
 }
 
-// lastTime is how long what was written before a close may take to go out.
+// lastTime is the time limit for sending what was written before a close.
 const lastTime = 2 * time.Second
 
-// Close ends the connection, which takes what was written last with it.
+// Close closes the connection after sending what was written last.
 func (p *piped) Close() error {
 	p.input.Close()
 	p.output.Close()
 	return p.under.SetDeadline(time.Now().Add(lastTime))
 }
 
-// SetDeadline sets that of reads and of writes.
+// SetDeadline sets the deadline of reads and writes.
 func (p *piped) SetDeadline(at time.Time) error {
 	if err := p.input.SetReadDeadline(at); err != nil {
 		return err
@@ -86,14 +86,14 @@ func (p *piped) SetDeadline(at time.Time) error {
 	return p.output.SetWriteDeadline(at)
 }
 
-// SetReadDeadline sets that of reads.
+// SetReadDeadline sets the deadline of reads.
 func (p *piped) SetReadDeadline(at time.Time) error { return p.input.SetReadDeadline(at) }
 
-// SetWriteDeadline sets that of writes.
+// SetWriteDeadline sets the deadline of writes.
 func (p *piped) SetWriteDeadline(at time.Time) error { return p.output.SetWriteDeadline(at) }
 
-// LocalAddr is that of the connection under it.
+// LocalAddr returns that of the connection under it.
 func (p *piped) LocalAddr() net.Addr { return p.under.LocalAddr() }
 
-// RemoteAddr is that of the connection under it.
+// RemoteAddr returns that of the connection under it.
 func (p *piped) RemoteAddr() net.Addr { return p.under.RemoteAddr() }

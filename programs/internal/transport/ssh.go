@@ -11,28 +11,28 @@ import (
 	"golang.org/x/crypto/ssh"
 )
 
-// Subsystem is the one of SSH that RTR has (RFC 8210 section 9.1).
+// Subsystem is the SSH subsystem of RTR (RFC 8210 section 9.1).
 const Subsystem = "rpki-rtr"
 
-// SSHFiles are the files of a cache that is reached over SSH.
+// SSHFiles are the files of a cache that serves SSH.
 type SSHFiles struct {
 	HostKey string
 	Routers string // public keys of routers, as in authorized_keys
 }
 
-// Host is what a cache shows of itself over SSH, and whom it trusts. Load reads it anew.
+// Host is a cache's host key for SSH, and the keys that it trusts. Load reloads them.
 type Host struct {
 	files   SSHFiles
 	present atomic.Pointer[ssh.ServerConfig]
 }
 
-// NewHost reads the files.
+// NewHost loads the files.
 func NewHost(files SSHFiles) (*Host, error) {
 	h := &Host{files: files}
 	return h, h.Load()
 }
 
-// Load reads the files again, as Identity.Load does.
+// Load reloads the files, as Identity.Load does.
 func (h *Host) Load() error {
 	text, err := os.ReadFile(h.files.HostKey)
 	if err != nil {
@@ -59,7 +59,7 @@ func (h *Host) Load() error {
 	return nil
 }
 
-// publicKeys are those of a file of authorized keys, in the form in which they go over the wire.
+// publicKeys returns the keys of an authorized_keys file, in their wire format.
 func publicKeys(path string) (map[string]bool, error) {
 	text, err := os.ReadFile(path)
 	if err != nil {
@@ -80,10 +80,10 @@ func publicKeys(path string) (map[string]bool, error) {
 	return keys, nil
 }
 
-// handshakeTime is how long a router may take until it asks for the subsystem.
+// handshakeTime is the time limit until a router asks for the subsystem.
 const handshakeTime = 30 * time.Second
 
-// Secure has a connection go over SSH. The handshake goes on beside the caller.
+// Secure wraps a connection in SSH. The handshake runs in the background.
 func (h *Host) Secure(connection net.Conn) net.Conn {
 	near, far := newPiped(connection)
 	go func() {
@@ -100,10 +100,10 @@ func (h *Host) Secure(connection net.Conn) net.Conn {
 	return near
 }
 
-// ending is a channel that ends as one of a program that ended well.
+// ending is a channel that closes with exit status 0.
 type ending struct{ ssh.Channel }
 
-// Close ends the channel.
+// Close closes the channel.
 func (e ending) Close() error {
 	good := ssh.Marshal(struct{ Status uint32 }{})
 	if _, err := e.SendRequest("exit-status", false, good); err != nil {
@@ -112,7 +112,7 @@ func (e ending) Close() error {
 	return e.Channel.Close()
 }
 
-// accept makes the handshake, and gives the channel of the subsystem.
+// accept runs the handshake, and returns the channel of the subsystem.
 func (h *Host) accept(connection net.Conn) (ssh.Channel, error) {
 	if err := connection.SetDeadline(time.Now().Add(handshakeTime)); err != nil {
 		return nil, err
@@ -141,7 +141,7 @@ func (h *Host) accept(connection net.Conn) (ssh.Channel, error) {
 	return nil, errors.New("the router didn't ask for the subsystem " + Subsystem)
 }
 
-// isSubsystem answers requests until the one for the subsystem comes, and says whether it came.
+// isSubsystem answers requests until the one for the subsystem comes, and reports whether it came.
 func isSubsystem(requests <-chan *ssh.Request) bool {
 	for request := range requests {
 		var named struct{ Name string }
@@ -157,7 +157,7 @@ func isSubsystem(requests <-chan *ssh.Request) bool {
 	return false
 }
 
-// refuseChannels refuses all channels beside the one of the subsystem.
+// refuseChannels refuses all channels except that of the subsystem.
 func refuseChannels(channels <-chan ssh.NewChannel) {
 	for offered := range channels {
 		offered.Reject(ssh.ResourceShortage, "one channel is enough")

@@ -11,24 +11,42 @@ import (
 
 	"golang.org/x/crypto/ssh"
 	"golang.org/x/crypto/ssh/knownhosts"
+
+	"fishreef/programs/internal/words"
 )
 
-// SSHRouter is what a router shows of itself over SSH, and whom it trusts.
+// SSHRouter is a router's key for SSH, and the keys that it trusts.
 type SSHRouter struct {
 	User       string
 	Key        string // a file with its private key
 	KnownHosts string // a file with the keys of caches, as known_hosts
 }
 
-// Partial says whether some of it is missing.
+// Options returns the options for keys.
+func (r *SSHRouter) Options() []words.Option {
+	return []words.Option{
+		{
+			Name: "ssh-key", Argument: "FILE",
+			Help: "Use this private key",
+			Set:  words.Text(&r.Key),
+		},
+		{
+			Name: "ssh-known-hosts", Argument: "FILE",
+			Help: "Trust these keys of caches, as in known_hosts",
+			Set:  words.Text(&r.KnownHosts),
+		},
+	}
+}
+
+// Partial reports whether some of it is missing.
 func (r SSHRouter) Partial() bool {
 	return r != (SSHRouter{}) && (r.User == "" || r.Key == "" || r.KnownHosts == "")
 }
 
-// Dial makes a connection, as that of net.Dialer.
+// Dial makes a connection, as net.Dialer.DialContext does.
 type Dial func(ctx context.Context, network, address string) (net.Conn, error)
 
-// Dialer is a dial over SSH.
+// Dialer returns a dial function over SSH.
 //
 // Errors: those of the files.
 func (r SSHRouter) Dialer() (Dial, error) {
@@ -61,7 +79,7 @@ func (r SSHRouter) Dialer() (Dial, error) {
 	}, nil
 }
 
-// overSSH makes the handshake over a connection, until the end of the context.
+// overSSH runs the handshake over a connection, until the context ends.
 func overSSH(
 	ctx context.Context, connection net.Conn, address string, config *ssh.ClientConfig,
 ) (net.Conn, error) {
@@ -95,8 +113,8 @@ func overSSH(
 	return near, connection.SetDeadline(time.Time{})
 }
 
-// endWith has what a connection waits for end with the context, until the function is called that
-// it answers.
+// endWith sets a past deadline on the connection when the context ends; call the returned function
+// to stop that.
 func endWith(ctx context.Context, connection net.Conn) (release func()) {
 	done, ended := make(chan struct{}), make(chan struct{})
 	go func() {
@@ -114,7 +132,7 @@ func endWith(ctx context.Context, connection net.Conn) (release func()) {
 	}
 }
 
-// both are the two halves of a session of SSH.
+// both is the two halves of an SSH session.
 type both struct {
 	io.Reader
 	io.Writer

@@ -13,14 +13,14 @@ import (
 	"fishreef/rtr"
 )
 
-// wait is how long a test waits at most.
+// wait is the longest time that a test waits.
 const wait = 120 * time.Second
 
-// stalls are what a peer says before it says no more.
+// stalls are the bytes that a peer sends before it stalls.
 var stalls = []string{"", "SSH-2.0-x", "SSH-2.0-x\r\n", "SSH-2.0-x\r\n\x00\x00\x01\x00"}
 
-// Routers that stall in a handshake are left after the time for a first query, and another one is
-// served meanwhile.
+// Routers that stall in a handshake are closed after the time limit of a first query, and another
+// one is served meanwhile.
 func TestStalledRouters(t *testing.T) {
 	folder := t.TempDir()
 	server := rtr.NewServer()
@@ -68,7 +68,7 @@ func TestStalledRouters(t *testing.T) {
 	}
 }
 
-// stalledCache is the address of a cache that stalls in a handshake.
+// stalledCache returns the address of a cache that stalls in a handshake.
 func stalledCache(t *testing.T, front string) string {
 	t.Helper()
 	listener, err := net.Listen("tcp", "127.0.0.1:0")
@@ -92,8 +92,8 @@ func stalledCache(t *testing.T, front string) string {
 	return listener.Addr().String()
 }
 
-// A cache that stalls in a handshake is left after the time for a connection, without data, and at
-// once where the client ends.
+// A cache that stalls in a handshake is abandoned after the time limit for connecting, without
+// data, and at once if the client ends.
 func TestStalledCaches(t *testing.T) {
 	folder := t.TempDir()
 	server := rtr.NewServer()
@@ -120,5 +120,38 @@ func TestStalledCaches(t *testing.T) {
 			t.Errorf("%q: %v", front, err)
 		}
 		cancel()
+	}
+}
+
+// If a cache allows an hour for the first query, a router that stalls in a handshake is still
+// closed, after the half minute that a handshake may take.
+func TestHandshakeTime(t *testing.T) {
+	folder := t.TempDir()
+	server := rtr.NewServer()
+	server.Limits.First = time.Hour
+	defer server.Close()
+	address, err := served(folder, server)
+	if err != nil {
+		t.Fatal(err)
+	}
+	began := time.Now()
+	lasted := make(chan time.Duration, len(stalls))
+	for _, front := range stalls {
+		connection, err := net.Dial("tcp", address)
+		if err != nil {
+			t.Fatal(err)
+		}
+		defer connection.Close()
+		io.WriteString(connection, front)
+		connection.SetReadDeadline(began.Add(wait))
+		go func() {
+			io.Copy(io.Discard, connection)
+			lasted <- time.Since(began)
+		}()
+	}
+	for range stalls {
+		if took := <-lasted; took < 29*time.Second || took > 60*time.Second {
+			t.Errorf("a stalled router is left after %v", took)
+		}
 	}
 }

@@ -16,8 +16,8 @@ import (
 	"fishreef/rtr"
 )
 
-// sessionOver is a session of a router that the cache knows, before it asks for a subsystem. The
-// keys are exchanged anew after so many bytes, and each time the cache is looked at.
+// sessionOver returns a session of a trusted router, before it asks for a subsystem. The keys are
+// exchanged again after this many bytes, and each time the cache's key is checked.
 func sessionOver(
 	t *testing.T, folder, address string, bytes uint64, looked func(),
 ) (*ssh.Client, *ssh.Session) {
@@ -53,7 +53,7 @@ func sessionOver(
 	return client, session
 }
 
-// A router that is known, and asks for another subsystem or for none, is left after the time for a
+// A trusted router that asks for another subsystem or for none is closed after the time limit of a
 // first query.
 func TestOtherSubsystem(t *testing.T) {
 	folder := t.TempDir()
@@ -87,7 +87,7 @@ func TestOtherSubsystem(t *testing.T) {
 	}
 }
 
-// Keys that are exchanged anew in the middle of answers take nothing away, and show nothing else.
+// Key exchanges in the middle of answers don't change the data.
 func TestNewKeys(t *testing.T) {
 	folder := t.TempDir()
 	server := rtr.NewServer()

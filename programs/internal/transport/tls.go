@@ -10,30 +10,30 @@ import (
 	"sync/atomic"
 )
 
-// TLSFiles are the files of a cache that is reached over TLS.
+// TLSFiles are the files of a cache that serves TLS.
 type TLSFiles struct {
-	Certificate string // with those up to its authority
+	Certificate string // with the chain up to its authority
 	Key         string
-	ClientCA    string // the authorities of routers; "" where routers need no certificate
-	// Whether a router's certificate may have another address than the router (RFC 8210 section 9.2
-	// has the cache compare them).
+	ClientCA    string // the authorities of routers; "" if routers need no certificate
+	// Whether a router's certificate may name another address than the router's (RFC 8210 section
+	// 9.2 makes the cache compare them).
 	AnyAddress bool
 }
 
-// Identity is what a cache shows of itself over TLS, and whom it trusts. Load reads it anew.
+// Identity is a cache's certificate for TLS, and the authorities that it trusts. Load reloads them.
 type Identity struct {
 	files   TLSFiles
 	present atomic.Pointer[tls.Config]
 }
 
-// NewIdentity reads the files.
+// NewIdentity loads the files.
 func NewIdentity(files TLSFiles) (*Identity, error) {
 	i := &Identity{files: files}
 	return i, i.Load()
 }
 
-// Load reads the files again. Connections that are there stay. Where there is an error, those that
-// come have what was read before.
+// Load reloads the files. Open connections stay. After an error, new connections use what was
+// loaded before.
 func (i *Identity) Load() error {
 	certificate, err := tls.LoadX509KeyPair(i.files.Certificate, i.files.Key)
 	if err != nil {
@@ -57,7 +57,7 @@ func (i *Identity) Load() error {
 	return nil
 }
 
-// Secure has a connection go over TLS. The handshake comes with the first read.
+// Secure wraps a connection in TLS. The first read runs the handshake.
 func (i *Identity) Secure(connection net.Conn) net.Conn {
 	config := i.present.Load()
 	if config.ClientCAs != nil && !i.files.AnyAddress {

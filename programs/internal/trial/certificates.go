@@ -25,7 +25,7 @@ type Authority struct {
 	key  *ecdsa.PrivateKey
 }
 
-// NewAuthority makes an authority.
+// NewAuthority returns a new authority.
 func NewAuthority(t *testing.T) *Authority {
 	t.Helper()
 	a := &Authority{t: t}
@@ -38,7 +38,7 @@ func NewAuthority(t *testing.T) *Authority {
 	return a
 }
 
-// make makes a certificate, by the authority itself or for it.
+// make makes a certificate, signed by the authority or self-signed.
 func (a *Authority) make(template *x509.Certificate) (*x509.Certificate, *ecdsa.PrivateKey) {
 	a.t.Helper()
 	key, err := ecdsa.GenerateKey(elliptic.P256(), rand.Reader)
@@ -60,24 +60,36 @@ func (a *Authority) make(template *x509.Certificate) (*x509.Certificate, *ecdsa.
 	return parsed, key
 }
 
-// Pool trusts this authority alone.
+// Pool returns a pool that trusts only this authority.
 func (a *Authority) Pool() *x509.CertPool {
 	pool := x509.NewCertPool()
 	pool.AddCert(a.self)
 	return pool
 }
 
-// Issue makes a certificate for an address.
+// Issue returns a certificate for an address or a host name.
 func (a *Authority) Issue(address string) tls.Certificate {
 	a.t.Helper()
-	certificate, key := a.make(&x509.Certificate{
+	template := &x509.Certificate{
 		SerialNumber: big.NewInt(2), Subject: pkix.Name{CommonName: address},
-		IPAddresses: []net.IP{net.ParseIP(address)},
-		NotBefore:   time.Now().Add(-time.Hour), NotAfter: time.Now().Add(time.Hour),
+		NotBefore: time.Now().Add(-time.Hour), NotAfter: time.Now().Add(time.Hour),
 		ExtKeyUsage: []x509.ExtKeyUsage{x509.ExtKeyUsageServerAuth, x509.ExtKeyUsageClientAuth},
-	})
+	}
+	if ip := net.ParseIP(address); ip != nil {
+		template.IPAddresses = []net.IP{ip}
+	} else {
+		template.DNSNames = []string{address}
+	}
+	certificate, key := a.make(template)
 	chain := [][]byte{certificate.Raw}
 	return tls.Certificate{Certificate: chain, PrivateKey: key, Leaf: certificate}
+}
+
+// ServerConfig returns the configuration of a server with a certificate for an address or a host
+// name.
+func (a *Authority) ServerConfig(address string) *tls.Config {
+	a.t.Helper()
+	return &tls.Config{Certificates: []tls.Certificate{a.Issue(address)}}
 }
 
 // Save writes the certificate of the authority to a file.
@@ -115,7 +127,7 @@ func (k Keys) make() (crypto.Signer, error) {
 	return ecdsa.GenerateKey(elliptic.P256(), rand.Reader)
 }
 
-// Save makes a key for SSH, writes it to a file, and gives the line of its public key.
+// Save makes a key for SSH, writes it to a file, and returns the line of its public key.
 func (k Keys) Save(t *testing.T, path string) string {
 	t.Helper()
 	key, err := k.make()

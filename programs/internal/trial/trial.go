@@ -3,8 +3,11 @@ package trial
 
 import (
 	"bytes"
+	"fmt"
 	"os"
 	"os/exec"
+	"path/filepath"
+	"runtime"
 	"strings"
 	"sync"
 	"syscall"
@@ -12,22 +15,60 @@ import (
 	"time"
 )
 
-// asked is set in the environment of a process that is to be the program.
+// asked is set in the environment of a process that has to run the program.
 const asked = "RTR_TRIAL"
 
-// Wait is how long a test waits at most for what has to come.
+// Wait is the longest time that a test waits for what has to come.
 const Wait = 120 * time.Second
 
-// Main runs the tests, or is the program in a process that Start began.
+// Main runs the tests, or the program in a process that Start started.
 func Main(tests *testing.M, program func(line []string) int) {
 	if os.Getenv(asked) != "" {
 		os.Unsetenv(asked)
 		os.Exit(program(os.Args[1:]))
 	}
+	WithPrebuilt()
 	os.Exit(tests.Run())
 }
 
-// Process is a program that runs.
+// WithPrebuilt appends the repository's prebuilt programs to PATH.
+func WithPrebuilt() {
+	folder, err := os.Getwd()
+	if err == nil {
+		folder, err = filepath.EvalSymlinks(folder)
+	}
+	for ; err == nil && folder != "/" && runtime.GOARCH == "amd64"; folder = filepath.Dir(folder) {
+		prebuilt := filepath.Join(folder, "prebuilt", "x86_64")
+		if _, err := os.Stat(prebuilt); err == nil {
+			os.Setenv("PATH", os.Getenv("PATH")+":"+prebuilt)
+			return
+		}
+	}
+}
+
+// Reserved returns an address at which only the test may listen. A socket that doesn't listen holds
+// the port until the test ends, so that no other process gets it.
+func Reserved(t testing.TB) string {
+	t.Helper()
+	socket, err := syscall.Socket(syscall.AF_INET, syscall.SOCK_STREAM|syscall.SOCK_CLOEXEC, 0)
+	if err != nil {
+		t.Fatal(err)
+	}
+	t.Cleanup(func() { syscall.Close(socket) })
+	if err := syscall.SetsockoptInt(socket, syscall.SOL_SOCKET, syscall.SO_REUSEADDR, 1); err != nil {
+		t.Fatal(err)
+	}
+	if err := syscall.Bind(socket, &syscall.SockaddrInet4{Addr: [4]byte{127, 0, 0, 1}}); err != nil {
+		t.Fatal(err)
+	}
+	name, err := syscall.Getsockname(socket)
+	if err != nil {
+		t.Fatal(err)
+	}
+	return fmt.Sprintf("127.0.0.1:%d", name.(*syscall.SockaddrInet4).Port)
+}
+
+// Process is a running program.
 type Process struct {
 	t      *testing.T
 	run    *exec.Cmd
@@ -45,7 +86,7 @@ func Start(t *testing.T, folder string, line ...string) *Process {
 	return StartBy(t, folder, nil, exec.Command(os.Args[0], line...))
 }
 
-// StartBy starts the program by a command that leads to it, with more in its environment.
+// StartBy starts the program by a wrapper command, with additions to its environment.
 func StartBy(t *testing.T, folder string, environment []string, run *exec.Cmd) *Process {
 	t.Helper()
 	p := &Process{t: t, run: run, ended: make(chan struct{})}
@@ -77,21 +118,21 @@ func (s stream) Write(text []byte) (int, error) {
 	return len(text), nil
 }
 
-// Output is what the process wrote on standard output so far.
+// Output returns what the process wrote on standard output so far.
 func (p *Process) Output() string {
 	p.lock.Lock()
 	defer p.lock.Unlock()
 	return string(p.output)
 }
 
-// Said is what the process wrote on standard error so far.
+// Said returns what the process wrote on standard error so far.
 func (p *Process) Said() string {
 	p.lock.Lock()
 	defer p.lock.Unlock()
 	return string(p.said)
 }
 
-// Lines is how many lines on standard error have this text.
+// Lines returns how many lines on standard error have this text.
 func (p *Process) Lines(text string) int {
 	count := 0
 	for _, line := range strings.Split(p.Said(), "\n") {
@@ -102,7 +143,7 @@ func (p *Process) Lines(text string) int {
 	return count
 }
 
-// Await waits until something is so.
+// Await waits until a condition is true.
 func (p *Process) Await(what string, is func() bool) {
 	p.t.Helper()
 	for until := time.Now().Add(Wait); !is(); time.Sleep(5 * time.Millisecond) {
@@ -112,7 +153,7 @@ func (p *Process) Await(what string, is func() bool) {
 	}
 }
 
-// hasEnded says whether the process has ended.
+// hasEnded reports whether the process has ended.
 func (p *Process) hasEnded() bool {
 	select {
 	case <-p.ended:
@@ -122,20 +163,30 @@ func (p *Process) hasEnded() bool {
 	}
 }
 
-// Says waits until so many lines on standard error have this text.
+// Says waits until this many lines on standard error have this text.
 func (p *Process) Says(text string, times int) {
 	p.t.Helper()
 	p.Await(text, func() bool { return p.Lines(text) >= times })
 }
 
-// After gives what stands after a text on standard error up to the next space or quote, once it is
-// there.
+// After waits for a text on standard error, and returns what follows it up to the next space or
+// quote.
 func (p *Process) After(text string) string {
 	p.t.Helper()
 	p.Says(text, 1)
 	_, rest, _ := strings.Cut(p.Said(), text)
 	ends := func(r rune) bool { return r == ' ' || r == '"' || r == '\n' }
 	return strings.FieldsFunc(rest, ends)[0]
+}
+
+// Descriptors returns how many files and sockets the process has open.
+func (p *Process) Descriptors() int {
+	p.t.Helper()
+	open, err := os.ReadDir(fmt.Sprintf("/proc/%d/fd", p.run.Process.Pid))
+	if err != nil {
+		p.t.Fatal(err)
+	}
+	return len(open)
 }
 
 // Signal sends a signal.
@@ -152,7 +203,7 @@ func (p *Process) Kill() {
 	<-p.ended
 }
 
-// Status waits for the end of the process, and gives its status.
+// Status waits for the end of the process, and returns its status.
 func (p *Process) Status() int {
 	p.t.Helper()
 	select {
@@ -163,14 +214,14 @@ func (p *Process) Status() int {
 	return p.status
 }
 
-// End sends SIGTERM, and gives the status.
+// End sends SIGTERM, and returns the status.
 func (p *Process) End() int {
 	p.t.Helper()
 	p.Signal(syscall.SIGTERM)
 	return p.Status()
 }
 
-// Write gives a file this text, by renaming.
+// Write replaces a file by one with this text, by renaming.
 func Write(t *testing.T, path, text string) {
 	t.Helper()
 	if err := os.WriteFile(path+".written", []byte(text), 0o600); err != nil {
@@ -181,7 +232,7 @@ func Write(t *testing.T, path, text string) {
 	}
 }
 
-// Same says whether a file has this text.
+// Same checks that a file has this text.
 func Same(path, text string) bool {
 	read, err := os.ReadFile(path)
 	return err == nil && bytes.Equal(read, []byte(text))

@@ -7,7 +7,23 @@ import (
 	"time"
 )
 
-// Text is an option whose argument is taken as it is, but mustn't be empty.
+// Number returns a number with a noun, in the plural unless it is 1.
+func Number(count int, name string) string {
+	if count != 1 {
+		name += "s"
+	}
+	return fmt.Sprintf("%d %s", count, name)
+}
+
+// Are returns the verb for this many things.
+func Are(count int) string {
+	if count == 1 {
+		return "is"
+	}
+	return "are"
+}
+
+// Text is an option whose argument is any text but the empty one.
 func Text(to *string) func(string) error {
 	return func(argument string) error {
 		if argument == "" {
@@ -34,31 +50,32 @@ func Seconds(to *uint32) func(string) error {
 	return func(argument string) error {
 		number, err := strconv.ParseUint(argument, 10, 32)
 		if err != nil {
-			return fmt.Errorf("%q is no number of seconds", argument)
+			return fmt.Errorf("%q isn't a number of seconds", argument)
 		}
 		*to = uint32(number)
 		return nil
 	}
 }
 
-// Count is an option whose argument is a number, at least this one.
+// Count is an option whose argument is a number, at least the given one.
 func Count(to *int, least int) func(string) error {
 	return func(argument string) error {
 		number, err := strconv.ParseInt(argument, 10, 32)
 		if err != nil || int(number) < least {
-			return fmt.Errorf("%q is no number from %d on", argument, least)
+			return fmt.Errorf("%q isn't a number of at least %d", argument, least)
 		}
 		*to = int(number)
 		return nil
 	}
 }
 
-// Wait is an option whose argument is a time as 10s or 5m, at least this one.
+// Wait is an option whose argument is a duration such as 10s or 5m, at least the given one.
 func Wait(to *time.Duration, least time.Duration) func(string) error {
 	return func(argument string) error {
 		wait, err := time.ParseDuration(argument)
 		if err != nil || wait < least {
-			return fmt.Errorf("%q is no time as 30s or 5m, from %v on", argument, least)
+			return fmt.Errorf("%q isn't a time of at least %v with a unit, such as 30s or 5m",
+				argument, least)
 		}
 		*to = wait
 		return nil

@@ -1,0 +1,153 @@
+package cache
+
+import (
+	"bytes"
+	"errors"
+	"time"
+
+	"github.com/sirupsen/logrus"
+
+	"fishreef/programs/internal/clients"
+	"fishreef/programs/internal/metrics"
+	"fishreef/programs/internal/transport"
+	"fishreef/rtr"
+)
+
+// observer observes the connections of routers.
+type observer struct {
+	*metrics.Metrics
+	clients *clients.Clients
+	log     *logrus.Logger
+}
+
+// Moved counts bytes.
+func (o observer) Moved(peer *transport.Peer, direction transport.Direction, bytes int) {
+	o.Metrics.Moved(peer, direction, bytes)
+	o.clients.Moved(peer, direction, bytes)
+}
+
+// Came logs what a router asks: the first time at info, later at debug.
+func (o observer) Came(peer *transport.Peer, unit *rtr.Unit) {
+	first, query := o.clients.Came(peer, unit)
+	if !query {
+		return
+	}
+	line := o.log.WithFields(logrus.Fields{
+		"client": peer.String(), "transport": peer.Kind, "version": unit.Version,
+	})
+	says := "reset query"
+	if unit.Kind == rtr.SerialQuery {
+		says = "serial query"
+		line = line.WithFields(logrus.Fields{"session": unit.Session, "serial": unit.Serial})
+	}
+	if first {
+		line.Info(says)
+		return
+	}
+	line.Debug(says)
+}
+
+// tells logs the server's messages about its clients.
+func (c *Cache) tells(_ rtr.Level, message string, fields ...any) {
+	named := map[string]any{}
+	for i := 0; i+1 < len(fields); i += 2 {
+		if name, is := fields[i].(string); is {
+			named[name] = fields[i+1]
+		}
+	}
+	peer, is := named["client"].(*transport.Peer)
+	if !is {
+		return
+	}
+	line := c.log.WithFields(logrus.Fields{"client": peer.String(), "transport": peer.Kind})
+	switch message {
+	case "connected":
+		c.clients.Connected(peer)
+		line.Info(message)
+	case "answers":
+		line.WithFields(logrus.Fields{"unit": named["unit"], "version": named["version"]}).
+			Debug(message)
+	case "answered":
+		session, _ := named["session"].(uint16)
+		serial, _ := named["serial"].(uint32)
+		c.clients.Answered(peer, clients.Serial{Session: session, Serial: serial})
+		line.WithFields(logrus.Fields{"session": session, "serial": serial}).Debug(message)
+	case "ended":
+		err, _ := named["error"].(error)
+		c.ended(line, peer, err)
+	}
+}
+
+// ended logs that a router left, and why.
+func (c *Cache) ended(line *logrus.Entry, peer *transport.Peer, err error) {
+	client := c.clients.Left(peer)
+	line = line.WithFields(logrus.Fields{
+		"received": client.Received, "sent": client.Sent,
+		"lasted": time.Since(client.Since).Round(time.Millisecond).String(),
+	})
+	if client.Version != nil {
+		line = line.WithField("version", *client.Version)
+	}
+	if client.Has != nil {
+		line = line.WithFields(logrus.Fields{
+			"session": client.Has.Session, "serial": client.Has.Serial,
+		})
+	}
+	switch reason := reasonOf(err); {
+	case err == nil:
+		line.Info("left")
+	case errors.Is(err, rtr.ErrServerClosed):
+		line.Debug("left: the cache ends")
+	default:
+		c.metrics.Ended(reason)
+		line = line.WithField("reason", reason)
+		text := "left: " + plainText(err) + looksLike(err)
+		if c.isUsual(reason, err, &client) {
+			line.Info(text)
+			return
+		}
+		line.Warn(text)
+	}
+}
+
+// isUsual reports whether an end is nobody's fault: the network or the router ended the connection,
+// or the router has data of another session, which it reports as corrupt (RFC 8210 section 5.1), as
+// after a restart without the state.
+func (c *Cache) isUsual(reason string, err error, client *clients.Client) bool {
+	var report *rtr.Reported
+	if errors.As(err, &report) && report.Code == rtr.CorruptData {
+		return client.Queries == 0 || client.Has != nil && client.Behind == nil
+	}
+	return reason == lost || reason == "session" || reason == "unknown"
+}
+
+// strangers are the first bytes of other protocols, and what to do about them.
+var strangers = []struct{ begins, says string }{
+	{"GET ", http}, {"HEAD ", http}, {"POST ", http}, {"PUT ", http}, {"DELETE ", http},
+	{"OPTIONS ", http}, {"CONNECT ", http}, {"PRI * HT", http}, // the last one is HTTP/2
+	{"SSH-", "; it speaks SSH: --listen ssh: is for that"},
+	{"\x16\x03", "; it speaks TLS: --listen tls: is for that"},
+}
+
+// http is the advice for a client that speaks HTTP.
+const http = "; it speaks HTTP: --metrics is for that"
+
+// looksLike returns the advice for a client that speaks another protocol, if that can be
+// recognised.
+func looksLike(err error) string {
+	var fault *rtr.Fault
+	var breach *rtr.Breach
+	var unit []byte
+	switch {
+	case errors.As(err, &fault) && fault.Offset == 0:
+		unit = fault.Unit
+	case errors.As(err, &breach):
+		unit = breach.Unit
+	}
+	for _, stranger := range strangers {
+		if bytes.HasPrefix(unit, []byte(stranger.begins)) {
+			return stranger.says
+		}
+	}
+	return ""
+}

@@ -1,0 +1,41 @@
+package fetch
+
+import (
+	"errors"
+	"fmt"
+	"net/url"
+	"strings"
+)
+
+// IsURL reports whether a word is a URL and not a file name: it has a scheme, or begins with one of
+// the web.
+func IsURL(word string) bool {
+	scheme, _, _ := strings.Cut(word, ":")
+	return strings.Contains(word, "://") || scheme != word && isWeb(scheme)
+}
+
+// isWeb reports whether lists can be fetched by this scheme.
+func isWeb(scheme string) bool {
+	return strings.EqualFold(scheme, "http") || strings.EqualFold(scheme, "https")
+}
+
+// Parse parses the URL of a list.
+//
+// Errors: it isn't a URL of http or https, lacks a host, or has a fragment.
+func Parse(word string) (*url.URL, error) {
+	parsed, err := url.Parse(word)
+	var wrong *url.Error
+	switch {
+	case errors.As(err, &wrong):
+		return nil, fmt.Errorf("not a URL: %w", wrong.Err)
+	case err != nil:
+		return nil, err
+	case !isWeb(parsed.Scheme):
+		return nil, fmt.Errorf("%q isn't an http:// or https:// URL", parsed.Redacted())
+	case parsed.Hostname() == "":
+		return nil, fmt.Errorf("%q has no host: http://HOST/PATH or https://HOST/PATH", parsed.Redacted())
+	case parsed.Fragment != "":
+		return nil, fmt.Errorf("%q has a fragment (#), which isn't sent to servers", parsed.Redacted())
+	}
+	return parsed, nil
+}

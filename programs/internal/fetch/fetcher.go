@@ -1,0 +1,186 @@
+// Package fetch fetches a list from a web server periodically: only if it changed, within limits of
+// size and time, and with growing waits after failures.
+package fetch
+
+import (
+	"context"
+	"crypto/tls"
+	"crypto/x509"
+	"fmt"
+	"math/rand"
+	"net/http"
+	"net/url"
+	"os"
+	"sync"
+	"sync/atomic"
+	"time"
+
+	"fishreef/programs/internal/payloads"
+)
+
+// Settings are those that all lists of a program share.
+type Settings struct {
+	Every     time.Duration // the time between two fetches
+	Timeout   time.Duration // the time limit of a fetch, from the connection to the last byte
+	Bytes     int64         // the most bytes of a list, after decompression
+	Folder    string        // where lists are stored; "" for the system's folder of temporary files
+	Authority string        // a file with authorities (PEM); "" for those of the system
+}
+
+// News are the results of the fetches since the last Take.
+type News struct {
+	Body    *payloads.Body // the newest list, which belongs to the caller; nil for none
+	Written time.Time      // when the list was written, as the server says; zero if no list came
+	At      time.Time      // when the server last had it; zero if it didn't
+	Failure *Failure       // why the last fetch failed; nil if it didn't
+	Next    time.Duration  // from the last fetch to the next one
+	Results []Reason       // the result of each fetch
+}
+
+// Fetcher fetches one list.
+type Fetcher struct {
+	url      *url.URL
+	settings Settings
+	client   atomic.Pointer[http.Client]
+	told     chan<- struct{}
+	again    chan struct{}
+
+	known  condition // the condition of the newest list
+	bodies uint64    // how many lists were fetched
+
+	lock sync.Mutex
+	news News
+}
+
+// New returns a fetcher, which sends a value when there is news, unless one is pending.
+//
+// Errors: those of the file of authorities.
+func New(at *url.URL, settings Settings, told chan<- struct{}) (*Fetcher, error) {
+	f := &Fetcher{url: at, settings: settings, told: told, again: make(chan struct{}, 1)}
+	return f, f.Load()
+}
+
+// Load reloads the authorities. After an error the former ones stay.
+func (f *Fetcher) Load() error {
+	config := &tls.Config{MinVersion: tls.VersionTLS12}
+	if path := f.settings.Authority; path != "" {
+		text, err := os.ReadFile(path)
+		if err != nil {
+			return err
+		}
+		config.RootCAs = x509.NewCertPool()
+		if !config.RootCAs.AppendCertsFromPEM(text) {
+			return fmt.Errorf("%s: there is no certificate in it", path)
+		}
+	}
+	f.client.Store(&http.Client{
+		CheckRedirect: sentOn,
+		Transport: &http.Transport{
+			Proxy: http.ProxyFromEnvironment, TLSClientConfig: config,
+			DisableKeepAlives: true, MaxResponseHeaderBytes: 1 << 16,
+		},
+	})
+	return nil
+}
+
+// Again fetches the list at once, whether it changed or not.
+func (f *Fetcher) Again() {
+	select {
+	case f.again <- struct{}{}:
+	default:
+	}
+}
+
+// Take returns what is new.
+func (f *Fetcher) Take() News {
+	f.lock.Lock()
+	defer f.lock.Unlock()
+	news := f.news
+	f.news = News{Failure: news.Failure, Next: news.Next}
+	return news
+}
+
+// Run fetches until the context ends.
+func (f *Fetcher) Run(ctx context.Context) {
+	defer func() {
+		if body := f.Take().Body; body != nil {
+			body.Close()
+		}
+	}()
+	failures, anew := 0, false
+	for {
+		got, err := f.get(ctx, anew)
+		if ctx.Err() != nil {
+			if got != nil && got.body != nil {
+				got.body.Close()
+			}
+			return
+		}
+		failures++
+		if err == nil {
+			failures = 0
+		}
+		wait := f.pause(failures, err)
+		f.note(got, err, wait)
+		timer := time.NewTimer(wait)
+		select {
+		case <-ctx.Done():
+			timer.Stop()
+			return
+		case <-f.again:
+			timer.Stop()
+			anew = true
+		case <-timer.C:
+			anew = false
+		}
+	}
+}
+
+// firstPause is the wait after the first failure; it doubles with each further one, up to the time
+// between two fetches.
+const firstPause = 10 * time.Second
+
+// pause returns the time until the next fetch after this many failures, or longer if the server
+// asks for that, with up to a tenth of random delay, so that caches don't ask at the same time.
+func (f *Fetcher) pause(failures int, err error) time.Duration {
+	wait := f.settings.Every
+	if failures > 0 {
+		doubled := firstPause
+		for i := 1; i < failures && doubled < wait; i++ {
+			doubled *= 2
+		}
+		if doubled < wait {
+			wait = doubled
+		}
+	}
+	if failure, is := err.(*Failure); is && failure.After > wait {
+		wait = failure.After
+	}
+	return wait + time.Duration(rand.Int63n(int64(wait)/10+1))
+}
+
+// note adds the result of a fetch to the news.
+func (f *Fetcher) note(got *list, err error, next time.Duration) {
+	f.lock.Lock()
+	defer f.lock.Unlock()
+	f.news.Next, f.news.Failure = next, nil
+	result := SameList
+	switch {
+	case err != nil:
+		f.news.Failure = failureOf(err)
+		result = f.news.Failure.Reason
+	case got.body != nil:
+		if f.news.Body != nil {
+			f.news.Body.Close()
+		}
+		f.news.Body, result = got.body, NewList
+	}
+	if err == nil {
+		f.known, f.news.Written, f.news.At = got.condition, got.written, time.Now()
+	}
+	f.news.Results = append(f.news.Results, result)
+	select {
+	case f.told <- struct{}{}:
+	default:
+	}
+}

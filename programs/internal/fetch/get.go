@@ -1,0 +1,215 @@
+package fetch
+
+import (
+	"context"
+	"crypto/sha256"
+	"fmt"
+	"io"
+	"net/http"
+	"os"
+	"strconv"
+	"strings"
+	"syscall"
+	"time"
+
+	"fishreef/programs/internal/payloads"
+	"fishreef/programs/internal/words"
+)
+
+// mostRedirects is the most redirects of a fetch.
+const mostRedirects = 5
+
+// mostAfter is the longest that a server may delay the next fetch.
+const mostAfter = time.Hour
+
+// condition tells a server which list is known.
+type condition struct {
+	tag      string // the ETag; "" for none
+	modified string // Last-Modified; "" for none
+	sum      [sha256.Size]byte
+}
+
+// list is the answer of a server.
+type list struct {
+	condition
+	body    *payloads.Body // nil for the former list
+	written time.Time
+}
+
+// sentOn allows a redirect, unless it leaves https.
+func sentOn(next *http.Request, before []*http.Request) error {
+	switch {
+	case len(before) > mostRedirects:
+		return &Failure{Reason: Redirect, Text: fmt.Sprintf("more than %d redirects", mostRedirects)}
+	case !isWeb(next.URL.Scheme):
+		return &Failure{Reason: Redirect, Text: "a redirect to " + next.URL.Scheme}
+	case before[len(before)-1].URL.Scheme == "https" && next.URL.Scheme != "https":
+		return &Failure{Reason: Redirect, Text: "a redirect from https to http"}
+	}
+	return nil
+}
+
+// get fetches the list once, unless it is the known one; with anew, in any case.
+//
+// Errors: a Failure.
+func (f *Fetcher) get(ctx context.Context, anew bool) (*list, error) {
+	limited, cancel := context.WithTimeout(ctx, f.settings.Timeout)
+	defer cancel()
+	got, err := f.ask(limited, anew)
+	if err == nil {
+		return got, nil
+	}
+	if limited.Err() == context.DeadlineExceeded {
+		return nil, &Failure{Reason: Timeout,
+			Text: fmt.Sprintf("no whole answer within %v", f.settings.Timeout)}
+	}
+	return nil, failureOf(err)
+}
+
+// ask sends the request, and reads the answer.
+func (f *Fetcher) ask(ctx context.Context, anew bool) (*list, error) {
+	request, err := http.NewRequestWithContext(ctx, http.MethodGet, f.url.String(), nil)
+	if err != nil {
+		return nil, err
+	}
+	request.Header.Set("User-Agent", "fishreef/"+words.Version)
+	conditional := !anew && f.known.tag+f.known.modified != ""
+	if conditional && f.known.tag != "" {
+		request.Header.Set("If-None-Match", f.known.tag)
+	}
+	if conditional && f.known.modified != "" {
+		request.Header.Set("If-Modified-Since", f.known.modified)
+	}
+	answer, err := f.client.Load().Do(request)
+	if err != nil {
+		return nil, err
+	}
+	defer answer.Body.Close()
+	if answer.StatusCode == http.StatusNotModified && conditional {
+		return &list{condition: f.known, written: f.written(f.known.modified)}, nil
+	}
+	if err := f.check(answer); err != nil {
+		return nil, err
+	}
+	return f.read(answer)
+}
+
+// check returns why the body of an answer isn't read.
+func (f *Fetcher) check(answer *http.Response) error {
+	encoding := answer.Header.Get("Content-Encoding")
+	switch {
+	case answer.StatusCode != http.StatusOK:
+		text := fmt.Sprintf("the server answered %d %s", answer.StatusCode,
+			http.StatusText(answer.StatusCode))
+		return &Failure{Reason: Status, Text: strings.TrimSpace(text), After: after(answer)}
+	case encoding != "" && encoding != "identity":
+		return &Failure{Reason: Encoding, Text: fmt.Sprintf("the unknown encoding %q", encoding)}
+	case answer.ContentLength > f.settings.Bytes:
+		return f.tooLong()
+	case answer.ContentLength < 0 && len(answer.TransferEncoding) == 0 && !answer.Uncompressed:
+		return &Failure{Reason: Cut,
+			Text: "the answer has no length, so that nothing would show that it was cut off"}
+	}
+	return nil
+}
+
+// tooLong returns the failure for a list above the limit.
+func (f *Fetcher) tooLong() *Failure {
+	return &Failure{Reason: Size, Text: fmt.Sprintf("larger than %d bytes", f.settings.Bytes)}
+}
+
+// after returns the Retry-After of a busy server, at most an hour; 0 if it sent none.
+func after(answer *http.Response) time.Duration {
+	text := answer.Header.Get("Retry-After")
+	wait := time.Duration(0)
+	if seconds, err := strconv.ParseUint(text, 10, 31); err == nil {
+		wait = time.Duration(seconds) * time.Second
+	} else if at, err := http.ParseTime(text); err == nil {
+		wait = time.Until(at)
+	}
+	switch {
+	case wait < 0:
+		return 0
+	case wait > mostAfter:
+		return mostAfter
+	}
+	return wait
+}
+
+// written returns when a list was written, by its Last-Modified, or now without that.
+func (f *Fetcher) written(modified string) time.Time {
+	if at, err := http.ParseTime(modified); err == nil {
+		return at
+	}
+	return time.Now()
+}
+
+// read reads the body of an answer into a file without a name.
+func (f *Fetcher) read(answer *http.Response) (*list, error) {
+	got := &list{condition: condition{
+		tag: answer.Header.Get("ETag"), modified: answer.Header.Get("Last-Modified"),
+	}}
+	got.written = f.written(got.modified)
+	file, err := f.unnamed()
+	if err != nil {
+		return nil, &Failure{Reason: Disk, Text: "it can't be stored: " + err.Error()}
+	}
+	size, err := f.copy(file, &got.condition, answer.Body)
+	if err != nil || got.sum == f.known.sum {
+		file.Close()
+		return got, err
+	}
+	f.bodies++
+	got.body = &payloads.Body{File: file, State: payloads.Stamp{
+		Inode: f.bodies, Size: size, Modified: syscall.NsecToTimespec(got.written.UnixNano()),
+	}}
+	return got, nil
+}
+
+// unnamed creates a file without a name, which is removed when it is closed.
+func (f *Fetcher) unnamed() (*os.File, error) {
+	file, err := os.CreateTemp(f.settings.Folder, "list.")
+	if err != nil {
+		return nil, err
+	}
+	if err := os.Remove(file.Name()); err != nil {
+		file.Close()
+		return nil, err
+	}
+	return file, nil
+}
+
+// copy copies a body, up to the limit, and computes its checksum.
+func (f *Fetcher) copy(file *os.File, to *condition, body io.Reader) (size int64, err error) {
+	sum, from := sha256.New(), &reader{Reader: body}
+	size, err = io.Copy(io.MultiWriter(file, sum), io.LimitReader(from, f.settings.Bytes+1))
+	switch {
+	case from.err != nil:
+		failure := failureOf(from.err)
+		if failure.Reason == Cut {
+			failure.Text = "the body was cut off"
+		}
+		return size, failure
+	case err != nil:
+		return size, &Failure{Reason: Disk, Text: "it can't be stored: " + err.Error()}
+	case size > f.settings.Bytes:
+		return size, f.tooLong()
+	}
+	sum.Sum(to.sum[:0])
+	return size, nil
+}
+
+// reader records why a body couldn't be read.
+type reader struct {
+	io.Reader
+	err error
+}
+
+// Read reads.
+func (r *reader) Read(buffer []byte) (int, error) {
+	n, err := r.Reader.Read(buffer)
+	if err != nil && err != io.EOF {
+		r.err = err
+	}
+	return n, err
+}

@@ -1,0 +1,48 @@
+// Package logs writes the log lines of programs on standard error, and has their options.
+package logs
+
+import (
+	"github.com/sirupsen/logrus"
+
+	"fishreef/programs/internal/words"
+)
+
+// Logging is the level and format of a program's log.
+type Logging struct {
+	JSON  bool
+	Level logrus.Level
+}
+
+// Usual logs at info and above, as text.
+func Usual() Logging { return Logging{Level: logrus.InfoLevel} }
+
+// Options returns the options for the log.
+func (l *Logging) Options() []words.Option {
+	return []words.Option{
+		{
+			Name: "log-json",
+			Help: "Write log lines as JSON",
+			Set:  words.Yes(&l.JSON),
+		},
+		{
+			Name: "log-level", Argument: "LEVEL",
+			Help: "Log lines of this level and above: debug, info, warning or\n" +
+				"error (default info)",
+			Set: func(level string) (err error) {
+				l.Level, err = logrus.ParseLevel(level)
+				return err
+			},
+		},
+	}
+}
+
+// Logger writes lines on standard error.
+func (l Logging) Logger() *logrus.Logger {
+	log := logrus.New()
+	log.SetLevel(l.Level)
+	log.SetFormatter(&logrus.TextFormatter{DisableColors: true, FullTimestamp: true})
+	if l.JSON {
+		log.SetFormatter(&logrus.JSONFormatter{})
+	}
+	return log
+}

@@ -1,0 +1,188 @@
+package main
+
+import (
+	"fmt"
+	"net/http"
+	"os"
+	"strings"
+	"syscall"
+	"testing"
+	"time"
+
+	"fishreef/programs/internal/trial"
+)
+
+// guarded is a cache of a file of 10 payloads, with these options.
+func guarded(t *testing.T, folder string, line ...string) *trial.Process {
+	t.Helper()
+	trial.Write(t, folder+"/f", rows(10))
+	process, _ := started(t, folder, append([]string{"--csv", "f", "--guard", "20%", "--look", "1s"}, line...)...)
+	process.Says("10 payloads", 1)
+	return process
+}
+
+// A file that would withdraw too much is held: no other state of it is taken, by a list that would
+// withdraw as much, by other rights, or by SIGHUP. A good one is, and then all begins anew.
+func TestHolds(t *testing.T) {
+	folder := t.TempDir()
+	file := folder + "/f"
+	process := guarded(t, folder, "--guard-time", "1h", "--metrics", "127.0.0.1:0")
+	health := strings.TrimSuffix(process.After("metrics are at "), "/metrics") + "/health"
+	trial.Write(t, file, rows(8))
+	process.Says("serial 2: 8 payloads", 1)
+	trial.Write(t, file, rows(6))
+	process.Says("it would withdraw 2 of 8 payloads, which is more than 20%: held until", 1)
+	trial.Write(t, file, rows(5))
+	process.Says("it would withdraw 3 of 8 payloads", 1)
+	trial.Write(t, file, rows(1))
+	process.Says("it would withdraw 7 of 8 payloads", 1)
+	for i, touch := range []func() error{
+		func() error { return os.Chmod(file, 0o640) },
+		func() error { return os.Chtimes(file, time.Now(), time.Now()) },
+	} {
+		if err := touch(); err != nil {
+			t.Fatal(err)
+		}
+		time.Sleep(3 * time.Second)
+		process.Signal(hangup)
+		process.Says("it would withdraw 7 of 8 payloads", 2+i)
+	}
+	if status, says := read(t, health); status != http.StatusServiceUnavailable || !strings.Contains(says, "f: it would") {
+		t.Error(status, says)
+	}
+	if process.Lines("serial 3") != 0 {
+		t.Error(process.Said())
+	}
+	trial.Write(t, file, rows(9))
+	process.Says("serial 3: 9 payloads", 1)
+	process.Await("good", func() bool { status, _ := read(t, health); return status == http.StatusOK })
+	trial.Write(t, file, rows(1))
+	process.Says("it would withdraw 8 of 9 payloads", 1)
+}
+
+// The same payloads are taken once they have stayed for the time of the guard, and no others: each
+// change begins that time anew, but for one of the rights.
+func TestGuardTime(t *testing.T) {
+	folder := t.TempDir()
+	file := folder + "/f"
+	process := guarded(t, folder, "--guard-time", "6s")
+	began := time.Now()
+	for count := 1; count < 4; count++ {
+		trial.Write(t, file, rows(count))
+		process.Says("it would withdraw", count)
+		time.Sleep(3 * time.Second)
+	}
+	if process.Lines("serial 2") != 0 {
+		t.Error(process.Said())
+	}
+	if err := os.Chmod(file, 0o640); err != nil {
+		t.Fatal(err)
+	}
+	process.Says("serial 2: 3 payloads, 0 announced, 7 withdrawn (7 IPv4 prefixes)", 1)
+	if took := time.Since(began); took < 12*time.Second || process.Lines("it would withdraw") != 3 {
+		t.Errorf("after %v: %s", took, process.Said())
+	}
+}
+
+// With --hold a person decides: by SIGUSR1, which is about what is held then and nothing else.
+func TestPersonDecides(t *testing.T) {
+	folder := t.TempDir()
+	file := folder + "/f"
+	process := guarded(t, folder, "--hold", "--guard-time", "1s")
+	trial.Write(t, file, rows(2))
+	process.Says("it would withdraw 8 of 10 payloads, which is more than 20%: held until SIGUSR1, or a start with --force", 1)
+	time.Sleep(4 * time.Second)
+	if process.Lines("serial 2") != 0 {
+		t.Error(process.Said())
+	}
+	process.Signal(syscall.SIGUSR1)
+	process.Says("serial 2: 2 payloads", 1)
+	trial.Write(t, file, rows(10))
+	process.Says("serial 3: 10 payloads", 1)
+	process.Signal(syscall.SIGUSR1)
+	process.Says("SIGUSR1: accepting what is held", 2)
+	trial.Write(t, file, rows(1))
+	process.Says("it would withdraw 9 of 10 payloads", 1)
+}
+
+// --force is about what the files have at the start, once.
+func TestForce(t *testing.T) {
+	folder := t.TempDir()
+	file := folder + "/f"
+	guarded(t, folder, "--state", "state").End()
+	trial.Write(t, file, rows(1))
+	process, _ := started(t, folder, "--csv", "f", "--state", "state", "--guard", "20%")
+	process.Says("it would withdraw 9 of 10 payloads", 1)
+	process.End()
+	process, _ = started(t, folder, "--csv", "f", "--state", "state", "--guard", "20%", "--force")
+	process.Says("serial 2: 1 payload, 0 announced, 9 withdrawn", 1)
+	trial.Write(t, file, rows(10))
+	process.Says("serial 3: 10 payloads", 1)
+	process.End()
+	trial.Write(t, file, "x")
+	process, _ = started(t, folder, "--csv", "f", "--state", "state", "--guard", "20%", "--force")
+	process.Says("f: line 1", 1)
+	trial.Write(t, file, rows(1))
+	process.Says("it would withdraw 9 of 10 payloads", 1)
+}
+
+// A list that is written in its place, in pieces, isn't served before it is whole.
+func TestWrittenInPieces(t *testing.T) {
+	folder := t.TempDir()
+	process := guarded(t, folder)
+	file, err := os.OpenFile(folder+"/f", os.O_WRONLY|os.O_TRUNC, 0)
+	if err != nil {
+		t.Fatal(err)
+	}
+	defer file.Close()
+	for _, row := range strings.SplitAfter(rows(12), "\n") {
+		if _, err := file.WriteString(row); err != nil {
+			t.Fatal(err)
+		}
+		time.Sleep(500 * time.Millisecond)
+	}
+	process.Says("serial 2: 12 payloads, 2 announced (2 IPv4 prefixes), 0 withdrawn", 1)
+	if process.Lines("held") != 0 || process.Lines("serial") != 2 {
+		t.Error(process.Said())
+	}
+}
+
+// anchored is a list of so many payloads of each trust anchor, as validators print it.
+func anchored(format string, anchors map[string]int) string {
+	var items []string
+	octet := 0
+	for _, name := range []string{"apnic", "ripe"} {
+		for i := 0; i < anchors[name]; i++ {
+			line := `{"asn": 64496, "prefix": "10.%d.0.0/16", "maxLength": 16, "ta": "%s"}`
+			if format == "--csv" {
+				line = "AS64496,10.%d.0.0/16,16,%s\n"
+			}
+			items = append(items, fmt.Sprintf(line, octet, name))
+			octet++
+		}
+		octet = 100
+	}
+	if format == "--csv" {
+		return "ASN,IP Prefix,Max Length,Trust Anchor\n" + strings.Join(items, "")
+	}
+	return `{"roas": [` + strings.Join(items, ", ") + "]}"
+}
+
+// A list that lacks too much of a trust anchor is held, however little of all that is.
+func TestHoldsAnchor(t *testing.T) {
+	for _, format := range []string{"--json", "--csv"} {
+		t.Run(format, func(t *testing.T) {
+			folder := t.TempDir()
+			file := folder + "/f"
+			trial.Write(t, file, anchored(format, map[string]int{"apnic": 90, "ripe": 10}))
+			process, _ := started(t, folder, format, "f", "--guard", "20%", "--look", "1s")
+			process.Says("100 payloads", 1)
+			trial.Write(t, file, anchored(format, map[string]int{"apnic": 90, "ripe": 8}))
+			process.Says("serial 2: 98 payloads", 1)
+			trial.Write(t, file, anchored(format, map[string]int{"apnic": 90, "ripe": 6}))
+			process.Says("it would withdraw 2 of 8 items of trust anchor ripe, which is more than 20%: held until", 1)
+			trial.Write(t, file, anchored(format, map[string]int{"apnic": 91, "ripe": 7}))
+			process.Says("serial 3: 98 payloads", 1)
+		})
+	}
+}

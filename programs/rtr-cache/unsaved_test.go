@@ -1,0 +1,113 @@
+package main
+
+import (
+	"net/http"
+	"os"
+	"strings"
+	"testing"
+
+	"fishreef/programs/internal/trial"
+)
+
+// unsaved returns a cache whose state can't be saved any more, and the cause.
+func unsaved(t *testing.T, folder string, breaks func()) (*trial.Process, string, string) {
+	t.Helper()
+	trial.Write(t, folder+"/f", rows(3))
+	process, address := started(t, folder, "--csv", "f", "--state", "state", "--look", "1s",
+		"--metrics", "127.0.0.1:0")
+	process.Says("3 payloads", 1)
+	breaks()
+	trial.Write(t, folder+"/f", rows(4))
+	process.Says("state: the data aren't saved: ", 1)
+	process.Says("serial 2: 4 payloads", 1)
+	if data := fetched(t, address, 2); data.Len() != 4 {
+		t.Error(data.Len())
+	}
+	metrics := strings.TrimSuffix(process.After("metrics are at "), "/metrics")
+	status, says := read(t, metrics+"/health")
+	if status != http.StatusServiceUnavailable || !strings.HasPrefix(says, "the data aren't saved: ") {
+		t.Error(status, says)
+	}
+	_, says = read(t, metrics+"/metrics")
+	for _, line := range []string{
+		"rtr_cache_healthy 0\n", "rtr_cache_unhealthy{reason=\"unsaved\"} 1\n", "rtr_cache_unsaved_total 1\n",
+	} {
+		if !strings.Contains(says, line) {
+			t.Errorf("there is no %q", line)
+		}
+	}
+	return process, address, metrics
+}
+
+// saved waits until the state is saved again, and then restarts the cache, which has it.
+func saved(t *testing.T, folder string, process *trial.Process, address, metrics string) {
+	t.Helper()
+	process.Says("state: the data are saved again", 1)
+	process.Await("good", func() bool { status, _ := read(t, metrics+"/health"); return status == http.StatusOK })
+	before := fetched(t, address, 2)
+	process.Kill()
+	process, address = started(t, folder, "--csv", "f", "--state", "state")
+	process.Says("f: nothing changed", 1)
+	if data := fetched(t, address, 2); !data.Equal(before) {
+		t.Error("the state wasn't saved")
+	}
+}
+
+// Data that can't be saved are still served, and /health reports that. The folder's data of their
+// session are removed, so that a restart begins another session. They are saved once that is
+// possible.
+func TestUnsavedState(t *testing.T) {
+	folder := t.TempDir()
+	process, address, metrics := unsaved(t, folder, func() {
+		if err := os.Mkdir(folder+"/state/editions.new", 0o700); err != nil {
+			t.Fatal(err)
+		}
+	})
+	if _, err := os.Stat(folder + "/state/editions"); !os.IsNotExist(err) {
+		t.Error(err)
+	}
+	if process.Lines("another session begins") != 0 {
+		t.Error(process.Said())
+	}
+	if err := os.Remove(folder + "/state/editions.new"); err != nil {
+		t.Fatal(err)
+	}
+	saved(t, folder, process, address, metrics)
+}
+
+// The same if the folder's data can't be removed either, as in a read-only file system: then they
+// get another session, once, so that no serial number has two data after a restart.
+func TestStateThatStays(t *testing.T) {
+	folder := t.TempDir()
+	had, aside := folder+"/state/editions", folder+"/state/aside"
+	var before string
+	process, address, metrics := unsaved(t, folder, func() {
+		text, err := os.ReadFile(had)
+		if err != nil {
+			t.Fatal(err)
+		}
+		before = string(text)
+		// A folder that isn't empty can be neither replaced nor removed.
+		if err := os.Rename(had, aside); err != nil {
+			t.Fatal(err)
+		}
+		if err := os.MkdirAll(had+"/full", 0o700); err != nil {
+			t.Fatal(err)
+		}
+	})
+	process.Says("state: the folder has older data of this session, which can't be removed: another session begins", 1)
+	second := fetched(t, address, 2)
+	trial.Write(t, folder+"/f", rows(5))
+	process.Says("serial 3: 5 payloads", 1)
+	third := fetched(t, address, 2)
+	if third.Session() != second.Session() || process.Lines("another session begins") != 1 {
+		t.Error(process.Said())
+	}
+	if err := os.RemoveAll(had); err != nil {
+		t.Fatal(err)
+	}
+	if err := os.Rename(aside, had); err != nil || !trial.Same(had, before) && process.Lines("saved again") == 0 {
+		t.Fatal(err)
+	}
+	saved(t, folder, process, address, metrics)
+}
