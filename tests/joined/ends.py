@@ -1,4 +1,4 @@
-"""Programs that are a client or a cache, joined by lines (README.md)."""
+"""Programs that are a client or a cache, connected by lines (README.md)."""
 import os
 import subprocess
 
@@ -6,11 +6,11 @@ NEVER = 2**63
 
 
 class End:
-    """An end that runs, with a clock of its own, which begins with each scene."""
+    """A running end, with a clock of its own, which starts with each scene."""
 
     def __init__(self, command, folder):
         read, write = os.pipe()
-        # The tests of Rust have lines of their own on standard output.
+        # The tests of Rust also print lines of their own on standard output.
         output = subprocess.DEVNULL if "--exact" in command else write
         self.process = subprocess.Popen(
             command, stdin=subprocess.PIPE, stdout=output, cwd=folder, pass_fds=[write],
@@ -20,13 +20,13 @@ class End:
         self.begun, self.wakes, self.settings = 0, NEVER, ""
 
     def begin(self, now, settings):
-        """A new scene of these lines, at this time."""
+        """Begins a scene of these lines, at this time."""
         self.begun, self.wakes = now, NEVER
         self.settings = "".join(["scene joined\n", *(f"{line}\n" for line in settings)])
 
     def tell(self, now, what):
-        """What happens to the end at this time. Gives what it did then, or before by itself: each
-        time, and words."""
+        """Reports an event to the end at this time. Returns what it did then, or before by itself:
+        each time, and words."""
         at = now - self.begun
         line = f"{at} {what}\n" if what else f"at {at}\n"
         os.write(self.input, (self.settings + line).encode())

@@ -1,4 +1,4 @@
-"""The connection between two ends, if there is one, and what is on its way."""
+"""The connection between two ends, if there is one, and the bytes in transit."""
 import struct
 
 import units
@@ -11,28 +11,28 @@ class Link:
         self.end()
 
     def begin(self, is_one_more):
-        """There is a connection, which is one more than the cache may have, or not."""
+        """Opens a connection, which may be above the cache's limit."""
         self.router_has, self.cache_has = True, True
-        self.router_told, self.cache_told = False, False  # that the other end closed
+        self.router_told, self.cache_told = False, False  # whether the other end closed
         self.to_router, self.to_cache = b"", b""
-        self.begun = {}  # what the last unit of an end begins with
+        self.begun = {}  # the first bytes of the last unit of an end
         self.is_one_more, self.had_no_data, self.has_report = is_one_more, False, False
-        self.is_slow = False   # the router takes no more of the bytes that the cache sends
-        self.was_slow = False  # so, at some time: what it sends can be of before
+        self.is_slow = False   # the router doesn't read
+        self.was_slow = False  # it didn't read at some time: its bytes may be old
 
     def end(self):
         self.router_has = self.cache_has = False
         self.to_router = self.to_cache = b""
 
     def awaits(self, to_router):
-        """Whether bytes are on their way to this end, or that the other one closed."""
+        """Reports whether bytes, or the other end's close, are in transit to this end."""
         if to_router:
             return self.router_has and bool(self.to_router
                                             or not (self.cache_has or self.router_told))
         return self.cache_has and bool(self.to_cache or not (self.router_has or self.cache_told))
 
     def take(self, to_router, most):
-        """So many of the bytes at most; none where the other end closed."""
+        """Returns at most this many of the bytes; none if the other end closed."""
         if to_router:
             taken, self.to_router = self.to_router[:most], self.to_router[most:]
             self.router_told |= not taken
@@ -42,7 +42,7 @@ class Link:
         return taken
 
     def sent(self, end, sent):
-        """The units that an end has sent with these bytes."""
+        """Returns the units that an end has completed with these bytes."""
         self.begun[end], rest = b"", self.begun.get(end, b"") + sent
         for one in units.split(rest):
             if len(one) < 8 or len(one) < struct.unpack(">I", one[4:8])[0]:

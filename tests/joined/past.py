@@ -1,37 +1,37 @@
-"""All data that a cache had, by which those are judged that a client shows."""
+"""All data that a cache had, to check those that a client shows."""
 from dataclasses import dataclass
 
 import units
 from editions import Payload
 
-# In the order of canonical forms (rtr.h): two of one customer aren't there at once.
+# In the order of canonical forms (rtr.h): two of one customer are never present at once.
 PAYLOADS = (*(Payload("ipv4", asn) for asn in range(6)),
             *(Payload("ipv6", asn) for asn in range(3)), *(Payload("key", asn) for asn in range(3)),
             *(Payload("aspa", asn, providers) for asn in (1, 2) for providers in ((7,), (7, 8))))
 ASPAS = len(PAYLOADS) - 4
 WRITTEN = [[one.unit(version) for version in range(3)] for one in PAYLOADS]
 LEAST = [one.least() for one in PAYLOADS]
-MOST_AHEAD = 2**31 - 1  # how far serial numbers of one session may go (RFC 1982)
+MOST_AHEAD = 2**31 - 1  # the range of serial numbers in a session (RFC 1982)
 WRAP = 2**32
 
 
 @dataclass(frozen=True)
 class Edition:
-    """Data at a serial number, as they were given to the cache, in a version."""
+    """Data at a serial number, as the cache got them, in a version."""
     session: int
     serial: int
     version: int
-    chosen: tuple  # places of payloads
+    chosen: tuple  # indexes of payloads
     times: tuple   # refresh, retry and expire, as they go out in versions that have them
 
     def data(self, version):
-        """What a version has of them (RFC 8210 sections 5.6 to 5.8 and 5.10)."""
+        """Returns the part of them that a version has (RFC 8210 sections 5.6 to 5.8 and 5.10)."""
         own = [WRITTEN[place][version] for place in self.chosen if LEAST[place] <= version]
         return b"".join(own) + units.end(version, self.serial, self.session, self.times)
 
 
 class Past:
-    """Data are made at random, and remembered."""
+    """Makes random data, and remembers them."""
 
     def __init__(self, random):
         self.random = random
@@ -41,8 +41,8 @@ class Past:
         self.change_session()
 
     def change_session(self):
-        """The next data are of another session. Its serial numbers begin shortly before the
-        greatest, where those of the session before began, or anywhere."""
+        """Begins another session. Its serial numbers begin shortly before the greatest, where those
+        of the former session began, or anywhere."""
         self.session = self.random.randrange(2**16)
         while self.session in self.sessions:
             self.session = (self.session + 1) % 2**16
@@ -52,7 +52,7 @@ class Past:
         self.serial, self.ahead = self.first, 0
 
     def renew(self):
-        """New data of the session, where its serial numbers go on; else of another one."""
+        """Makes new data of the session, if its serial numbers last; else of another one."""
         further = 1 if self.random.random() < 0.8 else self.random.randrange(1, 2**28)
         if self.ahead + further > MOST_AHEAD:
             self.change_session()
@@ -68,7 +68,7 @@ class Past:
         return edition
 
     def places(self, version):
-        """The payloads that are chosen, of those that a version has; the longer one of two ASPAs of
+        """Returns the chosen payloads, of those that a version has; the longer one of two ASPAs of
         a customer."""
         def comes(place):
             doubled = place >= ASPAS and (place - ASPAS) % 2 == 0 and self.chosen[place + 1]
@@ -76,7 +76,7 @@ class Past:
         return tuple(filter(comes, range(len(PAYLOADS))))
 
     def times(self):
-        """Those of an end of data, within the limits of RFC 8210 section 6."""
+        """Returns times of an end of data, within the limits of RFC 8210 section 6."""
         if self.random.random() < 0.5:
             return units.USUAL
         return self.random.randrange(1, 7201), self.random.randrange(1, 601), self.random.randrange(

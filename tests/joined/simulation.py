@@ -1,27 +1,26 @@
-"""A client and a cache that are joined by a link of bytes, with a made clock: what happens to them
-follows from a seed, and what they do is compared with the data that the cache had."""
+"""A client and a cache that are connected by a simulated link and clock: a seed determines the
+events, and what they do is compared with the data that the cache had."""
 import struct
 from collections import deque
 from itertools import accumulate
 from random import Random
 
 import units
-from ends import NEVER
 from link import Link
 from past import Past
 
 SECOND = 1000
 HOUR = 3600 * SECOND
-TROUBLE = 1500  # steps before a time without trouble
-REMEMBERED = 80  # steps that are told of a run that fails
+TROUBLE = 1500  # steps before a time without disturbances
+REMEMBERED = 80  # steps that are printed for a failing run
 
-# What a router needs to have the present data, when nothing disturbs it and the link takes no time:
-# a retry time, which follows what was under way by the limit of an answer (docs/SESSIONS.md); a
-# pause for each connection, three for each version; and a minute between two notifies.
+# How long a router may take to have the present data, if nothing disturbs it and the link takes no
+# time: a retry time, after what was in progress, within the limit of an answer (docs/SESSIONS.md);
+# a pause for each connection, three for each version; and a minute between two notifies.
 MOST_RETRY, ANSWER, PAUSE, NOTIFIES = 600 * SECOND, 120 * SECOND, SECOND, 60 * SECOND
 RECOVERY = ANSWER + MOST_RETRY + 3 * 3 * PAUSE + NOTIFIES
 
-# How long and how many bytes of earlier data a cache keeps, if not said otherwise.
+# How long and how many bytes of earlier data a cache keeps by default.
 KEEP, ROOM = 2 * HOUR, 2**26
 
 CUT_OFF = "unexpected end of input"
@@ -36,7 +35,7 @@ def accumulated(*often):
 
 
 class Wrong(Exception):
-    """What an end did otherwise than it has to."""
+    """An end broke a rule."""
 
 
 class Simulation:
@@ -51,7 +50,7 @@ class Simulation:
         self.begin_cache()
 
     def run(self, steps):
-        """Takes so many steps, each of which is something that happens to an end."""
+        """Takes this many steps, each an event of an end."""
         for place in range(1, steps + 1):
             if place % TROUBLE == 0:
                 self.recover()
@@ -66,10 +65,10 @@ class Simulation:
             deed, = self.random.choices(self.DEEDS, cum_weights=self.OFTEN)
             deed(self)
 
-    # ---- what happens to one end
+    # ---- events of one end
 
     def tell(self, end, what):
-        """Something happens to an end, and what it does comes of it."""
+        """Reports an event to an end, and carries out what it does."""
         self.steps += 1
         did = end.tell(self.now, what)
         name = "router" if end is self.router else "cache "
@@ -82,7 +81,9 @@ class Simulation:
             else:
                 self.router_did(time, words)
         if "> " in what and (self.now, ["closes"]) in did and not self.link.has_report:
-            raise Wrong(f"the {name.strip()} closes without a word")
+            if end is self.cache or not self.shown:
+                raise Wrong(f"the {name.strip()} closes without a word")
+            self.has_to_rise = True
         if end is self.router and self.shown and self.now >= self.expires:
             raise Wrong("data are shown that have expired")
 
@@ -117,8 +118,8 @@ class Simulation:
                 raise Wrong(f"the cache did {words}")
 
     def compare(self, time, data):
-        """What is shown are the data that the cache had under their session and serial number, as
-        their version has them."""
+        """Checks that the shown data are those that the cache had at their session and serial
+        number, as their version has them."""
         self.compared += 1
         *_, end = units.split(data)
         session, serial = struct.unpack(">2xH4xI", end[:12])
@@ -135,8 +136,15 @@ class Simulation:
     def router_sent(self, sent):
         """The router finds fault with nothing that the cache sent, unless a close cut it off, which
         may leave the highest version alone of the report to a router that is one too many, or the
-        cache had no data before, and then those of another session."""
-        for code, text in filter(None, map(report_of, self.link.sent(self.router, sent))):
+        cache had no data before, and then those of another session. After a close without a report
+        its next query has to be of a higher version."""
+        for unit in self.link.sent(self.router, sent):
+            if self.has_to_rise and unit[0] <= self.asked_version:
+                raise Wrong("the router closed without a word, and asks at no higher version")
+            self.has_to_rise, self.asked_version = False, unit[0]
+            if unit[1] != units.REPORT:
+                continue
+            code, text = report_of(unit)
             self.link.has_report = True
             if not (text == CUT_OFF and not self.link.cache_has
                     or text == HIGHER_VERSION and self.link.is_one_more and not self.link.cache_has
@@ -168,24 +176,24 @@ class Simulation:
         return edition is not None and (edition is self.present or self.keeps
                                         and self.now - self.kept.get(edition, -KEEP) < KEEP)
 
-    # ---- what happens
+    # ---- events
 
     def pass_until(self, time):
-        """The clock comes to this time, at which ends act by themselves that want to until then."""
+        """Advances the clock to this time; ends that are due until then act by themselves."""
         self.now = max(self.now, min(time, self.now + 3 * HOUR))
         for end in (self.router, self.cache):
             if end.wakes <= self.now:
                 self.tell(end, "")
 
     def pass_some(self):
-        """A little time passes, or it passes until an end acts by itself, or hours pass."""
+        """Lets a little time pass, or time until an end acts by itself, or hours."""
         self.pass_until(self.random.choices(
             (self.now + self.random.randrange(100), min(self.router.wakes, self.cache.wakes),
              self.now + self.random.randrange(60 * SECOND),
              self.now + self.random.randrange(3 * HOUR)), (60, 30, 10, 1))[0])
 
     def deliver(self, to_router, most, breaks=False):
-        """Bytes come to an end, so many at most, or that the other end closed."""
+        """Delivers bytes to an end, at most this many, or the other end's close."""
         if not self.link.awaits(to_router):
             return
         taken = self.link.take(to_router, most)
@@ -201,14 +209,14 @@ class Simulation:
             self.deliver(self.random.choice(awaits), most, self.random.random() < 0.2)
 
     def breaks(self, of_router):
-        """An end has no connection any more."""
+        """Closes the connection of an end."""
         if of_router and self.link.router_has:
             self.tell(self.router, "cache breaks")
         elif not of_router and self.link.cache_has:
             self.tell(self.cache, "router breaks")
 
     def answer_connection(self, in_trouble=True):
-        """A connection that the router wants is there, or can't be made, or is one too many."""
+        """Opens a connection that the router asks for, or refuses it, or makes it one too many."""
         if not self.link.is_wanted:
             return
         self.link.is_wanted = False
@@ -222,7 +230,7 @@ class Simulation:
         self.tell(self.router, "cache accepts")
 
     def take_some(self):
-        """The router takes so many of the bytes that the cache sends, and no more for a while."""
+        """The router reads this many of the bytes that the cache sends, and no more for a while."""
         if self.link.cache_has:
             self.take(self.random.choice((0, self.random.randrange(60), 2**40, 2**40)))
 
@@ -232,7 +240,7 @@ class Simulation:
         self.tell(self.cache, f"router takes {most}")
 
     def cut(self):
-        """The connection is cut, after some of the bytes that are on their way to each end."""
+        """Cuts the connection, after some of the bytes that are in transit to each end."""
         for to_router in (True, False):
             length = len(self.link.to_router if to_router else self.link.to_cache)
             if most := self.random.randrange(length + 1):
@@ -242,7 +250,7 @@ class Simulation:
         self.link.end()
 
     def close_one(self):
-        """An end's side closes: of what it sent some comes, and then its close."""
+        """Closes an end's side: some of its bytes arrive, and then its close."""
         if not (self.link.router_has and self.link.cache_has):
             return
         if self.random.random() < 0.5:
@@ -255,12 +263,12 @@ class Simulation:
             self.breaks(of_router=True)
 
     def renew(self):
-        """New data of the session, or several in a burst."""
+        """Makes new data of the session, or several in a burst."""
         for _ in range(self.random.randrange(1, 21) if self.random.random() < 0.1 else 1):
             self.give(self.past.renew())
 
     def give(self, edition):
-        """The cache has this edition from now on."""
+        """Gives the cache this edition."""
         if self.present is None or self.present.session != edition.session:
             self.kept = {}
         elif self.present is not edition:
@@ -278,7 +286,7 @@ class Simulation:
         self.tell(self.cache, "saves kept")
 
     def begin_router(self):
-        """A router of any version, without data."""
+        """Begins a router of any version, without data."""
         settings = {"version": self.random.choice((0, 1, 2, 2)),
                     "chance": self.random.randrange(2**16)}
         if self.random.random() < 0.3:
@@ -286,11 +294,11 @@ class Simulation:
         if self.random.random() < 0.3:
             settings["retry"] = self.random.randrange(1, MOST_RETRY)
         self.router.begin(self.now, [f"router {name} {value}" for name, value in settings.items()])
-        self.shown = None
+        self.shown, self.asked_version, self.has_to_rise = None, 0, False
         self.tell(self.router, "")
 
     def begin_cache(self):
-        """A cache without data."""
+        """Begins a cache without data."""
         self.refuses = self.random.random() < 0.3
         keep = self.random.choice((ROOM, ROOM, 200, 100))
         idle = self.random.choice((25 * HOUR, 2 * HOUR))
@@ -305,8 +313,8 @@ class Simulation:
         self.begin_router()
 
     def restart_cache(self):
-        """The cache begins anew: with what it saved, now or before, and perhaps with its last data
-        given to it once more; or with none of its data, and perhaps with those of a new session."""
+        """Restarts the cache: with what it saved, now or before, and perhaps with its last data
+        again; or without its data, and perhaps with those of a new session."""
         self.cut()
         last = self.present
         if last and self.random.random() < 0.6:
@@ -320,14 +328,14 @@ class Simulation:
         elif self.random.random() < 0.5:
             self.change_session()
 
-    # What happens, and how often.
+    # The events, and their frequencies.
     DEEDS, OFTEN = zip(*accumulated(
         (deliver_some, 800), (answer_connection, 100), (pass_some, 60), (renew, 20),
         (take_some, 15), (cut, 5),
         (close_one, 5), (save, 4), (restart_cache, 3), (restart_router, 2), (change_session, 2)))
 
     def recover(self):
-        """Nothing disturbs the ends any more: then the router has the present data in time."""
+        """Without further disturbances the router has the present data in time."""
         if self.present is None:
             self.renew()
         until = self.now + RECOVERY
@@ -350,7 +358,7 @@ class Simulation:
 
 
 def report_of(unit):
-    """The code and the text of a report; None of another unit."""
+    """Returns the code and the text of a report; None for another unit."""
     if unit[1] != units.REPORT:
         return None
     code, about = struct.unpack(">2xH4xI", unit[:12])

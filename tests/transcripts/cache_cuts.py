@@ -1,4 +1,4 @@
-"""Queries that come in two reads, or not whole, at a cache."""
+"""Queries that reach a cache in two reads, or incomplete."""
 import editions
 from cache_states import FIRST_LIMIT, SERIAL, given_all, silent
 from cache_outcomes import goes_on, quiet
@@ -16,7 +16,7 @@ def of_query(version, by_serial):
 
 
 def in_two(place, version, by_serial):
-    """A query is answered once it is whole."""
+    """A query is answered once it is complete."""
     query, answer = of_query(version, by_serial)
     name = f"query-v{version}-{len(query)}-in-two-at-{place}"
     state = silent(name, f"A query of version {version} comes in two reads.", version)
@@ -44,7 +44,8 @@ def two_at_once(version, by_serial, place):
 
 
 def first(place, version, by_serial, how):
-    """A first query isn't whole when the router closes or breaks off, or the time is over."""
+    """A first query is incomplete when the router closes or breaks the connection, or at the time
+    limit."""
     query, _ = of_query(version, by_serial)
     name = f"query-v{version}-{len(query)}-{how}-at-{place}"
     state = silent(name, f"After {place} bytes of a first query the router {how}.", version)
@@ -65,7 +66,8 @@ def first(place, version, by_serial, how):
 
 
 def later(place, version, of_unit, by_serial):
-    """A later query, of the version or another, isn't whole when the router closes."""
+    """A later query, of the connection's version or another, is incomplete when the router
+    closes."""
     query, _ = of_query(of_unit, by_serial)
     name = f"later-query-v{version}-v{of_unit}-{len(query)}-at-{place}"
     state = given_all(name, f"After {place} bytes of a later query the router closes.", version)

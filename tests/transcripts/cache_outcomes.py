@@ -1,4 +1,4 @@
-"""The lines of a scene after a unit has come to a cache: what it comes to, and how it goes on."""
+"""The lines of a scene after a unit has reached a cache: its outcome, and what follows."""
 import editions
 from cache_rules import VERSION
 from cache_states import NO_DATA, PAUSE, EARLIER
@@ -9,16 +9,16 @@ from units import OTHER_SESSION, cache_reset, notify, reset_query, serial_query
 
 def goes_on(state):
     """New data come: a notify of them, a query of the version, and one of another."""
-    scene, version = state.scene, state.version
+    scene, version, session = state.scene, state.version, state.session
     known, state.present = state.present, state.present + 1
-    scene.has(scene.now + SECOND, editions.data(state.present))
+    scene.has(scene.now + SECOND, editions.data(state.present, session))
     time = scene.now if state.notified is None else max(scene.now, state.notified + PAUSE)
     if time > scene.now:
         scene.passes(time - 1)
         scene.passes(time)
-    scene.sends(notify(version, state.present))
-    scene.router(scene.now + 100, serial_query(version, known))
-    scene.sends(editions.changes(version, known, state.present))
+    scene.sends(notify(version, state.present, session))
+    scene.router(scene.now + 100, serial_query(version, known, session))
+    scene.sends(editions.changes(version, known, state.present, session))
     other = (version + 1) % 3
     scene.router(scene.now + 100, reset_query(other))
     scene.reports(version, *VERSION[:1], reset_query(other), VERSION[1])
@@ -26,7 +26,7 @@ def goes_on(state):
 
 
 def quiet(state):
-    """Nothing is said any more, whatever comes: new data, another session, a query, a day."""
+    """The cache sends nothing more, whatever comes: new data, another session, a query, a day."""
     scene = state.scene
     scene.has(scene.now + SECOND, editions.data(8))
     scene.router(scene.now + 100, reset_query(1))
@@ -36,13 +36,13 @@ def quiet(state):
 
 def gives_all(state, case, unit, version):
     state.version = version
-    state.scene.sends(editions.everything(version, state.present))
+    state.scene.sends(editions.everything(version, state.present, state.session))
     goes_on(state)
 
 
 def gives_changes(state, case, unit, version):
     state.version = version
-    state.scene.sends(editions.changes(version, case.serial, state.present))
+    state.scene.sends(editions.changes(version, case.serial, state.present, state.session))
     goes_on(state)
 
 

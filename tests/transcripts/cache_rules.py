@@ -59,13 +59,13 @@ CASES = QUERIES + [case for case in GOOD + BAD if case.kind != "query"]
 
 
 def known(state, case):
-    """Whether the changes can be told: the editions go from the first one to the present one."""
-    return case.session == SESSION and state.present is not None and (
-        EARLIER <= case.serial <= state.present)
+    """Whether the cache knows the changes: its editions go from the first to the present one."""
+    return case.session == state.session and state.present is not None and (
+        state.first <= case.serial <= state.present)
 
 
 def row_of(state, case, version):
-    """The first row that fits a unit that comes in a state."""
+    """The first row that matches a unit in a state."""
     relation = OWN if version == state.version or (not state.asked and version < 3) else (
         OTHER if state.asked else NONE)
     notes = {None}

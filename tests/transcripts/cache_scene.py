@@ -1,4 +1,4 @@
-"""The lines of one scene of a cache: what its router does and what it does, each with its time."""
+"""The lines of one scene of a cache: what the router and the cache do, each with its time."""
 from scene import Scene
 from units import spaced, split, words
 
@@ -19,11 +19,11 @@ class CacheScene(Scene):
         self.at(time, "router connects beyond the limit" if beyond else "router connects")
 
     def router(self, time, unit):
-        """The router sends a unit, or what is meant for one."""
+        """The router sends a unit, valid or not."""
         self.at(time, f"router> {spaced(unit)}", words(unit))
 
     def router_cut(self, time, data):
-        """These bytes come as they are, whole units or not."""
+        """The router sends these bytes, whole units or not."""
         if data:
             self.at(time, f"router> {data.hex()}")
 
@@ -34,7 +34,7 @@ class CacheScene(Scene):
         self.at(time, "router breaks")
 
     def has(self, time, data):
-        """These are the newest data."""
+        """The cache's newest data are these."""
         parts = [spaced(one).replace(" ", "") for one in split(data)]
         self.at(time, "data { " + " ".join(parts) + " }")
 
@@ -54,5 +54,5 @@ class CacheScene(Scene):
         self.at(self.now, f"cache> report {version} {code} {about} {text}")
 
     def ends(self):
-        """There is no connection any more."""
+        """The connection has ended."""
         self.at(self.now, "closes")

@@ -1,11 +1,11 @@
-"""How a scene comes to each state of a cache's end (docs/SESSIONS.md, "The cache")."""
+"""How a scene reaches each state of a cache's end (docs/SESSIONS.md, "The cache")."""
 from dataclasses import dataclass
 from typing import Optional
 
 import editions
 from cache_scene import CacheScene
 from scene import SECOND
-from units import OTHER_SESSION, cache_reset, notify, report, reset_query, serial_query
+from units import OTHER_SESSION, SESSION, cache_reset, notify, report, reset_query, serial_query
 
 FIRST_LIMIT, IDLE_LIMIT, PAUSE = 30 * SECOND, 90_000 * SECOND, 60 * SECOND
 EARLIER, SERIAL = 4, 5  # the serial numbers of the data, whose changes can be told, at first
@@ -16,13 +16,15 @@ FULL = "too many connections"
 
 @dataclass
 class State:
-    """Where a cache's end of a connection is, as far as it matters for what may come."""
+    """The state of a cache's end of a connection, as far as it matters for what may come."""
     scene: CacheScene
     version: Optional[int]  # that of the connection, once a query came
     present: Optional[int]  # the serial number of the newest data, if there are any
     notified: Optional[int] = None  # when the last notify was sent
     refuses: bool = False
     over: bool = False
+    session: int = SESSION  # of the newest data
+    first: int = EARLIER  # the first serial number whose changes can be told
 
     @property
     def asked(self):
@@ -52,7 +54,7 @@ def silent_refusing(name, about, version):
 
 
 def answers(state, version, query, answer):
-    """A query comes, and is answered."""
+    """A query comes and is answered."""
     state.scene.router(state.scene.now + 100, query)
     state.scene.sends(answer)
     state.version = version
@@ -77,6 +79,14 @@ def given_none_of_changes(name, about, version):
 def given_reset(name, about, version):
     return answers(silent(name, about, version), version, serial_query(version, UNKNOWN),
                    cache_reset(version))
+
+
+def given_reset_and_moved(name, about, version):
+    """A cache reset told of no data: those of another session come without a word, nor an end."""
+    state = given_reset(name, about, version)
+    state.scene.has(2 * SECOND, editions.data(SERIAL, OTHER_SESSION))
+    state.session, state.first = OTHER_SESSION, SERIAL
+    return state
 
 
 def given_no_data(name, about, version):
@@ -124,7 +134,7 @@ def reported(name, about, version):
 
 
 def crowded(name, about, version):
-    """The connection is one more than the cache may have."""
+    """The cache has more connections than it may have, by this one."""
     scene = CacheScene(name, about)
     scene.has(0, editions.data(SERIAL))
     scene.connects(10, beyond=True)
@@ -135,6 +145,14 @@ def crowded(name, about, version):
 def moved(name, about, version):
     """The data are of another session now, and the connection ended."""
     state = given_all(name, about, version)
+    state.scene.has(2 * SECOND, editions.data(SERIAL, OTHER_SESSION))
+    return ended(state)
+
+
+def given_all_and_reset_and_moved(name, about, version):
+    """The same: it was told of data before it was given a cache reset."""
+    state = answers(given_all(name, about, version), version, serial_query(version, UNKNOWN),
+                    cache_reset(version))
     state.scene.has(2 * SECOND, editions.data(SERIAL, OTHER_SESSION))
     return ended(state)
 
@@ -157,6 +175,7 @@ LATER = {
     "given-changes": given_changes,
     "given-none-of-changes": given_none_of_changes,
     "given-reset": given_reset,
+    "given-reset-and-moved": given_reset_and_moved,
     "given-no-data": given_no_data,
     "notified": notified,
     "pausing": pausing,
@@ -167,4 +186,5 @@ OVER = {
     "reported": reported,
     "crowded": crowded,
     "moved": moved,
+    "given-all-and-reset-and-moved": given_all_and_reset_and_moved,
 }

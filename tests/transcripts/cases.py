@@ -13,7 +13,7 @@ NEW = 9  # the AS of what is announced
 
 @dataclass
 class Case:
-    """A unit of some kind, made in a version."""
+    """A unit of some kind, built in a version."""
     name: str
     kind: str
     make: callable
@@ -25,12 +25,12 @@ class Case:
     least: int = 0  # the first version that has it
 
     def notes(self, state, version):
-        """What a row may say of the unit beside its kind and version."""
+        """The notes that a row may have on the unit beside its kind and version."""
         notes = {str(self.code)} if self.kind == REPORT else set()
         if self.kind == REFUSED and self.code is None:
             notes.add("report")
         if self.kind in (NOTIFY, RESPONSE, END) and self.session != SESSION:
-            # Without data, and without a response, there is no session to be another one.
+            # Without data and without a response there is no session to differ from.
             if state.has_data or state.phase == "reading":
                 notes.add("other")
         if self.kind == NOTIFY and state.has_data and self.serial == SERIAL:

@@ -21,7 +21,7 @@ def begun(name, changes, how):
 
 
 def left(data):
-    """What of some bytes is no whole unit."""
+    """The bytes after the last whole unit."""
     rest = data
     for one in split(data):
         if len(one) >= 8 and len(one) == int.from_bytes(one[4:8], "big"):
@@ -43,7 +43,7 @@ def in_two(place, changes):
 
 
 def goes_on(scene, again):
-    """The next connection, a second later, asks for what changed again, or for all."""
+    """The next connection, a second later, asks again for the changes, or for all."""
     if again:
         scene.asks(scene.now + SECOND, VERSION, SERIAL, SESSION)
         scene.cache(scene.now + 100, CHANGES)
@@ -54,7 +54,7 @@ def goes_on(scene, again):
 
 
 def ended(place, changes, how):
-    """The cache closes, breaks or stalls after so many bytes: nothing of it is shown."""
+    """The cache closes, breaks off or stalls after so many bytes: none of them is shown."""
     data = (CHANGES if changes else ALL)[:place]
     name = f"cut-{'changes' if changes else 'all'}-{place}-{how}"
     state = begun(name, changes, f"after {place} bytes the cache {how}")

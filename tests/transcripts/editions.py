@@ -7,7 +7,7 @@ from units import ANNOUNCE, SESSION, WITHDRAW
 
 @dataclass(frozen=True)
 class Payload:
-    """A payload, or a payload of another value and the same name, as an ASPA has its customer."""
+    """A payload. Two may have the same name and other values, as ASPAs of one customer."""
     kind: str
     asn: int
     providers: tuple = ()
@@ -16,7 +16,7 @@ class Payload:
         return self.kind, self.asn
 
     def least(self):
-        """The first version that has it."""
+        """The first version that has the payload."""
         return {"key": 1, "aspa": 2}.get(self.kind, 0)
 
     def unit(self, version, action=ANNOUNCE):
@@ -46,7 +46,7 @@ AT = {
 
 
 def data(serial, session=SESSION, version=2, payloads=None):
-    """Data in canonical form, as a version has them."""
+    """Data in canonical form, in a version."""
     own = AT[serial] if payloads is None else payloads
     parts = [one.unit(version) for one in own if one.least() <= version]
     return b"".join(parts) + units.end(version, serial, session)
@@ -58,7 +58,7 @@ def everything(version, serial, session=SESSION, payloads=None):
 
 
 def delta(old, new, version):
-    """The units that announce what is new, and then those that withdraw what is gone."""
+    """The units that announce new payloads, and then those that withdraw old ones."""
     names = {one.name() for one in new}
     announced = [one.unit(version) for one in new if one not in old and one.least() <= version]
     withdrawn = [one.unit(version, WITHDRAW) for one in old
@@ -67,6 +67,6 @@ def delta(old, new, version):
 
 
 def changes(version, since, serial, session=SESSION):
-    """The answer to a serial query whose changes can be told (8.2)."""
+    """The answer to a serial query whose changes the cache knows (8.2)."""
     return (units.response(version, session) + delta(AT[since], AT[serial], version)
             + units.end(version, serial, session))

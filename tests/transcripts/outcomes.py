@@ -1,4 +1,4 @@
-"""The lines of a scene after a unit has come: what it comes to, and how the router goes on."""
+"""The lines of a scene after a unit has come: its outcome, and what the router does next."""
 from cases import NEW
 from rules import REFUSED
 from scene import SECOND
@@ -15,7 +15,7 @@ def query_serial(state):
 
 
 def asks_here(state, time, serial):
-    """A query on the connection that is there."""
+    """A query on the open connection."""
     version = state.version
     query = reset_query(version) if serial is None else serial_query(version, serial)
     state.scene.sends(time, query)
@@ -42,15 +42,15 @@ def quiet(state):
 
 
 def gone(state, dropped=False):
-    """The connection has ended: the next one is made, and asks for what it has to."""
+    """The connection has ended: the router makes the next one, and asks for what it has to."""
     scene = state.scene
     scene.ends(scene.now)
-    all_next = dropped or not state.has_data or state.phase != "waiting"
+    all_next = dropped or query_serial(state) is None or state.phase != "waiting"
     scene.asks(scene.now + state.wait, state.version, None if all_next else SERIAL,
                None if all_next else SESSION)
 
 
-# ---- what a unit comes to
+# ---- the outcome of a unit
 
 def passed_over(state, case, unit, version):
     if state.phase == "asked":
@@ -101,7 +101,7 @@ def has_none(state, case, unit, version):
     scene.has_none(scene.now)
     time = scene.now + RETRY
     scene.passes(time)
-    asks_here(state, time, query_serial(state))
+    asks_here(state, time, None)
 
 
 def falls(state, case, unit, version, lower=None):
@@ -139,7 +139,7 @@ def refused(state, case, unit, version):
 
 
 def breach(state, case, unit, version, code, text):
-    """A report of this code, of the version that the connection has."""
+    """A report of this code, in the version of the connection."""
     about = unit if case.kind != REFUSED else unit[:case.about]
     state.scene.reports(state.scene.now, state.version, code, about, text)
     gone(state)

@@ -1,11 +1,11 @@
-"""The lines of one scene: what the cache does and what the router does, each with its time."""
+"""The lines of one scene: what the cache and the router do, each with its time."""
 from units import reset_query, serial_query, spaced, split, words
 
 SECOND = 1000
 
 
 class Scene:
-    """A scene that is being written. Times are in milliseconds, and don't go back."""
+    """A scene that is being written. Times are in milliseconds and ascend."""
 
     def __init__(self, name, about, version=1, **settings):
         self.name, self.version, self.now = name, version, 0
@@ -41,16 +41,20 @@ class Scene:
             self.at(time, f"cache> {spaced(one)}", words(one))
 
     def cache_one(self, time, unit):
-        """The cache sends a unit, or what is meant for one."""
+        """The cache sends a unit, valid or not."""
         self.at(time, f"cache> {spaced(unit)}", words(unit))
 
     def cache_cut(self, time, data):
-        """These bytes come as they are, whole units or not."""
+        """The cache sends these bytes, whole units or not."""
         if data:
             self.at(time, f"cache> {data.hex()}")
 
+    def wishes(self, time):
+        """The router's caller asks for the present data."""
+        self.at(time, "caller asks")
+
     def passes(self, time):
-        """The clock comes to this time."""
+        """The clock reaches this time."""
         self.now = max(time, self.now)
         self.add(f"at {self.now}")
 
@@ -68,11 +72,11 @@ class Scene:
         self.at(time, f"router> report {version} {code} {about} {text}")
 
     def ends(self, time):
-        """There is no connection any more."""
+        """The connection has ended."""
         self.at(time, "closes")
 
     def shows(self, time, data):
-        """These are the data, in canonical form."""
+        """The router shows these data, in canonical form."""
         parts = [spaced(one).replace(" ", "") for one in split(data)]
         self.at(time, "shows { " + " ".join(parts) + " }")
 
@@ -85,7 +89,7 @@ class Scene:
     # Both.
 
     def asks(self, time, version, serial=None, session=None):
-        """A connection is made, and the router asks for all, or for what changed since."""
+        """The router connects, and asks for all data or for the changes since a serial number."""
         self.connects(time)
         self.accepts(time + 10)
         query = reset_query(version) if serial is None else serial_query(version, serial, session)

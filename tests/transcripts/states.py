@@ -1,4 +1,4 @@
-"""How a scene comes to each state in which units may come (docs/SESSIONS.md, "The client")."""
+"""How a scene reaches each state in which units may come (docs/SESSIONS.md, "The client")."""
 from dataclasses import dataclass
 from typing import Optional
 
@@ -6,7 +6,7 @@ from scene import SECOND, Scene
 from units import (SESSION, cache_reset, end, ipv4, notify, report, reset_query, response,
                    serial_query)
 
-RETRY = 600 * SECOND  # while there are data, and the connection brought none
+RETRY = 600 * SECOND  # while there are data, and the cache answered nothing on the connection
 SERIAL = 5  # of the data that the router has
 OLD = (1, 2)  # the ASes of the prefixes that it has
 
@@ -18,7 +18,7 @@ def data_of(version, serial, asns, session=SESSION):
 
 @dataclass
 class State:
-    """Where a router is, as far as it matters for what may come."""
+    """The state of a router, as far as it matters for what may come."""
     scene: Scene
     phase: str  # asked, reading, waiting
     agreed: bool  # on the version, by what the cache answered on this connection
@@ -95,12 +95,12 @@ def reading(of):
 
 
 def without_data(of):
-    """The cache has said that it has no data (section 8.4)."""
+    """The cache has reported that it has no data: the next query is a reset query (section 8.4)."""
     def made(name, about, version):
         state = of(name, about, version)
         state.scene.cache(state.scene.now + 100, report(version, 2))
         state.scene.has_none(state.scene.now)
-        state.phase, state.agreed = "waiting", True
+        state.phase, state.agreed, state.serial = "waiting", True, False
         return state
     return made
 

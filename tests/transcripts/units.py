@@ -67,7 +67,7 @@ def report(version, code, about=b"", text=b""):
 
 
 def split(data):
-    """The units of some bytes, and what is left of them."""
+    """The units of some bytes, and the rest."""
     while len(data) >= 8 and 8 <= struct.unpack(">I", data[4:8])[0] <= len(data):
         length = struct.unpack(">I", data[4:8])[0]
         yield data[:length]
@@ -84,7 +84,7 @@ def spaced(data):
 
 
 def words(data):
-    """What a unit is."""
+    """The unit in words."""
     version, kind = data[0], data[1] if len(data) > 1 else None
     if len(data) < 8 or kind not in NAMES:
         return f"{len(data)} bytes"
