@@ -1,5 +1,5 @@
 #!/usr/bin/env python3
-"""Writes inputs, with the answers that `fuzz/expected.py` gives, for the tests of the bindings.
+"""Writes inputs, with the results of `fuzz/expected.py`, for the tests of the bindings.
 
 usage: cases.py [--seed N] [--inputs N] > CASES
 
@@ -7,8 +7,8 @@ The inputs are those of the table of whole runs in `tests/programs/runs`, and N 
 of `fuzz/inputs.py`. Each is a case as it is, and a case for one version, which varies. A case is
 
 - one byte each for the version, or 255, the status and the detail;
-- eight bytes each, the lowest first, for the payload units, the forms, the bytes taken, the length
-  of the input and that of the form;
+- eight bytes each, little-endian, for the payload units, the forms, the bytes taken, the length of
+  the input and that of the form;
 - the input and the form.
 """
 import argparse
@@ -28,12 +28,12 @@ import inputs
 # The status of each row of the table of refusals in docs/PROTOCOL.md, by its number.
 STATUS = {0: 0, 1: 1, 2: 2, 3: 3, 4: 4, 5: 5, 6: 6, 7: 1, 8: 7}
 
-# Longer inputs are left out.
+# Longer inputs are skipped.
 MOST = 1 << 18
 
 
 def runs():
-    """The inputs of the table of whole runs."""
+    """Yields the inputs of the table of whole runs."""
     path = os.path.join(TOP, "tests", "programs", "runs")
     loader = importlib.machinery.SourceFileLoader("runs", path)
     table = importlib.util.module_from_spec(importlib.util.spec_from_loader("runs", loader))
@@ -52,7 +52,7 @@ def detail(row, rest):
 
 
 def case(data, version):
-    """The bytes of a case."""
+    """Encodes a case."""
     units = forms = taken = 0
     form, _, _, row = expected.answer(data, version)
     while True:

@@ -1,5 +1,5 @@
 #!/usr/bin/env python3
-"""Data and changes, and what the calls on them have to answer, computed by RFC 8210 and
+"""Data and changes, and the expected results of the calls on them, computed by RFC 8210 and
 docs/PROTOCOL.md without the library: data is a Python set of payloads.
 
 usage: deltas.py [SEED] > CASES    for the tests of the bindings
@@ -7,12 +7,12 @@ usage: deltas.py [SEED] > CASES    for the tests of the bindings
 Each case is
 
 - one byte each: the call, of CALLS, and the status, the side and the detail of its answer;
-- eight bytes each, the lowest first: the offset of the answer, the lengths of the first input, the
+- eight bytes each, little-endian: the offset of the answer, the lengths of the first input, the
   second input and the output, which is empty unless the status is 0, and how many places the index
   has, if the call has one;
 - the first input, the second input and the output.
 
-A call that puts changes in order has one input.
+A call that sorts changes has one input.
 """
 import random
 import struct
@@ -31,12 +31,12 @@ WIDTHS = {IPV4: 4, IPV6: 16}
 # info) and (ASPA, customer, providers), of which tuples compare in the order of payloads
 
 def name(payload):
-    """What names a payload, and says where it stands in the order: of an ASPA the customer."""
+    """Returns the key of a payload, which decides its order: of an ASPA the customer."""
     return payload[:2] if payload[0] == ASPA else payload
 
 
 def form(version, action, payload):
-    """The unit that announces or withdraws the payload, with all free bits zero."""
+    """Returns the unit that announces or withdraws the payload, with all free bits zero."""
     kind = payload[0]
     if kind in WIDTHS:
         _, address, length, most, asn = payload
@@ -61,7 +61,7 @@ def end_form(end):
 
 
 def stray(rng, unit):
-    """The same unit with what is free in it set at random: the bytes mean the same."""
+    """Returns the same unit with random free bits: the bytes mean the same."""
     unit = bytearray(unit)
     kind = unit[1]
     if kind in WIDTHS:
@@ -79,7 +79,7 @@ def stray(rng, unit):
 
 
 def units_of(rng, version, changes):
-    """The units that make the changes, some of them with stray bits or with providers of a
+    """Returns the units of the changes, some of them with free bits set or with providers of a
     withdrawal."""
     units = []
     for action, payload in changes:
@@ -92,12 +92,12 @@ def units_of(rng, version, changes):
 
 
 def in_order(changes):
-    """Announcements and then withdrawals, each in the order of payloads."""
+    """Returns announcements and then withdrawals, each in the order of payloads."""
     return sorted(changes, key=lambda change: (1 - change[0], name(change[1])))
 
 
 def data_units(rng, data, version):
-    """The units of data in canonical form."""
+    """Returns the units of data in canonical form."""
     return units_of(rng, version, in_order((ANNOUNCE, payload) for payload in data))
 
 
@@ -108,15 +108,15 @@ def written(changes, end):
 
 
 def delta(old, new):
-    """The changes from old data to new."""
+    """Returns the changes from old data to new."""
     names = {name(payload) for payload in new}
     return ([(ANNOUNCE, payload) for payload in new if payload not in old]
             + [(WITHDRAW, payload) for payload in old if name(payload) not in names])
 
 
 def applied(data, changes):
-    """What the changes make of the data, or the status of the first that is refused, and how many
-    changes come before it."""
+    """Applies the changes to the data; returns the result, or the status of the first that is
+    refused, and how many changes come before it."""
     held = {name(payload): payload for payload in data}
     for count, (action, payload) in enumerate(changes):
         there = name(payload) in held
@@ -132,9 +132,9 @@ def applied(data, changes):
 
 
 def come_to(changes):
-    """What changes come to, made one after the other; or a status, and how many changes come before
-    the one that it is about. Of each name there are two states to begin with, with something of it
-    and without; what makes the same of all that are allowed is what they come to."""
+    """Returns the net effect of changes, applied one after the other; or a status, and how many
+    changes come before the one at fault. Each key has two possible states at first, present and
+    absent; the net effect is the same from all allowed ones."""
     kept = []
     for of in sorted({name(payload) for _, payload in changes}):
         places = [at for at, (_, payload) in enumerate(changes) if name(payload) == of]
@@ -149,10 +149,10 @@ def come_to(changes):
     return kept, None
 
 
-# ---- what is wrong with an input
+# ---- the faults of an input
 
 def meant(unit):
-    """The payload of a unit, as a tuple."""
+    """Returns the payload of a unit, as a tuple."""
     shown, address, identifier, _ = sessions.fields(unit)
     if unit[1] in WIDTHS:
         return (unit[1], address[:WIDTHS[unit[1]]], shown["prefix_length"], shown["max_length"],
@@ -163,7 +163,7 @@ def meant(unit):
 
 
 def unit_fault(rest):
-    """The status and the detail of what begins the bytes, in a sequence."""
+    """Returns the status and the detail of the unit at the start of the bytes, in a sequence."""
     if len(rest) >= 8 and rest[1] not in (IPV4, IPV6, KEY, ASPA, END):
         return UNIT_TYPE, rest[1]
     shown = sessions.answer(rest)[0]
@@ -171,7 +171,8 @@ def unit_fault(rest):
 
 
 def may_follow(last, unit, call, announced):
-    """Whether a unit, or an end of data, may come after the last unit in what the call reads."""
+    """Reports whether a unit, or an end of data, may follow the last unit in the input of the
+    call."""
     if last is not None and last[0] != unit[0]:
         return False
     if unit[1] == END or call in ("order", "in_order"):
@@ -186,13 +187,13 @@ def may_follow(last, unit, call, announced):
 
 
 def change_of(unit):
-    """The action and the payload of a unit."""
+    """Returns the action and the payload of a unit."""
     return unit[8 if unit[1] in WIDTHS else 2] % 2, meant(unit)
 
 
 def read(data, call):
-    """The status, the offset and the detail of the first fault of an input, or None; its units and
-    its end of data."""
+    """Returns the status, the offset and the detail of the first fault of an input, or None; its
+    units and its end of data."""
     at, units, announced = 0, [], set()
     while True:
         status, detail = unit_fault(data[at:])
@@ -209,13 +210,13 @@ def read(data, call):
         at += len(unit)
 
 
-# What the second input of a call is read as.
+# The form of a call's second input.
 READ_AS = {"delta": "data", "apply": "changes", "in_order": "in_order"}
 
 
 def of_two(call, first, second, output, places=1):
-    """The case of two inputs, for which this is written where they aren't refused, and an index with
-    so many places more than it needs, if the call has one."""
+    """Returns the case of two inputs, with this output unless they are refused, and an index with
+    this many spare entries, if the call has one."""
     sides = read(first, "data"), read(second, READ_AS[call])
     index = max(0, len(sides[1][1]) - 1 + places) if call == "in_order" else 0
 
@@ -244,8 +245,8 @@ def of_two(call, first, second, output, places=1):
 
 
 def of_one(data, output, places=1):
-    """The case of an input whose changes are put in order, for which this is written where they
-    aren't refused, and an index with so many places more than it needs."""
+    """Returns the case of an input whose changes are sorted, with this output unless they are
+    refused, and an index with this many spare entries."""
     wrong, units = read(data, "order")
     index = max(0, len(units) - 1 + places)
 
@@ -267,7 +268,7 @@ def of_one(data, output, places=1):
 # ---- inputs
 
 def any_payload(rng):
-    """A payload, of few, so that data have some in common."""
+    """Returns one of few payloads, so that data have some in common."""
     kind = rng.choice([IPV4, IPV4, IPV6, KEY, ASPA])
     asn = rng.choice([0, 1, 64496, 64497, 2**32 - 1])
     if kind in WIDTHS:
@@ -285,14 +286,14 @@ def any_payload(rng):
 
 
 def any_data(rng, most):
-    """A set of payloads, of each customer one ASPA at most."""
+    """Returns a set of payloads, with at most one ASPA per customer."""
     named = {name(payload): payload
              for payload in (any_payload(rng) for _ in range(rng.randint(0, most)))}
     return frozenset(named.values())
 
 
 def changed(rng, data):
-    """Data that has much in common with these."""
+    """Returns data that have much in common with these."""
     kept = {name(payload): payload for payload in data if rng.random() < 0.7}
     kept.update((name(payload), payload) for payload in any_data(rng, 6))
     return frozenset(kept.values())
@@ -303,7 +304,7 @@ def any_end(rng, version, session):
 
 
 def spoiled(rng, units):
-    """The units with one fault, of each kind by chance."""
+    """Returns the units with one fault, of a random kind."""
     units, at = list(units), rng.randrange(len(units))
     unit = bytearray(units[at])
     how = rng.randrange(9)
@@ -333,7 +334,7 @@ def spoiled(rng, units):
 
 
 def spoiled_pairs(rng, call, units):
-    """Cases of two inputs, of which one or both are spoiled."""
+    """Yields cases of two inputs, one or both of which have a fault."""
     first, second = (b"".join(side) for side in units)
     bad = b"".join(spoiled(rng, units[0])), b"".join(spoiled(rng, units[1]))
     for one, other in ((bad[0], second), (first, bad[1]), bad):
@@ -342,7 +343,7 @@ def spoiled_pairs(rng, call, units):
 
 
 def delta_cases(rng):
-    """Pairs of data, and pairs of which one or both are spoiled."""
+    """Yields pairs of data, and pairs with faults in one or both."""
     for _ in range(700):
         version, session = rng.choice([0, 1, 2]), rng.getrandbits(16)
         old, most = any_data(rng, 12), rng.choice([0, 3, 12])
@@ -361,7 +362,7 @@ def delta_cases(rng):
 
 
 def any_changes(rng, data):
-    """Changes of which each name has one, most of them allowed by the data."""
+    """Returns changes, one per key, most of them allowed by the data."""
     named = {name(payload): payload for payload in data}
     changes = {}
     for payload in list(data) + list(any_data(rng, 8)):
@@ -375,7 +376,7 @@ def any_changes(rng, data):
 
 
 def apply_cases(rng):
-    """Data and changes, and such of which one or both are spoiled."""
+    """Yields data and changes, also with faults in one or both."""
     for _ in range(700):
         version, session = rng.choice([0, 1, 2]), rng.getrandbits(16)
         data = any_data(rng, 12)
@@ -398,7 +399,7 @@ def apply_cases(rng):
 
 
 def any_sequence(rng, data):
-    """Changes in any order, some of them of one name, and most of them allowed by the data."""
+    """Returns changes in any order, some of the same key, and most of them allowed by the data."""
     changes, held = [], {name(payload): payload for payload in data}
     for _ in range(rng.choice([0, 3, 12])):
         payload = rng.choice([any_payload(rng), *data])
@@ -415,7 +416,7 @@ def any_sequence(rng, data):
 
 
 def in_order_cases(rng):
-    """Data, and changes in any order, and such of which one or both are spoiled."""
+    """Yields data, and changes in any order, also with faults in one or both."""
     for _ in range(900):
         version, session = rng.choice([0, 1, 2]), rng.getrandbits(16)
         data = any_data(rng, 10)
@@ -439,7 +440,7 @@ def in_order_cases(rng):
 
 
 def order_cases(rng):
-    """Changes in any order, some of them of one name, and such that are spoiled."""
+    """Yields changes in any order, some of the same key, also with faults."""
     for _ in range(900):
         version, data = rng.choice([0, 1, 2]), any_data(rng, 10)
         changes = any_sequence(rng, data)
@@ -458,7 +459,7 @@ def order_cases(rng):
 
 
 def large_cases(rng):
-    """Data with the longest units, and with thousands of them."""
+    """Yields data with the longest units, and with thousands of units."""
     end = any_end(rng, 2, 1)
     long_key = (KEY, rng.randbytes(20), 1, rng.randbytes(65503))
     long_aspa = (ASPA, 7, tuple(rng.getrandbits(32) for _ in range(16380)))
@@ -474,7 +475,7 @@ def large_cases(rng):
         mixed = b"".join(units_of(rng, 2, rng.sample(changes, len(changes)))) + end_form(end)
         yield of_one(mixed, written(changes, end))
         yield of_two("in_order", sides[0], mixed, written([(ANNOUNCE, one) for one in new], end))
-    # The shortest units, so that an index needs most places for its input's length.
+    # The shortest units, so that an index needs the most entries for its input's length.
     gone = [(WITHDRAW, (ASPA, customer, ())) for customer in range(3000)]
     mixed = b"".join(form(2, *change) for change in rng.sample(gone, len(gone))) + end_form(end)
     yield of_one(mixed, written(gone, end), 0)

@@ -1,6 +1,6 @@
 #!/usr/bin/env python3
-"""Sessions with units of all eleven types, and what C has to be shown of them, computed by RFC 8210
-and docs/PROTOCOL.md without the library.
+"""Sessions with units of all eleven types, and the expected results of C's calls, computed by RFC
+8210 and docs/PROTOCOL.md without the library.
 
 usage: sessions.py cases [SEED] > CASES    for the tests of the bindings
        sessions.py session > SESSION       a session with each type
@@ -8,7 +8,7 @@ usage: sessions.py cases [SEED] > CASES    for the tests of the bindings
 
 Each case is
 
-- eight bytes each, the lowest first: the length of the input, and how many answers there are;
+- eight bytes each, little-endian: the length of the input, and how many answers there are;
 - the input;
 - the answers of one call after the other, each where the last one says that the next unit begins:
   the numbers of NUMBERS, eight bytes each, the address, the key identifier, the length of the
@@ -26,7 +26,7 @@ NAMES = {NOTIFY: "serial notify", QUERY: "serial query", RESET_QUERY: "reset que
 WIDTHS = {IPV4: 32, IPV6: 128}
 OK, SHORT, UNIT_TYPE, UNIT_VERSION, TOO_LONG, UNIT_LENGTH, EMPTY_PROVIDERS, PREFIX = range(8)
 
-# The fields of an answer that are numbers, in their order.
+# The fields of an answer that are numbers, in order.
 NUMBERS = ["status", "size", "wanted", "part_start", "part_length", "text_start", "text_length",
            "asn", "customer", "serial", "refresh", "retry", "expire", "session", "code", "kind",
            "version", "action", "family", "prefix_length", "max_length", "detail"]
@@ -37,7 +37,7 @@ def number(piece):
 
 
 def header_fault(data):
-    """The status and the detail of the first eight bytes."""
+    """Returns the status and the detail of the first eight bytes."""
     version, kind, flags, _, length = struct.unpack(">BBBBI", data[:8])
     fixed = {NOTIFY: 12, QUERY: 12, RESET_QUERY: 8, RESPONSE: 8, RESET: 8, IPV4: 20, IPV6: 32,
              END: 12 if version == 0 else 24}
@@ -58,13 +58,13 @@ def header_fault(data):
 
 
 def prefix_rule(unit):
-    """The part of the rule that the lengths of a prefix break, or 0."""
+    """Returns the rule that the lengths of a prefix break, or 0."""
     width, length, most = WIDTHS[unit[1]], unit[9], unit[10]
     return 1 if length > width else 2 if most > width else 3 if most < length else 0
 
 
 def parts(unit):
-    """The unit that a report is about and its text, if its inner lengths fit."""
+    """Returns the unit that a report encloses and its text, if its inner lengths fit."""
     first = number(unit[8:12])
     if 16 + first > len(unit):
         return None
@@ -73,7 +73,7 @@ def parts(unit):
 
 
 def fields(unit):
-    """What is shown of a whole unit, and its written form."""
+    """Returns the fields of a whole unit, and its form."""
     version, kind, flags = unit[0], unit[1], unit[2] % 2
     shown = {"size": len(unit), "kind": kind, "version": version}
     address, identifier, form = bytes(16), bytes(20), unit
@@ -116,7 +116,7 @@ def fields(unit):
 
 
 def answer(data):
-    """The answer for the unit that the bytes begin with."""
+    """Returns the answer for the unit at the start of the bytes."""
     nothing = bytes(16), bytes(20), b""
     if len(data) < 8:
         return {"status": SHORT, "wanted": 8}, *nothing
@@ -133,7 +133,7 @@ def answer(data):
 
 
 def walk(data):
-    """The answers, one after the other, past prefixes that are refused."""
+    """Returns the answers in order, skipping prefixes that are refused."""
     while True:
         one = answer(data)
         yield one
@@ -154,7 +154,7 @@ def report(version, code, pdu, text):
 
 
 def any_unit(rng, kind):
-    """A unit of this type whose fields are random, as a sender may fill them."""
+    """Returns a unit of this type with random fields, as a sender may fill them."""
     version = rng.choice([0, 1, 2])
     field, some = rng.getrandbits(16), rng.randbytes
     if kind in (NOTIFY, QUERY):
@@ -176,7 +176,7 @@ def any_unit(rng, kind):
 
 
 def hostile(rng, kind):
-    """A unit of this type with a length that it can't have, or inner lengths that don't fit."""
+    """Returns a unit of this type with an impossible length, or inner lengths that don't fit."""
     good = bytearray(any_unit(rng, kind))
     lengths = [0, 7, 8, 9, 11, 12, 13, 15, 16, 20, 24, 31, 32, 33, 65532, 65535, 65536,
                2**24, 2**31, 2**32 - 1, len(good) - 1, len(good) + 1]
@@ -195,7 +195,8 @@ def hostile(rng, kind):
 
 
 def sessions(rng):
-    """Sessions of each kind: whole ones, cut ones, hostile ones, and the longest units."""
+    """Yields sessions of each kind: whole ones, truncated ones, hostile ones, and the longest
+    units."""
     kinds = list(NAMES)
     yield b"".join(any_unit(rng, kind) for kind in kinds)
     for kind in kinds:
@@ -216,7 +217,7 @@ def sessions(rng):
 
 
 def the_session():
-    """A session of a router and a cache, with each type, all free bytes zero."""
+    """Returns a session of a router and a cache, with each type, all free bytes zero."""
     v4 = bytes([1, 24, 26, 0, 192, 0, 2, 0]) + struct.pack(">I", 64496)
     v6 = bytes([0, 32, 48, 0]) + bytes.fromhex("20010db8") + bytes(12) + struct.pack(">I", 64497)
     broken = bytes([1, 24, 23, 0, 192, 0, 2, 0]) + struct.pack(">I", 64496)
@@ -234,7 +235,7 @@ def the_session():
 
 
 def line(data, one):
-    """What session.c prints of a unit."""
+    """Returns what session.c prints for a unit."""
     shown, address, _, _ = one
     kind, unit = shown.get("kind"), data[:shown.get("size", 0)]
     if shown.get("status", OK) == PREFIX:
@@ -260,7 +261,7 @@ def line(data, one):
 
 
 def printed(data):
-    """What session.c prints of a session, and its last line."""
+    """Returns what session.c prints for a session, and its last line."""
     at = 0
     for one in walk(data):
         if one[0].get("status", OK) == SHORT:

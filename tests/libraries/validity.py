@@ -1,10 +1,10 @@
 #!/usr/bin/env python3
 """Routes and VRPs, and the validity of each route by RFC 6811: `covering`, `mismatch` and `state`,
-which walk over all VRPs. `interop/run` uses it too.
+which check all VRPs. `interop/run` uses it, too.
 
 usage: validity.py [SEED] > TABLES    for the tests of the bindings
 
-A table is, with numbers the lowest byte first,
+A table is, with little-endian numbers,
 
 - four bytes each for the length of its data and for how many routes there are, and the data: units
   that announce VRPs in their order, and an end of data;
@@ -13,7 +13,7 @@ A table is, with numbers the lowest byte first,
 - each VRP that covers it, in the order of payloads: four bytes each for its place and its AS, one
   each for the prefix length, the max length and the mismatch, and one that is zero.
 
-Of the addresses of routes the bits after the prefix may be set: they don't count.
+In the addresses of routes bits after the prefix may be set: they are ignored.
 """
 import ipaddress
 import random
@@ -35,14 +35,14 @@ END = bytes.fromhex("01 07 12 34 00 00 00 18 00 00 00 01 00 00 0e 10 00 00 02 58
 # ---- RFC 6811 section 2
 
 def covering(vrps, route):
-    """The VRPs whose prefix covers that of the route."""
+    """Returns the VRPs whose prefix covers that of the route."""
     return [vrp for vrp in vrps
             if vrp.width == route.width and vrp.length <= route.length
             and vrp.prefix >> vrp.width - vrp.length == route.prefix >> vrp.width - vrp.length]
 
 
 def mismatch(vrp, route):
-    """Why a VRP that covers the route doesn't match it."""
+    """Returns why a VRP that covers the route doesn't match it."""
     if vrp.asn == 0:
         return AS_ZERO
     if vrp.asn != route.asn:
@@ -51,7 +51,7 @@ def mismatch(vrp, route):
 
 
 def state(found, route):
-    """The validity of the route that these VRPs cover."""
+    """Returns the validity of the route that these VRPs cover."""
     if any(mismatch(vrp, route) == MATCHES for vrp in found):
         return "valid"
     return "invalid" if found else "not found"
@@ -60,13 +60,13 @@ def state(found, route):
 # ---- as text and as units
 
 def shown(prefix, width, length):
-    """The text of a prefix."""
+    """Returns the text of a prefix."""
     kind = ipaddress.IPv4Address if width == 32 else ipaddress.IPv6Address
     return f"{kind(prefix)}/{length}"
 
 
 def vrp_of(text, asn):
-    """The VRP of a prefix with a max length, as 192.0.2.0/23-24, and an AS."""
+    """Returns the VRP of a prefix with a max length, as 192.0.2.0/23-24, and an AS."""
     prefix, _, most = text.partition("-")
     network = ipaddress.ip_network(prefix)
     return Vrp(network.max_prefixlen, int(network.network_address), network.prefixlen,
@@ -74,12 +74,12 @@ def vrp_of(text, asn):
 
 
 def route_of(text, asn):
-    """The route of a prefix and an AS."""
+    """Returns the route of a prefix and an AS."""
     return Route(*vrp_of(text, asn)[:3], asn)
 
 
 def units_of(vrps):
-    """The units that announce the VRPs (RFC 8210 sections 5.6 and 5.7)."""
+    """Returns the units that announce the VRPs (RFC 8210 sections 5.6 and 5.7)."""
     return b"".join(
         bytes([1, 4 if vrp.width == 32 else 6, 0, 0, 0, 0, 0, 12 + vrp.width // 8 + 4,
                1, vrp.length, vrp.most, 0])
@@ -108,13 +108,13 @@ ROWS = [
     (NONE_MAY, "192.0.2.1/32", 65551, "invalid"), (NONE_MAY, "192.0.2.0/23", 65551, "not found"),
     (NONE_MAY + ROA, "192.0.2.0/24", 65551, "valid"), (NONE_MAY + ROA, "192.0.2.0/24", 0, "invalid"),
     (NONE_MAY + ROA, "192.0.2.0/25", 65551, "invalid"),
-    # RFC 6811 section 2: one that matches is enough, whatever others cover the route.
+    # RFC 6811 section 2: one matching VRP is enough, whatever others cover the route.
     (ROA + [("192.0.2.0/24", 65550)], "192.0.2.0/24", 65550, "valid"),
     (ROA + [("192.0.0.0/16-24", 65550)], "192.0.2.0/24", 65550, "valid"),
     (ROA + [("192.0.0.0/16-23", 65550)], "192.0.2.0/24", 65550, "invalid"),
     # A route that has no one origin AS is matched by nothing.
     (ROA, "192.0.2.0/24", 0, "invalid"), (ROA, "198.51.100.0/24", 0, "not found"),
-    # The families are apart, and prefixes of length 0 cover all of theirs.
+    # The families are separate, and prefixes of length 0 cover all of theirs.
     (SIX, "2001:db8::/32", 65551, "valid"), (SIX, "2001:db8:ffff::/48", 65551, "valid"),
     (SIX, "2001:db8::/49", 65551, "invalid"), (SIX, "2001:db9::/48", 65551, "not found"),
     (SIX, "32.1.13.184/32", 65551, "not found"), ([("0.0.0.0/0-32", 1)], "::/0", 1, "not found"),
@@ -126,54 +126,54 @@ ROWS = [
 
 
 def row_tables():
-    """Of each row its VRPs in their order, its route, and the route's validity."""
+    """Yields the VRPs of each row in order, its route, and the route's validity."""
     for texts, prefix, asn, wanted in ROWS:
         yield sorted(vrp_of(*text) for text in texts), route_of(prefix, asn), wanted
 
 
-# ---- tables made at random
+# ---- random tables
 
 def clear(prefix, width, length):
-    """The prefix with zero after its first bits."""
+    """Returns the prefix with zero after its first bits."""
     return prefix >> width - length << width - length
 
 
 def vrp_at(choice, width, prefix, length, asn=None):
-    """A VRP of this prefix, with a max length at a bound or between."""
+    """Returns a VRP of this prefix, with a max length at a bound or between."""
     most = choice.choice([length, length, width, min(length + 1, width), choice.randint(length, width)])
     return Vrp(width, clear(prefix, width, length), length, most,
                choice.choice([0, 1, 2, 3, 65551, 4294967295]) if asn is None else asn)
 
 
 def anywhere(choice, width):
-    """VRPs of prefixes of any length, anywhere."""
+    """Returns VRPs of prefixes of any length, anywhere."""
     return [vrp_at(choice, width, choice.getrandbits(width), choice.randint(0, width))
             for _ in range(120)]
 
 
 def nested(choice, width):
-    """VRPs of all lengths at one address, and at others beside it."""
+    """Returns VRPs of all lengths at one address, and at others next to it."""
     address = choice.getrandbits(width)
     return [vrp_at(choice, width, address ^ (choice.random() < 0.3) << choice.randrange(width), length)
             for length in range(width + 1) for _ in range(2)]
 
 
 def many_at_one(choice, width):
-    """Many ASes and max lengths at few prefixes."""
+    """Returns many ASes and max lengths at few prefixes."""
     address, length = choice.getrandbits(width), choice.randint(1, width - 1)
     return [vrp_at(choice, width, address, choice.choice([length - 1, length, length + 1]), asn)
             for asn in range(80)]
 
 
 def bounds(choice, width):
-    """VRPs at the ends of the addresses, of the least lengths and of the greatest."""
+    """Returns VRPs at the ends of the address space, of the least and the greatest lengths."""
     ends = [0, 1, (1 << width) - 1, (1 << width) - 2, 1 << width - 1, (1 << width - 1) - 1]
     return [vrp_at(choice, width, choice.choice(ends), choice.choice([0, 1, 2, width - 1, width]))
             for _ in range(100)]
 
 
 def crowded(choice, width):
-    """VRPs close to each other, as in a table of a region."""
+    """Returns VRPs close to each other, as in a table of a region."""
     base = choice.getrandbits(width)
     return [vrp_at(choice, width, base ^ choice.getrandbits(width // 2),
                    choice.randint(width // 4, width)) for _ in range(300)]
@@ -183,12 +183,13 @@ KINDS = [anywhere, nested, many_at_one, bounds, crowded]
 
 
 def table(choice, kind, widths):
-    """A table of this kind, as a sorted list in which nothing is twice: IPv4 before IPv6."""
+    """Returns a table of this kind, as a sorted list without duplicates: IPv4 before IPv6."""
     return sorted({each for width in widths for each in kind(choice, width)})
 
 
 def routes(choice, vrps, many):
-    """Routes at and beside the prefixes of VRPs, and anywhere, of ASes of the table and of others."""
+    """Returns routes at and next to the prefixes of VRPs, and anywhere, of ASes of the table and of
+    others."""
     asns = [vrp.asn for vrp in vrps] + [0, 7]
     for _ in range(many):
         near = choice.choice(vrps)
@@ -204,7 +205,7 @@ def routes(choice, vrps, many):
 
 
 def tables(seed):
-    """The kind of each table, the widths of its families, and where its choices begin."""
+    """The kind of each table, the widths of its families, and its seed."""
     for kind in KINDS:
         for widths in ((32,), (128,), (32, 128)):
             yield kind, widths, random.Random(f"{seed} {kind.__name__} {widths}")
@@ -213,7 +214,7 @@ def tables(seed):
 # ---- for the tests of the bindings
 
 def written(choice, vrps, asked):
-    """The bytes of a table with these routes."""
+    """Encodes a table with these routes."""
     data = units_of(vrps) + END
     made = struct.pack("<2I", len(data), len(asked)) + data
     places = {vrp: place for place, vrp in enumerate(vrps)}
