@@ -12,19 +12,19 @@ import tempfile
 import threading
 import time
 
-# Seconds within which the browser answers, on a busy machine too.
+# The time limit of the browser in seconds, also on a busy machine.
 LIMIT = 300
 
 NAMES = ("chromium", "chromium-browser", "google-chrome")
 
 
 def found():
-    """The path of the browser, or None."""
+    """Returns the path of the browser, or None."""
     return next(filter(None, map(shutil.which, NAMES)), None)
 
 
 class Wrong(Exception):
-    """The browser says that a command failed, or doesn't answer."""
+    """The browser reports that a command failed, or doesn't answer."""
 
 
 class Browser:
@@ -52,7 +52,7 @@ class Browser:
             self.call(f"{domain}.enable")
 
     def message(self, until):
-        """The next message of the browser."""
+        """Returns the next message of the browser."""
         while b"\0" not in self.left:
             if not select.select([self.read], [], [], max(0, until - time.monotonic()))[0]:
                 raise Wrong("the browser doesn't answer")
@@ -64,7 +64,7 @@ class Browser:
         return json.loads(one)
 
     def call(self, method, **parameters):
-        """Sends a command, and answers its result."""
+        """Sends a command, and returns its result."""
         self.number += 1
         said = {"id": self.number, "method": method, "params": parameters}
         if self.session:
@@ -82,7 +82,7 @@ class Browser:
             self.events.append(one)
 
     def run(self, code):
-        """The value of an expression of the page, a promise's too."""
+        """Returns the value of an expression of the page, also of a promise."""
         answer = self.call("Runtime.evaluate", expression=code, returnByValue=True,
                            awaitPromise=True)
         if "exceptionDetails" in answer:
@@ -90,7 +90,7 @@ class Browser:
         return answer["result"].get("value")
 
     def wait(self, code, seconds=LIMIT):
-        """Waits until an expression holds, and answers its value."""
+        """Waits until an expression holds, and returns its value."""
         until = time.monotonic() + seconds
         while not (value := self.run(code)):
             if time.monotonic() > until:
@@ -118,7 +118,7 @@ class Browser:
                       windowsVirtualKeyCode=codes[key], **(more if kind == "keyDown" else {}))
 
     def dark(self, is_dark):
-        """Has the page be dark, or light."""
+        """Makes the page dark, or light."""
         self.call("Emulation.setEmulatedMedia", features=[
             {"name": "prefers-color-scheme", "value": "dark" if is_dark else "light"}])
 
@@ -131,7 +131,7 @@ class Browser:
             file.write(base64.b64decode(self.call("Page.captureScreenshot", format="png")["data"]))
 
     def complaints(self):
-        """What the page's console and the browser's log say is wrong."""
+        """Returns the errors of the page's console and the browser's log."""
         self.run("1")
         found_wrong = []
         for event in self.events:
@@ -155,7 +155,7 @@ class Browser:
 
 
 class Files(http.server.SimpleHTTPRequestHandler):
-    """The files of a folder; of some paths others, and no lines about it."""
+    """Serves the files of a folder, with some paths replaced, without logging."""
 
     others = {}
     extensions_map = {**http.server.SimpleHTTPRequestHandler.extensions_map,
@@ -170,7 +170,7 @@ class Files(http.server.SimpleHTTPRequestHandler):
 
 @contextlib.contextmanager
 def serving(folder, others, files=Files):
-    """Serves a folder on the loopback interface, and answers where."""
+    """Serves a folder on the loopback interface, and returns its URL."""
     handler = functools.partial(type("Served", (files,), {"others": others}), directory=folder)
     with http.server.ThreadingHTTPServer(("127.0.0.1", 0), handler) as server:
         threading.Thread(target=server.serve_forever, daemon=True).start()
