@@ -1,4 +1,4 @@
-"""Where the rows of a script's table stand: the names by which those that fail are told."""
+"""The file and line of the rows of a script's table, which name failing rows."""
 import ast
 import os
 
@@ -6,7 +6,8 @@ TOP = os.path.realpath(os.path.join(os.path.dirname(os.path.abspath(__file__)), 
 
 
 def places(scope, table="RUNS"):
-    """The file and line of each row of a table that is a list in a script, by the script's names."""
+    """Returns the file and line of each row of a table that is a list in a script, by the script's
+    names."""
     path = scope["__file__"]
     with open(path, encoding="utf-8") as file:
         assigned = [node for node in ast.parse(file.read()).body if isinstance(node, ast.Assign)]

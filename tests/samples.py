@@ -1,4 +1,6 @@
 """The sample units that stand in the file `samples`, which says what they have."""
+from __future__ import annotations
+
 import dataclasses
 import pathlib
 from typing import Dict, Optional

@@ -1,9 +1,9 @@
-/* Makes reads of standard input and writes of standard output fail in a program that it is loaded
-   into, for `tests/programs/faults`, and moves at most so many bytes a call.
-
-   READING is the read that fails, and WRITING the write from which on each fails, both counted
-   from 1, or 0. MOST is how many bytes a call moves at most, or 0. SEEN is the file descriptor to
-   which the size of each write goes as four bytes, the last one first, or 0. */
+/* Makes reads of standard input and writes of standard output fail in a program that preloads it,
+ * for `tests/programs/faults`, and limits the bytes per call.
+ *
+ * READING is the read that fails, and WRITING the first write that fails, with all after it, both
+ * counted from 1, or 0. MOST is the most bytes of a call, or 0. SEEN is the file descriptor that
+ * gets the size of each write as four bytes, little-endian, or 0. */
 typedef __SIZE_TYPE__ size_t;
 
 extern long __read(int, void *, size_t);

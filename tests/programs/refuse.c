@@ -1,14 +1,15 @@
-/* Makes one allocation fail in a program that it is loaded into, for `tests/programs/growth`.
+/* Makes one allocation fail in a program that preloads it, for `tests/programs/growth`.
 
    REFUSED is the number of the allocation, counted from 1. MARK is 0, or the size of the two
-   allocations between which it counts. When the allocation fails, one byte goes to the file
-   descriptor MET. */
+   allocations between which it counts. When the allocation fails, one byte is written to the file
+   descriptor MET, and the program waits for one from the file descriptor HELD, if that isn't 0. */
 typedef __SIZE_TYPE__ size_t;
 
 extern void *__libc_malloc(size_t);
 extern void *__libc_realloc(void *, size_t);
 extern char *getenv(const char *);
 extern int atoi(const char *);
+extern long read(int, void *, size_t);
 extern long write(int, const void *, size_t);
 
 static int number(const char *name)
@@ -17,7 +18,17 @@ static int number(const char *name)
     return text ? atoi(text) : 0;
 }
 
-/* Whether this is the allocation to fail. */
+/* Reports that an allocation fails, and waits until it may. */
+static int reports(void)
+{
+    char byte = 'x';
+    int held = number("HELD");
+    if (write(number("MET"), &byte, 1) != 1)
+        return 0;
+    return !held || read(held, &byte, 1) == 1;
+}
+
+/* Reports whether this is the allocation to fail. */
 static int is_refused(size_t size)
 {
     static int marks, growths;
@@ -28,7 +39,7 @@ static int is_refused(size_t size)
     }
     if (marks != (mark != 0) || ++growths != number("REFUSED"))
         return 0;
-    return write(number("MET"), "x", 1) == 1;
+    return reports();
 }
 
 void *malloc(size_t size)
