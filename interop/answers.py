@@ -1,5 +1,5 @@
-"""Whole answers in recordings: which data a router has by them, and under which number. Data never
-change under a number, and are those of one list that was served."""
+"""Whole answers in recordings: the data that a router has after them, and their serial number. The
+data of a serial number never change, and are those of one list that was served."""
 import functools
 import hashlib
 import struct
@@ -9,29 +9,29 @@ import recorder
 from payloads import (ASPA, END, IPV4, IPV6, NOTIFY, REPORT, RESET, RESPONSE, ROUTER_KEY,
                       SERIAL_QUERY)
 
-# Where the flags of a payload unit are (RFC 8210 sections 5.6, 5.7 and 5.10).
+# The offset of the flags in a payload unit (RFC 8210 sections 5.6, 5.7 and 5.10).
 FLAGS = {IPV4: 8, IPV6: 8, ROUTER_KEY: 2, ASPA: 2}
 LAST = (END, RESET, REPORT)
 
 
 @functools.cache
 def announced(payload, version):
-    """The unit that announces a payload."""
+    """Returns the unit that announces a payload."""
     return payload.unit(version, 1)
 
 
 def digest(units):
-    """A short name of a set of units."""
+    """Returns a short name of a set of units."""
     return hashlib.sha256(b"".join(sorted(units))).digest()
 
 
 def flags(unit):
-    """The flags of a payload unit."""
+    """Returns the flags of a payload unit."""
     return unit[FLAGS[unit[1]]]
 
 
 def key(unit):
-    """What a withdrawal has in common with what it withdraws: all but the flags, or of an ASPA the
+    """Returns what a withdrawal shares with its announcement: all but the flags, or of an ASPA the
     customer."""
     if unit[1] == ASPA:
         return unit[1], unit[8:12]
@@ -40,7 +40,7 @@ def key(unit):
 
 
 def applied(data, units):
-    """Data, which are announcements by their keys, after the payload units of an answer."""
+    """Returns data, announcements by key, after the payload units of an answer."""
     data = dict(data)
     for unit in units:
         if unit[1] in FLAGS and flags(unit) & 1:
@@ -51,8 +51,8 @@ def applied(data, units):
 
 
 def split(sent):
-    """The answers among these units, without the notifies between them: each up to the unit that
-    ends it. One that was cut isn't among them."""
+    """Yields the answers among these units, without the notifies between them: each up to its last
+    unit. A truncated answer is left out."""
     answer = []
     for unit in sent:
         if unit[1] == NOTIFY:
@@ -64,7 +64,7 @@ def split(sent):
 
 
 class Answers:
-    """What the answers of one cache say, over all routers and restarts."""
+    """The data of one cache's answers, over all routers and restarts."""
 
     def __init__(self):
         self.lists = {version: set() for version in (0, 1, 2)}
@@ -73,14 +73,14 @@ class Answers:
         self.whole = 0
 
     def lists_have(self, listed):
-        """Has one more list be served."""
+        """Adds a list that is served."""
         for version, known in self.lists.items():
             known.add(digest(announced(payload, version)
                              for payload in payloads.in_version(listed, version)))
 
     def look(self, asked, sent):
-        """Looks at what went over one connection: queries, and what came. It answers the last
-        number that the router then has, or None."""
+        """Checks the traffic of a connection: queries and answers. Returns the last serial number
+        that the router then has, or None."""
         number = None
         for query, answer in zip(recorder.units(asked), split(recorder.units(sent))):
             if answer[-1][1] == END and answer[0][1] == RESPONSE:
@@ -88,7 +88,7 @@ class Answers:
         return number
 
     def take(self, query, answer):
-        """Takes a whole answer; the number that it ends with."""
+        """Takes a whole answer, and returns its serial number."""
         end = recorder.End(answer[-1])
         number = (end.version, end.session, end.serial)
         base = {}

@@ -1,4 +1,4 @@
-"""Caches: how each is started on the loopback interface, and how its list is changed."""
+"""Caches: starts each on the loopback interface, and changes its list."""
 import contextlib
 import os
 import shutil
@@ -17,19 +17,22 @@ FOLDER = os.path.dirname(os.path.abspath(__file__))
 
 
 class Cache:
-    """A cache that serves a list. Its files lie in a folder of its own."""
+    """A cache that serves a list. Its files are in a folder of its own."""
 
     name = package = ""
-    # The versions that it speaks, each a run of its own unless one run has all of them.
+    # The versions that it speaks, each in a run of its own unless one run has all of them.
     versions = (0, 1)
-    # Its file, if rtr_make reads that too.
+    # Its file, if rtr_make can read it.
     json = None
-    # Whether its ASPAs have another layout than ours.
+    # Whether the layout of its ASPAs differs from ours.
     other_aspas = False
-    # After how many seconds a router that lost it asks again, where that can be set.
+    # The retry time in seconds that it sends, if that can be set.
     retry = 600
-    # How long it may take until it tells its clients of a change.
+    # How long it may take to notify its clients of a change.
     change_seconds = 60
+    # Whether it increments its serial number at each check for changes, and has no delta over a
+    # check that found none.
+    numbers_looks = False
 
     def __init__(self, folder, version):
         self.folder = folder
@@ -40,7 +43,7 @@ class Cache:
 
     @property
     def highest(self):
-        """The highest version that it speaks."""
+        """Returns the highest version that it speaks."""
         return self.version
 
     def __enter__(self):
@@ -51,11 +54,11 @@ class Cache:
 
     @classmethod
     def release(cls):
-        """The version of its package."""
+        """Returns the version of its package."""
         return package_version(cls.package)
 
     def keep(self, name, text):
-        """Replaces one of its files at once."""
+        """Replaces one of its files atomically."""
         path = os.path.join(self.folder, name)
         mode = "wb" if isinstance(text, bytes) else "w"
         with open(path + ".new", mode) as file:
@@ -64,11 +67,11 @@ class Cache:
         return path
 
     def start(self, words):
-        """Starts its program by the words for a port, which is the same each time."""
+        """Starts its program with the arguments for a port, which stays the same."""
         return on_port(lambda port: self.start_on(port, words), self.port)
 
     def start_on(self, port, words):
-        """Starts it, and waits until it has data: some listen before they do."""
+        """Starts it, and waits until it has data, since some listen before that."""
         self.server = Server(words(port), os.path.join(self.folder, "log"))
         try:
             self.server.listens(port)
@@ -80,7 +83,7 @@ class Cache:
         return self
 
     def has_data(self):
-        """Whether it answers a reset query by data."""
+        """Reports whether it answers a reset query with data."""
         query = recorder.reset_query(self.version)
         with contextlib.suppress(OSError):
             with recorder.Session(self.port, self.folder, "probe") as session:
@@ -88,12 +91,12 @@ class Cache:
         return False
 
     def restart(self, listed):
-        """Ends it, and starts it on the same port with another list and another session."""
+        """Stops it, and starts it on the same port with another list and another session."""
         self.server.end()
         self.serve(listed)
 
     def serves(self, listed):
-        """What of the list it serves in its version."""
+        """Returns the part of the list that it serves in its version."""
         return payloads.in_version(listed, self.version)
 
 
@@ -106,7 +109,7 @@ class StayRTR(Cache):
 
     @property
     def other_aspas(self):
-        """Those of version 2 have the layout of draft 10 (`docs/INTEROP.md`)."""
+        """ASPAs of version 2 have the layout of draft 10 (`docs/INTEROP.md`)."""
         return self.version == 2
 
     def serve(self, listed):
@@ -118,12 +121,12 @@ class StayRTR(Cache):
         return self.start(lambda port: [*words, "-bind", f"127.0.0.1:{port}"])
 
     def change(self, listed):
-        """Has it serve another list."""
+        """Changes the list that it serves."""
         self.keep("list.json", payloads.stayrtr_json(listed))
         self.server.send(signal.SIGHUP)
 
     def serves(self, listed):
-        """Its ASPAs have another layout: they are compared by themselves."""
+        """Its ASPAs have another layout: they are compared separately."""
         return payloads.in_version(listed, min(self.version, 1))
 
 
@@ -156,12 +159,12 @@ class GoRTR(Cache):
         return self.start(lambda port: [*words, "-listen", f"127.0.0.1:{port}"])
 
     def change(self, listed):
-        """Has it serve another list."""
+        """Changes the list that it serves."""
         self.keep("list", payloads.plain_lines(listed))
         self.server.send(signal.SIGHUP)
 
     def serves(self, listed):
-        """It has origins alone."""
+        """It has only origins."""
         return payloads.in_version(listed, 0)
 
 
@@ -171,6 +174,7 @@ class Fort(Cache):
     name, package = "fort-validator", "fort-validator"
     # It looks for changes once a minute at most.
     change_seconds = 180
+    numbers_looks = True
     highest = 1
 
     def serve(self, listed):
@@ -189,7 +193,7 @@ class Fort(Cache):
         return self.start(lambda port: [*words, f"--server.port={port}"])
 
     def change(self, listed):
-        """Has it serve another list, once it looks again."""
+        """Changes the list that it serves, from its next check on."""
         self.keep("list.slurm", payloads.slurm(listed))
 
     def serves(self, listed):
@@ -200,17 +204,29 @@ class Fort(Cache):
 class Ours(Cache):
     """A cache of ours, over a sequence in a file."""
 
-    # The first query fixes the version; it tells a client of a change once a minute at most.
+    # The first query fixes the version; it notifies a client at most once a minute.
     versions = (0, 1, 2)
     change_seconds = 120
     highest = 2
     example = None
-    session, serial = 4660, 0
+    session, serial = 4660, 1
 
     @classmethod
     def release(cls):
         """It is of this tree."""
         return "this tree"
+
+    # Whether it serves the serial number of its file.
+    numbered = True
+
+    def refuses(self, listed, times):
+        """Reports whether it refuses these times with a message."""
+        content = payloads.sequence(listed, 2, self.session, self.serial, times)
+        path = self.keep("refused.sequence", content)
+        log = os.path.join(self.folder, "refused")
+        with open(log, "wb"), Server(self.words_of(path)(0), log) as server:
+            until(lambda: "time has to be" in server.said(), READY_SECONDS, "a refusal")
+            return "payloads" not in server.said()
 
     def write(self, listed):
         """Writes the file that it serves."""
@@ -220,27 +236,30 @@ class Ours(Cache):
 
     def serve(self, listed):
         """Starts it with this list."""
-        path = self.write(listed)
-        words = [self.example.built(), path, "--listen"]
-        return self.start(lambda port: [*words, f"127.0.0.1:{port}"])
+        return self.start(self.words_of(self.write(listed)))
+
+    def words_of(self, path):
+        """Returns the command that starts it on a port with a file."""
+        return lambda port: [self.example.built(), path, "--listen", f"127.0.0.1:{port}"]
 
     def change(self, listed):
-        """Has it serve another list."""
+        """Changes the list that it serves."""
         self.serial += 1
         self.write(listed)
 
     def restart(self, listed):
-        """Ends it, and starts it with another list and another session."""
+        """Stops it, and starts it with another list and another session."""
         self.session, self.serial = self.session + 1, 7
         super().restart(listed)
 
 
 class RtrCache(Ours):
-    """The program rtr-cache, over the JSON that rpki-client writes. It keeps session and serial
-    number itself, and began another session where it has no folder for them."""
+    """The program rtr-cache, over the JSON that rpki-client writes. It manages session and serial
+    number itself, and begins another session if it has no folder for them."""
 
     name = "rtr-cache"
     json = "list.json"
+    numbered = False
     # Whether it keeps its state in a folder.
     kept = False
 
@@ -253,8 +272,19 @@ class RtrCache(Ours):
         self.write(listed)
         return self.serve_again()
 
+    def refuses(self, listed, times):
+        """Reports whether these times make it exit with the status of wrong arguments and a
+        message."""
+        self.write(listed)
+        words = [*self.example.words(), "--json", os.path.join(self.folder, self.json)]
+        for name, seconds in zip(("--refresh", "--retry", "--expire"), times):
+            words += [name, str(seconds)]
+        done = subprocess.run([*words, "--listen", "127.0.0.1:0"], capture_output=True, text=True,
+                              timeout=READY_SECONDS, check=False)
+        return done.returncode == 2 and "time has to be" in done.stderr
+
     def serve_again(self):
-        """Starts it with the list that is there."""
+        """Starts it with the present list."""
         words = [*self.example.words(), "--json", os.path.join(self.folder, self.json)]
         words += ["--guard", "100%", "--retry", str(self.retry)]
         if self.kept:
@@ -263,14 +293,14 @@ class RtrCache(Ours):
 
 
 def of_programs(folder, base=RtrCache, **fields):
-    """A maker of rtr-cache, where it can be built here."""
+    """Yields a maker of rtr-cache, if it can be built here."""
     here = examples.Program("rtr-cache", folder)
     if not here.lacks():
         yield type(base.__name__, (base,), {"example": here, **fields})
 
 
 def ours(folder):
-    """A maker of each of our caches that is here."""
+    """Yields a maker of each of our caches that can be built here."""
     for example in examples.caches(folder):
         name = f"our cache in {example.name}"
         yield type(f"Our{example.name}", (Ours,), {"name": name, "example": example})

@@ -1,6 +1,6 @@
-"""rtr-cache beside routers at their default times, while its list changes: behind a proxy that cuts
+"""rtr-cache with routers at their default times, while its list changes: behind a proxy that cuts
 connections at random bytes, and killed in each phase of saving its state. Nothing that it serves is
-lost or mixed: each whole answer has the data of one list, the same ones under each number."""
+lost or mixed: each whole answer has the data of one list, the same for each serial number."""
 import contextlib
 import os
 import random
@@ -27,21 +27,21 @@ from tap import Tap, close
 PART = "cuts and kills"
 SEED = 8210
 
-# The short form: so many changes in so many seconds, and the retry time that the cache tells.
+# The short form: the number of changes, the seconds for them, and the retry time of the cache.
 SECONDS, CHANGES, RETRY = 24, 48, 2
-# The long one, and the retry times of its two caches: of the second it is that of RFC 8210.
+# The long form, and the retry times of its two caches: the second's is that of RFC 8210.
 LONG_SECONDS, LONG_CHANGES, LONG_RETRIES = 600, 1200, (5, 600)
 
-# After the last change each router is current in so many seconds beyond the retry time.
+# After the last change each router is current within the retry time and this many seconds.
 CURRENT_SECONDS = 90
 
-# A cut comes after so many bytes at most: of small answers, and of the largest.
+# The most bytes before a cut: of small answers, and of the largest.
 FEW, MANY = 300, 16000
 
-# How likely connections are cut at a change where they are.
+# The probability that a change cuts the connections as they are.
 IDLE = 0.3
 
-# How many payloads leave the list for one change, at most.
+# The most payloads that leave the list in one change.
 GONE = 150
 
 
@@ -52,14 +52,14 @@ class Kept(caches.RtrCache):
 
 
 def end(connections):
-    """Ends connections, also where threads wait for them."""
+    """Closes connections, even if threads wait for them."""
     for each in connections:
         with contextlib.suppress(OSError):
             each.shutdown(socket.SHUT_RDWR)
 
 
 class Cutter(Tap):
-    """A tap that cuts each connection after some bytes of one way, where it is told to."""
+    """A tap that can cut each connection after some bytes of one direction."""
 
     def __init__(self, port, folder, name):
         super().__init__(port, folder, name)
@@ -69,7 +69,7 @@ class Cutter(Tap):
         self.passing = {}
 
     def cut_now(self):
-        """Cuts each connection where it is."""
+        """Cuts each connection at once."""
         for path, pair in list(self.passing.items()):
             if self.passing.pop(path, None):
                 self.cuts += 1
@@ -77,13 +77,13 @@ class Cutter(Tap):
                 end(pair)
 
     def cut_perhaps(self):
-        """Cuts them at times, since nothing may go over them for long."""
+        """Cuts them at times, since they may be idle for long."""
         if self.chance.random() < IDLE:
             self.cut_now()
 
     def pass_on(self, one, other, path):
-        """Passes on what comes from one to the other, until it ends or is cut; then both are
-        closed, at times so that what is on its way is lost."""
+        """Forwards bytes from one to the other until it ends or is cut; then both are closed,
+        sometimes so that bytes in transit are lost."""
         left = None
         number = path.rsplit(".", 1)[0]
         self.passing[number] = (one, other)
@@ -104,7 +104,7 @@ class Cutter(Tap):
         end((one, other))
 
     def drop(self, connection):
-        """Has what is on its way be lost, half of the times."""
+        """Loses the bytes in transit half of the time."""
         if self.chance.random() < 0.5:
             with contextlib.suppress(OSError):
                 reset = struct.pack("ii", 1, 0)
@@ -119,7 +119,7 @@ class Cut(routing.Beside):
 
 
 class Keeper(routers.Router):
-    """rtr-client, which keeps the newest data in a file: at each time those of one list."""
+    """rtr-client, which writes the newest data to a file: always those of one list."""
 
     name = "rtr-client"
     example = None
@@ -133,7 +133,7 @@ class Keeper(routers.Router):
         self.done = threading.Event()
 
     def start(self):
-        """Starts it, and looks at its file again and again."""
+        """Starts it, and checks its file continuously."""
         words = [*self.example.words(), f"127.0.0.1:{self.cache}", "--version", "1"]
         self.run([*words, "--out", self.path("newest.csv")])
         self.watching = threading.Thread(target=self.watch, daemon=True)
@@ -145,17 +145,20 @@ class Keeper(routers.Router):
         super().__exit__(*words)
 
     def table(self):
-        """The origins that its file has."""
-        with contextlib.suppress(FileNotFoundError), open(self.path("newest.csv"),
-                                                          encoding="ascii") as file:
-            rows = [line.split(",") for line in file.read().splitlines()]
-            return {payloads.Origin(prefix, int(longest), int(asn.removeprefix("AS")))
-                    for asn, prefix, longest, *_ in rows if asn.startswith("AS")
-                    and asn[2:].isdigit()}
+        """Returns the origins in its file."""
+        with contextlib.suppress(FileNotFoundError):
+            return self.once("newest.csv", self.held)
         return set()
 
+    def held(self, text):
+        """Returns the origins of these lines."""
+        rows = [line.split(",") for line in text.splitlines()]
+        return {payloads.Origin(prefix, int(longest), int(asn.removeprefix("AS")))
+                for asn, prefix, longest, *_ in rows if asn.startswith("AS")
+                and asn[2:].isdigit()}
+
     def watch(self):
-        """Looks whether the file is one of the lists."""
+        """Checks that the file is one of the lists."""
         while not self.done.wait(0.05):
             held = frozenset(self.table())
             self.looks += 1
@@ -164,12 +167,12 @@ class Keeper(routers.Router):
 
 
 def origins_of(listed):
-    """The origins of a list."""
+    """Returns the origins of a list."""
     return frozenset(each for each in listed if isinstance(each, payloads.Origin))
 
 
 def changed(listed, turn):
-    """The list at a turn: some payloads have left it, and those of the turn have come."""
+    """Returns the list of a turn: some payloads have left it, and those of the turn were added."""
     chance = random.Random(SEED + turn)
     ordered = sorted(origins_of(listed), key=lambda origin: origin.order())
     gone = chance.sample(ordered, chance.choice([0, 1, GONE]))
@@ -177,7 +180,7 @@ def changed(listed, turn):
 
 
 class Scene:
-    """A cache that changes, with routers beside it, and what was served."""
+    """A cache that changes, its routers, and what was served."""
 
     def __init__(self, results, maker, folder, last, stack, kind=routing.Beside, retry=RETRY):
         self.listed, _ = payloads.made_up()
@@ -195,11 +198,11 @@ class Scene:
             each.router.lists = self.origins
 
     def keepers(self):
-        """Our clients among the routers."""
+        """Returns our clients among the routers."""
         return [each for each in self.beside if isinstance(each.router, Keeper)]
 
     def note(self, listed):
-        """Notes that a list is served from now on."""
+        """Records that a list is served from now on."""
         self.answers.lists_have(listed)
         self.origins.add(origins_of(listed))
 
@@ -211,7 +214,7 @@ class Scene:
         return listed
 
     def hold(self, what, listed, seconds):
-        """Each router holds a list, in so many seconds."""
+        """Checks that each router holds a list within this many seconds."""
         routing.all_hold(self.beside, what, self.cache.serves(listed), seconds)
 
     def look(self, pair, how):
@@ -228,14 +231,14 @@ class Scene:
 
 
 def keepers(folder):
-    """A maker of rtr-client, where it can be built here."""
+    """Yields a maker of rtr-client, if it can be built here."""
     here = Program("rtr-client", folder)
     if not here.lacks():
         yield type("Keeper", (Keeper,), {"example": here})
 
 
 def cut(results, maker, folder, retry=RETRY, seconds=SECONDS, changes=CHANGES):
-    """Changes a list behind proxies that cut."""
+    """Changes a list behind proxies that cut connections."""
     how = f"over {changes} changes in {seconds} s, retry {retry} s"
     with Pair(results, PART, maker.name, "v1", maker.release()) as pair, \
             contextlib.ExitStack() as stack:
@@ -266,14 +269,14 @@ def cut(results, maker, folder, retry=RETRY, seconds=SECONDS, changes=CHANGES):
 # ---- a kill in each phase
 
 class Phase(NamedTuple):
-    """A phase of saving: the call of the system at whose beginning the cache is killed, and of
-    which path: the new file, or the folder."""
+    """A phase of saving: the system call at whose start the cache is killed, and its path: the new
+    file, or the folder."""
     what: str
     call: str
     name: str
 
 
-# All calls of a save, in their order; the half of a file is in between.
+# All system calls of a save, in order, and half of a file in between.
 NEW, FOLDER = "editions.new", "."
 PHASES = (
     Phase("before the new file", "openat", NEW),
@@ -287,17 +290,18 @@ PHASES = (
     Phase("before the name is on the disk", "fsync", FOLDER),
     Phase("before the data are served", "close", FOLDER),
 )
-# Where a kill comes after the writes of the new file, each of these is slowed by so many
-# microseconds, so that routers would get what were served too early. In the phase without a call
-# the kill comes once the file has so many bytes, which come before its first unit; the call after
-# the writes waits for it.
+# If the kill comes after the writes of the new file, each of these is delayed by this many
+# microseconds, so that routers would get data that are served too early. In the phase without a
+# call the kill comes once the file has this many bytes, which come before its first unit; the call
+# after the writes waits for it.
 SLOWED, STOPPED, HEAD = 50000, 60_000_000, 32
 
-DIES_SECONDS = 30
+# How long a phase may take, also on a machine under load.
+DIES_SECONDS = 60
 
 
 class Injected:
-    """strace at a cache that runs, which kills it in a phase."""
+    """strace attached to a running cache, which it kills in a phase."""
 
     def __init__(self, cache, phase):
         self.cache, self.phase = cache, phase
@@ -321,7 +325,7 @@ class Injected:
         self.server.end()
 
     def attached(self):
-        """Whether it traces the cache."""
+        """Reports whether it traces the cache."""
         said = self.server.said()
         if "Operation not permitted" in said:
             raise Missing("strace may not trace a process here")
@@ -329,22 +333,22 @@ class Injected:
         return "attached" in said
 
     def kills(self):
-        """Waits until the cache is killed, and says whether it was."""
+        """Waits until the cache is killed, and reports whether it was."""
         if not self.phase.call:
             until(self.is_half, DIES_SECONDS, "half of the file")
             self.cache.server.process.kill()
-            self.server.end()  # while it has a call wait, nobody sees the end
+            self.server.end()  # while a system call is delayed, the end isn't visible
         return self.cache.server.process.wait(DIES_SECONDS) == -signal.SIGKILL
 
     def is_half(self):
-        """Whether a part of the file is there."""
+        """Reports whether a part of the file exists."""
         with contextlib.suppress(FileNotFoundError):
             return os.stat(self.file).st_size >= HEAD
         return False
 
 
 def asked(scene, query, name):
-    """The number that an answer of the cache ends with, which is looked at; None for another."""
+    """Checks an answer of the cache, and returns its serial number; None for another answer."""
     with recorder.Session(scene.cache.port, scene.cache.folder, name) as session:
         answer = session.ask(query)
     if answer.last != END:
@@ -353,14 +357,14 @@ def asked(scene, query, name):
 
 
 def has(scene, number, listed):
-    """Whether the data under a number are a list."""
+    """Reports whether the data of a serial number are a list."""
     wanted = {answers.announced(each, 1) for each in payloads.in_version(listed, 1)}
     return set(scene.answers.served[number].values()) == wanted
 
 
 def killed(scene, turn, phase):
-    """Kills the cache in a phase, and starts it again, each second time with another list: what is
-    wrong then."""
+    """Kills the cache in a phase, and restarts it, every second time with another list; returns
+    what is wrong."""
     reset = recorder.reset_query(1)
     before = asked(scene, reset, "before")
     with Injected(scene.cache, phase) as injected:
@@ -385,7 +389,7 @@ def killed(scene, turn, phase):
 
 
 def kill(results, maker, folder):
-    """Kills a cache in each phase of saving its state, with routers beside it."""
+    """Kills a cache with routers in each phase of saving its state."""
     with Pair(results, PART, maker.name, "v1", maker.release()) as pair, \
             contextlib.ExitStack() as stack:
         program("strace")
@@ -403,7 +407,9 @@ HEADS = ("Retry time", "Changes", "Cuts", "Whole answers")
 
 
 def table(found):
-    """The table of the page: a row for each retry time."""
+    """Returns the table of the page: a row for each retry time."""
     seen = {what: count for names, what, count in found.seen if names.part == PART}
+    if not seen:
+        return []
     rows = [[seen[f"{retry} {head}"] for head in HEADS] for retry in LONG_RETRIES]
     return tables.table(HEADS, rows)

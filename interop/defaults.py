@@ -1,6 +1,5 @@
-"""Caches of ours and routers of others at their default times: a burst of changes, and a new
-session; and with a shorter retry time, for which most wait then, a restart with a later serial
-number."""
+"""Our caches and other routers at their default times: a burst of changes, and a new session; and,
+with a shorter retry time, which most routers wait for, a restart with a later serial number."""
 import contextlib
 import os
 import threading
@@ -19,16 +18,16 @@ from results import Pair
 PART = "default times"
 MARK = "scenes"
 
-# So many changes in so many seconds, after which each router is current in so many.
+# The number of changes, the seconds for them, and the seconds until each router is current.
 CHANGES, BURST_SECONDS = 30, 120
 CURRENT_SECONDS = 90
 
 # BIRD and rtrlib wait for their whole retry time before they ask a cache that they lost. A restart
-# is with a retry time of so many seconds, and each router asks within so many.
+# has this retry time in seconds, and each router asks within this many.
 RETRY = 20
 RESTART_SECONDS = 60
 
-# How long a router is looked at after a new session.
+# How long a router is observed after a new session.
 SESSION_SECONDS = 100
 
 BURST = f"{CHANGES} changes in {BURST_SECONDS} s"
@@ -39,7 +38,7 @@ SCENES = (BURST, RESTART, SESSION)
 
 @contextlib.contextmanager
 def beginning(results, maker, folder, name, lists, retry=None):
-    """A cache that serves the first of these lists, and the routers beside it that hold it."""
+    """A cache that serves the first of these lists, and its routers, which hold it."""
     with Pair(results, PART, maker.name, "v1", maker.release()), contextlib.ExitStack() as stack:
         cache = maker(os.path.join(folder, f"{name}.{maker.__name__.lower()}"), 1)
         cache.retry = retry or cache.retry
@@ -55,7 +54,8 @@ def beginning(results, maker, folder, name, lists, retry=None):
 
 
 def seconds_until(each, listed, start, seconds):
-    """After how many seconds a table holds a list, of at most so many from the start; or None."""
+    """Returns after how many seconds a table holds a list, at most this many from the start; or
+    None."""
     wanted = each.router.shows(listed)
     with contextlib.suppress(TimeoutError):
         left = max(1, start + seconds - time.monotonic())
@@ -65,7 +65,7 @@ def seconds_until(each, listed, start, seconds):
 
 
 def are_current(beside, listed, start, seconds, then):
-    """Looks at all tables at once, and has `then` told what was seen of each."""
+    """Checks all tables at once, and calls `then` with the result of each."""
     def look(each):
         with each.pair:
             then(each, seconds_until(each, listed, start, seconds))
@@ -77,7 +77,7 @@ def are_current(beside, listed, start, seconds, then):
 
 
 def note(each, scene, took, seconds, how=""):
-    """Keeps what was seen of a router after a scene, for the page, and answers it."""
+    """Stores what was seen of a router after a scene, for the page, and returns it."""
     found = f"current{how}" if took else f"not current within {seconds} s"
     each.pair.sees(scene, found)
     return found
@@ -96,12 +96,14 @@ def burst(results, maker, folder):
         def then(each, took):
             found = note(each, BURST, took, CURRENT_SECONDS)
             each.pair.equal(f"after {BURST}", found, "current")
+            said = each.router.complaints(payloads.TIMINGS)
+            each.pair.equal("takes the default times", said, [], 1)
         are_current(beside, cache.serves(lists[2]), time.monotonic(), CURRENT_SECONDS, then)
 
 
 def first_answer(tap, since):
-    """The first query of the connections from this one on, and the units of its answer, once they
-    are whole."""
+    """Returns the first query of the connections from this one on, and the units of its answer,
+    once it is whole."""
     for queries, answers in list(tap.recorded())[since:]:
         asked, sent = recorder.units(queries), recorder.units(answers)
         last = next((i for i, unit in enumerate(sent) if unit[1] in (END, RESET, REPORT)), None)
@@ -111,7 +113,7 @@ def first_answer(tap, since):
 
 
 def kind_of_answer(each, since, changed):
-    """What the first query after a restart was answered by: a delta, which has these changes, to a
+    """Returns the answer to the first query after a restart: a delta, which has these changes, to a
     serial query; else its units."""
     query, units = until(lambda: first_answer(each.tap, since), RESTART_SECONDS, "a query")
     content = b"".join(units)
@@ -145,8 +147,8 @@ def restart(results, maker, folder):
 
 
 def new_session(results, maker, folder):
-    """A file of another session. What comes is compared with what the page says, if that is of this
-    release: a close, after which most routers wait for their retry time."""
+    """A file of another session. The result is compared with the page, if that is of this release:
+    a close, after which most routers wait for their retry time."""
     listed, _ = payloads.made_up()
     lists = [listed, payloads.varied(listed, 1)]
     with beginning(results, maker, folder, "session", lists) as (cache, beside):
@@ -161,5 +163,6 @@ def new_session(results, maker, folder):
 
 
 def table(found):
-    """The table of the page: a row for each router at each cache, a column for each scene."""
+    """Returns the table of the page: a row for each router at each cache, a column for each
+    scene."""
     return tables.scenes(found, PART, SCENES, across=True)

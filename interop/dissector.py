@@ -1,8 +1,13 @@
-"""Others read us: tshark's dissector of RTR lists recordings as `rtr_list --json` does."""
+"""tshark's dissector of RTR lists recordings as `rtr_list --json` does. Each recording is compared
+in a process of its own, which prints the units that both list, since the threads of one Python
+process share its interpreter."""
 import contextlib
+import json
 import os
 import struct
 import subprocess
+import sys
+import threading
 import xml.etree.ElementTree as tree
 
 import payloads
@@ -16,10 +21,18 @@ PART = "dissector"
 PORT = 323
 SESSIONS, FORMS = (".answers", ".queries"), ".sequence"
 
+# What is compared: the sample of all types, or the sessions or the forms in a folder.
+SAMPLE = "the sample of types 0 to 10"
+STREAMS = {"the sessions": SESSIONS, "the forms": FORMS}
+
 # How many bytes a packet carries, so that units are cut at all places.
 PIECE = 1201
 
-# A field of the dissector by each of rtr_list's, and the field's value as rtr_list prints it.
+# How long both may take, also on a machine under load, and how many are compared at once.
+SECONDS = 400
+at_once = threading.BoundedSemaphore(2 * (os.cpu_count() or 1))
+
+# The dissector's field for each of rtr_list's, and the field's value as rtr_list prints it.
 NUMBERS = {
     "version": "version", "length": "length", "session_id": "session_id",
     "serial_number": "serial_number", "prefix_length": "prefix_length",
@@ -48,7 +61,7 @@ def packet(content, stream, place):
 
 
 def capture(streams, path):
-    """Writes these streams, one after the other, as a capture of connections."""
+    """Writes these streams as a capture of connections."""
     with open(path, "wb") as file:
         file.write(struct.pack("<IHHiIII", 0xA1B2C3D4, 2, 4, 0, 0, 1 << 18, 101))
         for stream, content in enumerate(streams):
@@ -58,9 +71,10 @@ def capture(streams, path):
 
 
 def dissected(path):
-    """The units that tshark shows of a capture: the values of each, by the name of its field."""
+    """Returns the units that tshark shows of a capture: the values of each, by the name of its
+    field."""
     words = [program("tshark"), "-n", "-r", path, "-d", f"tcp.port=={PORT},rpkirtr", "-T", "pdml"]
-    done = subprocess.run(words, capture_output=True, timeout=180, check=True)
+    done = subprocess.run(words, capture_output=True, timeout=SECONDS, check=True)
     for proto in tree.fromstring(done.stdout).iter("proto"):
         if proto.get("name") == "rpkirtr":
             fields = {}
@@ -71,7 +85,7 @@ def dissected(path):
 
 
 def key_info(unit, content):
-    """What is shown of a router key's info: its length, and the key in it where it is one."""
+    """Returns what is shown of a router key's info: its length, and its key if it has one."""
     info = content[unit["offset"] + 32:unit["offset"] + unit["length"]]
     assert payloads.unpadded(info) == unit["subject_public_key_info"]
     shown = {"info_length": len(info), "reserved": f"{unit['zero'][0]:02x}"}
@@ -81,7 +95,7 @@ def key_info(unit, content):
 
 
 def as_shown(unit, content):
-    """What tshark should show of a unit of `rtr_list --json`; `content` has its bytes."""
+    """Returns what tshark should show of a unit of `rtr_list --json`; `content` has its bytes."""
     wanted = {"pdu_type": KINDS[unit["kind"]]}
     wanted |= {shown: unit[name] for name, shown in NUMBERS.items() if name in unit}
     wanted |= {shown: unit[name] for name, shown in BYTES.items() if unit.get(name)}
@@ -98,7 +112,7 @@ def as_shown(unit, content):
 
 
 def shown_of(fields, wanted):
-    """What tshark shows of the fields that are wanted, in the same form."""
+    """Returns what tshark shows of these fields, in the same form."""
     shown = {}
     for name, value in wanted.items():
         found = fields.get(NAMES.get(name, name))
@@ -107,7 +121,7 @@ def shown_of(fields, wanted):
         if name == "info_length":
             shown[name] = int(found[0].get("size"))
         elif name == "reserved":
-            # Of a router key tshark shows bytes 3 and 4, of which the second is of the length.
+            # Of a router key tshark shows bytes 3 and 4, the second of which belongs to the length.
             shown[name] = "".join(field.get("value") for field in found)[:len(value)]
         elif isinstance(value, int):
             shown[name] = int(found[0].get("show"), 0)
@@ -116,8 +130,8 @@ def shown_of(fields, wanted):
     return shown
 
 
-def compare_streams(pair, what, streams, path):
-    """Compares what both list of these streams."""
+def both(streams, path):
+    """The units that tshark and rtr_list list of these streams, in the same form."""
     known = [
         b"".join(unit for unit in recorder.units(content) if unit[1] != ASPA) for content in streams
     ]
@@ -127,8 +141,25 @@ def compare_streams(pair, what, streams, path):
     ]
     fields = list(dissected(path))
     got = [shown_of(each, unit) for each, unit in zip(fields, wanted)]
-    got += [{}] * (len(fields) - len(got))
-    pair.equal(f"lists {what} as rtr_list does", got, wanted)
+    return got + [{}] * (len(fields) - len(got)), wanted
+
+
+def streams_of(what, place):
+    """Returns the streams of a file, or of a folder and its subfolders."""
+    if what == SAMPLE:
+        return [read(place)]
+    contents = [read(path) for path in files_below(place, STREAMS[what])]
+    return contents if STREAMS[what] == SESSIONS else list(map(programs.normalised, contents))
+
+
+def compare_streams(pair, what, name, place, path):
+    """Compares what both list of these streams."""
+    words = [sys.executable, os.path.abspath(__file__), what, place, path]
+    with at_once:
+        done = subprocess.run(words, capture_output=True, timeout=2 * SECONDS, check=False)
+    if done.returncode:
+        raise OSError(f"{name}: {done.stderr[-500:].decode(errors='replace')}")
+    pair.equal(f"lists {name} as rtr_list does", *json.loads(done.stdout))
 
 
 def read(path):
@@ -146,31 +177,35 @@ def compare_sample(results, captures):
     """Compares both over the sample of all types."""
     with names(results) as pair:
         program("tshark")
-        sample = read(os.path.join(programs.TOP, "crates/rtr_list/stdin"))
-        path = os.path.join(captures, "sample.pcap")
-        compare_streams(pair, "the sample of types 0 to 10", [sample], path)
+        sample = os.path.join(programs.TOP, "crates/rtr_list/stdin")
+        compare_streams(pair, SAMPLE, SAMPLE, sample, os.path.join(captures, "sample.pcap"))
 
 
 def files_below(place, endings):
-    """The paths of the files with these endings, in a folder and those below it."""
+    """Returns the paths of the files with these suffixes, in a folder and its subfolders."""
     return [os.path.join(folder, name) for folder, _, names in sorted(os.walk(place))
             for name in sorted(names) if name.endswith(endings)]
 
 
 def recorded(folder):
-    """The folders in which pairs of a run left recordings."""
-    places = [os.path.join(folder, name) for name in sorted(os.listdir(folder))]
-    return [place for place in places if files_below(place, (*SESSIONS, FORMS))]
+    """The folders in which pairs of a run left recordings, the largest first."""
+    sizes = {}
+    for place in (os.path.join(folder, name) for name in sorted(os.listdir(folder))):
+        if found := files_below(place, (*SESSIONS, FORMS)):
+            sizes[place] = sum(map(os.path.getsize, found))
+    return sorted(sizes, key=sizes.get, reverse=True)
 
 
 def compare(results, place, captures):
-    """Compares both over the recordings in a folder and those below it."""
+    """Compares both over the recordings in a folder and its subfolders."""
     with names(results) as pair, contextlib.suppress(Missing):
         program("tshark")
-        whole = [read(path) for path in files_below(place, SESSIONS)]
-        forms = [programs.normalised(read(path)) for path in files_below(place, FORMS)]
         name = os.path.basename(place)
-        for what, streams in (("the sessions", whole), ("the forms", forms)):
-            if streams:
+        for what, endings in STREAMS.items():
+            if files_below(place, endings):
                 path = os.path.join(captures, f"{name}.{what.split()[-1]}.pcap")
-                compare_streams(pair, f"{what} of {name}", streams, path)
+                compare_streams(pair, what, f"{what} of {name}", place, path)
+
+
+if __name__ == "__main__":
+    print(json.dumps(both(streams_of(*sys.argv[1:3]), sys.argv[3])))

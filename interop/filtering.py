@@ -1,4 +1,5 @@
-"""A filter in the middle: a cache whose answers are soiled on the way, `rtr_clean`, and clients."""
+"""A filter in the middle: a cache whose answers get junk in their reserved bits, `rtr_clean`, and
+clients."""
 import contextlib
 import os
 import sys
@@ -16,7 +17,7 @@ SOIL = os.path.join(os.path.dirname(os.path.abspath(__file__)), "soil")
 
 
 class Relay:
-    """socat, which runs a pipe for each connection: soil, and after it a filter if there is one."""
+    """socat, which runs a pipe for each connection: soil, followed by a filter if there is one."""
 
     def __init__(self, cache, folder, name, after=""):
         self.log = os.path.join(folder, f"{name}.log")
@@ -43,7 +44,7 @@ class Relay:
 
 
 def compare_bytes(pair, cache, relays):
-    """What comes through the filter is what the cache sends, though what enters it is soiled."""
+    """The filter's output is what the cache sends, although its input has junk in reserved bits."""
     query = recorder.reset_query(cache.version)
     answers = []
     for port, name in ((cache.port, "sent"), (relays[0].port, "soiled"), (relays[1].port, "clean")):
@@ -58,7 +59,7 @@ def compare_bytes(pair, cache, relays):
 
 
 def compare(results, maker, folder):
-    """Runs all routers and clients after the filter, over one cache."""
+    """Runs all routers and clients behind the filter, over one cache."""
     old, new = payloads.made_up()
     names = (f"rtr_clean after {maker.name}", "v1", maker.release())
     with Pair(results, PART, *names) as pair, contextlib.ExitStack() as stack:

@@ -1,4 +1,4 @@
-"""Our clients and caches: the examples in C, Go and Rust, where they are."""
+"""Our clients and caches: the examples in C, Go and Rust."""
 import collections
 import contextlib
 import glob
@@ -7,6 +7,7 @@ import json
 import os
 import shutil
 import subprocess
+import sys
 import threading
 
 import payloads
@@ -17,9 +18,9 @@ from results import Pair
 TOP = os.path.join(os.path.dirname(os.path.abspath(__file__)), "..")
 SECONDS = 180
 
-# What the examples need to be built, their sources, and how: {out} is the program. CGO_LDFLAGS and
-# RTR_LIB_DIR pick other archives than the prebuilt ones, and RTR_ARCHIVE that for C; RTR_CACHE_GO
-# and the like name programs that are built already.
+# The tools that build the examples, their sources, and the commands: {out} is the program.
+# CGO_LDFLAGS and RTR_LIB_DIR select other archives than the prebuilt ones, and RTR_ARCHIVE that for
+# C; RTR_CACHE_GO and similar variables name programs that are already built.
 ARCHIVE = os.environ.get("RTR_ARCHIVE", "prebuilt/x86_64/librtr_wire.a")
 BUILDS = {
     "C": (["cc"], "bindings/c/{name}.c", "bindings/c",
@@ -32,12 +33,12 @@ BUILDS = {
 }
 
 
-# What builds the programs in Go.
+# The command that builds the programs in Go.
 BUILD = os.path.join(TOP, "programs", "build")
 
 
 class Example:
-    """An example of ours in one language."""
+    """One of our examples in one language."""
 
     # A lock for each program: others are built at the same time.
     locks = collections.defaultdict(threading.Lock)
@@ -48,11 +49,11 @@ class Example:
         self.folder = folder
 
     def named(self):
-        """The program that a setting such as RTR_CACHE_GO names."""
+        """Returns the program that a variable such as RTR_CACHE_GO names."""
         return os.environ.get(f"RTR_{self.example}_{self.name}".upper())
 
     def lacks(self):
-        """Why it can't be built here, or None."""
+        """Returns why it can't be built here, or None."""
         if self.named():
             return None
         tools, source, _, _ = BUILDS[self.name]
@@ -63,7 +64,7 @@ class Example:
         return f"{missing[0]} isn't installed" if missing else None
 
     def built(self):
-        """The path of its program, which is built where it isn't yet."""
+        """Returns the path of its program, which is built first if needed."""
         if self.named():
             return self.named()
         if self.lacks():
@@ -75,6 +76,10 @@ class Example:
             if not os.path.exists(out):
                 self.build([word.format(**names) for word in words], os.path.join(TOP, where), out)
         return out
+
+    def words(self):
+        """How it is called."""
+        return [self.built()]
 
     def build(self, words, where, out):
         """Builds it."""
@@ -88,7 +93,8 @@ class Example:
             shutil.copy(os.path.join(target, "release/examples", self.example), out)
 
     def fetch(self, port, version):
-        """What this client holds after one answer of a cache, as lines of `rtr_diff --json`."""
+        """Returns what this client holds after one answer of a cache, as lines of `rtr_diff
+        --json`."""
         words = [self.built(), f"127.0.0.1:{port}", "--once", "--json", "--version", str(version)]
         done = subprocess.run(words, capture_output=True, text=True, timeout=SECONDS, check=False)
         if done.returncode:
@@ -98,10 +104,10 @@ class Example:
 
 
 class Program:
-    """A program in Go, by its name; RTR_CACHE and RTR_CLIENT name one that is built already."""
+    """A program in Go, by its name; RTR_CACHE and RTR_CLIENT name one that is already built."""
 
     lock = threading.Lock()
-    # What of ours it runs.
+    # Our programs that it runs.
     NEEDS = {"rtr-cache": "rtr_make", "rtr-client": "rtr_list"}
 
     def __init__(self, name, folder):
@@ -109,11 +115,11 @@ class Program:
         self.folder = os.path.join(folder, "programs")
 
     def named(self):
-        """The program that a setting names."""
+        """Returns the program that a variable names."""
         return os.environ.get(self.name.replace("-", "_").upper())
 
     def lacks(self):
-        """Why it can't be built here, or None."""
+        """Returns why it can't be built here, or None."""
         if self.named():
             return None
         if shutil.which("go") is None:
@@ -125,7 +131,7 @@ class Program:
         return f"{missing[0]} isn't installed" if missing else None
 
     def built(self):
-        """The path of the program, which is built where it isn't yet."""
+        """Returns the path of the program, which is built first if needed."""
         if self.named():
             return self.named()
         if self.lacks():
@@ -145,9 +151,44 @@ class Program:
         return ["env", f"PATH={path}:{os.environ['PATH']}", self.built()]
 
 
+class InPython:
+    """The package for Python of this tree, with a shared library that is linked here."""
+
+    name = "Python"
+    lock = threading.Lock()
+    FOLLOWS = os.path.join(TOP, "interop", "follow.py")
+
+    def __init__(self, folder):
+        self.library = os.path.join(folder, "librtr_wire.so")
+
+    def lacks(self):
+        """Returns why it can't be used here, or None."""
+        return None if shutil.which("cc") else "cc isn't installed"
+
+    def built(self):
+        """Returns the path of the library, which is linked first if needed."""
+        if self.lacks():
+            raise Missing(self.lacks())
+        archives = os.path.dirname(os.path.dirname(os.path.join(TOP, ARCHIVE)))
+        words = [os.path.join(TOP, "bindings", "package"), "--archives", archives]
+        with InPython.lock:
+            if not os.path.exists(self.library):
+                done = subprocess.run([*words, "--library", self.library], capture_output=True,
+                                      text=True, timeout=SECONDS, check=False)
+                if done.returncode:
+                    raise OSError(f"bindings/package: {done.stderr[-500:]}")
+        return self.library
+
+    def words(self):
+        """Returns the command of the client that follows a cache."""
+        package = os.path.join(TOP, "bindings", "python", "src")
+        return ["env", f"RTR_WIRE_LIBRARY={self.built()}", f"PYTHONPATH={package}",
+                "PYTHONDONTWRITEBYTECODE=yes", sys.executable, self.FOLLOWS]
+
+
 class TokioTLS:
     """The example `tls` of the crate for tokio, with Debian's crates; RTR_TLS_RUST names one that
-    is built already."""
+    is already built."""
 
     lock = threading.Lock()
     REGISTRY = "/usr/share/cargo/registry"
@@ -158,7 +199,7 @@ class TokioTLS:
         self.folder = os.path.join(folder, "tokio")
 
     def lacks(self):
-        """Why it can't be built here, or None."""
+        """Returns why it can't be built here, or None."""
         if os.environ.get("RTR_TLS_RUST"):
             return None
         missing = [tool for tool in ("cargo", "cc") if shutil.which(tool) is None]
@@ -167,8 +208,8 @@ class TokioTLS:
         return f"{missing[0]} isn't installed" if missing else None
 
     def built(self):
-        """The path of the program, which is built where it isn't yet, in a copy: cargo writes into
-        its folder."""
+        """Returns the path of the program, which is built first if needed, in a copy, since cargo
+        writes into its folder."""
         if os.environ.get("RTR_TLS_RUST"):
             return os.environ["RTR_TLS_RUST"]
         if self.lacks():
@@ -204,30 +245,30 @@ class TokioTLS:
 
 
 def clients(folder):
-    """Our clients that can be built here."""
+    """Returns our clients that can be built here."""
     examples = [Example(language, "client", folder) for language in BUILDS]
     return [example for example in examples if not example.lacks()]
 
 
 def caches(folder):
-    """Our caches that can be built here."""
+    """Returns our caches that can be built here."""
     examples = [Example(language, "cache", folder) for language in BUILDS]
     return [example for example in examples if not example.lacks()]
 
 
 def build_all(folder):
-    """Starts to build all of them; one that can't be built fails where it is used."""
+    """Starts to build all of them; one that can't be built fails when it is used."""
     def build(example):
         with contextlib.suppress(OSError, subprocess.SubprocessError):
             example.built()
-    more = [example for example in (Program("rtr-cache", folder), TokioTLS(folder))
-            if not example.lacks()]
+    more = [example for example in (Program("rtr-cache", folder), InPython(folder),
+                                    TokioTLS(folder)) if not example.lacks()]
     for example in (*clients(folder), *caches(folder), *more):
         threading.Thread(target=build, args=(example,), daemon=True).start()
 
 
 def say_absent(results, folder):
-    """Names what of ours isn't here."""
+    """Prints which of our programs can't be built here."""
     with Pair(results, "our side", "our", "examples") as pair:
         for language, name in itertools.product(BUILDS, ("client", "cache")):
             lacks = Example(language, name, folder).lacks()

@@ -1,6 +1,6 @@
-"""The made-up list of payloads, what changes in it, and the files in which caches read it.
+"""The generated list of payloads, its changes, and the files in which caches read it.
 
-Everything that a run expects is computed here, from the list, without the library.
+All expected values of a run are computed here, from the list, without the library.
 """
 import base64
 import hashlib
@@ -17,7 +17,7 @@ SEED = 8210
 NOTIFY, SERIAL_QUERY, RESET_QUERY, RESPONSE, IPV4, IPV6 = 0, 1, 2, 3, 4, 6
 END, RESET, ROUTER_KEY, REPORT, ASPA = 7, 8, 9, 10, 11
 
-# Timings of an end of data, which RFC 8210 section 6 recommends.
+# The times of an end of data that RFC 8210 section 6 recommends.
 TIMINGS = (3600, 600, 7200)
 
 
@@ -30,13 +30,13 @@ class Origin(NamedTuple):
     smallest_version = 0
 
     def order(self):
-        """What the order of payloads compares."""
+        """Returns the key of the order of payloads."""
         network = ipaddress.ip_network(self.prefix)
         address = int(network.network_address)
         return (0, network.version, address, network.prefixlen, self.max_length, self.asn)
 
     def shown(self):
-        """The fields that `rtr_diff --json` prints of it."""
+        """Returns its fields in `rtr_diff --json`."""
         network = ipaddress.ip_network(self.prefix)
         return {
             "kind": f"ipv{network.version}_prefix",
@@ -64,11 +64,11 @@ class RouterKey(NamedTuple):
     smallest_version = 1
 
     def order(self):
-        """What the order of payloads compares."""
+        """Returns the key of the order of payloads."""
         return (1, self.identifier, self.asn, self.info)
 
     def shown(self):
-        """The fields that `rtr_diff --json` prints of it."""
+        """Returns its fields in `rtr_diff --json`."""
         return {
             "kind": "router_key",
             "subject_key_identifier": self.identifier.hex(),
@@ -90,11 +90,11 @@ class Authorization(NamedTuple):
     smallest_version = 2
 
     def order(self):
-        """What the order of payloads compares."""
+        """Returns the key of the order of payloads."""
         return (2, self.customer, self.providers)
 
     def shown(self):
-        """The fields that `rtr_diff --json` prints of it."""
+        """Returns its fields in `rtr_diff --json`."""
         return {
             "kind": "aspa",
             "customer_asn": self.customer,
@@ -114,7 +114,7 @@ class Change(NamedTuple):
     payload: tuple
 
     def line(self):
-        """It as a line of `rtr_diff --json`, with its fields in the order of their names."""
+        """Returns its line of `rtr_diff --json`, with fields sorted by name."""
         action = "announce" if self.announce else "withdraw"
         shown = dict(self.payload.shown(), action=action)
         if not self.announce and "provider_asns" in shown:
@@ -123,12 +123,12 @@ class Change(NamedTuple):
 
 
 def as_line(fields):
-    """Fields as a line of JSON, in the order of their names."""
+    """Returns fields as a line of JSON, sorted by name."""
     return json.dumps(fields, sort_keys=True)
 
 
 def payload_of(fields):
-    """The payload that these fields of a line of `rtr_diff --json` name."""
+    """Returns the payload of these fields of a line of `rtr_diff --json`."""
     if fields["kind"] == "router_key":
         info = fields["subject_public_key_info"]
         info = base64.urlsafe_b64decode(info + "=" * (-len(info) % 4))
@@ -146,12 +146,13 @@ def unpadded(content):
 
 
 def in_version(payloads, version):
-    """Those of the payloads that this protocol version has."""
+    """Returns the payloads that this protocol version has."""
     return {payload for payload in payloads if payload.smallest_version <= version}
 
 
 def changes(old, new):
-    """The changes from the old set to the new one, where an ASPA replaces that of its customer."""
+    """Returns the changes from the old set to the new one; an ASPA replaces that of its
+    customer."""
     replaced = {payload.customer for payload in new if isinstance(payload, Authorization)}
     gone = {
         payload for payload in old - new
@@ -173,10 +174,10 @@ def sequence(payloads, version, session, serial, timings=TIMINGS):
     return units + end_of_data(version, session, serial, timings)
 
 
-# ---- the made-up list
+# ---- the generated list
 
 def origins(chance, count, version):
-    """So many origins of a family, some of them with one prefix, AS or max length."""
+    """Returns this many origins of a family, some with the same prefix, AS or max length."""
     size = 32 if version == 4 else 128
     base = "10.0.0.0" if version == 4 else "2001:db8::"
     lengths = [8, 16, 20, 22, 24, 28, 32] if version == 4 else [32, 40, 48, 64, 128]
@@ -195,7 +196,7 @@ def origins(chance, count, version):
 
 
 def edges():
-    """Origins at the ends of their ranges."""
+    """Returns origins at the ends of their ranges."""
     return {
         Origin("0.0.0.0/1", 1, 64500),
         Origin("128.0.0.0/1", 32, 4294967295),
@@ -215,7 +216,7 @@ KEY_HEAD = bytes.fromhex("3059301306072a8648ce3d020106082a8648ce3d030107034200")
 
 
 def added(one, other):
-    """The sum of two points of the curve, neither of which is the other's negative."""
+    """Returns the sum of two points of the curve, neither of which is the other's negative."""
     if one == other:
         slope = (3 * one[0] ** 2 - 3) * pow(2 * one[1], -1, FIELD)
     else:
@@ -225,7 +226,7 @@ def added(one, other):
 
 
 def router_keys(count):
-    """So many router keys over points of the curve: 2, 3, 4 .. times its base."""
+    """Returns this many router keys from points of the curve: 2, 3, 4 .. times its base."""
     point, found = BASE, []
     for place in range(count):
         point = added(point, BASE)
@@ -236,7 +237,7 @@ def router_keys(count):
 
 
 def made_up():
-    """The list before the change and after it: some hundred origins, router keys and ASPAs."""
+    """Returns the list before and after the change: some hundred origins, router keys and ASPAs."""
     chance = random.Random(SEED)
     first = origins(chance, 300, 4) | origins(chance, 200, 6) | edges()
     ordered = sorted(first, key=lambda origin: origin.order())
@@ -253,7 +254,8 @@ def made_up():
 
 
 def varied(payloads, turn):
-    """The list after one more small change: the turn's own origins come, those of others go."""
+    """Returns the list after one more small change: the turn's own origins are added, those of
+    others removed."""
     network = ipaddress.ip_network((0xC6120000 + turn * 256 % 0x20000, 24))
     longer = ipaddress.ip_network(((0x20010002 << 96) + (turn << 64), 64))
     return set(payloads) | {Origin(str(network), 24, turn), Origin(str(longer), 128, turn)}

@@ -1,4 +1,4 @@
-"""Servers of a run: each in a process group of its own, ended by its id whatever happens."""
+"""Servers of a run: each in a process group of its own, which is always killed by its id."""
 import contextlib
 import functools
 import itertools
@@ -10,28 +10,32 @@ import subprocess
 import threading
 import time
 
-# How long a server has to come up, also on a machine under load, and to end after it was asked to.
+# How long a server may take to start, also on a machine under load, and to stop.
 READY_SECONDS = 60
 END_SECONDS = 5
 
 
-# How often a server is started that another process may have taken the port of.
+# How often a server is started whose port another process may have taken.
 ATTEMPTS = 5
 
-# What systems say of a port that is taken, in whatever letters.
+# The messages of systems about a port in use, in any case.
 TAKEN = "address already in use"
 
 
+# The seconds between two checks of a wait.
+LEAST_PAUSE, MOST_PAUSE = 0.1, 0.5
+
+
 class Missing(Exception):
-    """Something isn't on this machine: what needs it is skipped."""
+    """Something isn't installed: what needs it is skipped."""
 
 
 class PortTaken(OSError):
-    """A server couldn't listen, since another process had its port."""
+    """A server couldn't listen: its port is in use."""
 
 
 def program(*names):
-    """The path of the first of these programs that is here."""
+    """Returns the path of the first of these programs that is installed."""
     for name in names:
         for path in (shutil.which(name), f"/usr/sbin/{name}", f"/usr/bin/{name}"):
             if path and os.access(path, os.X_OK):
@@ -41,7 +45,7 @@ def program(*names):
 
 @functools.cache
 def package_version(package):
-    """The version of a package as Debian has it, or a word that it is unknown."""
+    """Returns the version of a Debian package, or "unknown"."""
     try:
         words = ["dpkg-query", "-W", "-f", "${Version}", package]
         found = subprocess.run(words, capture_output=True, text=True, timeout=60, check=False)
@@ -51,8 +55,8 @@ def package_version(package):
 
 
 class Ports:
-    """Ports of the loopback interface, each given once: below those that clients get. A run holds a
-    name for each port that it gave, so that one beside it gives others."""
+    """Ports of the loopback interface, each used once, below those of clients. A run reserves a
+    name for each of its ports, so that concurrent runs use others."""
 
     lock = threading.Lock()
     given = itertools.cycle(range(20000, 32000))
@@ -61,7 +65,7 @@ class Ports:
 
     @classmethod
     def free(cls):
-        """A port that nothing uses now."""
+        """Returns a free port."""
         with cls.lock:
             for port in itertools.islice(cls.given, cls.place, cls.place + 1000):
                 cls.place = 0
@@ -73,7 +77,7 @@ class Ports:
 
     @classmethod
     def hold(cls, port):
-        """Takes the name of a port: a local socket's, which ends with this process."""
+        """Reserves the name of a port: a local socket's, which goes away with this process."""
         name = socket.socket(socket.AF_UNIX)
         try:
             name.bind(f"\0interop.{port}")
@@ -84,8 +88,8 @@ class Ports:
 
 
 def on_port(start, port=None, free=Ports.free):
-    """What `start` makes on this port, or where none is named on a free one. If another process has
-    it, the same port is tried again a second later, and in the place of a free one another."""
+    """Returns what `start` makes on this port, or without one on a free port. If the port is in
+    use, the same port is retried a second later, or another free one."""
     for _ in range(ATTEMPTS - 1):
         with contextlib.suppress(PortTaken):
             return start(port or free())
@@ -94,7 +98,7 @@ def on_port(start, port=None, free=Ports.free):
 
 
 def listeners(port):
-    """The inodes of the sockets that listen at a port (proc(5))."""
+    """Returns the inodes of the sockets that listen at a port (proc(5))."""
     for name in ("tcp", "tcp6"):
         with contextlib.suppress(OSError), open(f"/proc/net/{name}", encoding="ascii") as lines:
             for _, local, _, state, *rest in map(str.split, itertools.islice(lines, 1, None)):
@@ -103,22 +107,26 @@ def listeners(port):
 
 
 def until(condition, seconds, what):
-    """Waits until the condition holds, and answers what it gave; at most so many seconds."""
+    """Waits until the condition holds, at most this many seconds, and returns its result. It checks
+    once more at the end, and mostly sleeps, since checks take processor time."""
     end = time.monotonic() + seconds
-    while time.monotonic() < end:
+    while True:
+        start = time.monotonic()
         found = condition()
         if found:
             return found
-        time.sleep(0.1)
-    raise TimeoutError(f"{what}: not within {seconds} s")
+        if start >= end:
+            raise TimeoutError(f"{what}: not within {seconds:.0f} s")
+        took = time.monotonic() - start
+        time.sleep(min(max(LEAST_PAUSE, 2 * took), MOST_PAUSE, max(0, end - start)))
 
 
 class Server:
-    """A program that runs until it is ended. Its output goes to a file."""
+    """A program that runs until it is stopped. Its output goes to a file."""
 
     running = []
     lock = threading.RLock()
-    # Whether the run ends, so that no server may start any more.
+    # Whether the run is ending, so that no server may start any more.
     stopping = False
 
     def __init__(self, words, log, split=None):
@@ -128,6 +136,7 @@ class Server:
         with open(log, "ab") as file, Server.lock:
             if Server.stopping:
                 raise OSError("the run ends")
+            self.started = time.monotonic()
             self.process = subprocess.Popen(words, stdin=subprocess.DEVNULL, stdout=split or file,
                                             stderr=file, start_new_session=True)
             Server.running.append(self)
@@ -139,11 +148,11 @@ class Server:
         self.end()
 
     def send(self, number):
-        """Sends a signal to the program alone."""
+        """Sends a signal only to the program."""
         self.process.send_signal(number)
 
     def end(self):
-        """Ends its process group, whose id is that of the program."""
+        """Stops its process group, whose id is that of the program."""
         for number in (signal.SIGTERM, signal.SIGKILL):
             with contextlib.suppress(ProcessLookupError):
                 os.killpg(self.process.pid, number)
@@ -154,19 +163,19 @@ class Server:
                 Server.running.remove(self)
 
     def said(self):
-        """What it has printed so far."""
+        """Returns its output so far."""
         with open(self.log, encoding="utf-8", errors="replace") as file:
             return file.read()
 
     def check(self):
-        """Says why it ended, if it did."""
+        """Raises why it exited, if it did."""
         if self.process.poll() is not None:
             said = self.said()[-300:]
             kind = PortTaken if TAKEN in said.lower() else OSError
             raise kind(f"{self.words[0]} ended: {said}")
 
     def owns(self, port):
-        """Whether it is this server that listens at a port, or a process that it started."""
+        """Reports whether this server, or a process that it started, listens at a port."""
         listening = {f"socket:[{inode}]" for inode in listeners(port)}
         for process in filter(str.isdigit, os.listdir("/proc")):
             with contextlib.suppress(OSError):
@@ -177,7 +186,7 @@ class Server:
         return False
 
     def listens(self, port, seconds=READY_SECONDS):
-        """Waits until it takes connections on this port."""
+        """Waits until it accepts connections on this port."""
         def connects():
             self.check()
             with contextlib.suppress(OSError), socket.create_connection(("127.0.0.1", port), 1):
@@ -187,21 +196,21 @@ class Server:
 
 
 def end_all():
-    """Ends each server that still runs; none starts after it."""
+    """Stops each running server; none starts afterwards."""
     with Server.lock:
         Server.stopping = True
     for server in list(Server.running):
         server.end()
 
 
-def stop(number, _frame):
-    """A handler of signals: the servers are ended, and then the run."""
-    print(f"interop: ended by signal {number}, {signal.Signals(number).name}", flush=True)
-    end_all()
-    os._exit(128 + number)
+def end_on_signals(last_lines=list):
+    """Stops the servers when the run is interrupted, and then prints these lines."""
+    def stop(number, _frame):
+        end_all()
+        for line in last_lines():
+            print(line)
+        print(f"interop: ended by signal {number}, {signal.Signals(number).name}", flush=True)
+        os._exit(128 + number)
 
-
-def end_on_signals():
-    """Has the servers ended when the run is interrupted."""
     for number in (signal.SIGINT, signal.SIGTERM, signal.SIGHUP, signal.SIGALRM):
         signal.signal(number, stop)

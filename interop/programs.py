@@ -1,4 +1,4 @@
-"""The programs of this repository, run over recordings."""
+"""Runs the programs of this repository over recordings."""
 import json
 import os
 import re
@@ -18,7 +18,7 @@ OF_UNITS = ("offset", "length", "version", "flags", "zero")
 
 
 def path(name):
-    """The path of one of our programs."""
+    """Returns the path of one of our programs."""
     found = os.path.join(FOLDER, name)
     if not os.access(found, os.X_OK):
         raise Missing(f"{name} isn't in {SHOWN}")
@@ -26,19 +26,19 @@ def path(name):
 
 
 def there(name):
-    """Whether one of our programs is here."""
+    """Reports whether one of our programs is available."""
     return os.access(os.path.join(FOLDER, name), os.X_OK)
 
 
 def run(words, content=b""):
-    """Runs one of our programs: its status, what it wrote, and what it said."""
+    """Runs one of our programs, and returns its status, standard output and standard error."""
     done = subprocess.run([path(words[0]), *words[1:]], input=content, capture_output=True,
                           timeout=SECONDS, check=False)
     return done.returncode, done.stdout, done.stderr.decode().strip()
 
 
 def listed(content):
-    """The units of a recording, as `rtr_list --json` prints them. A fault is an error."""
+    """Returns the units of a recording, as `rtr_list --json` prints them. A fault is an error."""
     status, lines, said = run(["rtr_list", "--json"], content)
     if status:
         raise ValueError(f"rtr_list ends with {status}: {said}")
@@ -46,12 +46,12 @@ def listed(content):
 
 
 def line_of(unit):
-    """A payload's line of `rtr_list --json` as `rtr_diff --json` prints it."""
+    """Returns a payload's line of `rtr_list --json` as `rtr_diff --json` prints it."""
     return payloads.as_line({name: unit[name] for name in unit if name not in OF_UNITS})
 
 
 def found(content):
-    """What `rtr_list --check` finds, a line each."""
+    """Returns the findings of `rtr_list --check`, a line each."""
     status, lines, said = run(["rtr_list", "--check"], content)
     counts = r"rtr_list: looked at units \d+, answers \d+"
     if status not in (0, 1) or not re.fullmatch(counts, said):
@@ -60,7 +60,7 @@ def found(content):
 
 
 def differing(old, new):
-    """What `rtr_diff --json` prints of two files: a set of lines, their fields in order."""
+    """Returns the output of `rtr_diff --json` for two files: a set of lines, with sorted fields."""
     status, lines, said = run(["rtr_diff", "--json", old, new])
     if status not in (0, 1):
         raise ValueError(f"rtr_diff ends with {status}: {said}")
@@ -68,7 +68,7 @@ def differing(old, new):
 
 
 def units_of_change(old, new):
-    """What `rtr_diff --units` writes of two files."""
+    """Returns the output of `rtr_diff --units` for two files."""
     status, units, said = run(["rtr_diff", "--units", old, new])
     if status not in (0, 1):
         raise ValueError(f"rtr_diff ends with {status}: {said}")
@@ -76,7 +76,7 @@ def units_of_change(old, new):
 
 
 def normalised(content):
-    """What `rtr_normalise` writes of a sequence."""
+    """Returns the output of `rtr_normalise` for a sequence."""
     status, form, said = run(["rtr_normalise"], content)
     if status:
         raise ValueError(f"rtr_normalise ends with {status}: {said}")
@@ -84,7 +84,8 @@ def normalised(content):
 
 
 def made(content, version):
-    """What `rtr_make --json` makes of a file that caches read, without what the version lacks."""
+    """Returns the output of `rtr_make --json` for a cache's file, without what the version
+    lacks."""
     words = ["rtr_make", "--json", "--version", str(version), "--session", "4660", "--serial", "1"]
     status, units, said = run([*words, "--drop", "--empty"], content)
     if status:
@@ -93,7 +94,7 @@ def made(content, version):
 
 
 def cleaned(content):
-    """What `rtr_clean` writes of a session."""
+    """Returns the output of `rtr_clean` for a session."""
     status, clean, said = run(["rtr_clean"], content)
     if status:
         raise ValueError(f"rtr_clean ends with {status}: {said}")

@@ -1,5 +1,5 @@
 """The package for Python, as pip installs the wheel of this tree: its commands, and the examples of
-its page, beside a cache."""
+its page, with a cache."""
 import os
 import re
 import subprocess
@@ -18,14 +18,14 @@ EXAMPLES = os.path.join(TOP, "bindings", "python", "examples")
 PART = "Python"
 SECONDS = 180
 
-# How many seconds the example for asyncio follows caches.
-WATCHED = 3
+# The example for asyncio follows caches for this many seconds.
+WATCHED = 1
 
 installing = threading.Lock()
 
 
 def ran(words, **settings):
-    """What a command prints; an error where it doesn't end well."""
+    """Returns the output of a command; raises an error if it fails."""
     done = subprocess.run(words, capture_output=True, timeout=SECONDS, check=False, **settings)
     if done.returncode:
         said = done.stderr[-500:].decode(errors="replace")
@@ -34,7 +34,8 @@ def ran(words, **settings):
 
 
 def installed(folder):
-    """The interpreter of an environment that has the wheel alone, made where it isn't there yet."""
+    """Returns the interpreter of an environment with only the wheel, which is made first if
+    needed."""
     environment = os.path.join(folder, "environment")
     python = os.path.join(environment, "bin", "python")
     with installing:
@@ -55,13 +56,13 @@ def installed(folder):
 
 
 def lines_of(changes):
-    """The lines that the example prints of changes of origins."""
+    """Returns the lines that the example prints for changes of origins."""
     return {f"{'+' if one.announce else '-'} {one.payload.prefix}-{one.payload.max_length} "
             f"AS{one.payload.asn}" for one in changes if isinstance(one.payload, Origin)}
 
 
 def fetched(pair, python, cache, listed):
-    """The command `fetch` has the list, and `validate` says what follows from it."""
+    """The command `fetch` gets the list, and `validate` prints the expected validity."""
     file = cache.keep("fetched", ran([python, "-I", "-m", "rtr_wire", "fetch",
                                       f"127.0.0.1:{cache.port}"]))
     nothing = cache.keep("nothing", payloads.end_of_data(1, 0, 0))
@@ -73,8 +74,20 @@ def fetched(pair, python, cache, listed):
     pair.equal("validate", said.decode().splitlines()[0], f"{one.prefix} AS{one.asn} valid", 1)
 
 
+def watched(pair, python, cache, listed):
+    """The example for asyncio prints the number of payloads, and exits after its time."""
+    address, log = f"127.0.0.1:{cache.port}", os.path.join(cache.folder, "watch_async.log")
+    words = [python, "-I", os.path.join(EXAMPLES, "watch_async.py")]
+    with Server([*words, str(SECONDS), address], log) as server:
+        said = until(lambda: server.check() or server.said(), SECONDS, "a word of watch_async.py")
+    wanted = f"{address}: <Data of {len(listed)} payloads, "
+    ended = ran([*words, str(WATCHED), address]).decode()
+    well = said.startswith(wanted) and (not ended or ended.startswith(wanted))
+    pair.holds("watch_async.py prints how much there is", well, f"{said}, and then {ended}", 1)
+
+
 def followed(pair, python, cache, change):
-    """The example that follows a cache prints the list, and then what changes."""
+    """The example that follows a cache prints the list, and then changes."""
     old, new = map(cache.serves, change)
     log = os.path.join(cache.folder, "watch.log")
     words = [python, "-I", "-u", os.path.join(EXAMPLES, "watch.py"), "127.0.0.1", str(cache.port),
@@ -82,7 +95,7 @@ def followed(pair, python, cache, change):
 
     def updates():
         with open(log, encoding="utf-8") as file:
-            return re.split(r"(?m)^\d+ payloads at serial number \d+\n", file.read())
+            return re.split(r"(?m)^serial number \d+, payloads: \d+\n", file.read())
 
     server = Server(words, log)
     try:
@@ -98,7 +111,7 @@ def followed(pair, python, cache, change):
 
 
 def compare(results, maker, folder):
-    """Installs the wheel, and runs all of it beside one cache."""
+    """Installs the wheel, and runs all of it with one cache."""
     with Pair(results, PART, f"rtr_wire in Python at {maker.name}", "v1", maker.release()) as pair:
         python = installed(folder)
         cache = maker(os.path.join(folder, f"python.{maker.__name__.lower()}"), 1)
@@ -106,9 +119,5 @@ def compare(results, maker, folder):
         with cache.serve(old):
             served = cache.serves(old)
             fetched(pair, python, cache, served)
-            address = f"127.0.0.1:{cache.port}"
-            said = ran([python, "-I", os.path.join(EXAMPLES, "watch_async.py"), str(WATCHED),
-                        address]).decode()
-            wanted = f"{address}: <Data of {len(served)} payloads, "
-            pair.holds("watch_async.py prints how much there is", said.startswith(wanted), said, 1)
+            watched(pair, python, cache, served)
             followed(pair, python, cache, (old, new))

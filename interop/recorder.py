@@ -1,4 +1,4 @@
-"""Sessions with a cache, kept byte for byte, each way in a file."""
+"""Sessions with a cache, recorded byte for byte, each direction in a file."""
 import os
 import socket
 import struct
@@ -6,7 +6,7 @@ import time
 
 from payloads import END, NOTIFY, REPORT, RESET, RESET_QUERY, RESPONSE, SERIAL_QUERY, TIMINGS
 
-# How many bytes an answer may have, and how long it may take.
+# The most bytes of an answer, and its time limit.
 BYTES = 1 << 24
 SECONDS = 30
 
@@ -22,7 +22,7 @@ def serial_query(version, session, serial):
 
 
 def units(content):
-    """The whole units of these bytes, one after the other."""
+    """Yields the whole units of these bytes."""
     found = []
     while len(content) >= 8:
         length = struct.unpack_from(">I", content, 4)[0]
@@ -34,7 +34,7 @@ def units(content):
 
 
 class End:
-    """What an end of data says."""
+    """The fields of an end of data."""
 
     def __init__(self, unit):
         self.version, _, self.session = struct.unpack_from(">BBH", unit)
@@ -43,7 +43,7 @@ class End:
 
 
 class Answer:
-    """What a cache sent after a query, up to the unit that ends the answer."""
+    """An answer: what a cache sent after a query, up to its last unit."""
 
     def __init__(self, content, closed):
         self.content = content
@@ -58,12 +58,12 @@ class Answer:
         return End(self.units[-1])
 
     def sequence(self):
-        """Its payload units and its end of data, without what stands before them."""
+        """Its payload units and its end of data, without what comes before."""
         first = next(i for i, unit in enumerate(self.units) if unit[1] == RESPONSE)
         return b"".join(self.units[first + 1:])
 
     def kinds(self):
-        """What it is: the types of its units other than payloads, as words."""
+        """Describes it: the types of its units other than payloads, as words."""
         names = {NOTIFY: "serial notify", RESPONSE: "cache response", END: "end of data",
                  RESET: "cache reset", REPORT: "error report"}
         said = []
@@ -77,8 +77,8 @@ class Answer:
 
 
 class Session:
-    """A connection to a cache. What came is kept in NAME.answers, what was asked in NAME.queries; a
-    later session of the same name takes their place."""
+    """A connection to a cache. Received bytes are stored in NAME.answers, sent ones in
+    NAME.queries; a later session of the same name overwrites them."""
 
     def __init__(self, port, folder, name):
         self.path = os.path.join(folder, name + ".answers")
@@ -96,13 +96,14 @@ class Session:
         self.queries.close()
 
     def send(self, query):
-        """Sends bytes, and keeps them."""
+        """Sends bytes, and stores them."""
         self.queries.write(query)
         self.queries.flush()
         self.socket.sendall(query)
 
     def ask(self, query, seconds=SECONDS):
-        """Sends a query; answers all up to the end of data, cache reset or report after it."""
+        """Sends a query, and returns everything up to the end of data, cache reset or report after
+        it."""
         self.send(query)
         return self.read({END, RESET, REPORT}, seconds)
 
@@ -111,7 +112,7 @@ class Session:
         return self.read({NOTIFY}, seconds)
 
     def read(self, types, seconds):
-        """Reads whole units up to one of these types, the end, or for so many seconds."""
+        """Reads whole units up to one of these types, the end, or for this many seconds."""
         end = time.monotonic() + seconds
         taken, closed = 0, False
         while True:
@@ -124,7 +125,7 @@ class Session:
             closed = not self.receive(end)
 
     def receive(self, end):
-        """Reads what comes, up to this time; whether the connection still stands."""
+        """Reads what comes until this time, and returns whether the connection is still open."""
         self.socket.settimeout(max(0.05, end - time.monotonic()))
         try:
             content = self.socket.recv(1 << 16)
@@ -138,6 +139,6 @@ class Session:
         return bool(content)
 
     def taken(self, count, closed):
-        """The first bytes of what came, which belong to this answer."""
+        """Removes and returns the first received bytes, which belong to this answer."""
         content, self.pending = self.pending[:count], self.pending[count:]
         return Answer(content, closed)

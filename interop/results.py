@@ -1,4 +1,4 @@
-"""What a run compared: a row for each comparison, lines on the screen, tables of the pages."""
+"""The results of a run: a row for each comparison, lines on the screen, tables of the pages."""
 import os
 import re
 import threading
@@ -7,15 +7,16 @@ from typing import NamedTuple
 
 from processes import Missing
 
-README = os.path.join(os.path.dirname(os.path.abspath(__file__)), "README.md")
+FOLDER = os.path.dirname(os.path.abspath(__file__))
+README = os.path.join(FOLDER, "README.md")
 PASSED, FAILED, SKIPPED = "passed", "failed", "skipped"
 OUTCOMES = (PASSED, FAILED, SKIPPED)
 
-# What is said of a difference that README.md lists.
+# The word for a difference that README.md lists.
 NAMED = "a difference that README.md lists"
 
-# How many differences of a comparison are printed.
-SHOWN = 4
+# How many differences of a comparison are printed, and how much of the observed values.
+SHOWN, SEEN = 4, 1000
 
 
 class Names(NamedTuple):
@@ -31,7 +32,7 @@ class Names(NamedTuple):
 
 
 class Row(NamedTuple):
-    """A comparison: with whom, of what, of how many units, and how it ended."""
+    """A comparison: its peer, its subject, its number of units, and its result."""
     names: Names
     what: str
     outcome: str
@@ -39,7 +40,7 @@ class Row(NamedTuple):
     said: str
 
     def line(self):
-        """It as a line of the screen."""
+        """Returns it as a line for the screen."""
         units = "" if self.units is None else f", {self.units} units"
         said = f": {self.said}" if self.said else ""
         peer = f"{self.names.peer} {self.names.version}".strip()
@@ -48,7 +49,7 @@ class Row(NamedTuple):
 
 
 class Results:
-    """All rows of a run, and what was seen beside them."""
+    """All rows of a run, and other observations."""
 
     def __init__(self):
         self.rows = []
@@ -56,13 +57,18 @@ class Results:
         self.lock = threading.Lock()
 
     def add(self, row):
-        """Keeps a row, and prints it."""
+        """Adds a row, and prints it."""
         with self.lock:
             self.rows.append(row)
             print(row.line(), flush=True)
 
+    def again(self):
+        """Returns the lines of what was skipped, and of what failed, for the end of a log."""
+        return [row.line() for outcome in (SKIPPED, FAILED) for row in self.rows
+                if row.outcome == outcome]
+
     def count(self, outcome):
-        """How many rows ended so."""
+        """Returns how many rows have this result."""
         return sum(row.outcome == outcome for row in self.rows)
 
 
@@ -83,8 +89,7 @@ class Pair:
             self.skip("all", str(error))
             return True
         if issubclass(kind, Exception):
-            where = traceback.extract_tb(error.__traceback__)[-1]
-            place = f"{os.path.basename(where.filename)}:{where.lineno}"
+            place = " < ".join(places(error))
             self.add("all", FAILED, None, f"{kind.__name__}: {error} ({place})")
             return True
         return False
@@ -94,18 +99,21 @@ class Pair:
         self.results.add(Row(self.names, what, outcome, units, said))
 
     def skip(self, what, reason):
-        """Says what isn't compared, and why."""
+        """Records what isn't compared, and why."""
         self.add(what, SKIPPED, None, reason)
 
     def holds(self, what, holds, said="", units=None):
         """Passes if this holds."""
         self.add(what, PASSED if holds else FAILED, units, "" if holds else said)
 
-    def equal(self, what, got, wanted, units=None):
-        """Passes if both are equal, or if README.md lists that they differ; else shows where."""
+    def equal(self, what, got, wanted, units=None, seen=""):
+        """Passes if both are equal, or if README.md lists the difference; else shows the
+        difference, and the observed value."""
         if got != wanted and what in self.known():
             return self.add(what, PASSED, 0, NAMED)
         said = difference(got, wanted) if got != wanted else ""
+        if said and seen:
+            said += f"; seen: {seen[:SEEN]}"
         counts = units if units is not None else len(wanted)
         return self.add(what, FAILED if said else PASSED, counts, said)
 
@@ -114,17 +122,24 @@ class Pair:
         return self.names.column()
 
     def known(self):
-        """The findings that README.md lists for this pair."""
+        """Returns the findings that README.md lists for this pair."""
         return {text for *names, text in known() if names == [self.names.peer, self.names.version]}
 
     def sees(self, what, seen):
-        """Keeps something that is seen, for the table of the page."""
+        """Stores an observation, for the table of the page."""
         with self.results.lock:
             self.results.seen.append((self.names, what, seen))
 
 
+def places(error):
+    """Returns the last lines of the run's own code that led to an error."""
+    frames = traceback.extract_tb(error.__traceback__)
+    own = [frame for frame in frames if os.path.dirname(os.path.abspath(frame.filename)) == FOLDER]
+    return [f"{os.path.basename(frame.filename)}:{frame.lineno}" for frame in own[:-4:-1]]
+
+
 def difference(got, wanted):
-    """Where two sets, lists or values differ, in short."""
+    """Returns where two sets, lists or values differ, in short."""
     if isinstance(got, list) and isinstance(wanted, set):
         return f"{len(got)} lines, of which {len(set(got))} differ"
     if isinstance(got, (set, frozenset)) and isinstance(wanted, (set, frozenset)):
@@ -143,7 +158,7 @@ KNOWN = re.compile(r"^\| ([^|]+) \| (v[v0-9, ]+) \| `([^`]+)` \|", re.MULTILINE)
 
 
 def known():
-    """The findings that README.md lists: peer, version and text."""
+    """Returns the findings that README.md lists: peer, version and text."""
     with open(README, encoding="utf-8") as file:
         text = file.read()
     return {
@@ -154,6 +169,6 @@ def known():
 
 
 def each_of(peers):
-    """The peers of a row: several may be at one cache."""
+    """Returns the peers of a row: several may share a cache."""
     names, at, cache = peers.partition(" at ")
     return [f"{name}{at}{cache}" for name in names.split(", ")]

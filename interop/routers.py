@@ -1,4 +1,4 @@
-"""Routers and clients of others: how each is started, and what it holds."""
+"""Other routers and clients: starts each, and reads what it holds."""
 import contextlib
 import glob
 import ipaddress
@@ -18,7 +18,8 @@ SECONDS = 60
 
 
 def asked(words):
-    """What a command prints that asks a daemon; nothing, if that doesn't answer in time."""
+    """Returns the output of a command that asks a daemon; nothing if that doesn't answer in
+    time."""
     try:
         done = subprocess.run(words, capture_output=True, text=True, timeout=SECONDS, check=False)
     except subprocess.TimeoutExpired:
@@ -27,7 +28,7 @@ def asked(words):
 
 
 def asked_json(words):
-    """The object of JSON that it prints, or None."""
+    """Returns the JSON object that it prints, or None."""
     try:
         return json.loads(asked(words))
     except json.JSONDecodeError:
@@ -35,22 +36,23 @@ def asked_json(words):
 
 
 def origin(address, length, max_length, asn):
-    """An origin from its parts."""
+    """Returns an origin from its parts."""
     network = ipaddress.ip_network((address, int(length)))
     return Origin(str(network), int(max_length), int(asn))
 
 
 class Router:
-    """A router, or a client, that asks a cache. Its files lie in a folder of its own."""
+    """A router, or a client, that asks a cache. Its files are in a folder of its own."""
 
     name = package = ""
-    # What of its times its configuration sets, so that it soon asks again.
+    # The times that its configuration sets, so that it soon asks again.
     times = ""
 
     def __init__(self, folder, port):
         self.folder = folder
         self.cache = port
         self.server = None
+        self.read = {}
         os.makedirs(folder, exist_ok=True)
 
     def __enter__(self):
@@ -66,6 +68,15 @@ class Router:
         """The version of its package."""
         return package_version(cls.package)
 
+    @classmethod
+    def build(cls):
+        """Builds it if it is of this tree and isn't built yet."""
+
+    @property
+    def ports(self):
+        """Returns the ports of its caches, in order of preference."""
+        return self.cache if isinstance(self.cache, tuple) else (self.cache,)
+
     def path(self, name):
         """The path of one of its files."""
         return os.path.join(self.folder, name)
@@ -76,16 +87,48 @@ class Router:
             file.write(text)
         return self.path(name)
 
+    def once(self, name, parse):
+        """Returns the result of this function for the text of one of its files, computed again when
+        the text changes."""
+        state = os.stat(self.path(name))
+        now = state.st_ino, state.st_size, state.st_mtime_ns
+        before, made = self.read.get(name, (None, None))
+        if before != now:
+            with open(self.path(name), encoding="utf-8") as file:
+                made = parse(file.read())
+            self.read[name] = now, made
+        return made
+
     def run(self, words, **options):
         """Starts its program."""
         self.server = Server(words, self.path("log"), **options)
 
+    def said(self, name, text):
+        """The lines of one of its files that match this."""
+        with contextlib.suppress(FileNotFoundError), \
+                open(self.path(name), encoding="utf-8", errors="replace") as file:
+            return [line.strip() for line in file if re.search(text, line)]
+        return []
+
+    def complaints(self, _times):
+        """Returns what it logged against these times of an end of data: refresh, retry and expire
+        time."""
+        return []
+
     def shows(self, listed):
-        """What of a list it shows: the origins."""
+        """Returns the part of a list that it shows: the origins."""
         return {payload for payload in listed if isinstance(payload, Origin)}
 
 
-class RtrClient(Router):
+class OfRtrlib(Router):
+    """A router with rtrlib, which logs the times that it takes."""
+
+    def complaints(self, times):
+        taken = "expire_interval:{2}, refresh_interval:{0}, retry_interval:{1}".format(*times)
+        return [line for line in self.said("log", "New interval values") if taken not in line]
+
+
+class RtrClient(OfRtrlib):
     """rtrclient of rtrlib: it prints what comes and what goes."""
 
     name, package = "rtrclient", "rtr-tools"
@@ -99,9 +142,11 @@ class RtrClient(Router):
             self.run(words + [str(self.cache)], split=file)
 
     def table(self):
-        """What it holds: what came, without what went."""
-        with open(self.path("changes"), encoding="utf-8") as file:
-            text = file.read()
+        """Returns what it holds: what came, without what was withdrawn."""
+        return self.once("changes", self.held)
+
+    def held(self, text):
+        """Returns the same from its output."""
         held = set()
         for found in sorted([*self.PREFIX.finditer(text), *self.KEY.finditer(text)],
                             key=lambda found: found.start()):
@@ -143,6 +188,9 @@ class Bird(Router):
         control = ["-s", self.path("control"), "-P", self.path("process")]
         self.run([program("bird"), "-f", "-c", path, *control])
 
+    def complaints(self, _times):
+        return self.said("messages", "<WARN>.* interval ")
+
     def table(self):
         """What it holds."""
         held = set()
@@ -152,7 +200,7 @@ class Bird(Router):
         return held
 
 
-class FRR(Router):
+class FRR(OfRtrlib):
     """bgpd of FRR with its module rpki, which is rtrlib."""
 
     name, package = "FRR", "frr"
@@ -167,8 +215,9 @@ class FRR(Router):
         if not glob.glob(self.MODULES):
             raise Missing("frr-rpki-rtrlib isn't installed")
         program("vtysh")
-        cache = f" rpki cache 127.0.0.1 {self.cache} preference 1\n"
-        path = self.keep("conf", f"rpki\n{self.times}{cache} exit\n")
+        named = "".join(f" rpki cache 127.0.0.1 {port} preference {place}\n"
+                        for place, port in enumerate(self.ports, 1))
+        path = self.keep("conf", f"rpki\n{self.times}{named} exit\n")
         words = ["-M", "rpki", "-f", path, "-i", self.path("process"), "-Z", "-S", "-P", "0"]
         words += ["--vty_socket", self.folder, "-l", "127.0.0.1", "-p", "0"]
         self.run([daemon, *words])
@@ -184,12 +233,11 @@ class FRR(Router):
 
 
 class OpenBGPD(Router):
-    """bgpd of OpenBGPD, in a mount namespace of its own that has the folder it changes its root to.
-    It shows no table: it counts the prefixes in it, and says of each route whether its origin is
-    valid."""
+    """bgpd of OpenBGPD, in a mount namespace of its own with the folder of its chroot. It shows no
+    table: it counts the prefixes in it, and shows of each route whether its origin is valid."""
 
     name, package = "OpenBGPD", "openbgpd"
-    # The lists whose origins its routes try, in place of the usual ones.
+    # The lists whose origins its routes try, instead of the usual ones.
     lists = None
     INSIDE = "mount -t tmpfs none /run && mkdir -m 755 /run/openbgpd && exec \"$@\""
     NEEDS_ROOT = "bgpd of OpenBGPD changes its root and its user: that needs root and a namespace"
@@ -217,7 +265,7 @@ class OpenBGPD(Router):
         on_port(lambda listen: self.start_on(listen, [*inside, daemon]))
 
     def start_on(self, listen, words):
-        """Starts it by these words, with a port for its neighbor."""
+        """Starts it with these arguments, with a port for its neighbor."""
         path = self.keep("conf", f"""
             AS 65000
             router-id 192.0.2.1
@@ -246,14 +294,17 @@ class OpenBGPD(Router):
             raise
         self.speaker = until(lambda: self.connected(listen), SECONDS, "OpenBGPD takes a neighbor")
 
+    def complaints(self, _times):
+        return self.said("log", "bad timeout values")
+
     def connected(self, listen):
-        """A session of BGP, once it takes one."""
+        """Returns a session of BGP, once it accepts one."""
         with contextlib.suppress(OSError, struct.error):
             return speaker.Speaker(listen, self.routes)
         return None
 
     def table(self):
-        """How many prefixes it holds, and the state of each route."""
+        """Returns how many prefixes it holds, and the state of each route."""
         ask = [program("bgpctl"), "-j", "-s", self.path("control"), "show"]
         sets, rib = asked_json([*ask, "sets"]), asked_json([*ask, "rib", "in"])
         if sets is None or rib is None:
@@ -268,7 +319,7 @@ class OpenBGPD(Router):
 
     def shows(self, listed):
         """The same of a list."""
-        origins = super().shows(listed)
+        origins = frozenset(super().shows(listed))
         prefixes = {origin.prefix for origin in origins}
         longer = sum(":" in prefix for prefix in prefixes)
         counts = {("IPv4", len(prefixes) - longer), ("IPv6", longer)}
@@ -276,60 +327,91 @@ class OpenBGPD(Router):
 
 
 class OurClient(Router):
-    """A client of ours, which prints each change as it comes."""
+    """One of our clients, which prints each change as it comes."""
 
     example = None
+    # The highest version that it asks in.
+    version = 1
 
     @classmethod
     def release(cls):
         """It is of this tree."""
         return "this tree"
 
+    @classmethod
+    def build(cls):
+        """Builds it; one that can't be built fails when it is started."""
+        with contextlib.suppress(OSError, Missing, subprocess.SubprocessError):
+            cls.example.built()
+
     def start(self):
         """Starts it."""
-        words = [self.example.built(), f"127.0.0.1:{self.cache}", "--json", "--version", "1"]
+        words = [*self.example.words(), *self.caches(), "--json", "--version", str(self.version)]
         with open(self.path("changes"), "ab") as file:
             self.run([*words, *self.more()], split=file)
 
+    def caches(self):
+        """Returns the arguments that name its cache."""
+        return [f"127.0.0.1:{self.cache}"]
+
     def more(self):
-        """More words for it."""
+        """Returns more arguments."""
         return []
 
     def table(self):
-        """What it holds: what was announced, without what was withdrawn."""
-        with open(self.path("changes"), encoding="utf-8") as file:
-            lines = file.read().split("\n")[:-1]
+        """Returns what it holds: what was announced, without what was withdrawn."""
+        return self.once("changes", self.held)
+
+    def held(self, text):
+        """Returns the same from its output."""
         held = set()
-        for line in lines:
+        for line in text.split("\n")[:-1]:
             fields = json.loads(line)
             change = held.add if fields["action"] == "announce" else held.discard
             change(payloads.payload_of(fields))
         return held
 
     def shows(self, listed):
-        """Origins and router keys."""
-        return {payload for payload in listed if payload.smallest_version <= 1}
+        """What its version has."""
+        return payloads.in_version(listed, self.version)
 
 
-def ours(folder):
-    """A maker of each of our clients that is here."""
+class Preferring(OurClient):
+    """Such a client of several caches, in order of preference: `cache` has their ports."""
+
+    def caches(self):
+        """Returns the arguments that name its caches."""
+        word = [] if isinstance(self.example, examples.Program) else ["--prefer"]
+        return [each for port in self.ports for each in (*word, f"127.0.0.1:{port}")]
+
+
+def ours(folder, base=OurClient, **fields):
+    """Yields a maker of each of our clients that can be built here."""
     for example in examples.clients(folder):
         name = f"our client in {example.name}"
-        yield type(f"Our{example.name}", (OurClient,), {"name": name, "example": example})
+        yield type(f"Our{example.name}", (base,), {"name": name, "example": example, **fields})
 
 
-def of_programs(folder):
-    """A maker of rtr-client, where it can be built here."""
+def of_programs(folder, base=OurClient, **fields):
+    """Yields a maker of rtr-client, if it can be built here."""
     here = examples.Program("rtr-client", folder)
     if not here.lacks():
-        yield type("OurProgram", (OurClient,), {"name": here.name, "example": here})
+        yield type("OurProgram", (base,), {"name": here.name, "example": here, **fields})
+
+
+def in_python(folder, **fields):
+    """Yields a maker of the client in Python, if it can be used here."""
+    here = examples.InPython(folder)
+    if not here.lacks():
+        name = f"our client in {here.name}"
+        yield type("OurPython", (OurClient,), {"name": name, "example": here, **fields})
 
 
 ROUTERS = (RtrClient, Bird, FRR, OpenBGPD)
 
 
 def at_default_times(lists):
-    """A maker of each router of others that sets no time of its own. OpenBGPD's routes are those of
-    these lists."""
+    """Yields a maker of each other router that sets no time of its own. OpenBGPD's routes are those
+    of these lists."""
     for maker in ROUTERS:
         yield type(maker.__name__, (maker,), {"times": "", "lists": lists})

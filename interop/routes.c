@@ -36,12 +36,14 @@ static size_t read_data(const char *path, uint8_t **data)
 
 int main(int argc, char **argv)
 {
-    uint8_t *data;
-    size_t length = argc == 2 ? read_data(argv[1], &data) : 0;
+    uint8_t *bytes;
+    size_t length = argc == 2 ? read_data(argv[1], &bytes) : 0;
     if (length == 0)
         return 2;
-    struct rtr_tables tables;
-    rtr_tables(data, length, &tables);
+    struct rtr_data data;
+    struct rtr_data_answer answer;
+    if (rtr_check_data(bytes, length, &data, &answer) != RTR_OK)
+        return 1;
     char text[64];
     unsigned family, bits, asn;
     while (scanf("%u %63s %u %u", &family, text, &bits, &asn) == 4) {
@@ -50,8 +52,8 @@ int main(int argc, char **argv)
         };
         if (inet_pton(family == 4 ? AF_INET : AF_INET6, text, route.address) != 1)
             return 2;
-        printf("%u\n", rtr_validate(data, length, &tables, &route));
+        printf("%u\n", rtr_validate(&data, &route));
     }
-    free(data);
+    free(bytes);
     return 0;
 }

@@ -1,5 +1,6 @@
 """A small speaker of BGP, which announces routes to a router so that it validates their origins."""
 import contextlib
+import functools
 import ipaddress
 import socket
 import struct
@@ -22,7 +23,7 @@ def capability(code, content):
 
 
 def opening():
-    """Our OPEN: both families, AS numbers of four bytes, several paths a prefix."""
+    """Our OPEN: both families, AS numbers of four bytes, several paths per prefix."""
     capabilities = capability(1, bytes([0, 1, 0, 1])) + capability(1, bytes([0, 2, 0, 1]))
     capabilities += capability(65, struct.pack(">I", AS))
     capabilities += capability(69, bytes([0, 1, 1, 2, 0, 2, 1, 2]))
@@ -52,7 +53,7 @@ def update(prefix, asn, path):
 
 
 class Speaker:
-    """A session with a router, which keeps the routes that it announces until it is closed."""
+    """A session with a router; its routes stay announced until it is closed."""
 
     def __init__(self, port, routes):
         self.socket = socket.create_connection(("127.0.0.1", port), 10)
@@ -75,7 +76,7 @@ class Speaker:
         self.socket.recv(length - 19, socket.MSG_WAITALL)
 
     def drain(self):
-        """Takes what the router sends, and keeps the session alive."""
+        """Reads what the router sends, and keeps the session alive."""
         with contextlib.suppress(OSError):
             open_still = True
             while open_still:
@@ -84,20 +85,21 @@ class Speaker:
                 self.socket.sendall(message(KEEPALIVE))
 
     def close(self):
-        """Ends the session."""
+        """Closes the session."""
         with contextlib.suppress(OSError):
             self.socket.shutdown(socket.SHUT_RDWR)
         self.socket.close()
 
 
 def numbers(prefix):
-    """A prefix as numbers: its family, its address, its length, and the size of addresses."""
+    """Returns a prefix as numbers: its family, address, length, and the size of addresses."""
     network = ipaddress.ip_network(prefix)
     return network.version, int(network.network_address), network.prefixlen, network.max_prefixlen
 
 
 def routes_of(origins):
-    """Routes that try these origins: at the prefix length, at the max length, and after it."""
+    """Returns routes that test these origins: at the prefix length, at the max length, and beyond
+    it."""
     routes = set()
     for origin in origins:
         version, address, length, size = numbers(origin.prefix)
@@ -105,11 +107,13 @@ def routes_of(origins):
             if longer <= size:
                 make = ipaddress.IPv4Network if version == 4 else ipaddress.IPv6Network
                 routes.add((str(make((address, longer))), origin.asn or AS))
-    return routes
+    return frozenset(routes)
 
 
+@functools.cache
 def states(routes, origins):
-    """Each route with its state by these origins (RFC 6811 section 2)."""
+    """Returns each route with its state by these origins (RFC 6811 section 2); both are frozen
+    sets."""
     held = [(*numbers(origin.prefix), origin.max_length, origin.asn) for origin in origins]
     found = set()
     for prefix, asn in routes:
@@ -122,4 +126,4 @@ def states(routes, origins):
             found.add((prefix, asn, "valid"))
         else:
             found.add((prefix, asn, "invalid" if covering else "not-found"))
-    return found
+    return frozenset(found)

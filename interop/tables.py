@@ -1,4 +1,4 @@
-"""The tables of docs/INTEROP.md, as measured."""
+"""Makes the measured tables of docs/INTEROP.md and docs/reference/interop.md."""
 import os
 import platform
 import re
@@ -6,11 +6,12 @@ import time
 
 from results import FAILED, NAMED, SKIPPED
 
-PAGE = os.path.join(os.path.dirname(os.path.abspath(__file__)), "..", "docs", "INTEROP.md")
+DOCS = os.path.join(os.path.dirname(os.path.abspath(__file__)), "..", "docs")
+PAGES = [os.path.join(DOCS, "INTEROP.md"), os.path.join(DOCS, "reference", "interop.md")]
 
 
 def system():
-    """The name of the system, as it says it itself."""
+    """Returns the name of the system."""
     try:
         return platform.freedesktop_os_release()["PRETTY_NAME"]
     except (OSError, KeyError):
@@ -18,21 +19,21 @@ def system():
 
 
 def table(heads, rows):
-    """Lines of a table."""
+    """Returns the lines of a table."""
     lines = ["| " + " | ".join(heads) + " |", "|" + "---|" * len(heads)]
     return lines + ["| " + " | ".join(str(cell) for cell in row) + " |" for row in rows]
 
 
 def differences(rows):
-    """How many comparisons differ, and how many of them README.md names."""
+    """Returns how many comparisons differ, and how many of them README.md lists."""
     failed = sum(row.outcome == FAILED for row in rows)
     named = sum(row.said == NAMED for row in rows)
     return f"{named} named" if named and not failed else str(failed + named)
 
 
 def pairs(found, part):
-    """The table of a part: for each peer beside whom it was, the versions that it spoke, and over
-    all of them how many comparisons and units there were."""
+    """Returns the table of a part: for each peer its counterparts, its versions, and over all of
+    them the number of comparisons and units."""
     met = {}
     for row in found.rows:
         if row.names.part == part and row.outcome != SKIPPED:
@@ -41,7 +42,7 @@ def pairs(found, part):
     lines = []
     for (peer, release), pairs_of_peer in sorted(met.items()):
         rows = [row for _, row in pairs_of_peer]
-        beside = ", ".join(sorted({name for name, _ in pairs_of_peer}))
+        beside = ", ".join(sorted({name for name, _ in pairs_of_peer if name}))
         versions = ", ".join(sorted({row.names.version or "all" for row in rows}))
         units = sum(row.units or 0 for row in rows)
         lines.append((peer, release, beside, versions, len(rows), units, differences(rows)))
@@ -52,7 +53,7 @@ def pairs(found, part):
 
 
 def answers(found):
-    """A row for each cache and version: what it answers to what it doesn't know."""
+    """Returns a row for each cache and version: its answers to unknown requests."""
     seen = {}
     for names, what, answer in found.seen:
         seen.setdefault(names, {})[what] = answer
@@ -65,8 +66,8 @@ def answers(found):
 
 
 def scenes(found, part, names, across=False):
-    """A row for each of these scenes, and a column for each peer of a part that was seen in it;
-    with `across`, a column for each scene."""
+    """Returns a row for each of these scenes, and a column for each peer of a part that took part
+    in it; with `across`, a column for each scene."""
     seen = {}
     for peer, scene, did in found.seen:
         if peer.part == part and scene in names:
@@ -77,52 +78,57 @@ def scenes(found, part, names, across=False):
     return table(heads, rows) if seen else []
 
 
+def marks(name):
+    """Returns the pattern of the table between its marks of this name."""
+    return re.compile(rf"(<!-- measured: {name} -->\n)(.*?)(<!-- end -->)", re.DOTALL)
+
+
+def read(path):
+    """Returns the text of a page."""
+    with open(path, encoding="utf-8") as file:
+        return file.read()
+
+
 def written(name):
-    """What such a table of the page says: for each row what each column has."""
-    with open(PAGE, encoding="utf-8") as file:
-        part = re.search(rf"<!-- measured: {name} -->\n(.*?)<!-- end -->", file.read(), re.DOTALL)
-    lines = [[cell.strip() for cell in line.strip("|").split("|")]
-             for line in part[1].splitlines()]
+    """Returns the cells of such a table on the pages, by row and column."""
+    part = next(found[2] for found in (marks(name).search(read(page)) for page in PAGES) if found)
+    lines = [[cell.strip() for cell in line.strip("|").split("|")] for line in part.splitlines()]
     return {row[0]: dict(zip(lines[0], row)) for row in lines[2:]}
 
 
-def replace(text, name, lines):
-    """The text with these lines between its marks of this name."""
-    marks = re.compile(rf"(<!-- measured: {name} -->\n).*?(<!-- end -->)", re.DOTALL)
-    if not marks.search(text):
-        raise ValueError(f"docs/INTEROP.md has no marks of {name}")
-    return marks.sub(lambda mark: mark[1] + "\n".join(lines) + "\n" + mark[2], text)
+def replace(name, lines):
+    """Writes these lines between the marks of this name, on the page with these marks."""
+    for page in PAGES:
+        text = read(page)
+        made = marks(name).sub(lambda mark: mark[1] + "\n".join(lines) + "\n" + mark[3], text)
+        if marks(name).search(text):
+            with open(page, "w", encoding="utf-8") as file:
+                file.write(made)
+            return
+    raise ValueError(f"no page has marks of {name}")
 
 
 def write_long(found, lines):
-    """Writes into the page what the long run measured, if none of it failed."""
-    if found.count(FAILED):
-        return
-    with open(PAGE, encoding="utf-8") as file:
-        text = file.read()
-    with open(PAGE, "w", encoding="utf-8") as file:
-        file.write(replace(text, "long", lines))
+    """Writes the measurements of the long run into the page, if none of it failed."""
+    if lines and not found.count(FAILED):
+        replace("long", lines)
 
 
 def write(found, parts, more):
-    """Writes into the page what this run measured of these parts, each with its mark, and more
-    tables with theirs."""
-    with open(PAGE, encoding="utf-8") as file:
-        text = file.read()
+    """Writes the measurements of these parts into the pages, each between its marks, and other
+    tables between theirs."""
     for mark, part in parts.items():
         lines = pairs(found, part)
         if lines:
-            text = replace(text, mark, lines)
+            replace(mark, lines)
     if any("query" in what for _, what, _ in found.seen):
-        text = replace(text, "answers", answers(found))
+        replace("answers", answers(found))
     for mark, lines in more.items():
         if lines:
-            text = replace(text, mark, lines)
+            replace(mark, lines)
     skipped = [f"- {row.names.peer} {row.what}: {row.said}" for row in found.rows
                if row.outcome == SKIPPED]
     day = time.strftime("%Y-%m-%d", time.gmtime())
     counts = [f"{found.count(outcome)} {outcome}" for outcome in ("passed", FAILED, SKIPPED)]
     lines = [f"Measured on {day} on {system()}: {', '.join(counts)}."]
-    text = replace(text, "run", lines + (["", "Skipped:", "", *skipped] if skipped else []))
-    with open(PAGE, "w", encoding="utf-8") as file:
-        file.write(text)
+    replace("run", lines + (["", "Skipped:", "", *skipped] if skipped else []))

@@ -1,4 +1,4 @@
-"""A tap between a router and a cache: all bytes pass, and are kept, each way in a file."""
+"""A tap between a router and a cache: forwards all bytes, and stores each direction in a file."""
 import contextlib
 import os
 import socket
@@ -18,14 +18,14 @@ def listener_on(port):
 
 
 def close(connection):
-    """Closes a socket, also where a thread waits for it."""
+    """Closes a socket, even if a thread waits for it."""
     with contextlib.suppress(OSError):
         connection.shutdown(socket.SHUT_RDWR)
     connection.close()
 
 
 class Tap:
-    """Listens for one router and connects it to a cache, again and again. The files are
+    """Listens for one router and connects it to a cache, each time it connects. The files are
     NAME.N.queries and NAME.N.answers, N the number of the connection."""
 
     def __init__(self, port, folder, name):
@@ -53,25 +53,24 @@ class Tap:
         thread.start()
 
     def listen(self):
-        """Takes connections, after `refuse` on the same port again."""
+        """Accepts connections, after `refuse` on the same port again."""
         self.listener = on_port(listener_on, self.port)
         self.port = self.listener.getsockname()[1]
         self.start(self.accept, self.listener)
 
     def refuse(self):
-        """Refuses connections, as the port of a cache does that has ended. Those that there are
-        stay."""
+        """Refuses connections, as the port of a stopped cache does. Open connections stay."""
         close(self.listener)
 
     def accept(self, listener):
-        """Takes connections until the listener is closed."""
+        """Accepts connections until the listener is closed."""
         with contextlib.suppress(OSError):
             while True:
                 router, _ = listener.accept()
                 self.connect(router)
 
     def connect(self, router):
-        """Connects a router to the cache; closes it where the cache isn't there."""
+        """Connects a router to the cache; closes its connection if the cache refuses."""
         try:
             cache = socket.create_connection(("127.0.0.1", self.cache), 5)
         except OSError:
@@ -79,12 +78,17 @@ class Tap:
             return
         cache.settimeout(None)
         self.open += [router, cache]
-        for one, other, way in ((router, cache, "queries"), (cache, router, "answers")):
-            self.start(self.pass_on, one, other, f"{self.path}.{self.count}.{way}")
+        ways = [(router, cache, f"{self.path}.{self.count}.queries"),
+                (cache, router, f"{self.path}.{self.count}.answers")]
+        for *_, path in ways:
+            with open(path, "wb"):
+                pass
         self.count += 1
+        for way in ways:
+            self.start(self.pass_on, *way)
 
     def pass_on(self, one, other, path):
-        """Passes on what comes from one to the other, until it ends; then both are closed."""
+        """Forwards bytes from one to the other until it ends; then both are closed."""
         with open(path, "wb") as file, contextlib.suppress(OSError):
             while content := one.recv(PIECE):
                 file.write(content)
@@ -95,7 +99,7 @@ class Tap:
                 each.shutdown(socket.SHUT_RDWR)
 
     def recorded(self):
-        """The connections so far: what was asked, and what was answered."""
+        """Returns the connections so far: queries and answers."""
         for number in range(self.count):
             found = []
             for way in ("queries", "answers"):

@@ -1,4 +1,4 @@
-"""Their caches, our side: what each cache sends is recorded and goes through our programs."""
+"""Other caches: what each sends is recorded and goes through our programs."""
 import os
 import re
 import struct
@@ -12,8 +12,8 @@ from results import Pair
 
 PART = "their caches"
 
-# What a cache may answer to what it doesn't know (RFC 8210 sections 5.1, 5.9 and 7). One that
-# closes at once may lose its report; what else is answered is a finding.
+# The answers that a cache may give to unknown requests (RFC 8210 sections 5.1, 5.9 and 7). One that
+# closes at once may lose its report; any other answer is a finding.
 ANSWERS = {
     "serial query of an unknown session": r"error report v\d code 0|cache reset v\d|closed",
     "serial query with an unknown serial": r"cache reset v\d",
@@ -22,17 +22,17 @@ ANSWERS = {
 }
 
 
-# The types of what answers a query without data: a cache reset and an error report.
+# The types of answers without data: a cache reset and an error report.
 WITHOUT_DATA = (8, 10)
 
 
 def payload_lines(content):
-    """What `rtr_list --json` prints of the payloads among these units, in their order."""
+    """Returns the lines of `rtr_list --json` for the payloads among these units, in order."""
     return [programs.line_of(unit) for unit in programs.listed(content) if "action" in unit]
 
 
 class Recorded:
-    """The sessions with one cache: the answers, and where they are kept."""
+    """The sessions with one cache: the answers, and the files that store them."""
 
     def __init__(self, cache, old, new):
         self.cache, self.old, self.new = cache, old, new
@@ -58,12 +58,12 @@ class Recorded:
         }
 
     def once(self, name, query):
-        """Asks once on a connection of its own."""
+        """Sends a query on a new connection."""
         with recorder.Session(self.cache.port, self.cache.folder, name) as session:
             return session.ask(query)
 
     def files(self):
-        """The files of all answers."""
+        """Returns the files of all answers."""
         folder = self.cache.folder
         names = sorted(name for name in os.listdir(folder) if name.endswith(".answers"))
         for name in names:
@@ -72,18 +72,18 @@ class Recorded:
 
 
 def own(content, cache):
-    """These units without those whose layout isn't ours."""
+    """Returns these units without those of another layout."""
     units = recorder.units(content)
     return b"".join(unit for unit in units if not (cache.other_aspas and unit[1] == ASPA))
 
 
 def announced(listed):
-    """The lines that announce this list."""
+    """Returns the lines that announce this list."""
     return {Change(True, payload).line() for payload in listed}
 
 
 def compare_lists(pair, recorded):
-    """What each answer says, against the list that was served."""
+    """Compares each answer with the list that was served."""
     cache = recorded.cache
     old, new = cache.serves(recorded.old), cache.serves(recorded.new)
     changed = {change.line() for change in payloads.changes(old, new)}
@@ -109,7 +109,8 @@ def compare_lists(pair, recorded):
 
 
 def compare_forms(pair, recorded):
-    """Our forms of what was recorded: a cache that sets no free bit sends them already."""
+    """Compares our forms with the recordings: a cache that sets no free bit sends exactly
+    these."""
     for what, answer in (("reset query", recorded.first), ("serial query", recorded.delta)):
         content = own(answer.sequence(), recorded.cache)
         units = len(recorder.units(content))
@@ -123,7 +124,7 @@ def compare_forms(pair, recorded):
 
 
 def compare_made(pair, recorded):
-    """What rtr_make makes of the file that the cache has read is what the cache sends."""
+    """Compares the output of rtr_make for the cache's file with what the cache sends."""
     cache = recorded.cache
     if not programs.there("rtr_make") or cache.json is None or cache.other_aspas:
         return
@@ -138,12 +139,12 @@ def compare_made(pair, recorded):
 
 
 def findings(pair, recorded):
-    """What breaks the rules, against what README.md lists for this cache and version."""
+    """Compares broken rules with those that README.md lists for this cache and version."""
     found, units = set(), 0
     for _, content in recorded.files():
         units += len(programs.listed(content))
         lines = {re.sub(r"^offset \d+: ", "", line) for line in programs.found(content)}
-        # What was asked may get no data, or a close without a word: ANSWERS says which.
+        # A query may get no data, or a close without an answer: ANSWERS says which.
         if all(unit[1] in WITHOUT_DATA for unit in recorder.units(content)):
             lines.discard("recording without an end of data")
         found |= lines
@@ -172,7 +173,7 @@ def older_aspas(pair, recorded):
 
 
 def clients_hold(pair, cache, listed, clients):
-    """Each of our clients holds exactly what is served, also if it asks for a higher version."""
+    """Each of our clients holds exactly what is served, even if it asks for a higher version."""
     for client in clients:
         lines = client.fetch(cache.port, cache.version)
         pair.equal(f"client in {client.name} holds the list", lines, announced(listed))
@@ -183,7 +184,7 @@ def clients_hold(pair, cache, listed, clients):
 
 
 def compare(results, maker, version, folder):
-    """Records one cache in one version, and compares all of it."""
+    """Records one cache in one version, and compares everything."""
     old, new = payloads.made_up()
     with Pair(results, PART, maker.name, f"v{version}", maker.release()) as pair:
         cache = maker(os.path.join(folder, f"{maker.__name__.lower()}{version}"), version)

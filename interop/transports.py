@@ -1,5 +1,5 @@
-"""Caches over TLS and SSH, ours and stayrtr, beside clients of ours and of others: what these hold
-at first, after a change, and after a restart with another list and session."""
+"""Caches over TLS and SSH, ours and stayrtr, with our clients and others: what these hold at first,
+after a change, and after a restart with another list and session."""
 import contextlib
 import functools
 import os
@@ -13,24 +13,24 @@ import ours as examples
 import payloads
 import routers
 import routing
-from processes import READY_SECONDS, Ports, program, until
+from processes import READY_SECONDS, Ports, PortTaken, program, until
 from results import Pair
 
 PART = "over TLS and SSH"
 TLS, SSH = "TLS", "SSH"
 
-# The user that routers come as over SSH, and the name of caches in their certificates.
+# The SSH user of routers, and the name in the certificates of caches.
 USER, NAME = "rpki", "localhost"
 
-# Routers ask again after so many seconds.
+# Routers ask again after this many seconds.
 RETRY = 2
 
-# How often rtrclient is started whose authentication fails by itself.
+# How often rtrclient is started, since its authentication may fail without a cause.
 ATTEMPTS = 20
 
 
 class Keys:
-    """An authority, with certificates of a cache and a router by it, and keys of both for SSH."""
+    """An authority, with its certificates for a cache and a router, and SSH keys of both."""
 
     CURVE = ("-newkey", "ec", "-pkeyopt", "ec_paramgen_curve:P-256", "-nodes")
     NAMES = f"subjectAltName=DNS:{NAME},IP:127.0.0.1\n"
@@ -54,7 +54,7 @@ class Keys:
                        capture_output=True)
 
     def make(self):
-        """Makes all of it."""
+        """Makes everything."""
         with open(self.path("names"), "w", encoding="ascii") as file:
             file.write(self.NAMES)
         self.run("openssl", "req", "-x509", *self.CURVE, "-subj", "/CN=authority", "-days", "2",
@@ -68,7 +68,7 @@ class Keys:
             self.run("ssh-keygen", "-q", "-t", "ecdsa", "-m", "PEM", "-N", "", "-f", f"{name}.ssh")
 
     def known(self, port):
-        """A file that knows the key of the cache at a port."""
+        """Returns a known_hosts file with the key of the cache at a port."""
         with open(self.path("cache.ssh.pub"), encoding="ascii") as file:
             key = file.read()
         path = self.path(f"known.{port}")
@@ -78,7 +78,7 @@ class Keys:
 
 
 class Secured:
-    """A cache that listens for TLS and for SSH, too. It is mixed into one."""
+    """A mixin for a cache that also listens for TLS and SSH."""
 
     keys = None
 
@@ -87,8 +87,17 @@ class Secured:
         """Its ports, by transport."""
         return {TLS: Ports.free(), SSH: Ports.free()}
 
+    def start_on(self, port, words):
+        """Starts it; if a port is in use, retries on others, unless they are fixed."""
+        try:
+            return super().start_on(port, words)
+        except PortTaken:
+            if self.port is None:
+                del self.secured
+            raise
+
     def start(self, words):
-        """Starts it, and waits until it takes connections everywhere."""
+        """Starts it, and waits until it accepts connections on all ports."""
         super().start(lambda port: [*words(port), *self.more()])
         for transport, port in self.secured.items():
             until(lambda at=port: reached(at), READY_SECONDS,
@@ -97,17 +106,17 @@ class Secured:
 
 
 def reached(port):
-    """Whether a port takes connections."""
+    """Reports whether a port accepts connections."""
     with contextlib.suppress(OSError), socket.create_connection(("127.0.0.1", port), 1):
         return True
     return False
 
 
 class SecuredStayRTR(Secured, caches.StayRTR):
-    """stayrtr, which asks routers for no certificate."""
+    """stayrtr, which doesn't require certificates of routers."""
 
     def more(self):
-        """The words for it."""
+        """Returns its arguments."""
         path = self.keys.path
         return ["-tls.bind", f"127.0.0.1:{self.secured[TLS]}", "-tls.cert", path("cache.pem"),
                 "-tls.key", path("cache.key"), "-ssh.bind", f"127.0.0.1:{self.secured[SSH]}",
@@ -116,10 +125,10 @@ class SecuredStayRTR(Secured, caches.StayRTR):
 
 
 class SecuredRtrCache(Secured, caches.RtrCache):
-    """rtr-cache, which asks routers for a certificate by the authority."""
+    """rtr-cache, which requires certificates of routers by the authority."""
 
     def more(self):
-        """The words for it."""
+        """Returns its arguments."""
         path = self.keys.path
         return ["--listen", f"tls:127.0.0.1:{self.secured[TLS]}", "--tls-cert", path("cache.pem"),
                 "--tls-key", path("cache.key"), "--tls-client-ca", path("authority.pem"),
@@ -134,7 +143,7 @@ class OverTLS(routers.OurClient):
     transport, keys = TLS, None
 
     def more(self):
-        """The words for it."""
+        """Returns its arguments."""
         path = self.keys.path
         return ["--tls", "--tls-ca", path("authority.pem"), "--tls-cert", path("router.pem"),
                 "--tls-key", path("router.key")]
@@ -147,13 +156,13 @@ class OverSSH(routers.OurClient):
     transport, keys = SSH, None
 
     def more(self):
-        """The words for it."""
+        """Returns its arguments."""
         return ["--ssh", USER, "--ssh-key", self.keys.path("router.ssh"),
                 "--ssh-known-hosts", self.keys.known(self.cache)]
 
 
 class RustOverTLS(routers.Router):
-    """The example of the crate for tokio, which prints serial numbers, and how much changed."""
+    """The example of the crate for tokio, which prints serial numbers and the number of changes."""
 
     name = "our client for tokio over TLS"
     transport, keys, example = TLS, None, None
@@ -170,14 +179,14 @@ class RustOverTLS(routers.Router):
             self.run(words, split=file)
 
     def table(self):
-        """How much changed, each time."""
+        """Returns the number of changes, each time."""
         with open(self.path("changes"), encoding="utf-8") as file:
             return [int(count) for _, count in self.LINE.findall(file.read())]
 
 
 class RtrClientOverSSH(routers.RtrClient):
-    """rtrclient over SSH. At times its authentication fails by itself, in no time, and it waits for
-    its whole retry time; then it is started again."""
+    """rtrclient over SSH. Sometimes its authentication fails at once without a cause, and it waits
+    for its whole retry time; then it is restarted."""
 
     name = "rtrclient over SSH"
     transport, keys = SSH, None
@@ -199,21 +208,21 @@ class RtrClientOverSSH(routers.RtrClient):
         raise OSError(f"rtrclient: {self.FAILED}, {ATTEMPTS} times")
 
     def tried(self):
-        """Whether it has connected, or failed to."""
+        """Reports whether it has connected, or failed to."""
         said = self.server.said()
         return self.DONE in said or self.FAILED in said
 
 
 class Beside(routing.Beside):
-    """A client beside a cache, with nothing between them."""
+    """A client and a cache, with nothing in between."""
 
     def reach(self, cache, _folder, _stack):
-        """The port that it connects to."""
+        """Returns the port that it connects to."""
         return cache.secured[self.maker.transport]
 
 
 def clients(folder, keys):
-    """A maker of each client: of this tree, and of others. The folder is that of the part."""
+    """Yields a maker of each client, of this tree and others. The folder is that of the part."""
     run = os.path.dirname(folder)
     client, tokio = examples.Program("rtr-client", run), examples.TokioTLS(run)
     return [
@@ -224,7 +233,7 @@ def clients(folder, keys):
 
 
 def counts(each, what, wanted):
-    """Passes if the example for tokio was told of so many changes, each time."""
+    """Passes if the example for tokio printed these numbers of changes."""
     with each.pair:
         with contextlib.suppress(TimeoutError):
             until(lambda: each.router.table() == wanted, 2 * routing.FIRST_SECONDS, "changes")
@@ -232,7 +241,7 @@ def counts(each, what, wanted):
 
 
 def compare(results, maker, folder):
-    """Runs clients beside one cache."""
+    """Runs clients with one cache."""
     old, new = payloads.made_up()
     other = payloads.varied(old, 1)
     with Pair(results, PART, maker.name, "v1", maker.release()), contextlib.ExitStack() as stack:

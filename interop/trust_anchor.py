@@ -1,7 +1,8 @@
-"""Makes a trust anchor of the RPKI that certifies nothing: what fort needs before it takes a list.
+"""Makes a trust anchor of the RPKI that certifies nothing, which fort needs before it accepts a
+list.
 
 It has a certificate, a list of revocations and a manifest (RFC 6487, RFC 9286), and a locator
-(RFC 8630); `openssl` signs them. All of it is made up, and lies in a folder of the caller.
+(RFC 8630); `openssl` signs them. All of it is generated, in a folder of the caller.
 """
 import base64
 import hashlib
@@ -65,12 +66,12 @@ def der(tag, *contents):
 
 
 def moment(seconds):
-    """A time as DER has it, so many seconds from now."""
+    """Returns a time in DER, this many seconds from now."""
     return der(0x18, time.strftime("%Y%m%d%H%M%SZ", time.gmtime(time.time() + seconds)).encode())
 
 
 def manifest(listed):
-    """The content of a manifest (RFC 9286 section 4.2) that lists these files."""
+    """Returns the content of a manifest (RFC 9286 section 4.2) that lists these files."""
     files = [
         der(0x30, der(0x16, name.encode()), der(0x03, b"\0", hashlib.sha256(content).digest()))
         for name, content in listed
@@ -96,7 +97,7 @@ class Workshop:
             file.write(content)
 
     def kept(self, name):
-        """The content of a file."""
+        """Returns the content of a file."""
         with open(os.path.join(self.folder, name), "rb") as file:
             return file.read()
 

@@ -1,5 +1,5 @@
-"""Origin validation: the same routes asked of ours, of rtrlib's manager and of BIRD, over the data of
-one cache."""
+"""Origin validation: the same routes looked up by ours, by rtrlib's manager and by BIRD, with the
+data of one cache."""
 import contextlib
 import os
 import random
@@ -21,8 +21,7 @@ import validity  # noqa: E402  (it lies in that folder)
 PART = "validation"
 SECONDS = 120
 
-# How many tables of each kind are drawn, of whose VRPs some are taken, and how many routes are
-# asked.
+# How many random tables of each kind give VRPs, and how many routes are looked up.
 DRAWN, ROUTES = 4, 3000
 
 # The states as rtrlib and as BIRD number them (enum pfxv_state; ROA_UNKNOWN, ROA_VALID,
@@ -32,15 +31,15 @@ OF_BIRD = ["not found", "valid", "invalid"]
 
 
 def is_taken(vrp):
-    """Whether all of them take a VRP: BIRD has none of addresses that aren't unicast, and rtrlib 0.8.0
-    ends by an assertion at each lookup where one has length 0."""
+    """Reports whether all of them accept a VRP: BIRD has none of addresses that aren't unicast, and
+    rtrlib 0.8.0 fails an assertion at each lookup if one has length 0."""
     if vrp.width == 128:
         return vrp.length > 0 and vrp.prefix >> 125 == 1
     return vrp.length > 0 and 1 <= vrp.prefix >> 24 < 224 and vrp.prefix >> 24 != 127
 
 
 def made_up():
-    """VRPs of each kind of table, in their order, and routes beside them."""
+    """Returns VRPs of each kind of table, in order, and routes near them."""
     choice = random.Random("validation")
     vrps = sorted({vrp for _ in range(DRAWN) for kind, widths, _ in validity.tables(1)
                    for vrp in validity.table(choice, kind, widths) if is_taken(vrp)})
@@ -48,17 +47,17 @@ def made_up():
 
 
 def origin_of(vrp):
-    """A VRP as an item of the list of a cache."""
+    """Returns a VRP as an item of the list of a cache."""
     return Origin(validity.shown(vrp.prefix, vrp.width, vrp.length), vrp.most, vrp.asn)
 
 
 def text_of(route):
-    """The prefix of a route."""
+    """Returns the prefix of a route."""
     return validity.shown(route.prefix, route.width, route.length)
 
 
 def lines_of(routes):
-    """The routes as the two programs in C read them."""
+    """Returns the routes as the two programs in C read them."""
     return "".join(f"{4 if route.width == 32 else 6} {text_of(route).replace('/', ' ')} {route.asn}\n"
                    for route in routes)
 
@@ -73,7 +72,7 @@ def compiled(folder, name, *words):
 
 
 def answers(words, routes):
-    """The numbers that a program says of the routes."""
+    """Returns the numbers that a program prints for the routes."""
     done = subprocess.run(words, input=lines_of(routes), capture_output=True, text=True,
                           timeout=SECONDS, check=False)
     if done.returncode:
@@ -82,7 +81,7 @@ def answers(words, routes):
 
 
 def by_us(folder, sequence, routes):
-    """What `rtr_validate` says of the routes, by this sequence."""
+    """Returns the output of `rtr_validate` for the routes, by this sequence."""
     path = compiled(folder, "routes", "-I", os.path.join(TOP, "bindings", "c"),
                     os.path.join(TOP, ours.ARCHIVE))
     if path is None:
@@ -91,7 +90,7 @@ def by_us(folder, sequence, routes):
 
 
 def by_rtrlib(folder, port, routes):
-    """What rtrlib's manager says of the routes, by the data of a cache."""
+    """Returns the states of rtrlib's manager for the routes, by the data of a cache."""
     path = compiled(folder, "rtr_mgr", "-lrtr")
     if path is None:
         raise Missing("librtr-dev isn't installed")
@@ -99,7 +98,7 @@ def by_rtrlib(folder, port, routes):
 
 
 def by_bird(bird, routes):
-    """What BIRD says of the routes, by its tables."""
+    """Returns the states of BIRD for the routes, by its tables."""
     lines = "".join(
         f"eval roa_check(origins{4 if route.width == 32 else 6}, {text_of(route)}, {route.asn})\n"
         for route in routes)
@@ -112,7 +111,7 @@ def by_bird(bird, routes):
 
 
 def compare(results, maker, folder):
-    """Asks all of them, beside one cache."""
+    """Looks the routes up by all of them, with one cache."""
     vrps, routes = made_up()
     states = [validity.state(validity.covering(vrps, route), route) for route in routes]
     listed = {origin_of(vrp) for vrp in vrps}
