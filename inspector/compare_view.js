@@ -1,15 +1,16 @@
-// The view of two recordings: what leads from the data of one to those of the other.
+// The view of two recordings: the changes from the data of one to those of the other.
 
 import { Fault } from "./library.js";
 import { dataOf } from "./answers.js";
 import { Table } from "./table.js";
+import { save } from "./save.js";
 import { COLUMNS } from "./units_view.js";
-import { cellsOf, faultText, many } from "./words.js";
+import { cellsOfUnit, faultText, many } from "./words.js";
 
 const by = (id) => document.getElementById(id);
 
-/** What the whole answers of a recording leave, read in a memory of its own that is then dropped;
- * or a text that says why there is nothing. */
+/** Returns the data of a recording's whole answers, read in a memory of its own that is then
+ * dropped; or a text that says why there are none. */
 export function leavesOf(rtr, recording) {
     const own = rtr.another();
     try {
@@ -23,16 +24,6 @@ export function leavesOf(rtr, recording) {
     }
 }
 
-/** Has the browser save bytes as a file. */
-function save(bytes, name) {
-    const url = URL.createObjectURL(new Blob([bytes], { type: "application/octet-stream" }));
-    const link = document.createElement("a");
-    link.href = url;
-    link.download = name;
-    link.click();
-    setTimeout(() => URL.revokeObjectURL(url), 10000);
-}
-
 export class CompareView {
     #rtr;
     #table;
@@ -44,11 +35,12 @@ export class CompareView {
         this.#rtr = rtr;
         this.#table = new Table(by("changes"), COLUMNS.slice(2));
         by("swap").addEventListener("click", swap);
-        by("save-delta").addEventListener("click", () => save(this.#changes, "delta.rtr"));
-        by("save-data").addEventListener("click", () => save(this.#old, "data.rtr"));
+        by("save-delta").addEventListener("click", () => save([this.#changes], "delta.rtr"));
+        by("save-data").addEventListener("click", () => save([this.#old], "data.rtr"));
     }
 
-    /** Shows what leads from the first to the second; of one alone, that it can be saved. */
+    /** Shows the changes from the first to the second; for a single recording, that it can be
+     * saved. */
     async show(first, second) {
         this.#shown += 1;
         const turn = this.#shown;
@@ -92,7 +84,7 @@ export class CompareView {
             + `${many(announced, "announcement")} and ${many(withdrawn, "withdrawal")}.`
             + cut.join("");
         this.#table.show(units.length, (row) => {
-            const { texts, className } = cellsOf(units[row]);
+            const { texts, className } = cellsOfUnit(units[row]);
             return { texts: texts.slice(2), className };
         });
     }

@@ -1,6 +1,6 @@
-// Which bits of a unit belong to which field. The library is asked, bit by bit: a bit whose change
-// changes a field belongs to it, and one whose change changes nothing is free. So no layout of the
-// protocol stands here.
+// Finds which bits of a unit belong to which field. The library is asked, bit by bit: a bit whose
+// change changes a field belongs to it, and one whose change changes nothing is free. So this
+// file has no layout of the protocol.
 
 import { Kind, PrefixRule, STRUCTS, Status } from "./library.js";
 
@@ -8,7 +8,7 @@ const SIZES = { size: 8, uint32: 4, uint16: 2, uint8: 1 };
 
 const FIELDS = STRUCTS.unit.fields.filter(([name]) => !["wanted", "detail"].includes(name));
 
-// What is said of a field of a struct rtr_unit.
+// The label of each field of a struct rtr_unit.
 const LABELS = {
     kind: "type", version: "version", size: "length", session: "session", serial: "serial number",
     action: "flags", prefixLength: "prefix length", maxLength: "max length", address: "address",
@@ -22,10 +22,10 @@ const PARTS = {
     [Kind.ERROR_REPORT]: "unit it is about",
 };
 
-// Where the change of a bit changes several fields, the first of these names it.
+// If the change of a bit changes several fields, the first of these names it.
 const FIRST = ["kind", "size", "version", "prefixLength", "maxLength", "action"];
 
-// Where all changes of a byte are refused, the first of these that is among them names its field.
+// If all changes of a byte are refused, the first of these among the reasons names its field.
 const REFUSALS = [
     [({ status }) => status === Status.UNIT_TYPE, "kind"],
     [({ status }) => status === Status.UNIT_VERSION, "version"],
@@ -35,7 +35,7 @@ const REFUSALS = [
     [() => true, "size"],
 ];
 
-/** What the library says of some bytes. */
+/** Returns the library's result for some bytes. */
 function ask(rtr, bytes) {
     return rtr.within([bytes], (at) => {
         const status = rtr.step(at, bytes.length);
@@ -44,7 +44,7 @@ function ask(rtr, bytes) {
     });
 }
 
-/** The names of the fields in which two answers differ. */
+/** Returns the names of the fields in which two results differ. */
 function differing(one, other) {
     const differs = ([, place, kind, many]) => {
         for (let at = place; at < place + (many ?? SIZES[kind]); at += 1) {
@@ -57,8 +57,8 @@ function differing(one, other) {
     return FIELDS.filter(differs).map(([name]) => name);
 }
 
-/** Of each byte of a unit the label of its field, and a mask of the bits that are free; null where
- * the unit is refused. A label is null where all bits of a byte are free. */
+/** Returns, for each byte of a unit, the label of its field, and a mask of its free bits; null
+ * if the unit is refused. The label is null if all bits of a byte are free. */
 export function fieldsOf(rtr, bytes) {
     const plain = ask(rtr, bytes);
     if (plain.status !== Status.OK) {
@@ -74,7 +74,7 @@ export function fieldsOf(rtr, bytes) {
     });
 }
 
-/** What a byte is. */
+/** Returns the field of a byte. */
 function byteOf(rtr, plain, bytes, place) {
     const names = [];
     const refusals = [];
@@ -103,8 +103,8 @@ function labelOf(names, refusals) {
     return found ? LABELS[found[1]] : null;
 }
 
-/** The fields of a unit in their order: label, first byte, how many bytes, and how many of their
- * bits are free. */
+/** Returns the fields of a unit in order: label, first byte, number of bytes, and number of
+ * reserved bits. */
 export function runsOf(fields) {
     const runs = [];
     fields.forEach(({ label, free }, place) => {

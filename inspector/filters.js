@@ -1,10 +1,10 @@
-// Which units are shown.
+// The filters of the shown units.
 
 import { Kind, prefixOf } from "./library.js";
 
 const FAMILIES = { 4: 4, 16: 6 };
 
-/** Whether the first bits of two addresses are the same. */
+/** Reports whether the first bits of two addresses are the same. */
 function sameBits(one, other, bits) {
     const whole = bits >> 3;
     for (let place = 0; place < whole; place += 1) {
@@ -16,7 +16,7 @@ function sameBits(one, other, bits) {
     return rest === 0 || (one[whole] ^ other[whole]) >> (8 - rest) === 0;
 }
 
-/** What holds of a prefix and the one that is asked for: it covers that, or lies in it. */
+/** The relations of a prefix to that of the filter: it covers that, or lies in it. */
 export const RELATIONS = {
     covers: (length, asked) => length <= asked,
     within: (length, asked) => length >= asked,
@@ -41,7 +41,47 @@ function hasAs(shown) {
     return shown.byte("family") !== 0 || shown.byte("kind") === Kind.ROUTER_KEY;
 }
 
-/** What a form asks for, or a text that says why that can't be. */
+// The words of a filter's line: `name=value`, or a word before a prefix, or a word alone.
+const VALUES = { kind: "kind", as: "as", length: "bits", action: "action" };
+const BEFORE_PREFIX = { in: "within", covers: "covers", near: "either" };
+const ACTIONS = ["announce", "withdraw"];
+
+/** Parses the fields of a filter line, such as `kind=ipv4 as=65551 in 192.0.2.0/24`; returns a text
+ * if a part isn't understood. `kindOf` returns the number of a kind's name, or undefined. */
+export function fieldsOfLine(line, kindOf) {
+    const fields = { relation: "within" };
+    const words = line.trim().split(/\s+/).filter(Boolean);
+    while (words.length > 0) {
+        const word = words.shift();
+        const [name, value] = word.toLowerCase().split("=");
+        if (value !== undefined && name in VALUES) {
+            fields[VALUES[name]] = name === "kind" ? kindOf(value) : value;
+            if (fields[VALUES[name]] === undefined) {
+                return `There is no kind ${value} here`;
+            }
+        } else if (name in BEFORE_PREFIX && words.length > 0) {
+            [fields.relation, fields.prefix] = [BEFORE_PREFIX[name], words.shift()];
+        } else if (ACTIONS.includes(name)) {
+            fields.action = name;
+        } else if (name === "longer") {
+            fields.longer = true;
+        } else {
+            return `${word} isn't understood`;
+        }
+    }
+    return fields;
+}
+
+/** Returns the filter line of these fields. `nameOf` returns the name of a kind. */
+export function lineOf({ kind, action, as, prefix, relation, bits, longer }, nameOf) {
+    const word = Object.keys(BEFORE_PREFIX).find((name) => BEFORE_PREFIX[name] === relation);
+    return [
+        kind && `kind=${nameOf(kind)}`, action, as && `as=${as}`, prefix && `${word} ${prefix}`,
+        bits && `length=${bits}`, longer && "longer",
+    ].filter(Boolean).join(" ");
+}
+
+/** Returns the filter of a form, or a text that says why it is invalid. */
 export function filterOf({ kind, action, as, prefix, relation, bits, longer }) {
     const ofPlace = [];
     const ofShown = [];

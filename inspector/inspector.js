@@ -1,8 +1,9 @@
-// The page: what is opened, and which view of it is seen.
+// The page: the opened file, and the selected view.
 
 import { Fault, MODULE, OutOfMemory, load } from "./library.js";
-import { Recording, breathe } from "./recording.js";
-import { count, faultText, looksLike, many, owedText } from "./words.js";
+import { breathe } from "./recording.js";
+import { openFile, openSession, sessionName } from "./opening.js";
+import { count, faultText, many, owedText } from "./words.js";
 import { element } from "./table.js";
 import { UnitsView } from "./units_view.js";
 import { showPicture } from "./picture_view.js";
@@ -12,15 +13,34 @@ import { RulesView } from "./rules_view.js";
 
 const by = (id) => document.getElementById(id);
 
-/** Says something where screen readers hear it. */
+// A capture of a session, beside this page.
+const SAMPLE = new URL("sample.pcap", import.meta.url);
+
+/** Announces a text to screen readers. */
 function say(text) {
     by("status").textContent = text;
 }
 
+// The most refused units that are listed for a side, and how many are visible at once.
+const MOST_FAULTS = 20;
+const FEW_FAULTS = 3;
+
+/** Shows how much of a file has been read. */
+function progressed(done) {
+    by("progress").value = done;
+}
+
+/** Shows that a file has no unit, and what it looks like. */
+function noneLine(recording) {
+    const text = recording.count === 0 ? "It is empty." : `It is no recording${
+        recording.hint ? `, but ${recording.hint}` : ": it begins with no unit"}.`;
+    return element("p", { text });
+}
+
 class Page {
     #rtr;
-    #first = null;
-    #second = null;
+    #first = null; // what is shown
+    #second = null; // what it is compared with
     #units;
     #compare;
     #route;
@@ -34,6 +54,10 @@ class Page {
         this.#rules = new RulesView((offset) => this.#goTo(offset));
         this.#tabs();
         by("files").addEventListener("change", (event) => this.#open([...event.target.files]));
+        by("sample").addEventListener("click", () => this.#openSample());
+        by("sample").disabled = false;
+        by("session").addEventListener("change", (event) => (
+            this.#openSession(event.target.selectedIndex)));
         for (const name of ["dragover", "dragleave", "drop"]) {
             document.addEventListener(name, (event) => this.#dragged(event));
         }
@@ -47,70 +71,87 @@ class Page {
         }
     }
 
-    /** Opens files: the second is what the first is compared with. */
-    async #open(files) {
-        if (files.length === 0) {
-            return;
-        }
+    /** Opens files: the first is compared with the second. */
+    #open(files) {
+        return files.length === 0 ? null : this.#replace(files[0].name, async () => (
+            [await this.#read(files[0]), files[1] ? await this.#read(files[1]) : null]));
+    }
+
+    async #openSample() {
+        const answer = await fetch(SAMPLE);
+        this.#open([new File([await answer.arrayBuffer()], "sample.pcap")]);
+    }
+
+    /** Opens another session of the shown capture. */
+    #openSession(chosen) {
+        const { name, sessions, cut } = this.#first;
+        this.#replace(name, async () => (
+            [await openSession(this.#rtr, name, sessions, chosen, cut, progressed), null]));
+    }
+
+    /** Shows what `read` returns instead of the present file. */
+    async #replace(name, read) {
         document.body.dataset.state = "reading";
+        say(`Reading ${name}`);
+        by("progress").hidden = false;
         try {
-            const [first, second] = [await this.#read(files[0]),
-                files[1] ? await this.#read(files[1]) : null];
-            [this.#first, this.#second].forEach((recording) => recording?.drop());
+            const [first, second] = await read();
+            this.#units.clear();
+            [this.#first, this.#second].forEach((opened) => opened?.drop());
             this.#show(first, second);
         } catch (error) {
-            say(error instanceof OutOfMemory ? `${files[0].name} is too long: ${error.message}`
-                : `${files[0].name} can't be read: ${error.message}`);
+            say(error instanceof OutOfMemory ? `${name} is too long: ${error.message}`
+                : `${name} can't be read: ${error.message}`);
             document.body.dataset.state = "failed";
         }
+        by("progress").hidden = true;
         by("files").value = "";
     }
 
     async #read(file) {
-        say(`Reading ${file.name}`);
-        by("progress").hidden = false;
-        const recording = this.#held(file.name, new Uint8Array(await file.arrayBuffer()));
-        await recording.read((done) => { by("progress").value = done; });
-        by("progress").hidden = true;
-        return recording;
-    }
-
-    /** The recording of these bytes, which are copied and then no longer needed. */
-    #held(name, bytes) {
-        const recording = new Recording(this.#rtr, name, bytes);
-        recording.hint = looksLike(bytes);
-        return recording;
+        const bytes = new Uint8Array(await file.arrayBuffer());
+        return openFile(this.#rtr, file.name, bytes, progressed);
     }
 
     #show(first, second) {
         [this.#first, this.#second] = [first, second];
+        const { recording, units } = first;
+        const isNone = recording.isNone;
         by("welcome").hidden = true;
         by("name").textContent = second ? `${first.name} and ${second.name}` : first.name;
-        const size = many(first.size, "byte");
-        say(first.isNone ? `${size}, and no unit.`
-            : `${many(first.count, "unit")} in ${size}.`);
+        const size = many(units.size, "byte");
+        say(isNone ? `${size}, and no unit.`
+            : `${many(units.count, "unit")} in ${size}.${first.note}`);
+        this.#showSessions(first);
         this.#showFaults(first);
-        by("tabs").hidden = first.isNone;
+        by("tabs").hidden = isNone;
         for (const panel of document.querySelectorAll("[role=tabpanel]")) {
             panel.hidden = true;
         }
-        if (!first.isNone) {
-            this.#units.show(first);
+        if (!isNone) {
+            this.#units.show(units);
             showPicture(by("panel-picture"), first, (filter) => this.#filter(filter),
-                (offset) => this.#goTo(offset));
-            this.#route.show(first);
-            this.#compare.show(first, second);
-            this.#rules.show(first);
+                (place) => this.#choosePlace(place));
+            this.#route.show(recording);
+            this.#compare.show(recording, second?.recording);
+            this.#rules.show(recording);
             this.#choose(second ? "compare" : "units");
         }
         document.body.dataset.state = "shown";
+    }
+
+    #showSessions({ sessions, chosen }) {
+        by("sessions").hidden = sessions.length < 2;
+        by("session").replaceChildren(...sessions.map((session) => (
+            element("option", { text: sessionName(session) }))));
+        by("session").selectedIndex = chosen;
     }
 
     #swap() {
         this.#show(this.#second, this.#first);
     }
 
-    /** Shows the units that a bar of the picture stands for. */
+    /** Shows the units of a bar of the picture. */
     #filter(filter) {
         this.#choose("units");
         this.#units.filter(filter);
@@ -121,28 +162,34 @@ class Page {
         this.#units.goTo(offset);
     }
 
-    #showFaults(recording) {
-        const { faults } = recording;
-        by("faults").hidden = faults.length === 0 && recording.count > 0;
-        const lines = faults.slice(0, 20).map((fault) => this.#faultLine(recording, fault));
-        if (faults.length > 20) {
-            const rest = many(faults.length - 20, "more unit");
-            lines.push(element("p", { text: `and ${rest} that are refused` }));
-        }
-        if (recording.isNone) {
-            const text = recording.count === 0 ? "It is empty." : `It is no recording${
-                recording.hint ? `, but ${recording.hint}` : ": it begins with no unit"}.`;
-            lines.unshift(element("p", { text }));
-        }
-        by("faults").replaceChildren(...lines);
+    #choosePlace(place) {
+        this.#choose("units");
+        this.#units.choosePlace(place);
     }
 
-    #faultLine(recording, fault) {
+    /** Lists the units that are refused, of each side. */
+    #showFaults({ recording, sides }) {
+        const lines = sides.flatMap((side) => side.faults.slice(0, MOST_FAULTS).map((fault) => (
+            this.#faultLine(side, fault, side === recording))));
+        const all = sides.reduce((sum, { faults }) => sum + faults.length, 0);
+        by("faults").hidden = all === 0 && recording.count > 0;
+        const title = element("summary", { text: `${many(all, "unit")} refused` });
+        const list = element("details");
+        list.open = all < FEW_FAULTS;
+        const rest = all - lines.length;
+        list.append(title, ...lines, ...(rest > 0
+            ? [element("p", { text: `and ${many(rest, "more unit")}` })] : []));
+        by("faults").replaceChildren(...(recording.isNone ? [noneLine(recording)] : []),
+            ...(all > 0 ? [list] : []));
+    }
+
+    #faultLine({ name, isNone }, fault, isShown) {
         const line = element("p", { className: "fault" });
         const link = element("button", { text: `Byte ${count(fault.offset)}`, type: "button" });
-        link.disabled = recording.isNone;
+        link.disabled = isNone || !isShown;
         link.addEventListener("click", () => this.#goTo(fault.offset));
-        line.append(link, ` ${faultText(fault)}; ${owedText(fault)}.`);
+        const where = isShown ? "" : ` of ${name}`;
+        line.append(link, `${where} ${faultText(fault)}; ${owedText(fault)}.`);
         return line;
     }
 

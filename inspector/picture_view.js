@@ -1,7 +1,9 @@
-// The picture of a recording: bars, each of which is a filter, and its answers in their order.
+// The picture of a recording: bars, each of which is a filter, and its answers in order; of a
+// session, when each side sent what.
 
 import { Kind } from "./library.js";
 import { REFUSED } from "./recording.js";
+import { showTimeline } from "./timeline.js";
 import { element } from "./table.js";
 import { count, kindName, many } from "./words.js";
 
@@ -31,7 +33,7 @@ function lengthBars(picture, kind, choose) {
 }
 
 /** The answers, by their ends of data: where each is, and its serial number. */
-function answers(recording, goTo) {
+function answers(recording, choosePlace) {
     const ends = recording.picture.ends.slice(0, 1000);
     const made = element("div");
     const list = element("ol", { className: "bars" });
@@ -42,7 +44,7 @@ function answers(recording, goTo) {
         const text = `session ${unit.session} serial ${unit.serial}`;
         const where = `byte ${count(unit.offset)}`;
         button.append(element("span", { text }), element("span", { text: where }));
-        button.addEventListener("click", () => goTo(unit.offset));
+        button.addEventListener("click", () => choosePlace(place));
         item.append(button);
         return item;
     }));
@@ -54,9 +56,9 @@ function answers(recording, goTo) {
     return made;
 }
 
-/** Shows the picture of a recording. `choose` is called with the filter of a bar, `goTo` with the
- * offset of an answer's end. */
-export function showPicture(panel, recording, choose, goTo) {
+/** Shows the picture of the opened file. `choose` is called with the filter of a bar, `choosePlace`
+ * with the index of a unit. */
+export function showPicture(panel, { recording, units }, choose, choosePlace) {
     const { picture, faults } = recording;
     const kinds = picture.kinds.sorted().map(([kind, number]) => (
         { text: kindName(kind), number, filter: { kind: String(kind) } }));
@@ -80,8 +82,8 @@ export function showPicture(panel, recording, choose, goTo) {
             { text: `AS${asn}`, number, filter: { as: String(asn) } }));
         made.append(bars(`ASes with most units, of ${count(picture.ases.size)}`, largest, choose));
     }
-    if (picture.ends.length > 0) {
-        made.append(answers(recording, goTo));
+    if (picture.ends.length > 0 && units === recording) {
+        made.append(answers(recording, choosePlace));
     }
-    panel.replaceChildren(made);
+    panel.replaceChildren(...(units === recording ? [] : showTimeline(units, choosePlace)), made);
 }

@@ -1,20 +1,20 @@
-// A recording in the memory of a session, with the places of its units: what they say is asked of
-// the library whenever it is shown, so that a unit takes five bytes besides its own.
+// A recording in the memory of a session, with the offsets of its units: the library decodes them
+// whenever they are shown, so that a unit takes five bytes besides its own.
 
 import { Fault, Kind, Status } from "./library.js";
 
-// How many units are read before the page may draw.
+// The units that are read before the page may draw.
 const TURN = 20000;
 
-// In the place of a kind: a unit that is refused.
+// Instead of a kind: a unit that is refused.
 export const REFUSED = 127;
 
 const ANNOUNCES = 128;
 
-// How many numbers a piece of a column has.
+// The numbers in a piece of a column.
 const PIECE = 1 << 16;
 
-/** A row of numbers that grows by pieces, so that none is ever copied. */
+/** A list of numbers that grows by pieces, so that none is ever copied. */
 export class Column {
     #Type;
     #pieces = [];
@@ -37,7 +37,7 @@ export class Column {
         return this.#pieces[Math.floor(place / PIECE)]?.[place % PIECE];
     }
 
-    /** Where the least number stands that is no less than this one, in a row that rises. */
+    /** Returns the index of the least number that is no less than this one, in a sorted list. */
     placeOf(value) {
         let [low, high] = [0, this.length];
         while (low < high) {
@@ -48,7 +48,7 @@ export class Column {
     }
 }
 
-/** Lets the page draw and take input. */
+/** Lets the page draw and handle input. */
 export function breathe() {
     return new Promise((resolve) => { setTimeout(resolve); });
 }
@@ -73,19 +73,30 @@ export class Counts {
         return [...this.#counts].sort(([one], [other]) => one - other);
     }
 
+    /** The counts of several, added up. */
+    static sum(all) {
+        const made = new Counts();
+        for (const counts of all) {
+            for (const [key, number] of counts.#counts) {
+                made.#counts.set(key, made.get(key) + number);
+            }
+        }
+        return made;
+    }
+
     largest(count) {
         return [...this.#counts].sort((one, other) => other[1] - one[1] || one[0] - other[0])
             .slice(0, count);
     }
 }
 
-/** How many units there are of each sort. */
+/** The number of units of each sort. */
 class Picture {
     kinds = new Counts();
     lengths = { [Kind.IPV4_PREFIX]: new Counts(), [Kind.IPV6_PREFIX]: new Counts() };
     longer = new Counts(); // prefixes whose max length is above their length, by kind
     ases = new Counts();
-    ends = []; // the places of the ends of data
+    ends = []; // the indexes of the ends of data
 
     add(kind, shown, place) {
         this.kinds.add(kind);
@@ -108,7 +119,7 @@ class Picture {
 export class Recording {
     name;
     picture = new Picture();
-    faults = []; // of units that are refused, in their order
+    faults = []; // of refused units, in order
     #rtr;
     #held;
     #offsets;
@@ -122,7 +133,7 @@ export class Recording {
         this.#offsets = new Column(bytes.length < 2 ** 32 ? Uint32Array : Float64Array);
     }
 
-    /** Reads all units. `told` is called with how much of it is done, from 0 to 1. */
+    /** Reads all units. `told` is called with the progress, from 0 to 1. */
     async read(told = () => {}) {
         for (let at = 0; at < this.size;) {
             at = this.#turn(at);
@@ -132,7 +143,7 @@ export class Recording {
         return this;
     }
 
-    /** Reads some units from a place on, and answers where the next one begins. */
+    /** Reads some units from an offset on, and returns the offset of the next. */
     #turn(from) {
         const [offsets, kinds] = [this.#offsets, this.#kinds];
         let at = from;
@@ -156,8 +167,8 @@ export class Recording {
         return at;
     }
 
-    /** What its units break of the rules, as rtr_list says it with --check: up to the first unit
-     * that is refused, since nothing is known of those after it. `told` is as for `read`. */
+    /** Returns the rules that its units break, as rtr_list --check does: up to the first unit that
+     * is refused, since the units after it aren't known. `told` is as for `read`. */
     async check(told = () => {}) {
         const checker = this.#held.checker();
         const all = [];
@@ -185,14 +196,19 @@ export class Recording {
         return all;
     }
 
-    /** How many bytes it has. */
+    /** Its size in bytes. */
     get size() {
         return this.#held.length;
     }
 
-    /** How many units it has, those that are refused among them. */
+    /** The number of its units, including refused ones. */
     get count() {
         return this.#offsets.length;
+    }
+
+    /** Returns the number of units of each kind. */
+    get kinds() {
+        return this.picture.kinds;
     }
 
     offset(place) {
@@ -207,30 +223,30 @@ export class Recording {
         return this.#kinds.at(place) >= ANNOUNCES;
     }
 
-    /** The unit at a place as an object, or its Fault. */
+    /** Returns the unit at an index as an object, or its Fault. */
     unit(place) {
         return this.#held.unit(this.offset(place));
     }
 
-    /** The bytes of the unit at a place: of one that is refused, as many as it may have. */
+    /** Returns the bytes of the unit at an index: of a refused one, as many as it may have. */
     bytesOf(place) {
         const unit = this.unit(place);
         const size = unit.size || Math.min(64, this.size - unit.offset);
         return this.#held.bytes(unit.offset, size);
     }
 
-    /** All of its bytes. */
+    /** Returns all of its bytes. */
     get bytes() {
         return this.#held.bytes(0, this.size);
     }
 
-    /** The place of the unit in which a byte stands. */
+    /** Returns the index of the unit that has a byte. */
     placeOf(offset) {
         return Math.max(0, this.#offsets.placeOf(offset + 1) - 1);
     }
 
-    /** The places of units for which all tests hold: of a place alone (`ofPlace`), and of what the
-     * library shows of the unit (`ofShown`). */
+    /** Returns the indexes of units for which all tests hold: on the index alone (`ofPlace`), and
+     * on the decoded unit (`ofShown`). */
     async places({ ofPlace, ofShown }, told = () => {}) {
         const found = new Column(Uint32Array);
         for (let place = 0; place < this.count;) {
@@ -255,7 +271,7 @@ export class Recording {
             && this.#held.status(this.offset(place)) === Status.OK && ofShown(shown);
     }
 
-    /** What its first byte is refused for, if it has no unit at all. */
+    /** Returns why its first byte is refused, if it has no unit at all. */
     get isNone() {
         return this.count === 0 || (this.count === 1 && this.faults.length === 1);
     }

@@ -1,4 +1,4 @@
-// The view of a route: whether it is valid by what a recording leaves, and why not.
+// The view of a route: whether it is valid by a recording's data, and why not.
 
 import { Mismatch, Validity, prefixOf } from "./library.js";
 import { leavesOf } from "./compare_view.js";
@@ -9,6 +9,12 @@ const by = (id) => document.getElementById(id);
 
 // VRPs that are shown.
 const MOST = 200;
+
+/** Returns the first bits of an address; the others are zero. */
+function firstBits(address, bits) {
+    return address.map((byte, place) => (
+        byte & (0xff00 >> Math.max(0, Math.min(8, bits - 8 * place)))));
+}
 
 export class RouteView {
     #rtr;
@@ -32,7 +38,7 @@ export class RouteView {
         by("vrps").replaceChildren();
     }
 
-    /** The data, which are made once they are asked for; or a text that says why there are none. */
+    /** Returns the data, which are made on first use; or a text that says why there are none. */
     #made() {
         if (this.#data === null) {
             const leaves = leavesOf(this.#rtr, this.#recording);
@@ -62,7 +68,8 @@ export class RouteView {
         const validity = data.validate(route);
         const classes = { [Validity.VALID]: "good", [Validity.INVALID]: "bad" };
         by("validity").className = classes[validity] ?? "";
-        by("validity").textContent = `${prefixText(route)} from AS${asn}: ${VALIDITIES[validity]}.`;
+        by("validity").textContent = `By ${this.#recording.name}, ${prefixText(route)} from `
+            + `AS${asn}: ${VALIDITIES[validity]}.`;
         this.#showCovering(data, route);
     }
 
@@ -79,8 +86,9 @@ export class RouteView {
             shown += 1;
             const isMatch = vrp.mismatch === Mismatch.MATCHES;
             const row = element("tr", { className: isMatch ? "good" : "" });
-            const bits = `the first ${vrp.prefixLength} bits of the route, up to ${vrp.maxLength}`;
-            row.append(...[bits, `AS${vrp.asn}`, MISMATCHES[vrp.mismatch]].map((text) => (
+            const address = firstBits(route.address, vrp.prefixLength);
+            const prefix = prefixText({ ...vrp, address });
+            row.append(...[prefix, `AS${vrp.asn}`, MISMATCHES[vrp.mismatch]].map((text) => (
                 element("td", { text }))));
             table.append(row);
         }

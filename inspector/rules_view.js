@@ -1,4 +1,4 @@
-// The view of broken rules: what rtr_list says of a recording with --check, each a link to its unit.
+// The view of broken rules: what rtr_list --check prints of a recording, each a link to its unit.
 
 import { element } from "./table.js";
 import { many } from "./words.js";
@@ -17,7 +17,7 @@ export class RulesView {
         this.#goTo = goTo;
     }
 
-    /** Takes a recording, which is checked once the view is opened. */
+    /** Sets a recording, which is checked once the view is opened. */
     show(recording) {
         this.#recording = recording;
         by("panel-rules").dataset.state = "new";
@@ -25,7 +25,7 @@ export class RulesView {
         by("findings").replaceChildren();
     }
 
-    /** Checks the recording, unless that was done, and lists what is found. */
+    /** Checks the recording, unless that was done, and lists the findings. */
     async open() {
         const recording = this.#recording;
         if (by("panel-rules").dataset.state !== "new") {

@@ -1,27 +1,28 @@
-// A table of any length, of which only the rows that are seen are drawn.
+// A table of any length, of which only the visible rows are drawn.
 
 const HEIGHT = 26; // of a row, as in style.css
 
-// Engines don't lay out much more than this: beyond it the bar is a scale, and the wheel moves
-// rows.
+// Engines don't lay out much more than this: beyond it the scroll bar is scaled, and the wheel
+// moves by rows.
 const HIGHEST = 8_000_000;
 
 /** An element with a class, a role and a text. */
 export function element(name, { className = "", role = null, text = "", ...attributes } = {}) {
-    const made = document.createElement(name);
-    made.className = className;
-    made.textContent = text;
+    const node = document.createElement(name);
+    node.className = className;
+    node.textContent = text;
     if (role) {
-        made.setAttribute("role", role);
+        node.setAttribute("role", role);
     }
     for (const [key, value] of Object.entries(attributes)) {
-        made.setAttribute(key, value);
+        node.setAttribute(key, value);
     }
-    return made;
+    return node;
 }
 
 export class Table {
     #grid;
+    #head;
     #body;
     #spacer;
     #drawn;
@@ -29,25 +30,23 @@ export class Table {
     #count = 0;
     #cells = () => [];
     #chosen = -1;
-    #top = 0; // the first row that is seen, with a fraction
+    #top = 0; // the first visible row, with a fraction
     #waits = false;
-    #setTo = 0; // where the bar was put by us
+    #setTo = 0; // where the code set the scroll bar
     onchoose = () => {};
 
     /** @param grid the element that becomes the table; columns: name and class of each */
     constructor(grid, columns) {
         this.#grid = grid;
-        this.#columns = columns;
         grid.setAttribute("role", "grid");
         grid.tabIndex = 0;
-        const head = element("div", { className: "head", role: "row", "aria-rowindex": 1 });
-        head.append(...columns.map(({ name, className }) => (
-            element("div", { className, role: "columnheader", text: name }))));
+        this.#head = element("div", { className: "head", role: "row", "aria-rowindex": 1 });
+        this.columns = columns;
         this.#body = element("div", { className: "body", role: "rowgroup", tabindex: -1 });
         this.#spacer = element("div", { className: "spacer" });
         this.#drawn = element("div", { className: "drawn", role: "presentation" });
         this.#body.append(this.#spacer, this.#drawn);
-        grid.replaceChildren(head, this.#body);
+        grid.replaceChildren(this.#head, this.#body);
         this.#body.addEventListener("scroll", () => this.#scrolled());
         this.#body.addEventListener("wheel", (event) => this.#wheeled(event), { passive: false });
         this.#drawn.addEventListener("click", (event) => this.#clicked(event));
@@ -55,7 +54,14 @@ export class Table {
         new ResizeObserver(() => this.#later()).observe(this.#body);
     }
 
-    /** Shows so many rows: `cells` answers the texts of a row, and a class for it. */
+    /** The columns of the rows that are shown next: name and class of each. */
+    set columns(columns) {
+        this.#columns = columns;
+        this.#head.replaceChildren(...columns.map(({ name, className }) => (
+            element("div", { className, role: "columnheader", text: name }))));
+    }
+
+    /** Shows `count` rows: `cells` returns the texts of a row, and its class. */
     show(count, cells) {
         this.#count = count;
         this.#cells = cells;
@@ -73,7 +79,7 @@ export class Table {
         return this.#chosen;
     }
 
-    /** Chooses a row, and has it seen. */
+    /** Selects a row, and scrolls to it. */
     choose(row) {
         if (this.#count === 0) {
             return;
@@ -89,7 +95,7 @@ export class Table {
         this.onchoose(this.#chosen);
     }
 
-    /** How many rows are seen. */
+    /** Returns how many rows are visible. */
     get #seen() {
         return Math.max(1, this.#body.clientHeight / HEIGHT);
     }
@@ -155,16 +161,16 @@ export class Table {
 
     #row(row) {
         const { texts, className = "" } = this.#cells(row);
-        const made = element("div", {
+        const node = element("div", {
             className: `row ${className}`, role: "row", id: `${this.#grid.id}-${row}`,
             "aria-rowindex": row + 2, "aria-selected": row === this.#chosen,
         });
-        made.dataset.row = row;
-        made.append(...texts.map((text, place) => {
-            const { className: kind } = this.#columns[place];
+        node.dataset.row = row;
+        node.append(...texts.map((text, column) => {
+            const { className: kind } = this.#columns[column];
             return element("div", { className: kind, role: "gridcell", text });
         }));
-        return made;
+        return node;
     }
 
     #clicked(event) {

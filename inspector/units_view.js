@@ -2,10 +2,11 @@
 
 import { Fault } from "./library.js";
 import { fieldsOf, runsOf } from "./fields.js";
-import { filterOf } from "./filters.js";
+import { fieldsOfLine, filterOf, lineOf } from "./filters.js";
+import { saveCsv, saveJson } from "./save.js";
 import { Table, element } from "./table.js";
-import { actionText, cellsOf, count, faultText, hex, kindName, many, owedText, payloadText }
-    from "./words.js";
+import { actionText, cellsOf, count, decimal, faultText, hex, kindName, kindWord, many, owedText,
+    payloadText } from "./words.js";
 
 const by = (id) => document.getElementById(id);
 
@@ -18,10 +19,13 @@ export const COLUMNS = [
     { name: "Payload", className: "c-payload" },
 ];
 
+const OF_SESSION = [{ name: "Time", className: "c-time" }, { name: "From", className: "c-from" },
+    ...COLUMNS];
+
 export class UnitsView {
     #rtr;
-    #recording = null;
-    #places = null; // of the units that are shown, where not all are
+    #recording = null; // or a session of a capture
+    #places = null; // the indexes of the shown units, if not all are
     #table;
     #asked = 0;
 
@@ -40,6 +44,15 @@ export class UnitsView {
                 this.#filtered();
             }
         });
+        by("line").addEventListener("submit", (event) => {
+            event.preventDefault();
+            this.#filterByLine(event.target.elements.line.value);
+        });
+        const placeOf = (row) => this.#placeOf(row);
+        by("save-csv").addEventListener("click", () => (
+            saveCsv(this.#columns, this.#recording, this.#table.count, placeOf)));
+        by("save-json").addEventListener("click", () => (
+            saveJson(this.#rtr, this.#recording, this.#table.count, placeOf)));
         by("goto").addEventListener("submit", (event) => {
             event.preventDefault();
             const text = event.target.elements.offset.value.replaceAll(/[\s,]/g, "");
@@ -51,19 +64,29 @@ export class UnitsView {
 
     show(recording) {
         this.#recording = recording;
-        const kinds = recording.picture.kinds.sorted().map(([kind, many]) => (
+        this.#table.columns = this.#columns;
+        const kinds = recording.kinds.sorted().map(([kind, many]) => (
             element("option", { value: kind, text: `${kindName(kind)} (${count(many)})` })));
         const all = element("option", { value: "", text: "all" });
         by("filter").elements.kind.replaceChildren(all, ...kinds);
         by("filter").reset();
         this.#showPlaces(null);
-        this.#table.choose(0);
     }
 
-    /** Shows the units that a filter lets through: values of the form's fields. */
+    get #columns() {
+        return this.#recording?.sideName ? OF_SESSION : COLUMNS;
+    }
+
+    /** Removes all rows, of a recording that is about to be dropped. */
+    clear() {
+        this.#recording = null;
+        this.#table.show(0, () => ({ texts: [] }));
+    }
+
+    /** Shows the units that match a filter: values of the form's fields. */
     filter(values) {
         const { elements } = by("filter");
-        for (const { name } of [...elements].filter((one) => one.name)) {
+        for (const { name } of [...elements].filter((field) => field.name)) {
             if (elements[name].type === "checkbox") {
                 elements[name].checked = values[name] ?? false;
             } else {
@@ -73,7 +96,19 @@ export class UnitsView {
         this.#filtered();
     }
 
-    /** Goes to the unit in which a byte stands. */
+    /** Shows the units of a filter line such as `kind=ipv4 in 192.0.2.0/24`. */
+    #filterByLine(line) {
+        const options = [...by("filter").elements.kind.options].filter(({ value }) => value !== "");
+        const fields = fieldsOfLine(line, (name) => options.find(({ value }) => (
+            kindWord(kindName(Number(value))) === kindWord(name)))?.value);
+        if (typeof fields === "string") {
+            by("shown").textContent = `${fields}.`;
+        } else {
+            this.filter(fields);
+        }
+    }
+
+    /** Goes to the unit that has a byte, of a session in what the cache sent. */
     goTo(offset) {
         const place = this.#recording.placeOf(Math.min(offset, this.#recording.size - 1));
         let row = this.#places === null ? place : this.#places.placeOf(place);
@@ -86,6 +121,14 @@ export class UnitsView {
         by("units").focus();
     }
 
+    /** Selects the unit at an index, among all units. */
+    choosePlace(place) {
+        by("filter").reset();
+        this.#showPlaces(null);
+        this.#table.choose(place);
+        by("units").focus();
+    }
+
     #placeOf(row) {
         return this.#places === null ? row : this.#places.at(row);
     }
@@ -93,9 +136,11 @@ export class UnitsView {
     async #filtered() {
         const { elements } = by("filter");
         const value = (name) => elements[name].value.trim();
-        const filter = filterOf({ kind: value("kind"), action: value("action"), as: value("as"),
+        const fields = { kind: value("kind"), action: value("action"), as: value("as"),
             prefix: value("prefix"), relation: value("relation"), bits: value("bits"),
-            longer: elements.longer.checked });
+            longer: elements.longer.checked };
+        const filter = filterOf(fields);
+        by("line").elements.line.value = lineOf(fields, (kind) => kindWord(kindName(Number(kind))));
         this.#asked += 1;
         if (typeof filter === "string") {
             by("shown").textContent = `${filter}.`;
@@ -105,18 +150,27 @@ export class UnitsView {
         by("shown").textContent = "Looking";
         const places = filter.isNone ? null : await recording.places(filter);
         if (asked === this.#asked && recording === this.#recording) {
-            this.#showPlaces(places);
+            if (places === null && this.#places === null) {
+                this.#sayShown();
+            } else {
+                this.#showPlaces(places);
+            }
         }
     }
 
     #showPlaces(places) {
         this.#places = places;
-        const all = this.#recording.count;
-        const shown = places?.length ?? all;
-        by("shown").textContent = places === null ? `All ${many(all, "unit")} are shown.`
-            : `${many(shown, "unit")} of ${count(all)} are shown.`;
+        const shown = places?.length ?? this.#recording.count;
+        this.#sayShown();
         by("unit").replaceChildren();
-        this.#table.show(shown, (row) => cellsOf(this.#recording.unit(this.#placeOf(row))));
+        this.#table.show(shown, (row) => cellsOf(this.#recording, this.#placeOf(row)));
+        this.#table.choose(0);
+    }
+
+    #sayShown() {
+        const all = this.#recording.count;
+        by("shown").textContent = this.#places === null ? `All ${many(all, "unit")} are shown.`
+            : `${many(this.#places.length, "unit")} of ${count(all)} are shown.`;
     }
 
     #showUnit(place) {
@@ -127,11 +181,22 @@ export class UnitsView {
             : `${capital(kindName(unit.kind))}, version ${unit.version}`;
         const text = isRefused ? `${faultText(unit)}; ${owedText(unit)}.`
             : `${actionText(unit)} ${payloadText(unit)}`.trim();
-        const where = `From byte ${count(unit.offset)}, ${many(bytes.length, "byte")}`;
+        const where = `From byte ${count(unit.offset)}, ${many(bytes.length, "byte")}`
+            + this.#timeText(place);
         by("unit").replaceChildren(element("h2", { text: title }),
             element("p", { text: where }),
             element("p", { className: isRefused ? "bad" : "mono", text }),
             ...this.#bytes(bytes));
+    }
+
+    /** Returns when a unit of a session came, and from whom; "" for a recording, which has no
+     * times. */
+    #timeText(place) {
+        if (!this.#recording.sideName) {
+            return "";
+        }
+        const time = new Date((this.#recording.began + this.#recording.time(place)) * 1000);
+        return ` of the ${this.#recording.sideName(place)}, ${time.toISOString()}`;
     }
 
     /** The bytes, coloured by field, and a table of the fields. */
@@ -142,22 +207,22 @@ export class UnitsView {
         for (let place = 0; place < Math.min(bytes.length, MOST_BYTES); place += 1) {
             grid.append(this.#byte(bytes, place, fields, runs));
         }
-        const made = [grid];
+        const parts = [grid];
         if (bytes.length > MOST_BYTES) {
             const rest = many(bytes.length - MOST_BYTES, "more byte");
-            made.push(element("p", { text: `and ${rest}` }));
+            parts.push(element("p", { text: `and ${rest}` }));
         }
-        return runs.length > 0 ? [...made, legend(bytes, runs)] : made;
+        return runs.length > 0 ? [...parts, legend(bytes, runs)] : parts;
     }
 
     #byte(bytes, place, fields, runs) {
-        const made = element("span", { text: hex(bytes.subarray(place, place + 1)) });
+        const node = element("span", { text: hex(bytes.subarray(place, place + 1)) });
         if (fields !== null) {
             const run = runs.findIndex(({ start, length }) => place < start + length);
-            made.className = classOf(fields[place], run);
-            made.title = runs[run].label ?? "free";
+            node.className = classOf(fields[place], run);
+            node.title = runs[run].label ?? "free";
         }
-        return made;
+        return node;
     }
 }
 
@@ -172,11 +237,11 @@ function classOf({ label, free }, run) {
     return `f${run % 8}${free > 0 ? " some-free" : ""}`;
 }
 
-/** A table of fields: colour, name, bytes, value, free bits. */
+/** Returns a table of fields: colour, name, bytes, value, free bits. */
 function legend(bytes, runs) {
     const table = element("table");
     const head = element("tr");
-    head.append(...["", "Field", "Bytes", "Value", "Free bits"].map((text) => (
+    head.append(...["", "Field", "Bytes", "Value", "Decimal", "Free bits"].map((text) => (
         element("th", { text, scope: "col" }))));
     table.append(element("caption", { text: "Fields, and bits that mean nothing" }), head);
     runs.forEach(({ label, start, length, free }, place) => {
@@ -185,7 +250,8 @@ function legend(bytes, runs) {
         swatch.append(element("span", { className: classOf({ label, free }, place) }));
         const where = length === 1 ? String(start) : `${start} to ${start + length - 1}`;
         const first = hex(bytes.subarray(start, start + Math.min(length, 32)));
-        const cells = [label ?? "free", where, length > 32 ? `${first}..` : first, free || ""];
+        const cells = [label ?? "free", where, length > 32 ? `${first}..` : first,
+            label === null ? "" : decimal(bytes.subarray(start, start + length)), free || ""];
         row.append(swatch, ...cells.map((text) => element("td", { text })));
         table.append(row);
     });

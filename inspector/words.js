@@ -6,18 +6,23 @@ import { REFUSED } from "./recording.js";
 
 const number = new Intl.NumberFormat("en");
 
-/** A number with its thousands apart. */
+/** Returns a number with separated thousands. */
 export function count(value) {
     return number.format(value);
 }
 
-/** So many of something. */
+/** Returns a number with a noun. */
 export function many(value, one, several = `${one}s`) {
     return `${count(value)} ${value === 1 ? one : several}`;
 }
 
 export function hex(bytes) {
     return Array.from(bytes, (byte) => byte.toString(16).padStart(2, "0")).join("");
+}
+
+/** Returns up to eight bytes as a whole number; "" for more. */
+export function decimal(bytes) {
+    return bytes.length > 8 ? "" : BigInt(`0x${hex(bytes)}`).toString();
 }
 
 /** Base64 as in RFC 4648 section 5, unpadded. */
@@ -71,29 +76,46 @@ export function kindName(kind) {
     return kind === REFUSED ? "refused" : kindText(kind);
 }
 
-/** What is wrong, without where. */
+/** Returns the name of a kind as a word of a filter line: ipv4, router-key, end-of-data. */
+export function kindWord(name) {
+    return name.toLowerCase().replaceAll(/[ _]/g, "-").replace(/-prefix$/, "");
+}
+
+/** Returns what is wrong, without the offset. */
 export function faultText(fault) {
     return fault.status === Status.SHORT && fault.wanted
         ? `${fault.text}: ${many(fault.wanted, "byte")} wanted from here on` : fault.text;
 }
 
-/** The report that is owed for a fault. */
+/** Returns the report that is owed for a fault. */
 export function owedText(fault) {
     return fault.code === null ? "no error report is owed for it"
         : `an error report of code ${fault.code} is owed for it`;
 }
 
-/** The cells of a unit in a table. */
-export function cellsOf(unit) {
+/** Returns the cells of a unit in a table, and the class of its row. */
+export function cellsOfUnit(unit) {
     if (unit instanceof Fault) {
         const texts = [String(unit.offset), "", "refused", "", faultText(unit)];
         return { texts, className: "refused" };
     }
+    const action = actionText(unit);
     return {
-        texts: [String(unit.offset), `v${unit.version}`, kindText(unit.kind), actionText(unit),
+        texts: [String(unit.offset), `v${unit.version}`, kindText(unit.kind), action,
             payloadText(unit)],
-        className: `kind-${unit.kind}`,
+        className: `kind-${unit.kind} ${action}`,
     };
+}
+
+/** Returns the cells of a unit of a recording, or of a session: with time and sender first. */
+export function cellsOf(units, place) {
+    const { texts, className } = cellsOfUnit(units.unit(place));
+    if (!units.sideName) {
+        return { texts, className };
+    }
+    const side = units.sideName(place);
+    const time = units.time(place).toFixed(3);
+    return { texts: [time, side, ...texts], className: `${className} ${side}` };
 }
 
 export const VALIDITIES = {
@@ -110,12 +132,11 @@ export const MISMATCHES = {
     [Mismatch.LONGER]: "the route is longer than its max length",
 };
 
-/** What bytes look like that begin with no unit, and what reads them; null where that isn't
- * known. */
+/** Returns what bytes without a unit look like, and what reads them; null if that isn't known. */
 export function looksLike(bytes) {
     const first = hex(bytes.subarray(0, 4));
     if (["d4c3b2a1", "a1b2c3d4", "4d3cb2a1", "a1b23c4d", "0a0d0d0a"].includes(first)) {
-        return "looks like a packet capture: tcpflow -r FILE writes what each side sent";
+        return "looks like a packet capture without a session that can be read";
     }
     const text = new TextDecoder().decode(bytes.subarray(0, 4096));
     if (/^[\uFEFF\s]*[{[]/.test(text)) {
