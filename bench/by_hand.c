@@ -4,7 +4,7 @@
 /* The bytes of an error report beside its two parts. */
 enum { REPORT_FIXED = 16 };
 
-/* The status of a unit of each kind whose header is there, by its length. */
+/* The status of a unit of each kind with a whole header, by its length. */
 static inline uint8_t prefix_status(const uint8_t *in, size_t left, size_t size, unsigned width,
                                     uint8_t *detail)
 {
@@ -50,8 +50,8 @@ static inline uint8_t aspa_status(const uint8_t *in, size_t left, size_t size)
     return left < size ? RTR_SHORT : RTR_OK;
 }
 
-/* The status of the payload unit or the end of data at the front, and its length; or what is
- * refused. */
+/* The status of the payload unit or the end of data at the front, and its length; or the detail of
+ * its refusal. */
 static inline uint8_t checked(const uint8_t *in, size_t left, size_t *size, uint8_t *detail)
 {
     if (left < 8)
@@ -74,8 +74,8 @@ static inline uint8_t checked(const uint8_t *in, size_t left, size_t *size, uint
     }
 }
 
-/* Puts the form of a prefix unit that was checked: the session, the free byte and all flags but the
- * lowest are cleared, and the bits of the address after the prefix length. */
+/* Writes a checked prefix unit in canonical form: the session, the free byte, all flags but the
+ * lowest and the bits of the address after the prefix length are cleared. */
 static inline void put_prefix(uint8_t *to, const uint8_t *at, size_t size)
 {
     put64(to, get64(at) & UINT64_C(0xffff0000ffffffff));
@@ -84,7 +84,7 @@ static inline void put_prefix(uint8_t *to, const uint8_t *at, size_t size)
     memcpy(to + size - 4, at + size - 4, 4);
 }
 
-/* Puts the end of data in its version, or in the one that is asked for, and answers its length. */
+/* Writes the end of data in its own version or in the one asked for, and returns its length. */
 static size_t put_end(uint8_t *to, const uint8_t *at, size_t size, int version)
 {
     if (version < 0) {
@@ -112,7 +112,7 @@ static void answer_with(struct rtr_answer *answer, uint8_t status, uint8_t detai
     answer->wanted = wanted;
 }
 
-/* Normalises for a version, or with -1 for each unit's own. */
+/* Normalises to a version, or with -1 to each unit's own. */
 static inline uint8_t normalise(const uint8_t *in, size_t length, uint8_t *out, size_t room,
                                 uint64_t limit, int version, struct rtr_answer *answer)
 {
@@ -206,7 +206,7 @@ uint8_t normalise_for_by_hand(const uint8_t *in, size_t left, uint8_t *out, size
     return normalise(in, left, out, room, limit, version, answer);
 }
 
-/* The status of a unit of a kind that no sequence has, whose header is there. */
+/* The status of a unit, with a whole header, of a kind that no sequence has. */
 static uint8_t other_status(const uint8_t *in, size_t left, size_t size, uint8_t *detail)
 {
     switch (in[1]) {
@@ -243,7 +243,7 @@ static inline uint8_t checked_any(const uint8_t *in, size_t left, size_t *size, 
     return status == RTR_UNIT_TYPE ? other_status(in, left, *size, detail) : status;
 }
 
-/* Shows what a unit says that no sequence has. */
+/* Decodes a unit of a kind that no sequence has. */
 static void show_other(const uint8_t *in, size_t size, struct rtr_unit *unit)
 {
     uint16_t second = (uint16_t)(in[2] << 8 | in[3]);
@@ -323,7 +323,7 @@ static inline bool is_part(size_t start, size_t length, size_t all)
     return start <= all && length <= all - start;
 }
 
-/* The length of the form of a unit, or the status that refuses it, in the order of rtr.h. */
+/* The length of a unit when written, or the status that refuses it, in the order of rtr.h. */
 static inline uint8_t formed(const struct rtr_unit *unit, size_t length, size_t *size)
 {
     switch (unit->kind) {
@@ -379,7 +379,7 @@ static inline uint8_t formed(const struct rtr_unit *unit, size_t length, size_t 
     }
 }
 
-/* Puts what a unit says that no sequence has. */
+/* Writes a unit of a kind that no sequence has. */
 static void put_other(uint8_t *out, const struct rtr_unit *unit, const uint8_t *in)
 {
     uint16_t second = unit->kind == RTR_ERROR_REPORT ? unit->code
@@ -450,7 +450,7 @@ uint8_t write_by_hand(const struct rtr_unit *unit, const uint8_t *in, size_t len
     return RTR_OK;
 }
 
-/* Whether two addresses are alike in their first bits. */
+/* Whether two addresses have the same first bits. */
 static inline bool same_address(const uint8_t *left, const uint8_t *right, unsigned size,
                                 unsigned bits)
 {
@@ -460,7 +460,7 @@ static inline bool same_address(const uint8_t *left, const uint8_t *right, unsig
     return memcmp(cleared[0], cleared[1], size) == 0;
 }
 
-/* Whether two units that were checked mean the same. */
+/* Whether two checked units mean the same. */
 static inline bool same_unit(const uint8_t *left, size_t left_size,
                              const uint8_t *right, size_t right_size)
 {
@@ -483,8 +483,8 @@ static inline bool same_unit(const uint8_t *left, size_t left_size,
         && memcmp(left + 8, right + 8, left_size - 8) == 0;
 }
 
-/* Goes over the rest of a sequence, which begins at this offset and of which so many units may be
- * taken. Answers its status, and tells of its fault. */
+/* Reads the rest of a sequence, from this offset and with this limit of units. Returns its status,
+ * and sets its fault. */
 static uint8_t rest(const uint8_t *in, size_t left, size_t offset, uint64_t limit, uint8_t side,
                     struct rtr_comparison *answer)
 {

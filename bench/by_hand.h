@@ -1,5 +1,5 @@
-/* What rtr.h has, written by hand in C: what the calls are measured against. Nothing here is
- * proved; bench/calls.c tests that both answer alike. */
+/* The calls of rtr.h written by hand in C, which rtr.h's are measured against. Nothing here is
+ * proved; bench/calls.c tests that both return the same. */
 #ifndef FISHREEF_BY_HAND_H
 #define FISHREEF_BY_HAND_H
 
@@ -32,7 +32,7 @@ static inline void put64(uint8_t *at, uint64_t value)
     memcpy(at, &value, 8);
 }
 
-/* An address of 4 or 16 bytes with the bits after the first so many cleared. */
+/* Writes an address of 4 or 16 bytes with all but its first `bits` bits cleared. */
 static inline void put_cleared(uint8_t *to, const uint8_t *from, unsigned size, unsigned bits)
 {
     const uint64_t all = UINT64_MAX;
@@ -44,7 +44,7 @@ static inline void put_cleared(uint8_t *to, const uint8_t *from, unsigned size, 
     put64(to + 8, bits > 64 ? get64(from + 8) & all << (128 - bits) : 0);
 }
 
-/* As rtr_normalise_slice, rtr_normalise_for_slice, rtr_next, rtr_write_unit and
+/* Like rtr_normalise_slice, rtr_normalise_for_slice, rtr_next, rtr_write_unit and
  * rtr_same_meaning. */
 uint8_t normalise_by_hand(const uint8_t *input, size_t input_length,
                           uint8_t *output, size_t output_length,

@@ -9,9 +9,9 @@
  *         prebuilt/x86_64/librtr_wire.a
  *
  * The first prints for each job the best of 41 runs each way, interleaved, in nanoseconds a unit,
- * and how many times as long the calls take. With --count callgrind dumps what each job took, and
- * says of it `JOB WAY FILE`: bench/count reads that. Both end with status 1 if the two ways don't
- * agree on an input; the first also if they don't with any bit of its front flipped, or on units of
+ * and how many times as long the calls take. With --count callgrind dumps the cost of each job,
+ * labelled `JOB WAY FILE`: bench/count reads that. Both exit with status 1 if the two ways disagree
+ * on an input; the first also if they disagree with any bit of its front flipped, or on units of
  * all kinds with lengths at the limits. */
 #include <stdio.h>
 #include <stdlib.h>
@@ -22,7 +22,7 @@
 
 #define RUNS 41
 
-/* The version of the protocol that is written where one is asked for. */
+/* The version of the protocol for jobs that write a given version. */
 #define VERSION 1
 
 enum job { NORMALISE, NORMALISE_FOR, SAME_MEANING, NEXT, WRITE_UNIT, JOBS };
@@ -32,7 +32,7 @@ static const char *const names[JOBS] = {
     "rtr_write_unit",
 };
 
-/* A sequence, its form, and its units with the end of data. */
+/* A sequence, its canonical form, and how many units it has with the end of data. */
 struct sample {
     uint8_t *input, *form;
     size_t length, form_length;
@@ -42,7 +42,7 @@ struct sample {
 
 typedef uint8_t next_call(const uint8_t *, size_t, struct rtr_unit *);
 
-/* Goes over all units, and answers how many bytes they have. */
+/* Decodes all units, and returns how many bytes they have. */
 static inline __attribute__((always_inline)) size_t read_units(next_call *next,
                                                                const struct sample *sample)
 {
@@ -59,7 +59,7 @@ static inline __attribute__((always_inline)) size_t read_units(next_call *next,
 typedef uint8_t write_call(const struct rtr_unit *, const uint8_t *, size_t, uint8_t *, size_t,
                            size_t *);
 
-/* Writes all units, and answers how many bytes it wrote. */
+/* Writes all units, and returns how many bytes it wrote. */
 static inline __attribute__((always_inline)) size_t write_units(write_call *write,
                                                                 const struct sample *sample,
                                                                 uint8_t *out, size_t room)
@@ -75,7 +75,7 @@ static inline __attribute__((always_inline)) size_t write_units(write_call *writ
     return made;
 }
 
-/* Does a job with the calls, and answers how much it made; 0 if it was refused. */
+/* Does a job with the calls, and returns how many bytes it made; 0 if it was refused. */
 static __attribute__((noinline)) size_t with_calls(enum job job, const struct sample *sample,
                                                    uint8_t *out, size_t room)
 {
@@ -129,7 +129,7 @@ enum { LONGEST = 70000 };
 /* What the two ways write. */
 static uint8_t written[2][LONGEST];
 
-/* Whether both ways write a unit alike, also with a byte too little room. */
+/* Whether both ways write the same for a unit, also with one byte too little room. */
 static int agree_on_writing(const struct rtr_unit *unit, const uint8_t *in, size_t left)
 {
     size_t made[2], room = LONGEST;
@@ -141,7 +141,7 @@ static int agree_on_writing(const struct rtr_unit *unit, const uint8_t *in, size
     return 1;
 }
 
-/* Whether both ways decode the unit at the front alike, and write it alike. */
+/* Whether both ways decode and write the unit at the front the same. */
 static int agree_on_unit(const uint8_t *in, size_t left)
 {
     struct rtr_unit unit[2];
@@ -150,7 +150,7 @@ static int agree_on_unit(const uint8_t *in, size_t left)
         && agree_on_writing(&unit[0], in, left);
 }
 
-/* Whether both ways write the unit at the front alike with any bit of its fields flipped. */
+/* Whether both ways write the unit at the front the same with any bit of its fields flipped. */
 static int agree_on_fields(const uint8_t *in, size_t left)
 {
     struct rtr_unit unit;
@@ -166,7 +166,8 @@ static int agree_on_fields(const uint8_t *in, size_t left)
     return 1;
 }
 
-/* Whether both ways normalise alike, for a version or with -1 for none, with this limit and room. */
+/* Whether both ways normalise the same, to a version or with -1 to none, with this limit and
+ * room. */
 static int agree_on_run(const uint8_t *in, size_t length, int version, uint64_t limit, size_t room)
 {
     struct rtr_answer answer[2];
@@ -181,7 +182,7 @@ static int agree_on_run(const uint8_t *in, size_t length, int version, uint64_t 
         && memcmp(written[0], written[1], answer[0].written) == 0;
 }
 
-/* Whether both ways normalise alike for each version, with room and with too little of it. */
+/* Whether both ways normalise the same to each version, with enough and with too little room. */
 static int agree_on_form(const uint8_t *in, size_t length)
 {
     for (int version = -1; version < 4; version++)
@@ -193,7 +194,7 @@ static int agree_on_form(const uint8_t *in, size_t length)
     return 1;
 }
 
-/* Whether both ways compare two inputs alike, also with a low limit. */
+/* Whether both ways compare two inputs the same, also with a low limit. */
 static int agree_on_meaning(const uint8_t *left, size_t left_length, const uint8_t *right,
                             size_t right_length)
 {
@@ -208,7 +209,7 @@ static int agree_on_meaning(const uint8_t *left, size_t left_length, const uint8
     return 1;
 }
 
-/* Whether both ways answer alike with any bit of the front of the input flipped. */
+/* Whether both ways agree with any bit of the front of the input flipped. */
 static int agree_on_damaged(const struct sample *sample)
 {
     uint8_t *in = sample->input;
@@ -240,7 +241,7 @@ static const uint32_t lengths[] = {
 
 enum { LENGTHS = sizeof lengths / sizeof lengths[0] };
 
-/* Whether both ways answer alike on a unit with this header, of which more and less is there. */
+/* Whether both ways agree on a unit with this header, with more and fewer bytes of it. */
 static int agree_on_header(uint8_t *in, uint8_t version, uint8_t kind, uint8_t flags,
                            uint32_t length)
 {
@@ -256,7 +257,8 @@ static int agree_on_header(uint8_t *in, uint8_t version, uint8_t kind, uint8_t f
     return 1;
 }
 
-/* Whether both ways write units of this kind alike, whose parts have lengths at the limits. */
+/* Whether both ways write units of this kind the same when their parts have lengths at the
+ * limits. */
 static int agree_on_parts(const uint8_t *in, uint8_t version, uint8_t kind, uint8_t action)
 {
     struct rtr_unit unit;
@@ -275,7 +277,7 @@ static int agree_on_parts(const uint8_t *in, uint8_t version, uint8_t kind, uint
     return 1;
 }
 
-/* Whether both ways answer alike on all kinds of units with lengths at the limits. */
+/* Whether both ways agree on all kinds of units with lengths at the limits. */
 static int agree_at_limits(void)
 {
     static uint8_t in[LONGEST];
@@ -294,7 +296,7 @@ static int agree_at_limits(void)
     return 1;
 }
 
-/* Reads a sequence to its end, and answers whether it is one and there was memory for it. */
+/* Reads a sequence to its end. Returns whether it is one and memory sufficed. */
 static int take_sample(FILE *from, struct sample *sample)
 {
     size_t room = 1 << 16;
@@ -328,7 +330,7 @@ static void drop_sample(struct sample *sample)
     free(sample->units);
 }
 
-/* Whether each job makes the same in both ways. */
+/* Whether each job makes the same bytes in both ways. */
 static int agree(const struct sample *sample, uint8_t *out[2], size_t room)
 {
     for (enum job job = 0; job < JOBS; job++) {
@@ -342,7 +344,7 @@ static int agree(const struct sample *sample, uint8_t *out[2], size_t room)
     return 1;
 }
 
-/* Does each job in each way, and has callgrind dump what it took. */
+/* Does each job in each way, and has callgrind dump its cost. */
 static void count(const char *file, const struct sample *sample, uint8_t *out, size_t room)
 {
     char said[4096];
@@ -389,7 +391,7 @@ static void print_times(const struct sample *sample, uint8_t *out, size_t room)
     }
 }
 
-/* Takes a file, tests that both ways agree on it, and counts or times them. */
+/* Reads a file, tests that both ways agree on it, and counts or times them. */
 static int measure(FILE *from, const char *counted)
 {
     struct sample sample;

@@ -1,5 +1,5 @@
-/* How a program has callgrind count a part of it alone. Without valgrind's header nothing is
- * counted. */
+/* Macros by which callgrind counts only a part of a program. Without valgrind's header they count
+ * nothing. */
 #ifndef FISHREEF_COUNTING_H
 #define FISHREEF_COUNTING_H
 

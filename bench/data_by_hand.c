@@ -1,7 +1,7 @@
 /* Data of origins by hand in C: see data_by_hand.h. */
 #include "data_by_hand.h"
 
-/* Appends the origin, where it comes after the last one and there is room. */
+/* Appends the origin if it comes after the last one and there is room. */
 static inline bool append(struct origins *to, const struct origin *origin)
 {
     if (to->count == to->room

@@ -1,4 +1,4 @@
-/* Data of origins as sorted arrays of plain structs, by hand in C: what the calls and `Data` are
+/* Data of origins as sorted arrays of plain structs, by hand in C, which the calls and `Data` are
  * measured against. Nothing here is proved; bench/data_calls.c tests that it writes the same bytes
  * as the calls. */
 #ifndef FISHREEF_DATA_BY_HAND_H
@@ -13,7 +13,7 @@ struct origin {
     uint8_t family, length, max_length;
 };
 
-/* Origins, and for how many there is room. */
+/* Origins, and how many fit. */
 struct origins {
     struct origin *at;
     size_t count, room;
@@ -38,8 +38,8 @@ static inline int compare_origins(const struct origin *left, const struct origin
     return left->asn < right->asn ? -1 : left->asn > right->asn;
 }
 
-/* The origin that the unit at the front announces or withdraws. Answers the unit's size; 0 for what
- * isn't an acceptable unit of an origin in this version. */
+/* Reads the origin that the unit at the front announces or withdraws. Returns the unit's size, or 0
+ * if it isn't an acceptable unit of an origin in this version. */
 static inline size_t take_origin(const uint8_t *in, size_t left, uint8_t version,
                                  struct origin *origin, bool *announces)
 {
@@ -64,7 +64,7 @@ static inline size_t take_origin(const uint8_t *in, size_t left, uint8_t version
     return size;
 }
 
-/* Writes the unit of version 2 of an origin, and answers its size. */
+/* Writes the unit of version 2 of an origin, and returns its size. */
 static inline size_t put_origin(const struct origin *origin, uint8_t flags, uint8_t *out)
 {
     size_t size = origin->family == 4 ? 20 : 32;
@@ -81,21 +81,21 @@ static inline size_t put_origin(const struct origin *origin, uint8_t flags, uint
     return size;
 }
 
-/* Reads the data, or the changes, that the input begins with: what is announced to one array, what
- * is withdrawn to another; without that one nothing may be withdrawn. Each has to be in order, and
- * to have room. Answers the offset of the end of data, or SIZE_MAX. */
+/* Reads the data or changes at the front of the input: announced origins to one array, withdrawn
+ * ones to another; without a second array nothing may be withdrawn. Each has to be in order, and to
+ * fit. Returns the offset of the end of data, or SIZE_MAX. */
 size_t read_changes(const uint8_t *in, size_t length, struct origins *announced,
                     struct origins *withdrawn);
 
-/* Which of the new data the old lack, and which of the old the new lack. */
+/* Finds the origins that were added, and the origins that were removed. */
 void merge_delta(const struct origins *old, const struct origins *new, struct origins *announced,
                  struct origins *withdrawn);
 
-/* What the changes make of the data, and whether the rules allow them. */
+/* Applies the changes to the data. Returns whether the rules allow them. */
 bool merge_applied(const struct origins *data, const struct origins *announced,
                    const struct origins *withdrawn, struct origins *made);
 
-/* Writes the units of origins, and answers their length. */
+/* Writes the units of origins, and returns their length. */
 size_t put_origins(const struct origins *origins, uint8_t flags, uint8_t *out);
 
 #endif

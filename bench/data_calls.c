@@ -1,5 +1,5 @@
 /* Compares the calls on data from C with sorted arrays of plain structs, in data_by_hand.c; and
- * does with such an array what rtr_bench_data does with a `Data`.
+ * does to such an array what rtr_bench_data does to a `Data`.
  *
  * usage: data_calls --count FILE..          does each job once over each file, to be counted by
  *                                           callgrind
@@ -10,9 +10,9 @@
  *        data_calls deltas < SEQUENCES      the same 20 times
  *
  * Each file has an old and a new data, one after the other, as generate_data.py writes them. With
- * --count callgrind dumps what each job took, and says of it `JOB FILE`: bench/data reads that. The
- * calls and the code by hand have to write the same, or the status is 1. Without --count the others
- * print how many origins there were. */
+ * --count callgrind dumps the cost of each job, labelled `JOB FILE`: bench/data reads that. If the
+ * calls and the code by hand write different bytes, the exit status is 1. Without --count each job
+ * prints how many origins it read. */
 #include <stdio.h>
 #include <stdlib.h>
 #include "counting.h"
@@ -36,9 +36,9 @@ struct bytes {
     size_t length;
 };
 
-/* An old and a new data, what leads from one to the other, the units of this and of the new data in
- * no order, data without payloads, an index for either, and arrays to work in: the old, the new,
- * what is announced, what is withdrawn, and what is made of the old. */
+/* An old and a new data, the delta between them, the units of the delta and of the new data in no
+ * order, data without payloads, an index for either, and arrays to work in: the old, the new, the
+ * announced and the withdrawn origins, and the result of the changes. */
 struct sample {
     struct bytes old, new, changes, mixed, all, none;
     size_t *index;
@@ -46,7 +46,7 @@ struct sample {
     struct origins in_old, in_new, announced, withdrawn, made;
 };
 
-/* Normalises both, and answers how many bytes that made. */
+/* Normalises both, and returns how many bytes that made. */
 static size_t normalise(struct bytes first, struct bytes second, uint8_t *out)
 {
     struct rtr_answer answer[2];
@@ -58,7 +58,7 @@ static size_t normalise(struct bytes first, struct bytes second, uint8_t *out)
     return answer[0].written + answer[1].written;
 }
 
-/* Writes what is announced and what is withdrawn, and the end of data. */
+/* Writes the announced and the withdrawn origins, and the end of data. */
 static size_t put_changes(const struct sample *sample, const uint8_t *end, uint8_t *out)
 {
     size_t made = put_origins(&sample->announced, 1, out);
@@ -67,7 +67,7 @@ static size_t put_changes(const struct sample *sample, const uint8_t *end, uint8
     return made + END_SIZE;
 }
 
-/* As rtr_delta, and as rtr_apply, over arrays; 0 if it was refused. */
+/* Does rtr_delta's and rtr_apply's work over arrays; returns 0 if it was refused. */
 static size_t delta_by_hand(struct sample *sample, uint8_t *out)
 {
     size_t end = read_changes(sample->new.at, sample->new.length, &sample->in_new, NULL);
@@ -91,7 +91,7 @@ static size_t apply_by_hand(struct sample *sample, uint8_t *out)
     return made + END_SIZE;
 }
 
-/* The new data of the old and of changes in no order: put in order and applied. */
+/* Applies changes in no order to the old data: orders them first. */
 static size_t order_apply(const struct sample *sample, struct bytes old, struct bytes changes,
                           uint8_t *out)
 {
@@ -113,8 +113,8 @@ static size_t in_order(const struct sample *sample, struct bytes old, struct byt
     return answer.written;
 }
 
-/* Does a job, and answers how much it made: bytes, or of arrays origins and 1; 0 if it was
- * refused. */
+/* Does a job, and returns how many bytes it made, or for arrays one more than the origins; 0 if it
+ * was refused. */
 static __attribute__((noinline)) size_t done(enum job job, struct sample *sample, uint8_t *out)
 {
     struct rtr_data_answer answer;
@@ -152,7 +152,7 @@ static __attribute__((noinline)) size_t done(enum job job, struct sample *sample
     }
 }
 
-/* Reads a file to its end, and answers whether there was memory for it. */
+/* Reads a file to its end. Returns whether memory sufficed. */
 static bool read_all(FILE *from, uint8_t **input, size_t *length)
 {
     size_t room = 1 << 16;
@@ -166,7 +166,7 @@ static bool read_all(FILE *from, uint8_t **input, size_t *length)
     return *input != NULL;
 }
 
-/* The length of the sequence at the front, or 0 if none is there. */
+/* The length of the sequence at the front, or 0 if there is none. */
 static size_t sequence_length(const uint8_t *in, size_t left)
 {
     struct rtr_unit unit;
@@ -178,7 +178,7 @@ static size_t sequence_length(const uint8_t *in, size_t left)
     return 0;
 }
 
-/* Makes an array for as many origins as a sequence of this length may have. */
+/* Allocates an array for as many origins as a sequence of this length may have. */
 static bool make_room(struct origins *origins, size_t length)
 {
     origins->count = 0;
@@ -209,7 +209,7 @@ static struct bytes mix(struct bytes from, size_t *places, uint8_t *out)
     return mixed;
 }
 
-/* Makes what the jobs read that take changes in no order. */
+/* Makes the inputs of the jobs that take changes in no order. */
 static bool take_mixed(struct sample *sample)
 {
     size_t room = sample->new.length + sample->changes.length;
@@ -253,7 +253,7 @@ static void drop_sample(struct sample *sample)
     free(sample->index);
 }
 
-/* Whether what a job wrote is what it should be: the delta, or the new data. */
+/* Whether a job wrote the right bytes: the delta, or the new data. */
 static bool is_right(enum job job, const struct sample *sample, const uint8_t *out, size_t made)
 {
     struct bytes wanted;
@@ -271,8 +271,8 @@ static bool is_right(enum job job, const struct sample *sample, const uint8_t *o
     return made == wanted.length && memcmp(out, wanted.at, made) == 0;
 }
 
-/* Does each job, has callgrind dump what it took, and tests what it wrote. The jobs over arrays
- * have those that the job before read. */
+/* Does each job, has callgrind dump its cost, and tests its output. The jobs over arrays use those
+ * that the job before read. */
 static bool count(const char *file, struct sample *sample, uint8_t *out)
 {
     char said[4096];
@@ -287,7 +287,7 @@ static bool count(const char *file, struct sample *sample, uint8_t *out)
     return true;
 }
 
-/* Takes a file, and counts the jobs. */
+/* Reads a file, and counts the jobs. */
 static bool measure(FILE *from, const char *file)
 {
     struct sample sample = {0};
@@ -308,8 +308,8 @@ static int by_order(const void *left, const void *right)
     return compare_origins(left, right);
 }
 
-/* Reads the units of a sequence, and appends the origins to the array if there is one. Answers the
- * bytes of the sequence, or 0. */
+/* Reads the units of a sequence, and appends the origins to the array if it isn't NULL. Returns the
+ * sequence's length, or 0. */
 static size_t take_units(const uint8_t *in, size_t left, struct origins *origins, size_t *units)
 {
     struct origin origin;
@@ -333,7 +333,7 @@ static size_t take_units(const uint8_t *in, size_t left, struct origins *origins
     return left - at < END_SIZE || in[at + 1] != RTR_END_OF_DATA ? 0 : at + END_SIZE;
 }
 
-/* The same, with the array sorted, and refused where an origin is there twice. */
+/* Does the same and sorts the array; refuses an origin that is there twice. */
 static size_t take_array(const uint8_t *in, size_t left, struct origins *origins, size_t *units)
 {
     size_t taken = take_units(in, left, origins, units);
@@ -361,7 +361,7 @@ static bool print_deltas(struct sample *sample, int times)
     return good;
 }
 
-/* What is done with standard input, each with what comes before it. */
+/* The steps over standard input; each includes those before it. */
 enum word { UNITS, ANNOUNCE, BOTH, ONE_DELTA, DELTAS, WORDS };
 
 static const char *const words_said[WORDS] = {"units", "announce", "both", "delta", "deltas"};

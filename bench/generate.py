@@ -4,8 +4,8 @@
 usage: generate.py [--units N] [--seed N] [--mix KIND=SHARE,..] [--clean]
 
 KIND is ipv4, ipv6, key (91 bytes of key info) or aspa (1 to 8 providers), SHARE a whole number; without --mix all units
-are ipv4. The same arguments give the same bytes. With --clean all units are of version 2 and announce, no bit stands
-where none means anything, and providers ascend: a full table as a cache sends it.
+are ipv4. The same arguments give the same bytes. With --clean all units are of version 2 and
+announce, bits without meaning are zero, and providers ascend: a full table as a cache sends it.
 """
 import argparse
 import random
@@ -39,7 +39,7 @@ def aspa(rng):
 
 
 def cleaned(unit):
-    """The unit as one of a full table."""
+    """The unit as it is in a full table."""
     kind, fields = unit[1], bytearray(unit)
     if kind in (4, 6):
         width = 32 if kind == 4 else 128

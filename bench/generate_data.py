@@ -3,11 +3,11 @@
 
 usage: generate_data.py [--units N] [--differ N] [--mix KIND=SHARE,..] [--shuffled] [--seed N]
 
-Each has so many units of version 2 that announce origins, no two of them the same, and an end of
-data. Of so many units, 1000 if not said otherwise, one isn't in the other sequence; these are
-spread evenly. KIND is ipv4 or ipv6, SHARE a whole number; without --mix three origins in four are
-of IPv4. They stand in the order of payloads, as the C calls want them, or with --shuffled in no
-order. The same arguments give the same bytes.
+Each has --units units of version 2 that announce different origins, and an end of data. Of each
+--differ units, 1000 by default, one isn't in the other sequence; these are spread evenly. KIND is
+ipv4 or ipv6, SHARE a whole number; without --mix three origins in four are of IPv4. They come in
+the order of payloads, as the C calls require, or with --shuffled in no order. The same arguments
+give the same bytes.
 """
 import argparse
 import random
@@ -46,7 +46,7 @@ def end(serial):
 
 
 def origins(rng, shares, count):
-    """So many origins in order."""
+    """This many origins in order."""
     families = rng.choices(list(shares), weights=list(shares.values()), k=count)
     made = {origin(rng, family) for family in families}
     while len(made) < count:

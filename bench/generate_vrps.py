@@ -3,8 +3,8 @@
 
 usage: generate_vrps.py [--vrps N] [--seed N]
 
-The VRPs are of both families and in no order. One in twenty is one that came before, as the same
-VRP comes from several ROAs. The same arguments give the same bytes.
+The VRPs are of both families and in no order. One in twenty came before, as the same VRP comes from
+several ROAs. The same arguments give the same bytes.
 """
 import argparse
 import ipaddress
@@ -13,18 +13,18 @@ import sys
 
 HEADER = "ASN,IP Prefix,Max Length,Trust Anchor"
 
-# So many of a hundred VRPs are of IPv4, and so many came before.
+# How many of a hundred VRPs are of IPv4, and how many came before.
 IPV4, AGAIN = 75, 5
 
-# Of each family how many bits an address has, and between which two prefix lengths are.
+# For each family the bits of an address, and the shortest and longest prefix length.
 FAMILIES = {4: (32, 8, 24), 6: (128, 19, 48)}
 
-# IPv6 addresses begin so.
+# The first bits of IPv6 addresses.
 GLOBAL_UNICAST = 0b001
 
 
 def vrp(rng):
-    """A line."""
+    """A line of the list."""
     family = 4 if rng.randrange(100) < IPV4 else 6
     width, shortest, longest = FAMILIES[family]
     length = rng.randint(shortest, longest)

@@ -1,18 +1,17 @@
-/* Many routers at once, of one cache on this machine, in one thread.
+/* Runs many routers of one cache on this machine at once, in one thread.
  *
  * usage: many PORT COUNT SECONDS
  *
- * One router asks for all data, reads them unit by unit, and notes their end of data. Then it takes
- * a step for each line of standard input, and prints one when it is done:
+ * One router asks for all data, reads them unit by unit, and notes their end of data. Then the
+ * program takes a step for each line of standard input, and prints a line when the step is done:
  *
  *   connect   so many routers connect, from addresses of 127.0.0.0/8, PER_ADDRESS from each
  *   all       they ask for all data at once, and pass over them up to their end of data
  *   changes   each answers a notify by a serial query, and reads up to the end of data
  *
- * A line that it prints has the name of the step, or `first`, the nanoseconds that it began and
- * ended at, by the clock that doesn't go back, and how many bytes came. Where a step takes more than
- * SECONDS it is `late`, how many routers wait still, and how many bytes came. It ends with status 1
- * where a step failed. */
+ * The line has the name of the step, or `first`, its start and end in nanoseconds of the monotonic
+ * clock, and how many bytes came. If a step takes more than SECONDS, the line has `late`, how many
+ * routers still wait, and how many bytes came. The exit status is 1 if a step failed. */
 #define _GNU_SOURCE
 #include <errno.h>
 #include <inttypes.h>
@@ -29,8 +28,8 @@
 enum { VERSION = 1, NOTIFY = 0, SERIAL_QUERY = 1, RESET_QUERY = 2, END = 7, REPORT = 10 };
 enum { HEAD = 8, END_SIZE = 24, PER_ADDRESS = 100, BUFFER = 1 << 16, PIECE = 1 << 20, EVENTS = 256 };
 
-/* A router: how many bytes have come of an answer; in units, the front of the one that comes, and
- * how many of its bytes are still to come behind that. */
+/* A router: how many bytes of an answer have come; when it reads units, the front of the current
+ * unit, and how many bytes of it are still to come after that. */
 struct router {
     int socket;
     uint64_t came, behind;
@@ -62,7 +61,7 @@ static uint32_t number_at(const uint8_t *at)
     return (uint32_t)at[0] << 24 | (uint32_t)at[1] << 16 | (uint32_t)at[2] << 8 | at[3];
 }
 
-/* Connects the router of a number to the port. */
+/* Connects the router of this number to the port. */
 static void connect_one(struct router *r, size_t number, uint16_t port)
 {
     int bytes = BUFFER, yes = 1;
@@ -102,7 +101,7 @@ static void ask_changes(struct router *r)
     send_all(r, query, sizeof query);
 }
 
-/* Reads bytes of units. Answers the type of the last that is whole, or -1 for none. */
+/* Reads bytes of units. Returns the type of the last whole unit, or -1 for none. */
 static int read_units(struct router *r, const uint8_t *bytes, size_t size)
 {
     int type = -1;
@@ -149,7 +148,7 @@ static void read_first(uint16_t port)
     close(r.socket);
 }
 
-/* Passes over what came of all data. Answers whether that is all of them. */
+/* Skips the bytes that came of all data. Returns whether all of them have come. */
 static bool pass_over(struct router *r)
 {
     uint64_t left = length - r->came, passed = left > END_SIZE ? left - END_SIZE : 0;
@@ -167,7 +166,8 @@ static bool pass_over(struct router *r)
     return r->came == length;
 }
 
-/* Reads what came of a notify and of changes. Answers whether the changes are there. */
+/* Reads the bytes that came of a notify and of changes. Returns whether the changes are
+ * complete. */
 static bool read_changes(struct router *r)
 {
     static uint8_t bytes[BUFFER];
@@ -183,7 +183,7 @@ static bool read_changes(struct router *r)
     return type == END;
 }
 
-/* Has all routers go on until they are done; answers how many aren't until then. */
+/* Runs all routers until they are done or the time is up; returns how many aren't done. */
 static size_t go_on(bool (*step)(struct router *), int64_t until)
 {
     struct epoll_event events[EVENTS];
@@ -207,7 +207,7 @@ static void connect_all(uint16_t port)
     }
 }
 
-/* Takes a step; answers how many routers aren't done until then. */
+/* Takes a step; returns how many routers aren't done when the time is up. */
 static size_t take(const char *step, uint16_t port, int64_t until)
 {
     for (size_t i = 0; i < count; i++)

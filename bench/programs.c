@@ -5,10 +5,10 @@
  *
  *     cc -O3 -march=x86-64-v2 -Ibindings/c -o programs bench/programs.c bench/by_hand.c
  *
- * They write what `rtr_normalise`, `rtr_normalise --version 1`, `rtr_list`, `rtr_list --json` and
- * `rtr_list --check` write of sequences of payload units, through buffers of 64 KiB; of units of
- * other types they know nothing. With --count callgrind dumps what each job took, and says of it
- * `JOB FILE`. Nothing here is proved: bench/count compares what both write, and counts both. */
+ * They write the output of `rtr_normalise`, `rtr_normalise --version 1`, `rtr_list`, `rtr_list
+ * --json` and `rtr_list --check` for sequences of payload units, through buffers of 64 KiB; they
+ * don't know units of other types. With --count callgrind dumps the cost of each job, labelled `JOB
+ * FILE`. Nothing here is proved: bench/count compares what both write, and counts both. */
 #include <fcntl.h>
 #include <stdio.h>
 #include <stdlib.h>
@@ -31,7 +31,7 @@ static void stop(const char *why)
     exit(3);
 }
 
-/* Reads on, keeping what was not taken, and answers whether anything came. */
+/* Reads more, keeps the bytes not yet taken, and returns whether anything came. */
 static bool refill(void)
 {
     memmove(input, input + input_at, input_end - input_at);
@@ -135,7 +135,7 @@ static void put_group(unsigned group)
         put_byte(hex_digits[group >> shift & 15]);
 }
 
-/* As RFC 5952 has it: the first of the longest runs of two and more zeros is left out. */
+/* As RFC 5952 says: the first of the longest runs of two or more zeros is left out. */
 static void put_ipv6(const uint8_t *at)
 {
     static const uint8_t mapped[12] = {0, 0, 0, 0, 0, 0, 0, 0, 0, 0, 0xff, 0xff};
@@ -361,7 +361,7 @@ static struct slot *slot_of(const uint8_t *payload, size_t length, uint64_t hash
     return &table[place];
 }
 
-/* Counts a payload as announced or withdrawn, and answers whether it was announced before. */
+/* Counts a payload as announced or withdrawn, and returns whether it was announced before. */
 static bool count_payload(const uint8_t *payload, size_t length, bool announced)
 {
     if (2 * table_used >= table_size)
@@ -589,7 +589,7 @@ static int run(int job)
     }
 }
 
-/* Does each job over a file as if the program had just begun, but for the memory that it has. */
+/* Does each job over a file as if the program had just started, but with its memory allocated. */
 static void count(const char *file)
 {
     char said[4096];

@@ -1,5 +1,5 @@
-/* Measures rtr_delta and rtr_apply_in_order in C, as bench/python measures them in Python: with
- * memory that is asked for at each call.
+/* Measures rtr_delta and rtr_apply_in_order in C, as bench/python measures them in Python: each
+ * call allocates its memory.
  *
  * usage: python_calls OLD NEW ROUNDS    prints of each the least time in ns, and what it writes
  */
@@ -36,7 +36,8 @@ static uint64_t now(void)
     return (uint64_t)time.tv_sec * 1000000000 + (uint64_t)time.tv_nsec;
 }
 
-/* The delta from old to new; or if `changes`, what old are after the changes that are second. */
+/* The delta from old to new; or if `changes`, the old data with the changes (the second input)
+ * applied. */
 static struct input called(struct input old, struct input second, bool changes)
 {
     size_t room = old.length + second.length, places = second.length / 8;

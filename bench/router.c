@@ -1,10 +1,10 @@
-/* Tells a router's machine of the units of an answer, for callgrind to count.
+/* Gives the units of an answer to a router's state machine, for callgrind to count.
  *
  * usage: router FILE..
  *
- * Each file has a sequence of version 2. A router asks a cache for it, and is told of all of its
- * units by rtr_router_read; callgrind dumps what that took, and says of it `rtr_router_read FILE`.
- * It ends with status 1 where the router takes anything but the whole answer. */
+ * Each file has a sequence of version 2. A router asks a cache for it, and gets all of its units by
+ * rtr_router_read; callgrind dumps the cost, labelled `rtr_router_read FILE`. The exit status is 1
+ * if the router takes anything but the whole answer. */
 #include <stdio.h>
 #include <stdlib.h>
 #include "rtr.h"
@@ -27,7 +27,7 @@ static bool reads(struct rtr_router *router)
     return action.kind == RTR_BEGIN;
 }
 
-/* Tells it of all units, and answers how many bytes they had, once their changes are to be made. */
+/* Gives it all units, and returns how many bytes they had once their changes are to be applied. */
 static __attribute__((noinline)) size_t told(struct rtr_router *router, const uint8_t *input,
                                              size_t length)
 {

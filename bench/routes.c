@@ -1,14 +1,14 @@
-/* Looks routes up in made-up VRPs, by rtr_validate and by rtrlib's table.
+/* Looks up routes in made-up VRPs, by rtr_validate and by rtrlib's table.
  *
  * usage: routes VRPS ROUTES ROUNDS
  *
- * It makes so many VRPs, five in six of IPv4, and as many routes, of which a third is of each
- * state: one below a VRP and of its AS, one below a VRP and of an AS that has none, and one that
- * nothing covers. Each round looks all of them up, by the one and then by the other. The last line
- * has, each after a space: how many VRPs and bytes of data there are; the milliseconds in which the
- * tables are made, and rtrlib's; the median nanoseconds of a lookup of IPv4, of IPv6 and of both,
- * by rtr_validate and by rtrlib; and how many routes are not found, valid, invalid, and answered
- * otherwise by rtrlib. Without rtrlib, which WITH_RTRLIB says is there, its numbers are 0. */
+ * It makes VRPS VRPs, five in six of IPv4, and ROUTES routes, a third of each state: below a VRP
+ * and of its AS, below a VRP and of an AS that has none, and covered by nothing. Each round looks
+ * up all of them, by rtr_validate and then by rtrlib. The last line has, separated by spaces: how
+ * many VRPs and bytes of data there are; the milliseconds in which our tables and rtrlib's are
+ * made; the median nanoseconds of a lookup of IPv4, of IPv6 and of both, by rtr_validate and by
+ * rtrlib; and how many routes are not found, valid, invalid, and of another state by rtrlib.
+ * Without rtrlib (WITH_RTRLIB isn't defined) its numbers are 0. */
 #include <stdio.h>
 #include <stdlib.h>
 #include <string.h>
@@ -27,7 +27,7 @@
 /* One in so many VRPs is a short one. */
 #define FEW 5000
 
-/* A VRP. Its bytes up to the AS stand in the order of payloads. */
+/* A VRP. Its bytes up to the AS compare in the order of payloads. */
 struct vrp {
     uint8_t family, address[16], length, most;
     uint32_t asn;
@@ -43,7 +43,7 @@ static uint64_t any(uint64_t below)
     return seed % below;
 }
 
-/* The processor time up to now. */
+/* The processor time used so far. */
 static double now(void)
 {
     struct timespec time;
@@ -56,14 +56,14 @@ static uint8_t width(const struct vrp *vrp)
     return vrp->family == 4 ? 32 : 128;
 }
 
-/* Sets the bits after the length to zero. */
+/* Clears the bits after the prefix length. */
 static void clear(uint8_t *address, uint8_t length)
 {
     for (int i = length; i < 128; i++)
         address[i / 8] &= (uint8_t)~(0x80 >> i % 8);
 }
 
-/* Any address of the parts that are given to networks. */
+/* A random address of the space that is allocated to networks. */
 static void any_address(struct vrp *vrp)
 {
     memset(vrp->address, 0, sizeof vrp->address);
@@ -102,7 +102,7 @@ static int compare(const void *left, const void *right)
     return order ? order : (a->asn > b->asn) - (a->asn < b->asn);
 }
 
-/* Makes VRPs in their order, each once, and answers how many. */
+/* Makes VRPs in their order, each once, and returns how many. */
 static size_t make_vrps(struct vrp *vrps, size_t count)
 {
     size_t kept = 0;
@@ -143,7 +143,7 @@ static size_t write_data(const struct vrp *vrps, size_t count, uint8_t *data)
     return (size_t)(at + 12 - data);
 }
 
-/* A route at or below a VRP, with the length that may be as long as the VRP has it. */
+/* A route at or below a VRP, of any length that the VRP allows. */
 static void below(struct rtr_route *route, const struct vrp *vrp)
 {
     route->family = vrp->family;
@@ -158,13 +158,13 @@ static void below(struct rtr_route *route, const struct vrp *vrp)
 }
 
 static void make_routes(struct rtr_route *routes, size_t count, const struct vrp *vrps, size_t many,
-                        const uint8_t *data, size_t length, const struct rtr_tables *tables)
+                        const struct rtr_data *data)
 {
     for (size_t i = 0; i < count; i++) {
         const struct vrp *vrp = vrps + any(many);
         below(routes + i, vrp);
         routes[i].asn = i % 3 == 0 ? vrp->asn : NOBODY;
-        while (i % 3 == 2 && rtr_validate(data, length, tables, routes + i) != RTR_NOT_FOUND) {
+        while (i % 3 == 2 && rtr_validate(data, routes + i) != RTR_NOT_FOUND) {
             struct vrp other = *vrp;
             any_address(&other);
             memcpy(routes[i].address, other.address, sizeof other.address);
@@ -230,7 +230,7 @@ static double median(double *times, int rounds)
     return times[rounds / 2];
 }
 
-/* Room for so much, or the end. */
+/* Allocates this much, or exits. */
 static void *room(size_t size)
 {
     void *made = calloc(size, 1);
@@ -250,17 +250,19 @@ int main(int argc, char **argv)
     }
     struct vrp *vrps = room(asked * sizeof *vrps);
     size_t many = make_vrps(vrps, asked);
-    uint8_t *data = room(32 * many + 12), *answers = room(count), *others = room(count);
-    size_t length = write_data(vrps, many, data);
-    struct rtr_tables tables;
+    uint8_t *bytes = room(32 * many + 12), *answers = room(count), *others = room(count);
+    size_t length = write_data(vrps, many, bytes);
+    struct rtr_data data;
+    struct rtr_data_answer answer;
     double made[MOST_ROUNDS], building = 0, times[2][3][MOST_ROUNDS] = {{{0}}};
     for (int round = 0; round < rounds; round++) {
         double start = now();
-        rtr_tables(data, length, &tables);
+        if (rtr_check_data(bytes, length, &data, &answer) != RTR_OK)
+            return 1;
         made[round] = now() - start;
     }
     struct rtr_route *routes = room(count * sizeof *routes);
-    make_routes(routes, count, vrps, many, data, length, &tables);
+    make_routes(routes, count, vrps, many, &data);
 #ifdef WITH_RTRLIB
     double begun = now();
     their_tables(vrps, many);
@@ -274,7 +276,7 @@ int main(int argc, char **argv)
             double start = now();
             for (size_t i = 0; i < count; i++)
                 if (routes[i].family == 4 + 2 * family)
-                    answers[i] = rtr_validate(data, length, &tables, routes + i);
+                    answers[i] = rtr_validate(&data, routes + i);
             double middle = now();
             times[0][family][round] = middle - start;
 #ifdef WITH_RTRLIB

@@ -1,9 +1,9 @@
-/* Sends a file to each router that asks, by sendfile: about the least that a cache can do.
+/* Sends a file by sendfile to each router that asks: about the least work that a cache can do.
  *
  * usage: sends FILE PORT
  *
- * One thread takes connections at a port of 127.0.0.1, with a buffer of BUFFER bytes each, and
- * sends all of the file at each HEAD bytes that come, whatever they are. */
+ * One thread accepts connections at a port of 127.0.0.1, with a buffer of BUFFER bytes each, and
+ * sends the whole file for each HEAD bytes that come, whatever they are. */
 #define _GNU_SOURCE
 #include <errno.h>
 #include <fcntl.h>
@@ -35,7 +35,7 @@ static void wait_for(struct router *r, int how, uint32_t what)
     epoll_ctl(poller, how, r->socket, &event);
 }
 
-/* Takes the connections that wait. */
+/* Accepts the waiting connections. */
 static void take_all(int listener)
 {
     int one, bytes = BUFFER;
@@ -54,7 +54,7 @@ static void forget(struct router *r)
     free(r);
 }
 
-/* Begins to send where a query came. Answers whether the router is there. */
+/* Starts sending if a query came. Returns whether the router is still connected. */
 static bool read_query(struct router *r)
 {
     uint8_t query[HEAD];
@@ -64,7 +64,7 @@ static bool read_query(struct router *r)
     return size > 0 || (size < 0 && errno == EAGAIN);
 }
 
-/* Sends what can be sent. Answers whether the router is there. */
+/* Sends as much as the socket takes. Returns whether the router is still connected. */
 static bool send_some(struct router *r)
 {
     while (r->sent < length) {
