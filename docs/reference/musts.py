@@ -1,25 +1,36 @@
-"""The page musts.md, of musts.txt: where each rule of RFC 8210 and RFC 6810 is held. A rule that is
-held nowhere, or at a name that isn't there, is an error."""
+"""The page musts.md, of musts.txt: what is done about each MUST and SHOULD of RFC 8210 and RFC 6810.
+A rule without a state, a state without what it asks for, or a name that isn't there is an error."""
 import pathlib
 import re
+from collections import Counter
 
 from sources import CRATES, TOP
 
 RULES = pathlib.Path(__file__).resolve().parent / "musts.txt"
 SCENES = {"scenes", "cache"}
-NOT_OURS = "not ours"
+WORD = re.compile(r"\b(MUST NOT|MUST|SHOULD NOT|SHOULD|REQUIRED)\b")
 BEFORE_NAME = (r"^ *(?:(?:pub(?:\(\w+\))?|record|data|abbrev|unfoldable|opaque|inline|const|async|"
-               r"fn|func|def|law|ensures) +)*")
+               r"fn|func|def|class|law|ensures) +)*")
+STATES = ("proved", "tested", "caller", "deviates")
+SHOWN = {"proved": "proved", "tested": "tested", "caller": "left to the caller",
+         "deviates": "**deviates**"}
 
-HEAD = """# Where each MUST is held
+HEAD = """# Each MUST and SHOULD
 
 <!-- made by docs/reference/generate -->
-Each paragraph of RFC 8210 and RFC 6810 that has a MUST, MUST NOT, REQUIRED or SHALL: which definition, law or test here
-holds it, or why it isn't ours? ([README](../../README.md), [PROOF](../PROOF.md))
+What does this library do about each MUST and SHOULD of RFC 8210 and RFC 6810? ([README](../../README.md),
+[PROOF](../PROOF.md))
 
-The rules are in our own words. Names lead to definitions (`specs`), laws (`laws`), tests, and scenes of
-[transcripts](../../tests/transcripts/README.md), which the machines of both ends play. The rows come from
-`docs/reference/musts.txt`; the gate fails where one has no name, or a name isn't found.
+The rules have the RFCs' verbs and objects, in a shorter sentence. A state is one of these:
+
+- **proved**: by the definition, clause or law that is linked, for the proved machines and the library below them;
+- **tested**: by the tests that are linked, without a proof;
+- **left to the caller**: whose it is, and the page that says so;
+- **deviates**: how, what a peer sees of that, and why.
+
+Names lead to definitions (`specs`), laws (`laws`), tests, and scenes of [transcripts](../../tests/transcripts/README.md), which
+the machines of both ends play. The rows come from `docs/reference/musts.txt`; the gate fails where a row lacks what its state
+asks for, or a name isn't found.
 """
 
 
@@ -49,62 +60,102 @@ def find(path, name):
             raise Wrong(f"{first} in {path.relative_to(TOP)} has no {field}")
 
 
+def page_link(said):
+    """A link to a heading of a page, or to a man page."""
+    name, _, heading = said.partition("#")
+    path = TOP / name
+    if not path.is_file():
+        raise Wrong(f"no page {name}")
+    headings = re.findall(r"^#+ (.*)$", path.read_text(encoding="utf-8"), re.MULTILINE)
+    found = {re.sub(r"[^\w\- ]", "", text).lower().replace(" ", "-"): text for text in headings}
+    if heading and heading not in found:
+        raise Wrong(f"{name} has no heading {heading}")
+    text = f"{path.stem}, {found[heading]}" if heading else path.name
+    return f"[{text}](../../{name}{'#' + heading if heading else ''})"
+
+
 def place(said):
-    """A link to where a rule is held, which has to be there."""
+    """A link to where a rule is held, which has to be there, and its kind: proof, test or page."""
     folder, _, scene = said.partition("/")
     if folder in SCENES and ":" not in said:
         path = TOP / "tests/transcripts" / folder / f"{scene}.scene"
         if not path.is_file():
             raise Wrong(f"no scene {said}")
-        return f"[scene `{scene}`](../../{path.relative_to(TOP)})"
+        return f"[scene `{scene}`](../../{path.relative_to(TOP)})", "test"
+    if said.startswith("docs/"):
+        return page_link(said), "page"
     file, colon, name = said.partition(":")
     if not colon or not name:
         raise Wrong(f"{said} is no PATH:NAME")
     path = file_of(file)
     find(path, name)
-    return f"[`{name}`](../../{path.relative_to(TOP)})"
+    kind = "proof" if CRATES in path.parents else "test"
+    return f"[`{name}`](../../{path.relative_to(TOP)})", kind
+
+
+def check_state(state, kinds, remark):
+    """Wrong where a row lacks what its state asks for."""
+    if state not in STATES:
+        raise Wrong(f"no state {state}")
+    if state == "proved" and "proof" not in kinds:
+        raise Wrong("proved, without a definition, clause or law")
+    if state == "tested" and "test" not in kinds:
+        raise Wrong("tested, without a test")
+    if state == "caller" and ("page" not in kinds or not remark):
+        raise Wrong("left to the caller, without whose, or the page that says so")
+    if state == "deviates" and ("A peer sees" not in remark or "Why:" not in remark):
+        raise Wrong("deviates, without `A peer sees`, or `Why:`")
 
 
 def row(line):
-    """A row of the page, of a line of musts.txt."""
-    section, rule, where, *remark = [part.strip() for part in line.split("|")]
+    """A row of the page, of a line of musts.txt, with its section, words and state."""
+    section, rule, state, where, *remark = [part.strip() for part in line.split(" | ")]
     if not re.fullmatch(r"\d+(\.\d+)*", section) or not rule or len(remark) > 1:
-        raise Wrong("not SECTION | RULE | WHERE | REMARK")
-    if where == NOT_OURS:
-        if not remark or not remark[0]:
-            raise Wrong("not ours, without a reason")
-        return section, f"| {section} | {rule} | *not ours*: {remark[0]} |"
-    if not where:
-        raise Wrong("held nowhere")
-    held = ", ".join(place(said.strip()) for said in where.split(","))
-    said = f". {remark[0]}" if remark and remark[0] else ""
-    return section, f"| {section} | {rule} | {held}{said} |"
+        raise Wrong("not SECTION | RULE | STATE | WHERE | REMARK")
+    places = [place(said.strip()) for said in where.split(",") if said.strip()]
+    said = remark[0] if remark else ""
+    check_state(state, {kind for _, kind in places}, said)
+    links = ", ".join(link for link, _ in places)
+    if state == "caller":
+        held = f"{said} ({links})"
+    else:
+        held = ". ".join(part for part in (links, said) if part)
+    return section, WORD.findall(rule), state, f"| {section} | {rule} | {SHOWN[state]} | {held} |"
 
 
 def number(section):
     return tuple(map(int, section.split(".")))
 
 
+def count_line(states):
+    """The line below a table that says how many rows have which state."""
+    return (f"\n{sum(states.values())} rows: {states['proved']} proved, {states['tested']} tested, "
+            f"{states['caller']} left to the caller, {states['deviates']} deviations.\n")
+
+
 def page():
     """The text of musts.md; Wrong where a line names nothing that is there."""
-    text, last, wrong, ours, others = HEAD, (), [], 0, 0
+    text, last, wrong, states = HEAD, (), [], Counter()
     for at, line in enumerate(RULES.read_text(encoding="utf-8").splitlines(), 1):
         try:
             if line.startswith("RFC "):
+                text += count_line(states) if states else ""
                 text += f"\n## {line}\n"
-                last = ()
+                last, states = (), Counter()
             elif line.startswith("none |"):
                 text += f"\nWithout such a word: sections {line.partition('|')[2].strip()}.\n"
-                text += "\n| Section | Rule | Held by |\n|---|---|---|\n"
+                text += "\n| Section | Rule | State | Where, or why not |\n|---|---|---|---|\n"
             elif line.strip() and not line.startswith("#"):
-                section, made = row(line)
+                section, words, state, made = row(line)
                 if number(section) < last:
                     raise Wrong(f"section {section} isn't in order")
+                if not words and state != "deviates":
+                    raise Wrong("a rule without MUST, SHOULD or REQUIRED")
                 last = number(section)
                 text += made + "\n"
-                ours, others = ours + ("*not ours*" not in made), others + ("*not ours*" in made)
+                states[state] += 1
         except (Wrong, ValueError) as error:
             wrong.append(f"docs/reference/musts.txt:{at}: {error}")
     if wrong:
         raise SystemExit("\n".join(wrong))
-    return text + f"\n{ours + others} rules, of which {others} aren't ours.\n"
+    return text + count_line(states)
