@@ -1,4 +1,4 @@
-"""What the program has to answer to an input, by docs/PROTOCOL.md.
+"""What the program has to do with an input, by docs/PROTOCOL.md.
 
 Read it beside that page: it uses the same words. It shares nothing with the library.
 """
@@ -22,7 +22,7 @@ ROWS = {
     8: "Refused",
 }
 
-# Those of them that depend on where the input ends.
+# The rows that depend on where the input ends.
 SHORT_ROWS = [1, 7]
 
 # Refresh, retry and expire for an end of data that has none.
@@ -35,7 +35,7 @@ def number(piece):
 
 
 def has_length(version, kind, length):
-    """Whether a unit of this type can be so long; for an end of data, one of this version."""
+    """Whether a unit of this type (an end of data: of this version) may have this length."""
     if kind == 9:
         return length >= 32
     if kind == 11:
@@ -66,7 +66,7 @@ def when_refused(data):
 
 
 def written_form(unit, version):
-    """The form of what a payload unit means, in this version."""
+    """The payload unit in canonical form, in this version."""
     kind = unit[1]
     if kind in WIDTHS:
         flags, length, max_length = unit[8] % 2, unit[9], unit[10]

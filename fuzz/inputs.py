@@ -33,7 +33,7 @@ WIDTHS = {4: 32, 6: 128}
 MOST_KEY_INFO = 65503
 MOST_PROVIDERS = 16380
 
-# This many units are longer than the buffers of the program.
+# This many units don't fit into the program's buffers.
 MANY_UNITS = 2000
 
 
@@ -43,7 +43,7 @@ def free(rng, bits):
 
 
 def flags(rng):
-    """Flags with upper bits that mean nothing."""
+    """Flags whose upper bits are random and mean nothing."""
     return free(rng, 7) << 1 | rng.getrandbits(1)
 
 
@@ -54,7 +54,7 @@ def count(rng, most):
 
 
 def unit(version, kind, session, body):
-    """A unit with the length of its body."""
+    """A unit whose length field fits its body."""
     return struct.pack(">BBHI", version, kind, session, 8 + len(body)) + body
 
 
@@ -98,7 +98,7 @@ def payload_unit(rng):
 
 
 def other_unit(rng):
-    """A unit that no sequence has: one of another type, or an ASPA announced without providers."""
+    """A unit that no sequence may have: of another type, or an ASPA announced without providers."""
     kind = rng.choice([0, 1, 2, 3, 5, 8, 10, 11, 11, 11, 12, 255])
     if kind == 11:
         return unit(rng.choice(VERSIONS), kind, (flags(rng) | 1) << 8, rng.randbytes(4))
@@ -116,22 +116,22 @@ def sequence(rng):
 
 
 def stray(rng):
-    """Perhaps bytes after the end of data."""
+    """Some bytes after the end of data, or none."""
     return rng.choice([b"", b"", rng.randbytes(rng.randint(1, 40)), b"".join(sequence(rng))])
 
 
 def put(data, place, piece):
-    """The bytes, overwritten with a piece at a place."""
+    """The bytes, overwritten with a piece at an offset."""
     return data[:place] + piece + data[place + len(piece) :]
 
 
 def length_for(rng, kind):
-    """A length at a bound, mostly one of this type."""
+    """A length at a bound, mostly at one of this type."""
     return rng.choice(BOUNDS[kind] if kind in BOUNDS and rng.random() < 0.7 else LENGTHS)
 
 
 def with_length(rng, one):
-    """The unit with another length field, and often as many bytes as it says."""
+    """The unit with another length field, and often cut or padded to that length."""
     near = len(one) + rng.choice([-4, -1, 1, 4])
     length = near if rng.random() < 0.1 else length_for(rng, one[1])
     if rng.random() < (0.7 if length < 100 else 0.1 if length < 70000 else 0):
@@ -147,7 +147,7 @@ def with_prefix_lengths(rng, one):
 
 
 def with_altered_field(rng, one):
-    """The unit with one field of another value."""
+    """The unit with another value in one field."""
     fields = ["version", "type", "session", "length", "length", "length"]
     if one[1] in WIDTHS:
         fields = ["version", "type", "session", "length", *["prefix lengths"] * 6]
@@ -167,7 +167,7 @@ def whole(rng):
 
 
 def altered(rng):
-    """A sequence in which fields of one unit have other values."""
+    """A sequence in which one unit has other values in some fields."""
     units = sequence(rng)
     place = rng.choice([0, 0, rng.randrange(len(units)), len(units) - 1])
     for _ in range(rng.choice([1, 1, 2])):
@@ -192,7 +192,8 @@ def joined(rng):
 
 
 def headers(rng):
-    """A header of any fields, perhaps after some units, and bytes that may be its unit."""
+    """A header with random fields, perhaps after some units, and bytes that may complete its
+    unit."""
     kind = rng.choice(list(BOUNDS) if rng.random() < 0.8 else TYPES)
     fields = (rng.choice(VERSIONS), kind, free(rng, 16), length_for(rng, kind))
     units = [payload_unit(rng) for _ in range(rng.choice([0, 0, 1, 2]))]
@@ -240,7 +241,7 @@ def long(rng):
     return data[: rng.randrange(len(data))] if deed == "cut" else data
 
 
-# Each kind of input, and how many of a thousand inputs are of that kind.
+# Each kind of input, and its share in a thousand inputs.
 KINDS = {
     whole: 200,
     altered: 278,

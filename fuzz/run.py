@@ -10,8 +10,8 @@ itself.
 The inputs of a seed are numbered, and each is always the same: --input tries one of them alone.
 With --version the program is asked to write for that version of the protocol.
 
-At a difference the input is written to a file as hex, and the status is 1. It is also 1 if a run of
-20 seconds or more met no input for some row of the table of refusals. Otherwise it is 0.
+At a difference the input is saved to a file as hex, and the exit status is 1. It is also 1 if a run
+of 20 seconds or more met no input for some row of the table of refusals. Otherwise it is 0.
 """
 import argparse
 import collections
@@ -32,10 +32,10 @@ sys.path.insert(0, os.path.join(TOP, ".ci"))
 
 import built  # noqa: E402  (it lies in another folder)
 
-# The program is stopped after this many seconds on one input.
+# The program is killed after this many seconds on one input.
 LIMIT = 10
 
-# This many bytes go into a pipe before anyone reads it.
+# A pipe buffers this many bytes before anyone reads it.
 PIPE_SIZE = 4096
 
 # A run of this many seconds has to meet each row.
@@ -77,13 +77,13 @@ def program_answer(args, data, row):
 
 
 def first_difference(left, right):
-    """The first place at which two lists of bytes differ."""
+    """The first offset at which two byte strings differ."""
     shorter = min(len(left), len(right))
     return next((place for place in range(shorter) if left[place] != right[place]), shorter)
 
 
 def difference(args, number, data, got, wanted):
-    """What differs, and where the input is kept."""
+    """What differs, and the file with the input."""
     path = os.path.join(tempfile.gettempdir(), f"rtr_normalise-{args.seed}-{number}.hex")
     with open(path, "w", encoding="ascii") as file:
         file.write(data.hex("\n", -32) + "\n")
@@ -137,7 +137,7 @@ def totals(seen, seconds):
 
 
 def run(args):
-    """Tries inputs in parallel for as long as asked, and answers the exit status."""
+    """Tries inputs in parallel for the time asked for, and returns the exit status."""
     start = time.monotonic()
     with concurrent.futures.ThreadPoolExecutor(args.workers) as pool:
         numbers = range(args.workers)
