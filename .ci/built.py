@@ -1,15 +1,16 @@
 #!/usr/bin/env python3
-"""The one place that picks the programs, and the archives of rtr_c, which checks run.
+"""Picks the programs and the archives of rtr_c that checks run; nothing else does.
 
 usage: built.py [--fresh] NAME..
-       built.py [--fresh] --module    the module rtr_wire.wasm in the place of programs
+       NAME: a program, rtr_c for the archives, a module for WebAssembly: wasm32 or wasm64, or
+       portable for the C file for other platforms
 
 `.ci/run`, `rt ci` and `rt run` leave a program in the folder `out/` of its crate: as LLVM builds it,
-and after `rt ci` also as Rattle's own compiler does. One that is older than a source of its crate,
-or of a library below it, is none. Where nothing was built, the one in prebuilt/ is picked, if
+and after `rt ci` also as Rattle's own compiler does. A program older than a source of its crate, or
+of a library below it, is ignored. If nothing was built, the one in prebuilt/ is picked, if
 prebuilt/SHA256SUMS has its sum, and a line on standard error says that it may be older than the
-sources, unless PREBUILT_SAID is set; with --fresh it isn't picked. The script prints the programs of
-these names; the status is 1 if there is none of one.
+sources, unless PREBUILT_SAID is set; with --fresh it isn't picked. The script prints the programs
+of these names; its status is 1 if one is missing.
 """
 import functools
 import hashlib
@@ -21,16 +22,20 @@ from importlib.machinery import SourceFileLoader
 from importlib.util import module_from_spec, spec_from_loader
 
 TOP = os.path.realpath(os.path.join(os.path.dirname(os.path.abspath(__file__)), ".."))
-# Who imports this finds the samples of units.
+# Scripts that import this can import the samples of units.
 sys.path.insert(0, os.path.join(TOP, "tests"))
 ENDINGS = ("", ".by-rattle")
 PREBUILT = os.path.join(TOP, "prebuilt")
 ARCHIVE = "librtr_wire.a"
-MODULE = os.path.join("wasm64", "rtr_wire.wasm")
+MEMORIES = ("wasm32", "wasm64")
+# What is made of the crate rtr_c besides, by the name of its folder.
+MADE = {**dict.fromkeys(MEMORIES, "rtr_wire.wasm"), "portable": "rtr_wire.c"}
+# What the C file for other platforms is made of beside the crate.
+PORTABLE = ("portable", "header.py", "c/rtr.h", "c/rtr_abi.h", "c/portable_front.h")
 
 
 def crates(name):
-    """The crate of this name, and the libraries of the repository that it uses."""
+    """Returns the crate of this name, and the libraries of the repository that it uses."""
     with open(os.path.join(TOP, "crates.txt"), encoding="ascii") as lines:
         below = dict(line.split("#")[0].split(":") for line in lines if ":" in line.split("#")[0])
     below = {names.split()[0]: libraries.split() for names, libraries in below.items()}
@@ -41,7 +46,7 @@ def crates(name):
 
 
 def last_change(name):
-    """When the newest source of the program, or of a library below it, was changed."""
+    """Returns when the newest source of the program, or of a library below it, was changed."""
     folders = [os.path.join(TOP, "crates", crate, "src") for crate in crates(name)]
     files = [os.path.join(place, file) for top in folders for place, _, names in os.walk(top)
              for file in names]
@@ -49,7 +54,8 @@ def last_change(name):
 
 
 def places(name):
-    """Where the program, or the archives for both machines, are once they are built."""
+    """Returns the paths of the program, or of the archives for both machines, once they are
+    built."""
     if name == "rtr_c":
         return [os.path.join(TOP, "bindings", "lib", machine, ARCHIVE)
                 for machine in ("x86_64", "aarch64")]
@@ -58,7 +64,7 @@ def places(name):
 
 @functools.cache
 def fresh(name):
-    """The paths of the program that are there and no older than its sources."""
+    """Returns the paths of the program that exist and are no older than its sources."""
     since = last_change(name)
     return [path for path in places(name)
             if os.path.isfile(path) and os.path.getmtime(path) >= since]
@@ -66,14 +72,14 @@ def fresh(name):
 
 @functools.cache
 def prebuilt(name):
-    """The path of the prebuilt program, or archive for x86-64, where nothing was built."""
+    """Returns the path of the prebuilt program, or archive for x86-64, if nothing was built."""
     if any(os.path.isfile(place) for place in places(name)):
         return []
     return kept(name, os.path.join("x86_64", ARCHIVE if name == "rtr_c" else name))
 
 
 def kept(name, file):
-    """The path of a file of prebuilt/, if it is there."""
+    """Returns the path of a file of prebuilt/, if it exists."""
     path = os.path.join(PREBUILT, file)
     if not os.path.isfile(path):
         return []
@@ -87,7 +93,7 @@ def kept(name, file):
 
 
 def needed(name, only_fresh=False):
-    """What is picked of the program, where there has to be one as LLVM builds it."""
+    """Returns the picked paths of the program, of which one must be LLVM's."""
     found = fresh(name) or ([] if only_fresh else prebuilt(name))
     if not found or found[0].endswith(ENDINGS[1]):
         call = "bindings/build" if name == "rtr_c" else "rt run in its folder"
@@ -96,23 +102,29 @@ def needed(name, only_fresh=False):
 
 
 def program(name):
-    """The path of the program as LLVM builds it."""
+    """Returns the path of the program as LLVM builds it."""
     return needed(name)[0]
 
 
-def module(only_fresh=False):
-    """The path of the module for WebAssembly."""
-    path = os.path.join(TOP, "bindings", "lib", MODULE)
-    if os.path.isfile(path) and os.path.getmtime(path) >= last_change("rtr_c"):
+def module(of="wasm32", only_fresh=False):
+    """Returns the path of the module for WebAssembly with 32-bit (wasm32) or 64-bit memory
+    (wasm64), or of the C file for other platforms (portable)."""
+    name = os.path.join(of, MADE[of])
+    path = os.path.join(TOP, "bindings", "lib", name)
+    since = [last_change("rtr_c")]
+    if of == "portable":
+        since += [os.path.getmtime(os.path.join(TOP, "bindings", file)) for file in PORTABLE]
+    if os.path.isfile(path) and os.path.getmtime(path) >= max(since):
         return path
-    found = [] if only_fresh or os.path.isfile(path) else kept(MODULE, MODULE)
+    found = [] if only_fresh or os.path.isfile(path) else kept(name, name)
     if not found:
-        sys.exit(f"{MODULE} is missing or older than its sources: call bindings/build wasm64")
+        sys.exit(f"{name} is missing or older than its sources: call bindings/build wasm64 wasm32 "
+                 "portable")
     return found[0]
 
 
 def script(path):
-    """A script of the repository as a module, for another that uses what it has."""
+    """Loads a script of the repository as a module."""
     loader = SourceFileLoader(os.path.basename(path), os.path.join(TOP, path))
     module = module_from_spec(spec_from_loader(loader.name, loader))
     loader.exec_module(module)
@@ -120,7 +132,7 @@ def script(path):
 
 
 def compiler():
-    """The C compiler of the kit, or where that isn't here the machine's."""
+    """Returns the C compiler of the kit, or without it the machine's."""
     if not shutil.which("rt"):
         return "cc"
     page = subprocess.run(["rt", "doc"], capture_output=True, text=True, check=True).stdout.strip()
@@ -128,7 +140,7 @@ def compiler():
 
 
 def compile_library(source, to):
-    """Compiles a C file of the repository as a library to load into programs."""
+    """Compiles a C file of the repository as a shared library to preload."""
     file = os.path.join(TOP, source)
     subprocess.run([compiler(), "-shared", "-fPIC", "-O1", "-o", to, file], check=True)
 
@@ -136,10 +148,10 @@ def compile_library(source, to):
 def main():
     only_fresh = sys.argv[1:2] == ["--fresh"]
     for asked in sys.argv[2 if only_fresh else 1:]:
-        if asked == "--module":
-            print(module(only_fresh))
-            continue
-        print(*needed(asked, only_fresh), sep="\n")
+        if asked in MADE:
+            print(module(asked, only_fresh))
+        else:
+            print(*needed(asked, only_fresh), sep="\n")
 
 
 if __name__ == "__main__":
