@@ -1,6 +1,6 @@
 # The commands of this repository, by short names: each calls scripts, whose heads say what they do.
 
-.PHONY: help test check prove interop bench fmt lint clean
+.PHONY: help test check prove bugs interop bench fmt lint clean
 
 help: ## lists these words
 	@sed -n 's/^\([a-z]*\):.*## \(.*\)/make \1	\2/p' Makefile | expand -t 14
@@ -13,6 +13,9 @@ check: ## runs all tests, and names those that it skips for want of a tool
 
 prove: ## the gate: proves and builds all with the kit, and tests what it built, in hours
 	@.ci/run
+
+bugs: ## tries the seeded bugs that the gate leaves out: the prover has to refuse them, in hours
+	@tests/bugs
 
 interop: ## runs the caches and routers of others that are here beside ours, and compares
 	@interop/run

@@ -122,7 +122,7 @@ def files(crate):
 
 def edits(crate):
     """Of each seeded bug of a crate its name, its file, and the texts that it replaces."""
-    for path in sorted((CRATES / crate / "must-fail").glob("*.edit")):
+    for path in sorted((CRATES / crate).glob("*must-fail/*.edit"), key=lambda path: path.name):
         file, changes = EDIT.match(path.read_text(encoding="utf-8")).groups()
         olds = re.findall(r"^old: ?((?:.|\n)*?)\n(?=new:)", changes, re.MULTILINE)
         yield path.stem, CRATES / crate / file, olds
