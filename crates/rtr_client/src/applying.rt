@@ -30,9 +30,11 @@ pub enum Applied {
     Nothing,
     /// What the changes made are the data, which have this length, in the other buffer.
     Shown(usize),
-    /// The other buffer needs this length. Nothing has happened.
+    /// The other buffer is shorter than this, the most bytes that the changes make. Nothing has
+    /// happened, and nothing was sorted.
     Data(usize),
-    /// The index needs this length. Nothing has happened.
+    /// The index is shorter than this, a place for each unit. Nothing has happened, and nothing was
+    /// sorted.
     Index(usize),
     /// The changes are refused, or came too late, and the machine took this action. Where one of
     /// the changes is refused, this is why, and the offset of its unit in the input.
@@ -81,6 +83,9 @@ impl Client {
             → WantsIndex result → ⊥ }
         ensures enough { room_at self.old.holding self.old.shown self.old.kept ≤ length made.old
             → WantsData result → ⊥ }
+        ensures short { length made.old
+            < min (room_at self.old.holding self.old.shown self.old.kept) (2 ^ 64 - 1)
+            → WantsData result }
     {
         match self.holding {
             Holding::Answer(size, since) => {
@@ -128,10 +133,18 @@ impl Client {
             → WantsIndex result → ⊥ }
         ensures enough { room_for since self.old.shown size self.old.kept ≤ length made.old
             → WantsData result → ⊥ }
+        ensures short { length made.old
+            < min (room_for since self.old.shown size self.old.kept) (2 ^ 64 - 1)
+            → WantsData result }
     {
+        // Without this the units would be sorted, in vain.
+        let room = self.data_room(size, since);
+        if made.len() < room {
+            return Applied::Data(room);
+        }
         match self.make(size, since, input, held, made, index) {
             Ok(count) => self.adopt(now, size, count, input, output),
-            Err(InOrderFault::NoRoom) => Applied::Data(self.data_room(size, since)),
+            Err(InOrderFault::NoRoom) => Applied::Data(room),
             Err(InOrderFault::NoIndex) => Applied::Index(self.router.units as usize),
             Err(InOrderFault::Duplicate { offset }) => {
                 self.refuse(now, Refusal::Duplicate, offset, input, output)

@@ -1,7 +1,7 @@
 //! What a caller has to do next.
 
 ghost use Rattle.std.specs.Prelude.{◌≡◌, ◌<◌, ◌≤◌, ◌+◌, ◌^◌, ℕ, List, length, drop, take, true};
-ghost use Rattle.std.specs.Prelude.{Some, false, ◌-◌, ◌≢◌};
+ghost use Rattle.std.specs.Prelude.{Some, false, min, ◌-◌, ◌≢◌};
 ghost use Rattle.rtr_client.specs.Next.{IsDataRoom, IsIndexRoom, IsRoom, IsTodoOf, IsWait};
 ghost use Rattle.rtr_client.specs.Next.{NamesRoom, RestsNow, Turns};
 ghost use Rattle.rtr_client.specs.Holding.{Fits, IsHearing, SaysItself, IsClient, data_in, room_at};
@@ -102,6 +102,10 @@ impl Client {
             → IsIndexRoom result → ⊥ }
         ensures enough { room_at self.old.holding self.old.shown self.old.kept
             ≤ length (data_in self.old.second second.old first.old) → IsDataRoom result → ⊥ }
+        ensures short { HasAnswer self.old.holding → self.old.unsent + 65535 ≤ length output.old
+            → length (data_in self.old.second second.old first.old)
+            < min (room_at self.old.holding self.old.shown self.old.kept) (2 ^ 64 - 1)
+            → IsDataRoom result }
         ensures rests { IsWait result → RestsNow now self.old input.old }
     {
         if !self.has_room(output) {
@@ -166,6 +170,9 @@ impl Client {
             → IsIndexRoom result.0 → ⊥ }
         ensures enough { room_at self.old.holding self.old.shown self.old.kept ≤ length made.old
             → IsDataRoom result.0 → ⊥ }
+        ensures short { length made.old
+            < min (room_at self.old.holding self.old.shown self.old.kept) (2 ^ 64 - 1)
+            → IsDataRoom result.0 }
         ensures acts { IsWait result.0 → ⊥ }
     {
         match self.apply(now, input, held, made, index, output) {

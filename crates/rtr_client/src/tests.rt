@@ -266,10 +266,12 @@ fn an_answer_that_comes_byte_for_byte(rt: HostRuntime) {
         }
     }
     assert_eq!(rt; wants, 1);
-    play(&rt, &mut w, &[(1, Act::Next, "index", 1)]);
-    w.index_room = 1;
+    play(&rt, &mut w, &[(1, Act::Next, "data room", 68)]);
+    w.data_room = 67;
     play(&rt, &mut w, &[(1, Act::Next, "data room", 68)]);
     w.data_room = 68;
+    play(&rt, &mut w, &[(1, Act::Next, "index", 1)]);
+    w.index_room = 1;
     play(
         &rt,
         &mut w,
