@@ -9,106 +9,106 @@ import (
 	"unsafe"
 )
 
-// AskNow makes the client ask its cache before the refresh time has passed: at once, or a pause
-// after its last query. Without a connection it connects at once, or after a pause if it queried or
-// connected less than a pause ago. A connection attempt, or an answer that is coming, goes on. The
-// proved machine decides all of this.
+// AskNow makes the client query its cache before the refresh time has passed: at once, or
+// Limits.Pause after its last query. Without a connection it connects at once, or after
+// Limits.Pause if it queried or connected less than that ago. It doesn't interrupt a connection
+// attempt, or an answer. The proved machine decides all of this.
 //
 // Any goroutine may call it at any time. If neither Run, Fetch nor Follow runs the client, nothing
 // happens; a copy of a client is another client.
 func (c *Client) AskNow() {
-	c.wishesOf().make()
+	c.requestsOf().set()
 }
 
-// wishes are the requests of the followers that run for a client.
-type wishes struct {
-	client *Client // a copy of it gets wishes of its own
+// askRequests are the requests of the followers that run for a client.
+type askRequests struct {
+	client *Client // a copy of the client gets its own
 	lock   sync.Mutex
-	all    map[*wish]bool
+	all    map[*askRequest]bool
 }
 
-// wishesOf returns the requests of the followers that run for the client. It is atomic, since a
+// requestsOf returns the requests of the followers that run for the client. It is atomic, since a
 // Client has no lock, so that it may be copied.
-func (c *Client) wishesOf() *wishes {
-	field := (*unsafe.Pointer)(unsafe.Pointer(&c.wishes))
+func (c *Client) requestsOf() *askRequests {
+	field := (*unsafe.Pointer)(unsafe.Pointer(&c.askRequests))
 	for {
-		found := (*wishes)(atomic.LoadPointer(field))
+		found := (*askRequests)(atomic.LoadPointer(field))
 		if found != nil && found.client == c {
 			return found
 		}
-		made := &wishes{client: c, all: map[*wish]bool{}}
-		atomic.CompareAndSwapPointer(field, unsafe.Pointer(found), unsafe.Pointer(made))
+		created := &askRequests{client: c, all: map[*askRequest]bool{}}
+		atomic.CompareAndSwapPointer(field, unsafe.Pointer(found), unsafe.Pointer(created))
 	}
 }
 
-// make makes the request of each follower.
-func (w *wishes) make() {
-	w.lock.Lock()
-	defer w.lock.Unlock()
-	for one := range w.all {
-		one.make()
+// set sets the request of each follower.
+func (rs *askRequests) set() {
+	rs.lock.Lock()
+	defer rs.lock.Unlock()
+	for request := range rs.all {
+		request.set()
 	}
 }
 
 // add adds the request of a follower that starts to run.
-func (w *wishes) add(one *wish) {
-	w.lock.Lock()
-	defer w.lock.Unlock()
-	w.all[one] = true
+func (rs *askRequests) add(request *askRequest) {
+	rs.lock.Lock()
+	defer rs.lock.Unlock()
+	rs.all[request] = true
 }
 
 // remove removes the request of a follower that has run.
-func (w *wishes) remove(one *wish) {
-	w.lock.Lock()
-	defer w.lock.Unlock()
-	delete(w.all, one)
+func (rs *askRequests) remove(request *askRequest) {
+	rs.lock.Lock()
+	defer rs.lock.Unlock()
+	delete(rs.all, request)
 }
 
-// wish is a request to ask now, of one follower.
-type wish struct {
-	lock  sync.Mutex
-	made  bool   // and the link wasn't told of it yet
-	rings bool   // and the follower has to look at it
-	end   func() // ends what it waits for, if it does
+// askRequest is a request to query now, for one follower.
+type askRequest struct {
+	lock       sync.Mutex
+	pending    bool   // set, and not taken yet
+	interrupts bool   // set while the follower didn't wait: its next wait ends at once
+	cancel     func() // interrupts the follower's wait; nil if it doesn't wait
 }
 
-// make sets the request, and interrupts the follower's wait.
-func (w *wish) make() {
-	w.lock.Lock()
-	defer w.lock.Unlock()
-	w.made = true
-	if w.end != nil {
-		w.end()
+// set sets the request, and interrupts the follower's wait.
+func (r *askRequest) set() {
+	r.lock.Lock()
+	defer r.lock.Unlock()
+	r.pending = true
+	if r.cancel != nil {
+		r.cancel()
 	} else {
-		w.rings = true
+		r.interrupts = true
 	}
 }
 
-// fulfil reports whether a request is pending, and clears it.
-func (w *wish) fulfil() bool {
-	w.lock.Lock()
-	defer w.lock.Unlock()
-	made := w.made
-	w.made, w.rings = false, false
-	return made
+// take reports whether a request is pending, and clears it.
+func (r *askRequest) take() bool {
+	r.lock.Lock()
+	defer r.lock.Unlock()
+	pending := r.pending
+	r.pending, r.interrupts = false, false
+	return pending
 }
 
-// waits registers the function that interrupts the current wait; nil clears it.
-func (w *wish) waits(end func()) {
-	w.lock.Lock()
-	defer w.lock.Unlock()
-	if w.end = end; end != nil && w.rings {
-		w.rings = false
-		end()
+// setCancel registers the function that interrupts the current wait; nil clears it.
+func (r *askRequest) setCancel(cancel func()) {
+	r.lock.Lock()
+	defer r.lock.Unlock()
+	if r.cancel = cancel; cancel != nil && r.interrupts {
+		r.interrupts = false
+		cancel()
 	}
 }
 
-// readUntil reads from the connection until a time, or until a request is made.
+// readUntil reads from the connection until a deadline, or until a request is set.
 func (n *network) readUntil(at time.Time, buffer []byte) (int, error) {
 	if err := n.connection.SetReadDeadline(at); err != nil {
 		return 0, err
 	}
-	n.wish.waits(func() { n.connection.SetReadDeadline(passed) })
-	defer n.wish.waits(nil)
+	n.askRequest.setCancel(func() { n.connection.SetReadDeadline(passed) })
+	defer n.askRequest.setCancel(nil)
 	return n.connection.Read(buffer)
 }

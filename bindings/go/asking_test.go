@@ -163,8 +163,8 @@ func TestAskNowWithoutRun(t *testing.T) {
 			t.Fatal(err)
 		}
 	}
-	if len(client.wishesOf().all) > 0 {
-		t.Error("a wish is left")
+	if len(client.requestsOf().all) > 0 {
+		t.Error("a request is left")
 	}
 }
 

@@ -13,7 +13,7 @@ import (
 	"time"
 )
 
-// Broken rules of a session, each in a Breach that names the unit.
+// The rules of a session that a unit can break; a Breach has one of them, and the unit.
 var (
 	// ErrOtherVersion: the unit's version isn't that of the session.
 	ErrOtherVersion = errors.New(causeOtherVersion.String())
@@ -58,7 +58,7 @@ const (
 	causeHigher        cause = C.RTR_CAUSE_HIGHER
 )
 
-// String is the text of the cause, as reports have it.
+// String returns the text of the cause, as in reports.
 func (c cause) String() string {
 	return name(namedCause, uint16(c))
 }
@@ -108,7 +108,7 @@ var endings = map[C.uint8_t]error{
 	C.RTR_REASON_UNKNOWN:       ErrUnknownData,
 }
 
-// reasonText returns the text of a reason, as in reports.
+// reasonText returns the text of a reason for which a cache ends a session, as in reports.
 func reasonText(reason C.uint8_t) string {
 	return name(namedReason, uint16(reason))
 }
@@ -121,7 +121,7 @@ var ErrTooSlow = errors.New("rtr: the peer is too slow")
 type Breach struct {
 	Reason error     // one of the errors above
 	Code   ErrorCode // of its report (RFC 8210 section 12)
-	Unit   []byte    // its bytes, as far as they were read
+	Unit   []byte    // the bytes of the unit that were read
 }
 
 // Error returns the reason, and the type and the version of the unit.
@@ -137,8 +137,8 @@ func (b *Breach) Unwrap() error {
 	return b.Reason
 }
 
-// Report returns the error report that is owed to the peer, and whether one is: none about an error
-// report (RFC 8210 section 5.11).
+// Report returns the error report that is owed to the peer, and whether one is owed: none is about
+// an error report (RFC 8210 section 5.11).
 func (b *Breach) Report() (report *Unit, owed bool) {
 	if len(b.Unit) >= 2 && Kind(b.Unit[1]) == ErrorReport {
 		return nil, false
@@ -162,7 +162,7 @@ func (r *Reported) Error() string {
 	return fmt.Sprintf("rtr: the peer reports: %v: %.200q", r.Code, r.Text)
 }
 
-// breachOf returns the breach that a machine names, with a copy of the first unit of these bytes.
+// breachOf returns a breach with this reason and code, and a copy of input's first unit.
 func breachOf(why error, code ErrorCode, input []byte) error {
 	size, err := UnitSize(input)
 	if err != nil {
@@ -202,12 +202,11 @@ func isTimeout(err error) bool {
 	return errors.Is(err, os.ErrDeadlineExceeded)
 }
 
-// The bytes and the time for reading from a peer after a report was sent: closing a connection with
-// unread bytes resets it, and the report may be lost.
+// The most bytes to read from a peer after a report: closing a connection with unread bytes resets
+// it, and the report may be lost.
 const lingerBytes = 1 << 20
 
-// sendLast writes the bytes of a last unit to a connection, if there are any, and gives the peer
-// time to read them.
+// sendLast writes a last unit to a connection, if there is one, and gives the peer time to read it.
 func sendLast(connection net.Conn, last []byte, patience time.Duration) {
 	if len(last) == 0 {
 		return
@@ -224,7 +223,7 @@ func sendLast(connection net.Conn, last []byte, patience time.Duration) {
 	discard(connection, lingerBytes)
 }
 
-// discard reads and drops bytes that still come, up to a number.
+// discard reads and drops bytes until the end of the connection, at most this number.
 func discard(connection net.Conn, most int) {
 	buffer := make([]byte, 4096)
 	for most > 0 {

@@ -2,19 +2,19 @@
 
 package rtr
 
-// Finding is a rule that the unit at an offset breaks, or all units together, where the offset is
-// their length.
+// Finding is a broken rule: by the unit at an offset or, at the end of the input, by all units
+// together.
 type Finding struct {
 	Offset uint64
-	// Line is what rtr_list --check prints of it, without its end.
+	// Line is the line that rtr_list --check prints for it, without the newline.
 	Line string
 }
 
-// String is the line.
+// String returns the line.
 func (f Finding) String() string { return f.Line }
 
-// Checker says what rtr_list --check says of units that come one after the other. It keeps the names
-// of the payloads that are announced. The zero value has seen no unit.
+// Checker makes the checks of rtr_list --check on the units of a recording, one after the other. It
+// keeps the names of the announced payloads in memory. The zero value has seen no unit.
 type Checker struct {
 	state  sequenceState
 	names  map[string]struct{}
@@ -22,8 +22,8 @@ type Checker struct {
 	offset uint64
 }
 
-// Unit is what the unit breaks that input begins with, and the unit's size. Its errors are those of
-// UnitLine.
+// Unit checks input's first unit, and returns the rules that it breaks, and its size. The errors
+// are those of UnitLine.
 func (c *Checker) Unit(input []byte) ([]Finding, int, error) {
 	if c.name == nil {
 		c.name = make([]byte, nameRoom)
@@ -50,7 +50,7 @@ func (c *Checker) Unit(input []byte) ([]Finding, int, error) {
 	return found, named.size, nil
 }
 
-// Finish is what is missing where the input ends.
+// Finish returns what is missing at the end of the input.
 func (c *Checker) Finish() []Finding {
 	return findings(checkEnd(nil, c.state, c.offset), c.offset)
 }

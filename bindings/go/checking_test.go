@@ -31,8 +31,8 @@ func check(recording []byte) (string, error) {
 	return said.String(), nil
 }
 
-// The recordings of the file that RTR_FINDINGS names, or else of tests/programs/listings --findings,
-// with the lines of what they break.
+// The recordings of the file that RTR_FINDINGS names, or else of tests/programs/listings
+// --findings, with the lines of what they break.
 func TestFindings(t *testing.T) {
 	rows, err := exec.Command("python3", "../../tests/programs/listings", "--findings").Output()
 	if path := os.Getenv("RTR_FINDINGS"); path != "" {

@@ -6,25 +6,25 @@ import "io"
 
 // follower is a running Client: the link, which decides what to do, and the connection.
 type follower struct {
-	link    *link
-	peer    peer
-	wish    wish // to ask before it is time
-	cache   string
-	log     Log
-	once    bool // it ends after the first data, or the first failure
-	last    bool // it ends after the first failure
-	changed func(Update) error
-	told    func(error) // of failures, or nil
+	link       *link
+	peer       peer
+	askRequest askRequest // to query before the refresh time
+	cache      string
+	log        Log
+	once       bool // it ends after the first data, or the first failure
+	last       bool // it ends after the first failure
+	changed    func(Update) error
+	onFailure  func(error) // may be nil
 
 	data      Data
 	connected bool
-	came      int64 // how many bytes the connection gave
-	logged    int   // how many of the unsent bytes the log knows
-	err       error // why there is no connection, or no room for an answer
+	received  int64 // bytes from the present connection
+	logged    int   // how many of the unsent bytes are in the log
+	err       error // why there is no connection, or no memory for an answer
 	stopped   error // why the follower ends
 }
 
-// run does what the link says until the caller ends it.
+// run performs the link's actions until the follower is stopped.
 func (f *follower) run() error {
 	for f.stopped == nil {
 		f.perform(f.next())
@@ -33,18 +33,18 @@ func (f *follower) run() error {
 	return f.stopped
 }
 
-// next returns what to do next. A request comes before the bytes that came after it.
+// next returns the next action. A request is handled before bytes that arrived after it.
 func (f *follower) next() todo {
-	if f.connected && f.wish.fulfil() {
+	if f.connected && f.askRequest.take() {
 		return f.link.askNow(f.peer.now())
 	}
 	return f.link.next(f.peer.now())
 }
 
-// perform does what is to be done.
+// perform performs an action.
 func (f *follower) perform(t todo) {
 	switch t.kind {
-	case todoRoom:
+	case todoGrow:
 		f.giveUp()
 	case todoWait:
 		f.wait(uint64(t.wakes))
@@ -53,19 +53,19 @@ func (f *follower) perform(t todo) {
 	case todoClose:
 		f.close(t)
 	case todoData:
-		f.show(f.link.taken(f.peer.now()))
+		f.show(f.link.newData(f.peer.now()))
 	case todoDropped:
 		f.drop()
 		f.failed(ErrExpired)
 	case todoNoData:
-		f.failed(reportedIn(f.link.about(t)))
+		f.failed(reportedIn(f.link.inputFrom(t)))
 	}
 }
 
-// wait waits for a request, bytes that come or can be sent, or a time.
+// wait waits until a deadline, a request, or until bytes can be read or sent.
 func (f *follower) wait(until uint64) {
 	switch {
-	case !f.connected && f.wish.fulfil():
+	case !f.connected && f.askRequest.take():
 		f.perform(f.link.askNow(f.peer.now()))
 	case !f.connected:
 		f.stop(f.peer.rest(until))
@@ -76,9 +76,9 @@ func (f *follower) wait(until uint64) {
 	}
 }
 
-// connect connects. If that takes too long, the link says so.
+// connect connects. It leaves a timeout to the link.
 func (f *follower) connect(until uint64) {
-	f.came, f.logged = 0, 0
+	f.received, f.logged = 0, 0
 	err := f.peer.connect(until)
 	switch {
 	case err == nil:
@@ -101,11 +101,11 @@ func (f *follower) send(until uint64) {
 	}
 }
 
-// receive reads some of what the cache sends.
+// receive reads some bytes from the cache.
 func (f *follower) receive(until uint64) {
-	count, err := f.peer.read(f.link.room(f.peer.now()), until)
+	count, err := f.peer.read(f.link.inputTail(f.peer.now()), until)
 	f.link.received(count)
-	f.came += int64(count)
+	f.received += int64(count)
 	switch {
 	case err == io.EOF:
 		f.lost(ErrClosed)
@@ -121,7 +121,7 @@ func (f *follower) lost(err error) {
 	f.stop(f.peer.ended())
 }
 
-// close sends what is still to be sent, and closes the connection.
+// close sends the unsent bytes, and closes the connection.
 func (f *follower) close(t todo) {
 	reason := f.reason(t)
 	if t.drops {
@@ -136,7 +136,7 @@ func (f *follower) close(t todo) {
 	}
 }
 
-// giveUp ends an answer for which there is no room.
+// giveUp ends an answer that is too large for a buffer.
 func (f *follower) giveUp() {
 	f.err = ErrNoMemory
 	t := f.link.giveUp(f.peer.now())

@@ -10,12 +10,12 @@ import (
 	"math"
 )
 
-// Timing are the three times of an end of data, in seconds (RFC 8210 section 6). Version 0 has
+// Timing has the three times of an end of data, in seconds (RFC 8210 section 6). Version 0 has
 // none.
 type Timing struct {
 	Refresh uint32 // from an end of data to the next query
 	Retry   uint32 // from a query that failed to the next one
-	Expire  uint32 // from an end of data to when its data may no longer be used
+	Expire  uint32 // from an end of data to when its data may not be used any more
 }
 
 // RecommendedTiming are the times that RFC 8210 section 6 recommends.
@@ -23,12 +23,12 @@ var RecommendedTiming = Timing{
 	Refresh: usualRefresh, Retry: usualRetry, Expire: usualExpire,
 }
 
-// ErrTiming is of times that no cache may name.
+// ErrTiming: RFC 8210 section 6 doesn't allow these times.
 var ErrTiming = errors.New("rtr: no cache may name these times")
 
-// Check returns nil where a cache may name these times, and else an ErrTiming that says which rule
-// of RFC 8210 section 6 they break: the refresh time is 1 to 86400 seconds, the retry time 1 to
-// 7200, the expire time 600 to 172800, and longer than both.
+// Check returns nil if a cache may send these times, else an ErrTiming with the rule of RFC 8210
+// section 6 that they break: the refresh time is 1 to 86400 seconds, the retry time 1 to 7200, the
+// expire time 600 to 172800, and longer than both.
 func (t Timing) Check() error {
 	if rule, broken := brokenTimeRule(t); broken {
 		return fmt.Errorf("%w: %s", ErrTiming, name(namedTimeRule, rule))
@@ -36,22 +36,23 @@ func (t Timing) Check() error {
 	return nil
 }
 
-// Data is what a cache has, or a router has of it: payloads, and the end of data that says their
+// Data is the data of a cache, or a router's copy of them: payloads, and an end of data with their
 // version, session, serial number and timing. It is kept in canonical form: announcements in the
-// order of payloads, no two of one name, all of one version. A Data never changes, so several
-// goroutines may use one at once.
+// order of payloads, no two of the same payload name, all of one version. A Data never changes, so
+// several goroutines may use one at once.
 //
-// The zero Data is none: calls refuse it by Short. NewData makes data without payloads.
+// The zero Data stands for no data: calls refuse it with Short. NewData makes data without
+// payloads.
 type Data struct {
 	bytes   []byte // the units, and the end of data
-	units   int    // how many are payload units
+	units   int    // the number of payload units
 	session uint16
 	serial  uint32
 	timing  Timing
 	lookup  *lookup
 }
 
-// NewData makes data without payloads. In version 0 the timing isn't kept.
+// NewData makes data without payloads. Data of version 0 have no timing.
 //
 // Errors: a Fault with UnitVersion for a version above 2.
 func NewData(version uint8, session uint16, serial uint32, timing Timing) (Data, error) {
@@ -66,14 +67,14 @@ func NewData(version uint8, session uint16, serial uint32, timing Timing) (Data,
 	return checkedData(bytes), nil
 }
 
-// ParseData makes data of the bytes that input begins with, if they are in canonical form and
-// withdraw nothing. What follows the end of data doesn't count. Load takes recordings, and lists in
-// any order. The data have the written form of the units: what means nothing is zero.
+// ParseData parses data in canonical form, without withdrawals, at the start of input. It ignores
+// what follows the end of data. Load takes recordings, and lists in any order. The bits of the
+// input that have no meaning are zero in the data.
 //
 // Errors, each a Fault with the offset and the bytes of the unit: Short to PrefixRule;
 // NotCanonical.
 func ParseData(input []byte) (Data, error) {
-	// The delta from data to themselves is their end of data.
+	// A delta from data to themselves is only their end of data; computing it checks the form.
 	if _, err := delta(input, input, make([]byte, longestEnd)); err != nil {
 		return Data{}, err
 	}
@@ -85,17 +86,17 @@ func ParseData(input []byte) (Data, error) {
 	return checkedData(fitted(output, progress.Written)), nil
 }
 
-// Load makes data of all of a recording or a list, with their payload units in any order. A list is
+// Load makes data of a whole recording or list, with the payload units in any order. A list is
 // payload units and an end of data. A recording is what a cache sent, with or without the router's
-// queries, of one answer or several, each with or without a cache response; as in a router, an
-// answer changes the data before it only in the same session and unless all data were asked for
-// (RFC 8210 sections 5.1, 5.3 to 5.5, 5.9 and 8). hasCut reports that an answer was left out, since
-// the next one began before its end of data.
+// queries: one answer or several, each with or without a cache response. As in a router, an answer
+// changes the data before it only in the same session, and if it doesn't answer a reset query (RFC
+// 8210 sections 5.1, 5.3 to 5.5, 5.9 and 8). hasCut reports that an answer was left out, since the
+// next one began before its end of data.
 //
-// Errors, each a Fault with the offset and the bytes of the first unit that can't be taken:
+// Errors, each a Fault with the offset and the bytes of the first unit that is refused:
 //   - Short to PrefixRule; Short at the end of an input whose last answer has no end of data, or
 //     that has no answer;
-//   - Duplicate or Unknown where a payload is announced that is there, or withdrawn that isn't (RFC
+//   - Duplicate or Unknown if a payload is announced that is present, or withdrawn that isn't (RFC
 //     8210 section 12);
 //   - OtherVersion for a payload unit or an end of data of another version than the units before it
 //     in its answer, or than the data that this changes;
@@ -111,12 +112,12 @@ func Load(input []byte) (data Data, hasCut bool, err error) {
 	return checkedData(fitted(output, length)), hasCut, nil
 }
 
-// unitLength is the length in the header of a unit that was checked.
+// unitLength returns the length in the header of a unit that was checked.
 func unitLength(unit []byte) int {
 	return int(binary.BigEndian.Uint32(unit[4:]))
 }
 
-// checkedData is the data of these bytes, which were checked.
+// checkedData returns the data of these bytes, which were checked.
 func checkedData(bytes []byte) Data {
 	data := Data{bytes: bytes[:len(bytes):len(bytes)], lookup: new(lookup)}
 	at := 0
@@ -130,28 +131,29 @@ func checkedData(bytes []byte) Data {
 	return data
 }
 
-// Equal says whether two data mean the same, with their version, session, serial number and timing.
+// Equal reports whether two data have the same payloads, version, session, serial number and
+// timing.
 func (d Data) Equal(other Data) bool {
 	return bytes.Equal(d.bytes, other.bytes)
 }
 
-// IsZero says whether this is the zero Data.
+// IsZero reports whether this is the zero Data.
 func (d Data) IsZero() bool {
 	return len(d.bytes) == 0
 }
 
-// Bytes are the data in canonical form: a sequence that answers a reset query, after a cache
-// response. They are those of the data: don't change them.
+// Bytes returns the data in canonical form: the sequence that answers a reset query, after a cache
+// response. It isn't a copy: don't change the bytes.
 func (d Data) Bytes() []byte {
 	return d.bytes
 }
 
-// Len is how many payloads there are.
+// Len returns the number of payloads.
 func (d Data) Len() int {
 	return d.units
 }
 
-// Version is the version of the protocol, of each unit and of the end of data.
+// Version returns the protocol version of each unit and of the end of data.
 func (d Data) Version() uint8 {
 	if d.IsZero() {
 		return 0
@@ -159,24 +161,24 @@ func (d Data) Version() uint8 {
 	return d.bytes[0]
 }
 
-// Session is the session of the end of data.
+// Session returns the session of the end of data.
 func (d Data) Session() uint16 {
 	return d.session
 }
 
-// Serial is the serial number of the end of data.
+// Serial returns the serial number of the end of data.
 func (d Data) Serial() uint32 {
 	return d.serial
 }
 
-// Timing are the times of the end of data, zero in version 0.
+// Timing returns the times of the end of data, zero in version 0.
 func (d Data) Timing() Timing {
 	return d.timing
 }
 
-// For are the data that clients of a protocol version may have: without the payloads that it
-// lacks, in this version, and with an end of data of this version. One that came in version 0 gets
-// the recommended timing in another.
+// For converts the data for clients of a protocol version: without the payloads that the version
+// lacks, and with an end of data of this version. Data of version 0 get the recommended timing in
+// other versions.
 //
 // Errors, each a Fault: UnitVersion for a version above 2.
 func (d Data) For(version uint8) (Data, error) {
@@ -190,14 +192,14 @@ func (d Data) For(version uint8) (Data, error) {
 	return checkedData(form), nil
 }
 
-// formFor is what a version has of a sequence in canonical form.
+// formFor converts a sequence in canonical form to a version.
 func formFor(sequence []byte, version uint8) ([]byte, error) {
 	output := make([]byte, len(sequence)+longestEnd)
 	progress, err := NormaliseFor(sequence, output, math.MaxUint64, version)
 	return fitted(output, progress.Written), err
 }
 
-// parts are the units of a sequence in canonical form, and its end of data.
+// parts returns the payload units of a sequence in canonical form, and its end of data.
 func parts(sequence []byte) (units, end []byte) {
 	size := longestEnd
 	if sequence[0] == 0 {
@@ -206,7 +208,7 @@ func parts(sequence []byte) (units, end []byte) {
 	return sequence[:len(sequence)-size], sequence[len(sequence)-size:]
 }
 
-// fitted is the front of an output, in a copy where much of the output isn't used.
+// fitted returns the written front of an output; a copy, if more than a quarter isn't used.
 func fitted(output []byte, written int) []byte {
 	if written < len(output)-len(output)/4 {
 		return append([]byte{}, output[:written]...)
@@ -214,7 +216,7 @@ func fitted(output []byte, written int) []byte {
 	return output[:written:written]
 }
 
-// inSession are the data under another session.
+// inSession returns the data with another session.
 func (d Data) inSession(session uint16) Data {
 	if d.session == session {
 		return d
@@ -226,7 +228,7 @@ func (d Data) inSession(session uint16) Data {
 	return d
 }
 
-// Units is a loop over the payload units of the data, in the order of payloads.
+// Units returns a loop over the payload units of the data, in the order of payloads.
 //
 //	for units := data.Units(); units.Scan(); {
 //		fmt.Println(units.Unit().Kind)
@@ -235,14 +237,14 @@ func (d Data) Units() *Units {
 	return &Units{rest: d.bytes}
 }
 
-// Units is a loop over payload units in memory that were checked: those of Data or of an Update.
+// Units is a loop over the payload units of Data or of an Update.
 type Units struct {
 	rest  []byte
 	unit  Unit
 	ahead *decoded
 }
 
-// Scan goes to the next payload unit, which Unit then gives. It answers false after the last one.
+// Scan moves to the next payload unit, for Unit. It returns false after the last one.
 func (u *Units) Scan() bool {
 	if len(u.rest) == 0 || Kind(u.rest[1]) == EndOfData {
 		return false
@@ -260,18 +262,18 @@ func (u *Units) Scan() bool {
 	return true
 }
 
-// Unit is the unit that Scan went to. It is valid until the next call of Scan; Clone keeps it.
+// Unit returns the current unit. It is valid until the next call of Scan; Clone copies it.
 func (u *Units) Unit() *Unit {
 	return &u.unit
 }
 
-// Delta is what leads a router from the old data to the new (RFC 8210 section 8.2): changes in
-// canonical form, with the end of data of the new ones. Apply makes of the old data the new.
+// Delta returns the changes that lead a router from the old data to the new (RFC 8210 section 8.2),
+// in canonical form, with the end of data of the new. Apply applies them to the old data.
 //
 // Errors, each a Fault, in this order: Short for the zero Data; UnitVersion if the new data are of
 // another version; OtherSession if they are of another session.
 func Delta(old, new Data) ([]byte, error) {
-	// Most deltas are much shorter than data.
+	// Most deltas are much shorter than the data.
 	output := make([]byte, len(old.bytes)/8+len(new.bytes)/8)
 	written, err := delta(old.bytes, new.bytes, output)
 	if errors.Is(err, NoRoom) {
@@ -284,8 +286,8 @@ func Delta(old, new Data) ([]byte, error) {
 	return fitted(output, written), nil
 }
 
-// changesBetween are the changes between data of any versions and sessions: in the higher version,
-// as the other one may lack some of the payloads. The zero Data stands for none.
+// changesBetween returns the changes between data of any versions and sessions: in the higher
+// version, since the lower one may lack some of the payloads. The zero Data stands for none.
 func changesBetween(old, new Data) ([]byte, error) {
 	if old.IsZero() {
 		return new.bytes, nil
@@ -313,17 +315,16 @@ func changesBetween(old, new Data) ([]byte, error) {
 	return Delta(sides[0].inSession(session), sides[1])
 }
 
-// Apply is what the changes make of the data, with the end of data of the changes: all of them, or
-// there is an error. An ASPA that is announced takes the place of the one of its customer. The
-// changes are in canonical form, as Delta and Order write them; what follows their end of data
-// doesn't count.
+// Apply returns the data after all of the changes, with the end of data of the changes, or an
+// error. An announced ASPA replaces the one of its customer. The changes are in canonical form, as
+// Delta and Order write them; what follows their end of data is ignored.
 //
 // Errors, each a Fault, in this order, with offsets in the changes:
 //   - Short for the zero Data;
 //   - Short to PrefixRule, or NotCanonical, at the first unit of the changes that is refused;
 //   - UnitVersion or OtherSession if the changes are of another version or session than the data;
-//   - Duplicate or Unknown at the first of the changes that isn't allowed (RFC 8210 section 12),
-//     which owes the cache a report.
+//   - Duplicate or Unknown at the first of the changes that isn't allowed (RFC 8210 section 12);
+//     the cache is owed a report.
 func Apply(data Data, changes []byte) (Data, error) {
 	output := make([]byte, len(data.bytes)+len(changes))
 	written, err := apply(data.bytes, changes, output)
@@ -333,18 +334,19 @@ func Apply(data Data, changes []byte) (Data, error) {
 	return checkedData(fitted(output, written)), nil
 }
 
-// ApplyInOrder is what the changes of an answer make of the data, made one after the other in the
-// order in which they came, with the end of data of the changes: all of them, or there is an error.
-// An ASPA that is announced takes the place of the one of its customer. The changes are a sequence,
-// as a cache sends it after its response; what follows its end of data doesn't count.
+// ApplyInOrder returns the data after the changes of an answer, applied one after the other in the
+// order in which they came, with the end of data of the changes, or an error. An announced ASPA
+// replaces the one of its customer. The changes are a sequence, as a cache sends it after its
+// response; what follows its end of data is ignored.
 //
 // Errors, each a Fault, in this order, with offsets in the changes:
 //   - Short for the zero Data;
 //   - Short to PrefixRule at the first unit of the changes that is refused, or NotCanonical at one
 //     that isn't of the version of those before it;
 //   - UnitVersion or OtherSession if the changes are of another version or session than the data;
-//   - Duplicate or Unknown at the first of the changes, as they came, that announces what is there
-//     then or withdraws what isn't (RFC 8210 section 12), which owes the cache a report.
+//   - Duplicate or Unknown at the first of the changes, as they came, that announces a payload that
+//     is then present, or withdraws one that isn't (RFC 8210 section 12); the cache is owed a
+//     report.
 func ApplyInOrder(data Data, changes []byte) (Data, error) {
 	output := make([]byte, len(data.bytes)+len(changes))
 	written, err := applyInOrder(data.bytes, changes, output, len(changes)/shortestPayload)
@@ -354,10 +356,10 @@ func ApplyInOrder(data Data, changes []byte) (Data, error) {
 	return checkedData(fitted(output, written)), nil
 }
 
-// Order is the sequence that changes begins with, in canonical form: what its changes come to,
-// made one after the other. Caches send deltas in any order, and Apply takes them in canonical
-// form alone; ApplyInOrder takes them as they are. Where all of the changes are allowed, Apply
-// makes of the data with what Order gives what they make of it one after the other.
+// Order returns the net effect of the sequence at the start of changes, in canonical form. Caches
+// send deltas in any order, and Apply takes them only in canonical form; ApplyInOrder takes them as
+// they are. If each of the changes is allowed, Apply with the result of Order has the same effect
+// as the changes one after the other.
 //
 // Errors, each a Fault with the offset and the bytes of the unit, in this order:
 //   - Short to PrefixRule, at the first unit that is refused;
@@ -366,7 +368,7 @@ func ApplyInOrder(data Data, changes []byte) (Data, error) {
 //     at the second unit;
 //   - Undecided if an ASPA is announced and in the end withdrawn, at its last withdrawal.
 //
-// Of the units that the last two name it is the first in the order of payloads.
+// If several units break one of the last two rules, it is the first in the order of payloads.
 func Order(changes []byte) ([]byte, error) {
 	output := make([]byte, len(changes))
 	written, err := order(changes, output, len(changes)/shortestPayload)

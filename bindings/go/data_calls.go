@@ -5,7 +5,7 @@ package rtr
 /*
 #include "rtr.h"
 
-// The answers by value, so that nothing of them has to be kept outside of the stack.
+// The answers are returned by value, so that they stay on the stack.
 static struct rtr_data_answer delta(const uint8_t *old_data, size_t old_length,
                                     const uint8_t *new_data, size_t new_length,
                                     uint8_t *output, size_t output_length)
@@ -57,58 +57,58 @@ static struct rtr_loaded load(const uint8_t *input, size_t input_length,
 */
 import "C"
 
-// delta writes the delta from old to new to output, and answers how long it is.
+// delta writes the delta from old to new to output, and returns its length.
 func delta(old, new, output []byte) (int, error) {
-	first, n := place(old)
-	second, m := place(new)
-	out, room := place(output)
-	return answered(C.delta(first, n, second, m, out, room), old, new)
+	first, n := cBytes(old)
+	second, m := cBytes(new)
+	out, capacity := cBytes(output)
+	return lengthOf(C.delta(first, n, second, m, out, capacity), old, new)
 }
 
-// apply writes what the changes make of the data to output, and answers how long it is.
+// apply writes the data after the changes to output, and returns their length.
 func apply(data, changes, output []byte) (int, error) {
-	first, n := place(data)
-	second, m := place(changes)
-	out, room := place(output)
-	return answered(C.apply(first, n, second, m, out, room), data, changes)
+	first, n := cBytes(data)
+	second, m := cBytes(changes)
+	out, capacity := cBytes(output)
+	return lengthOf(C.apply(first, n, second, m, out, capacity), data, changes)
 }
 
-// applyInOrder writes what the changes make of the data, in the order in which they came, to
-// output, and answers how long it is. There are at most so many payload units in them.
+// applyInOrder writes the data after the changes, in the order in which they came, to output, and
+// returns their length. The changes have at most this number of payload units.
 func applyInOrder(data, changes, output []byte, units int) (int, error) {
 	index := make([]C.size_t, units+1)
-	first, n := place(data)
-	second, m := place(changes)
-	out, room := place(output)
-	a := C.apply_in_order(first, n, second, m, &index[0], C.size_t(units), out, room)
-	return answered(a, data, changes)
+	first, n := cBytes(data)
+	second, m := cBytes(changes)
+	out, capacity := cBytes(output)
+	a := C.apply_in_order(first, n, second, m, &index[0], C.size_t(units), out, capacity)
+	return lengthOf(a, data, changes)
 }
 
-// order writes the changes in canonical form to output, and answers how long they are. There are
-// at most so many payload units in them.
+// order writes the changes in canonical form to output, and returns their length. They have at most
+// this number of payload units.
 func order(changes, output []byte, units int) (int, error) {
 	index := make([]C.size_t, units+1)
-	in, n := place(changes)
-	out, room := place(output)
-	return answered(C.order(in, n, &index[0], C.size_t(units), out, room), changes)
+	in, n := cBytes(changes)
+	out, capacity := cBytes(output)
+	return lengthOf(C.order(in, n, &index[0], C.size_t(units), out, capacity), changes)
 }
 
-// load writes the data that a recording or a list leaves to output, and returns their length and
-// whether an answer was left out. Work and output are as long as the input.
+// load writes the data of a recording or a list to output, and returns their length and whether an
+// answer was left out. Work and output are as long as the input.
 func load(input, work, output []byte) (int, bool, error) {
 	index := make([]C.size_t, len(input)/shortestPayload)
-	in, n := place(input)
-	between, size := place(work)
-	out, room := place(output)
-	a := C.load(in, n, address(index), C.size_t(len(index)), between, size, out, room)
+	in, n := cBytes(input)
+	between, size := cBytes(work)
+	out, capacity := cBytes(output)
+	a := C.load(in, n, firstOf(index), C.size_t(len(index)), between, size, out, capacity)
 	if status := Status(a.status); status != OK {
 		return 0, false, refusal(status, uint8(a.detail), input[a.offset:], int64(a.offset))
 	}
 	return int(a.length), bool(a.has_cut), nil
 }
 
-// answered is how a call ended that has these inputs.
-func answered(a C.struct_rtr_data_answer, inputs ...[]byte) (int, error) {
+// lengthOf returns the written length of an answer, or its fault in one of the inputs.
+func lengthOf(a C.struct_rtr_data_answer, inputs ...[]byte) (int, error) {
 	status, detail := Status(a.status), uint8(a.detail)
 	switch {
 	case status == OK:

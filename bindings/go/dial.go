@@ -8,8 +8,8 @@ import (
 	"net"
 )
 
-// NewClientConn makes a Client as NewClient does, with this connection only: Run and Fetch end with
-// it, and return why it ended, also if the cache has only a lower version.
+// NewClientConn makes a Client like NewClient, but with this connection only: Run and Fetch end
+// with it, and return why it ended. So they can't fall back to a lower version.
 func NewClientConn(connection net.Conn) *Client {
 	client := NewClient("")
 	client.connection = connection
@@ -20,12 +20,12 @@ func NewClientConn(connection net.Conn) *Client {
 func (c *Client) dialer() func(context.Context, string, string) (net.Conn, error) {
 	switch {
 	case c.connection != nil:
-		given := false
+		used := false
 		return func(context.Context, string, string) (net.Conn, error) {
-			if given {
+			if used {
 				return nil, errNoOther
 			}
-			given = true
+			used = true
 			return c.connection, nil
 		}
 	case c.Dial != nil:

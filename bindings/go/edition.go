@@ -16,7 +16,7 @@ import (
 // The number of versions of the protocol.
 const versions = 3
 
-// How many editions a client may fall behind during an answer.
+// The most editions by which a client may fall behind during an answer.
 const mostBehind = 2
 
 // edition is a cache's data at one serial number, with the steps back to earlier data of the same
@@ -25,29 +25,29 @@ const mostBehind = 2
 type edition struct {
 	mark
 	data  Data
-	back  []stepBack   // from these data, one after the other
-	known []C.uint32_t // the serial numbers that they lead to
+	back  []stepBack   // from these data to older ones, one after the other
+	known []C.uint32_t // the serial numbers to which they lead
 
-	lock   sync.Mutex
-	forms  [versions]Data  // for clients without a socket
-	files  [versions]piece // for the others
-	sends  int             // how many clients are sent one
-	old    bool            // there is a newer edition
-	deltas map[question][]byte
-	room   int // for more deltas
+	lock       sync.Mutex
+	forms      [versions]Data  // for clients without a socket
+	files      [versions]piece // for clients with one
+	sends      int             // the number of clients that are being sent a file
+	old        bool            // there is a newer edition
+	deltas     map[question][]byte
+	deltaSpace int // bytes left for more deltas
 }
 
 // mark identifies an edition.
 type mark struct {
 	full    bool // it has data
-	number  int  // of all that the cache had
+	number  int  // counts the editions of the server
 	session uint16
 }
 
-// stepBack leads back from the data after it.
+// stepBack leads back from newer data to the data before them.
 type stepBack struct {
-	until   time.Time // when those came
-	changes []byte    // in canonical form, with the end of data that it leads to
+	until   time.Time // when the newer data came
+	changes []byte    // in canonical form, with the end of data to which they lead
 }
 
 // question is a serial query, without its session.
@@ -56,20 +56,20 @@ type question struct {
 	serial  uint32
 }
 
-// newEdition returns an edition of data, with those of the steps back that the limits allow and
-// that lead to earlier serial numbers.
+// newEdition returns an edition of data, with the steps back that the limits allow and that lead to
+// earlier serial numbers.
 func newEdition(number int, data Data, back []stepBack, limits ServerLimits) *edition {
-	room := limits.KeepBytes
+	left := limits.KeepBytes
 	e := &edition{
 		mark: mark{true, number, data.Session()}, data: data,
-		deltas: map[question][]byte{}, room: room,
+		deltas: map[question][]byte{}, deltaSpace: limits.KeepBytes,
 	}
-	for i, one := range back {
-		_, end := parts(one.changes)
+	for i, step := range back {
+		_, end := parts(step.changes)
 		serial := binary.BigEndian.Uint32(end[8:])
 		order, ok := CompareSerials(serial, data.Serial())
-		room -= len(one.changes)
-		if !ok || order >= 0 || room < 0 || time.Since(one.until) > limits.Keep {
+		left -= len(step.changes)
+		if !ok || order >= 0 || left < 0 || time.Since(step.until) > limits.Keep {
 			break
 		}
 		e.back, e.known = back[:i+1], append(e.known, C.uint32_t(serial))
@@ -108,7 +108,7 @@ func (e *edition) next(data Data, limits ServerLimits) (*edition, error) {
 	return newEdition(e.number+1, data, back, limits), err
 }
 
-// serialError returns an ErrSameSerial with these serial numbers.
+// serialError is an ErrSameSerial with the serial numbers of the old and the new data.
 type serialError struct{ old, new uint32 }
 
 func (e *serialError) Error() string {
@@ -117,7 +117,7 @@ func (e *serialError) Error() string {
 
 func (e *serialError) Unwrap() error { return ErrSameSerial }
 
-// in returns the data and the steps back in a version at least as high as theirs.
+// in returns the data and the steps back in a version that isn't below theirs.
 func (e *edition) in(version uint8) (Data, []stepBack, error) {
 	data, err := e.data.For(version)
 	if version == e.data.Version() || err != nil {
@@ -132,7 +132,7 @@ func (e *edition) in(version uint8) (Data, []stepBack, error) {
 	return data, back, nil
 }
 
-// behind returns why no more of the edition is to be sent; nil if it may be.
+// behind returns the reason to send no more of the edition, or nil.
 func (m mark) behind(present mark) error {
 	switch {
 	case !m.full:
@@ -161,15 +161,15 @@ func (e *edition) file(version uint8) (piece, error) {
 	e.lock.Lock()
 	defer e.lock.Unlock()
 	e.sends++
-	made := &e.files[version]
-	if made.size() > 0 {
-		return *made, nil
+	file := &e.files[version]
+	if file.size() > 0 {
+		return *file, nil
 	}
 	data, err := e.data.For(version)
 	if err == nil {
-		*made = filed(data.Bytes())
+		*file = filed(data.Bytes())
 	}
-	return *made, err
+	return *file, err
 }
 
 // sent releases what file returned.
@@ -191,9 +191,9 @@ func (e *edition) replaced() {
 // closeUnused closes the files of an old edition that isn't being sent to any client.
 func (e *edition) closeUnused() {
 	for version := range e.files {
-		if made := &e.files[version]; e.old && e.sends == 0 && made.file != nil {
-			made.file.Close()
-			*made = piece{}
+		if p := &e.files[version]; e.old && e.sends == 0 && p.file != nil {
+			p.file.Close()
+			*p = piece{}
 		}
 	}
 }
@@ -207,8 +207,8 @@ func (e *edition) since(version uint8, serial uint32) ([]byte, error) {
 	}
 	e.lock.Lock()
 	defer e.lock.Unlock()
-	asked := question{version, serial}
-	if changes, made := e.deltas[asked]; made {
+	query := question{version, serial}
+	if changes, ok := e.deltas[query]; ok {
 		return changes, nil
 	}
 	steps := 1
@@ -219,44 +219,46 @@ func (e *edition) since(version uint8, serial uint32) ([]byte, error) {
 	if err != nil {
 		return nil, err
 	}
-	return e.change(asked, old)
+	return e.change(query, old)
 }
 
-// change returns the delta that answers a question, from old data of the version of these.
-func (e *edition) change(asked question, old Data) ([]byte, error) {
+// change returns the delta that answers a query, from the old data in the edition's version, and
+// keeps it if there is space.
+func (e *edition) change(query question, old Data) ([]byte, error) {
 	changes, err := Delta(old, e.data)
 	if err == nil {
-		changes, err = formFor(changes, asked.version)
+		changes, err = formFor(changes, query.version)
 	}
-	if e.room -= len(changes); e.room >= 0 && err == nil {
-		e.deltas[asked] = changes
+	if e.deltaSpace -= len(changes); e.deltaSpace >= 0 && err == nil {
+		e.deltas[query] = changes
 	}
 	return changes, err
 }
 
-// prepare computes what clients of the edition before will ask for. What fails is retried then.
+// prepare computes the deltas for which clients of the old edition will ask. It ignores errors:
+// since computes the delta again for the client.
 func (e *edition) prepare(old *edition) {
 	old.lock.Lock()
 	forms, files := old.forms, old.files
 	old.lock.Unlock()
 	before, err := old.data.For(e.data.Version())
 	for version := range forms {
-		asked := !forms[version].IsZero() || files[version].size() > 0
-		if asked && err == nil && len(e.known) > 0 {
+		hasClients := !forms[version].IsZero() || files[version].size() > 0
+		if hasClients && err == nil && len(e.known) > 0 {
 			e.change(question{uint8(version), old.data.Serial()}, before)
 		}
 	}
 }
 
-// before returns the data before these, one for each step back.
+// before returns the data to which the steps back lead from these.
 func before(data Data, back []stepBack) (Data, error) {
 	if len(back) == 0 {
 		return data, nil
 	}
 	var changes, end []byte
-	for _, one := range back {
+	for _, step := range back {
 		var units []byte
-		units, end = parts(one.changes)
+		units, end = parts(step.changes)
 		changes = append(changes, units...)
 	}
 	return ApplyInOrder(data, append(changes, end...))

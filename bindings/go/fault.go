@@ -7,16 +7,16 @@ import (
 	"io"
 )
 
-// Status says how a call ended. Each but OK is an error, for errors.Is; calls return it in a Fault.
-// Those of a unit are Short to PrefixRule, and are checked in the order of docs/PROTOCOL.md.
+// Status is the result of a call. Each but OK is an error, for errors.Is; calls return it in a
+// Fault. Short to PrefixRule are about a unit, and are checked in the order of docs/PROTOCOL.md.
 type Status uint8
 
-// String is the text of the status.
+// String returns the text of the status.
 func (s Status) String() string {
 	return name(namedStatus, uint16(s))
 }
 
-// Error is the same text.
+// Error returns the same text.
 func (s Status) Error() string {
 	return s.String()
 }
@@ -24,7 +24,7 @@ func (s Status) Error() string {
 // Side is one of the two inputs of SameMeaning.
 type Side uint8
 
-// String names the input.
+// String returns the name of the input.
 func (s Side) String() string {
 	switch s {
 	case Left:
@@ -35,23 +35,23 @@ func (s Side) String() string {
 	return "neither"
 }
 
-// Fault is what is wrong with a unit, or with a call. errors.Is finds its Status in it, and
+// Fault is the error of a refused unit, or of a call. errors.Is finds its Status in it, and
 // io.ErrUnexpectedEOF if that is Short.
 type Fault struct {
 	Status Status
 	Detail uint8 // a type, a version or a rule on prefix lengths, as the Status says, else 0
-	// Which input of SameMeaning has the unit that is refused; else 0.
+	// The input of SameMeaning that has the refused unit; else 0.
 	Side Side
-	// Where the unit begins that is refused: in bytes from the first one that the Reader read, or
-	// from the front of the input. -1 where no unit was read.
+	// The offset of the refused unit in bytes, from the first byte that the Reader read, or from
+	// the start of the input. -1 if no unit was refused.
 	Offset int64
-	// The bytes of that unit, as far as they are there and its header can be believed. They lie in
-	// the input of Next, UnitSize, Normalise, NormaliseFor, SameMeaning and the calls on changes;
-	// those of a Reader are a copy.
+	// The bytes of that unit, as far as they are present; only the header, if the length in it is
+	// wrong. They share memory with the input of Next, UnitSize, Normalise, NormaliseFor,
+	// SameMeaning and the calls on changes; those of a Reader are a copy.
 	Unit []byte
 }
 
-// Error is a text that names the detail and the offset.
+// Error returns a text with the detail and the offset.
 func (f *Fault) Error() string {
 	text := f.Text()
 	switch {
@@ -63,23 +63,23 @@ func (f *Fault) Error() string {
 	return fmt.Sprintf("rtr: %s, at byte %d", text, f.Offset)
 }
 
-// Text says what is wrong, and names the detail, but not the offset.
+// Text returns the text of the status with the detail, without the offset.
 func (f *Fault) Text() string {
 	return statusText(f.Status, f.Detail)
 }
 
-// Unwrap gives the Status, so that errors.Is(err, rtr.NoRoom) works.
+// Unwrap returns the Status, so that errors.Is(err, rtr.NoRoom) works.
 func (f *Fault) Unwrap() error {
 	return f.Status
 }
 
-// Is says that a Fault whose Status is Short is an io.ErrUnexpectedEOF.
+// Is makes a Fault whose Status is Short an io.ErrUnexpectedEOF.
 func (f *Fault) Is(target error) bool {
 	return f.Status == Short && target == io.ErrUnexpectedEOF
 }
 
-// Code is the error code that the fault is reported with, and whether the peer is owed a report:
-// not where no unit was refused, and not about an error report (RFC 8210 section 5.11).
+// Code returns the error code for the fault, and whether the peer is owed a report: it isn't if no
+// unit was refused, or if the refused unit is an error report (RFC 8210 section 5.11).
 func (f *Fault) Code() (code ErrorCode, owed bool) {
 	if f.Offset < 0 {
 		return 0, false
@@ -87,10 +87,10 @@ func (f *Fault) Code() (code ErrorCode, owed bool) {
 	return errorCode(f.Status, f.Unit)
 }
 
-// Report is the error report that the fault owes to the peer (RFC 8210 section 5.11), and whether
-// it owes one, as Code says. It encloses Unit, has a text that says what is wrong, and the version
-// of that unit: set another Version where the session has another. Of a unit of more than 65519
-// bytes it encloses the first 65519, and of the text as much as is then left.
+// Report returns the error report that is owed to the peer (RFC 8210 section 5.11), and whether one
+// is owed, as Code does. It has the unit's bytes, a text that says what is wrong, and the version
+// of the unit: set Version if the session has another. A report has at most 65519 bytes of unit and
+// text: the unit is cut to that, and then the text.
 func (f *Fault) Report() (report *Unit, owed bool) {
 	code, owed := f.Code()
 	if !owed {
@@ -99,7 +99,8 @@ func (f *Fault) Report() (report *Unit, owed bool) {
 	return reportOn(code, f.Unit, f.Text()), true
 }
 
-// reportOn is the error report with this code and text about a unit, in the version of that unit.
+// reportOn returns the error report with this code and text about a unit, in the version of that
+// unit.
 func reportOn(code ErrorCode, unit []byte, text string) *Unit {
 	report := &Unit{Kind: ErrorReport, Code: code, Enclosed: unit, Text: []byte(text)}
 	if len(unit) > 0 {
@@ -114,19 +115,19 @@ func reportOn(code ErrorCode, unit []byte, text string) *Unit {
 	return report
 }
 
-// refusal is the fault of the unit that input begins with, at this offset.
+// refusal returns the fault of input's first unit, which is at this offset.
 func refusal(status Status, detail uint8, input []byte, offset int64) *Fault {
 	size := len(input)
 	switch status {
 	case Short:
 	case PrefixRule, NotCanonical, Duplicate, Unknown, Undecided, OtherVersion, OtherSession,
 		OldSerial, ResetInside, ReportInside:
-		// The unit is whole.
+		// The unit is complete.
 		size, _, _ = unitSize(input)
 	case TooMany, NoRoom:
 		size = 0
 	default:
-		// The length in the header is not to be believed.
+		// The length in the header can't be trusted.
 		size = headerSize
 	}
 	if size > len(input) {
@@ -135,11 +136,11 @@ func refusal(status Status, detail uint8, input []byte, offset int64) *Fault {
 	return &Fault{Status: status, Detail: detail, Offset: offset, Unit: input[:size:size]}
 }
 
-// ErrorCode says in an error report what was wrong (RFC 8210 section 12). Those above 8 are as in
-// the Rust crate rpki.
+// ErrorCode is the code of an error report (RFC 8210 section 12). Those above 8 are as in the Rust
+// crate rpki.
 type ErrorCode uint16
 
-// String is the name of the code.
+// String returns the name of the code.
 func (c ErrorCode) String() string {
 	return name(namedCode, uint16(c))
 }

@@ -16,16 +16,16 @@ import (
 // The size of a huge page.
 const hugePage = 1 << 21
 
-// piece is a part of an answer: bytes, or the rest of a file in memory, which a socket sends
-// without a copy.
+// piece is a part of an answer: bytes, or the rest of a file in memory (memfd_create), which the
+// kernel sends without copying it to user space.
 type piece struct {
-	bytes []byte
-	file  *os.File
-	place int64 // in the file
-	left  int   // of the file
+	bytes  []byte
+	file   *os.File
+	offset int64 // of the unsent rest of the file
+	left   int   // the size of that rest
 }
 
-// filed holds bytes in a file in memory, if they are large and the system has one.
+// filed returns bytes as a file in memory, if they are large and the system supports it.
 func filed(bytes []byte) piece {
 	usual := piece{bytes: bytes}
 	if len(bytes) < chunk {
@@ -45,10 +45,10 @@ func filed(bytes []byte) piece {
 	return piece{file: os.NewFile(uintptr(descriptor), "rtr"), left: len(bytes)}
 }
 
-// beginHuge allocates huge pages at the front of an empty file in memory, as many as these bytes
-// fill at least by half: sending them is faster. A page is allocated by writing a byte to it. If
-// the system has none, or a write past its limit would end the process, the bytes get usual pages
-// later.
+// beginHuge allocates huge pages at the front of an empty file in memory for size bytes, and leaves
+// out a last page that would be less than half full: sending from huge pages is faster. Writing a
+// byte to a page allocates it. If the system has no huge pages, or a write past the limit of file
+// sizes would end the process, the file gets normal pages later.
 func beginHuge(file, size int) {
 	const collapse = 25 // MADV_COLLAPSE, since Linux 6.1
 	var limit syscall.Rlimit
@@ -58,22 +58,22 @@ func beginHuge(file, size int) {
 		return
 	}
 	length := C.size_t(huge + hugePage)
-	room, err := C.mmap(nil, length, C.PROT_NONE, C.MAP_PRIVATE|C.MAP_ANONYMOUS, -1, 0)
+	area, err := C.mmap(nil, length, C.PROT_NONE, C.MAP_PRIVATE|C.MAP_ANONYMOUS, -1, 0)
 	if err != nil {
 		return
 	}
-	defer C.munmap(room, length)
-	at := unsafe.Add(room, -uintptr(room)%hugePage)
-	_, err = C.mmap(at, C.size_t(huge), C.PROT_READ, C.MAP_SHARED|C.MAP_FIXED, C.int(file), 0)
-	for place := 0; err == nil && place < huge; place += hugePage {
-		_, err = syscall.Pwrite(file, []byte{0}, int64(place))
+	defer C.munmap(area, length)
+	aligned := unsafe.Add(area, -uintptr(area)%hugePage)
+	_, err = C.mmap(aligned, C.size_t(huge), C.PROT_READ, C.MAP_SHARED|C.MAP_FIXED, C.int(file), 0)
+	for offset := 0; err == nil && offset < huge; offset += hugePage {
+		_, err = syscall.Pwrite(file, []byte{0}, int64(offset))
 	}
 	if err == nil {
-		C.madvise(at, C.size_t(huge), collapse)
+		C.madvise(aligned, C.size_t(huge), collapse)
 	}
 }
 
-// size returns how many bytes are left.
+// size returns the number of bytes left to send.
 func (p *piece) size() int { return len(p.bytes) + p.left }
 
 // send writes some of the piece to a socket, and returns how many bytes were sent.
@@ -81,17 +81,17 @@ func (p *piece) send(socket int) (int, error) {
 	if p.file == nil {
 		return syscall.Write(socket, p.bytes)
 	}
-	place := p.place
-	taken, err := syscall.Sendfile(socket, int(p.file.Fd()), &place, p.left)
+	offset := p.offset
+	sent, err := syscall.Sendfile(socket, int(p.file.Fd()), &offset, p.left)
 	runtime.KeepAlive(p.file)
-	return taken, err
+	return sent, err
 }
 
-// skip drops sent bytes.
-func (p *piece) skip(taken int) {
+// skip skips sent bytes.
+func (p *piece) skip(sent int) {
 	if p.file == nil {
-		p.bytes = p.bytes[taken:]
+		p.bytes = p.bytes[sent:]
 		return
 	}
-	p.place, p.left = p.place+int64(taken), p.left-taken
+	p.offset, p.left = p.offset+int64(sent), p.left-sent
 }

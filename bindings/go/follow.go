@@ -8,57 +8,59 @@ import (
 	"time"
 )
 
-// Source is a cache that Follow may follow, as a client reaches it.
+// Source is a cache for Follow, with the client that reaches it.
 type Source struct {
 	Name   string
 	Client *Client // its Failed isn't called; its AskNow works
 }
 
-// Listener is told what comes of the sources of Follow. One call comes at a time.
+// Listener gets the data and the failures of the sources of Follow, one call at a time. A call that
+// returns an error ends Follow.
 type Listener interface {
-	// Data are those after an answer, which may be what they were, and the source that has them; the
-	// zero Data if the source had to drop those of before, and no other has some. The changes lead
-	// to them from the data of the call before, also if another source had those.
+	// Data is called after an answer with the source and its data, which may be unchanged; with the
+	// zero Data if the source dropped its data and no other source has any. The changes lead from
+	// the data of the previous call, even if that had another source.
 	Data(Source, Update) error
-	// Failed says why a connection to a source ended, or that it has no data yet, or none that count
-	// (ErrEmpty).
+	// Failed is called with the reason when a connection to a source ends, or when the source has
+	// no data yet, or no payloads (ErrEmpty).
 	Failed(Source, error) error
 }
 
-// chooser follows sources as a Group decides.
+// chooser follows sources by the decisions of a Group.
 type chooser struct {
 	sources  []Source
 	listener Listener
 	clock    clock
 	group    *Group
 	settings GroupSettings
-	news     chan news
+	events   chan sourceEvent
 	members  []member
 	shown    Data // the zero Data if there are none
 	running  sync.WaitGroup
 }
 
-// member is what a source has.
+// member is the state of a source.
 type member struct {
-	stop    context.CancelFunc // of one that runs; nil for the others
-	turn    int                // how often it was started
+	stop    context.CancelFunc // nil if it doesn't run
+	run     int                // how often it was started
 	data    Data
-	dropped bool       // its data were dropped, and the failure that comes with that didn't come
-	ended   chan *link // has that of its last run when this ended; nil before the first one
+	dropped bool       // its data were dropped, and the failure with that hasn't come yet
+	ended   chan *link // gets the link of its last run when that ends; nil before the first run
 }
 
-// news is what a source has now: data, or a failure.
-type news struct {
-	place, turn int
-	data        Data
-	failed      error
+// sourceEvent is new data of a source, or a failure.
+type sourceEvent struct {
+	index, run int // of the source, and of its run
+	data       Data
+	failed     error
 }
 
 // Follow follows the most preferred of at most MostMembers sources whose cache answers, until the
-// context ends or the listener returns an error. Where a source fails, its data stay until the next
-// one has a whole answer, or they expire; those after a source are asked, one after the other, when
-// it fails, or gives no whole answer for the patience; and they are left as soon as it has one.
-// The settings are UsualGroupSettings; an empty answer of the only source is data.
+// context ends or the listener returns an error. When a source fails, its data are kept until the
+// next source has a complete answer, or they expire. If a source fails, or has no complete answer
+// within the patience, Follow asks the sources after it, one after the other; it stops them as soon
+// as that source has a complete answer. The settings are UsualGroupSettings, but an empty answer of
+// a single source counts as data.
 //
 // Errors: TooManyMembers; that of the listener, or of the context.
 func Follow(ctx context.Context, sources []Source, listener Listener) error {
@@ -77,7 +79,7 @@ func FollowWith(ctx context.Context, sources []Source, settings GroupSettings,
 	ctx, cancel := context.WithCancel(ctx)
 	c := &chooser{
 		sources: sources, listener: listener, clock: newClock(), group: group, settings: settings,
-		news: make(chan news), members: make([]member, len(sources)),
+		events: make(chan sourceEvent), members: make([]member, len(sources)),
 	}
 	defer c.running.Wait()
 	defer cancel()
@@ -90,7 +92,7 @@ func FollowWith(ctx context.Context, sources []Source, settings GroupSettings,
 	return err
 }
 
-// next waits for news, or for the end of the patience, and does what the group decides.
+// next waits for an event, or for the end of the patience, and carries out the group's decision.
 func (c *chooser) next(ctx context.Context) error {
 	over, release := c.patience()
 	defer release()
@@ -99,15 +101,15 @@ func (c *chooser) next(ctx context.Context) error {
 		return ctx.Err()
 	case <-over:
 		return c.obey(ctx, 0, c.group.Tick(c.now()))
-	case one := <-c.news:
-		if one.turn != c.members[one.place].turn {
-			return nil // of a source that was left
+	case e := <-c.events:
+		if e.run != c.members[e.index].run {
+			return nil // that run was stopped
 		}
-		return c.happens(ctx, one)
+		return c.handle(ctx, e)
 	}
 }
 
-// now is the time by the group's clock.
+// now returns the time by the group's clock.
 func (c *chooser) now() time.Duration {
 	return time.Duration(c.clock.now()) * time.Millisecond
 }
@@ -123,72 +125,72 @@ func (c *chooser) patience() (over <-chan time.Time, release func()) {
 	return timer.C, func() { timer.Stop() }
 }
 
-// happens tells the group of news, and does what that decides. A failure that comes with the loss
-// of data is no event of its own.
-func (c *chooser) happens(ctx context.Context, one news) error {
-	m := &c.members[one.place]
+// handle passes an event to the group, and carries out its decision. The group gets one event when
+// data are dropped, so the failure that comes with that isn't passed on.
+func (c *chooser) handle(ctx context.Context, e sourceEvent) error {
+	m := &c.members[e.index]
 	switch {
-	case one.failed != nil:
-		if err := c.listener.Failed(c.sources[one.place], one.failed); err != nil {
+	case e.failed != nil:
+		if err := c.listener.Failed(c.sources[e.index], e.failed); err != nil {
 			return err
 		}
 		if m.dropped {
 			m.dropped = false
 			return nil
 		}
-		return c.obey(ctx, one.place, c.group.Fails(c.now(), one.place))
-	case one.data.IsZero():
+		return c.obey(ctx, e.index, c.group.Fails(c.now(), e.index))
+	case e.data.IsZero():
 		m.data, m.dropped = Data{}, true
-		return c.obey(ctx, one.place, c.group.Drops(c.now(), one.place))
+		return c.obey(ctx, e.index, c.group.Drops(c.now(), e.index))
 	}
-	m.data = one.data
-	if one.data.Len() == 0 && !c.settings.EmptyIsData {
-		if err := c.listener.Failed(c.sources[one.place], ErrEmpty); err != nil {
+	m.data = e.data
+	if e.data.Len() == 0 && !c.settings.EmptyIsData {
+		if err := c.listener.Failed(c.sources[e.index], ErrEmpty); err != nil {
 			return err
 		}
 	}
-	return c.obey(ctx, one.place, c.group.Shows(c.now(), one.place, one.data.Len()))
+	return c.obey(ctx, e.index, c.group.Shows(c.now(), e.index, e.data.Len()))
 }
 
-// obey does what the group decides after news of a member.
-func (c *chooser) obey(ctx context.Context, place int, decided Decision) error {
+// obey carries out a decision of the group about an event of the member at this index.
+func (c *chooser) obey(ctx context.Context, index int, decision Decision) error {
 	var err error
-	switch decided.Shown {
+	switch decision.Shown {
 	case GroupData:
-		err = c.show(decided.Member, c.members[decided.Member].data)
+		err = c.show(decision.Member, c.members[decision.Member].data)
 	case GroupNothing:
-		err = c.show(place, Data{})
+		err = c.show(index, Data{})
 	}
-	if decided.Stop >= 0 {
-		for place := decided.Stop; place < len(c.sources); place++ {
-			c.stop(place)
+	if decision.Stop >= 0 {
+		for i := decision.Stop; i < len(c.sources); i++ {
+			c.stop(i)
 		}
 	}
-	if decided.Start >= 0 {
-		c.start(ctx, decided.Start)
+	if decision.Start >= 0 {
+		c.start(ctx, decision.Start)
 	}
 	return err
 }
 
-// show tells the listener of data of a source, and how they differ from those before.
-func (c *chooser) show(place int, data Data) error {
+// show passes the data of a source to the listener, with the changes from those before.
+func (c *chooser) show(index int, data Data) error {
 	update := updateOf(c.shown, data)
 	c.shown = data
-	return c.listener.Data(c.sources[place], update)
+	return c.listener.Data(c.sources[index], update)
 }
 
-// start begins to ask a source, once its last run has ended.
-func (c *chooser) start(ctx context.Context, place int) {
-	m := &c.members[place]
+// start starts to follow a source, once its last run has ended.
+func (c *chooser) start(ctx context.Context, index int) {
+	m := &c.members[index]
 	ctx, m.stop = context.WithCancel(ctx)
-	m.turn++
+	m.run++
 	before, ended := m.ended, make(chan *link, 1)
 	m.ended = ended
-	turn, client := m.turn, c.sources[place].Client
-	give := func(one news) {
-		one.place, one.turn = place, turn
+	run, client := m.run, c.sources[index].Client
+	send := func(e sourceEvent) {
+		e.index, e.run = index, run
 		select {
-		case c.news <- one:
+		case c.events <- e:
 		case <-ctx.Done():
 		}
 	}
@@ -196,23 +198,23 @@ func (c *chooser) start(ctx context.Context, place int) {
 	go func() {
 		defer c.running.Done()
 		f := client.follower(ctx, c.clock, func(update Update) error {
-			give(news{data: update.Data})
+			send(sourceEvent{data: update.Data})
 			return ctx.Err()
 		})
-		f.told = func(err error) { give(news{failed: err}) }
+		f.onFailure = func(err error) { send(sourceEvent{failed: err}) }
 		if before != nil {
 			f.link = <-before
-			f.link.again()
+			f.link.restart()
 		}
 		f.runFor(client)
 		ended <- f.link
 	}()
 }
 
-// stop leaves a source, and forgets its data.
-func (c *chooser) stop(place int) {
-	if m := &c.members[place]; m.stop != nil {
+// stop stops following a source, and drops its data.
+func (c *chooser) stop(index int) {
+	if m := &c.members[index]; m.stop != nil {
 		m.stop()
-		*m = member{turn: m.turn + 1, ended: m.ended}
+		*m = member{run: m.run + 1, ended: m.ended}
 	}
 }

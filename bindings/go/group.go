@@ -5,7 +5,7 @@ package rtr
 /*
 #include "rtr.h"
 
-// The answers by value, so that nothing of them has to be kept outside of the stack.
+// The answers are returned by value, so that they stay on the stack.
 static struct rtr_group_answer group_tick(struct rtr_group *group, uint64_t now)
 {
 	struct rtr_group_answer answer;
@@ -42,58 +42,60 @@ import (
 	"time"
 )
 
-// Group decides whose data are shown, and who is asked, of some members by preference (RFC 8210
-// section 10): each is a Client, or what else follows a cache, and member 0 is preferred most. It
-// has no data. Its caller, as Follow, starts member 0, calls one method for each thing that happens
-// to a member, and Tick at the time Wakes; and does what is decided. What is said of a member that
-// doesn't run is ignored. Times are those of a clock that doesn't go back.
+// Group decides which of several caches are asked, and whose data are shown, by preference (RFC
+// 8210 section 10). Each member is a Client, or something else that follows a cache; member 0 is
+// preferred most. A Group holds no data. Its caller, such as Follow, starts member 0, calls a
+// method for each event of a member, calls Tick at the time of Wakes, and carries out the
+// decisions. Events of a member that doesn't run are ignored. Times are those of a monotonic clock.
 //
-// A member is current from a whole answer until its next failure. The data of the most preferred
-// current member are shown; while none is current, those of the member that had a whole answer
-// last, until they expire. A member runs while each one before it, since it was started and since
-// its last whole answer, failed or was silent for the patience.
+// A member is current from a complete answer until its next failure. The data of the most preferred
+// current member are shown; while none is current, those of the member that had the last complete
+// answer, until they expire. A member runs while each member before it has failed, or was silent
+// for the patience, since it was started and since its last complete answer.
 type Group struct{ group C.struct_rtr_group }
 
-// GroupSettings are what a caller sets for a Group.
+// GroupSettings are the settings of a Group.
 type GroupSettings struct {
-	// How long a member may have no whole answer before the next one is started too, while none is
-	// current.
+	// How long a member may have no complete answer before the next one is started too, while none
+	// is current.
 	Patience time.Duration
 	// Whether a whole answer without payloads counts as data, and not as a failure that drops them.
 	EmptyIsData bool
 }
 
-// UsualGroupSettings are a patience of five seconds, and that empty answers are failures.
+// UsualGroupSettings returns the defaults: a patience of five seconds, and empty answers are
+// failures.
 func UsualGroupSettings() GroupSettings {
 	var usual C.struct_rtr_group_settings
 	C.rtr_group_usual(&usual)
 	return GroupSettings{span(usual.patience), bool(usual.empty_is_data)}
 }
 
-// Decision is what the caller of a Group does, in this order.
+// Decision has the actions for the caller of a Group, in this order.
 type Decision struct {
-	// What becomes of what is shown: it stays (GroupSame), or it is the data of Member, as they are
-	// now (GroupData), or there are none any more (GroupNothing).
+	// Which data are shown now: the same (GroupSame), the present data of Member (GroupData), or
+	// none (GroupNothing).
 	Shown  Shown
 	Member int
-	// The first of the members that stop, if they run, and whose data are forgotten; -1 if none
-	// does.
+	// The first member to stop: it and all after it stop, if they run, and their data are dropped;
+	// -1 for none.
 	Stop int
-	// The member that is started, without data; -1 if none is.
+	// The member to start, without data; -1 for none.
 	Start int
 }
 
-// Shown is what becomes of what a Group shows.
+// Shown says how the shown data of a Group change.
 type Shown uint8
 
-// MostMembers are the most that a Group has.
+// MostMembers is the maximal number of members of a Group.
 const MostMembers = mostMembers
 
-// NewGroup is a group of this number of members without data, whose first one is started now.
+// NewGroup returns a Group with this number of members without data; the caller starts the first
+// one now.
 //
 // Errors: TooManyMembers, for more than MostMembers.
 func NewGroup(members int, settings GroupSettings, now time.Duration) (*Group, error) {
-	wanted := C.struct_rtr_group_settings{
+	inC := C.struct_rtr_group_settings{
 		patience:      milliseconds(settings.Patience),
 		empty_is_data: C.bool(settings.EmptyIsData),
 	}
@@ -101,14 +103,14 @@ func NewGroup(members int, settings GroupSettings, now time.Duration) (*Group, e
 	if members < 0 {
 		members = 0
 	}
-	status := Status(C.rtr_group_init(&g.group, &wanted, C.size_t(members), clockTime(now)))
+	status := Status(C.rtr_group_init(&g.group, &inC, C.size_t(members), clockTime(now)))
 	if status != OK {
 		return nil, status
 	}
 	return g, nil
 }
 
-// clockTime is a time for C.
+// clockTime converts a time for C.
 func clockTime(now time.Duration) C.uint64_t {
 	if now < 0 {
 		return 0
@@ -116,7 +118,7 @@ func clockTime(now time.Duration) C.uint64_t {
 	return C.uint64_t(now.Milliseconds())
 }
 
-// Wakes is when Tick is to be called, if nothing happens before, and whether there is such a time.
+// Wakes returns the time at which to call Tick if no event comes before, and whether there is one.
 func (g *Group) Wakes() (at time.Duration, wakes bool) {
 	milliseconds := uint64(C.rtr_group_wakes(&g.group))
 	if milliseconds > math.MaxInt64/uint64(time.Millisecond) {
@@ -125,31 +127,32 @@ func (g *Group) Wakes() (at time.Duration, wakes bool) {
 	return time.Duration(milliseconds) * time.Millisecond, true
 }
 
-// Tick says that time passed: if the patience is over, the next member is started.
+// Tick tells the group the time: when the patience is over, the next member is started.
 func (g *Group) Tick(now time.Duration) Decision {
 	return decisionOf(C.group_tick(&g.group, clockTime(now)))
 }
 
-// Best is the member whose data are shown, and whether there is one.
+// Best returns the member whose data are shown, and whether there is one.
 func (g *Group) Best() (member int, has bool) {
 	var best C.size_t
 	has = bool(C.rtr_group_best(&g.group, &best))
 	return int(best), has
 }
 
-// Shows says that a member shows data of a whole answer, with this number of payloads. They may be
-// what they were.
+// Shows reports to the group that a member has the data of a complete answer, with this number of
+// payloads. They may be unchanged.
 func (g *Group) Shows(now time.Duration, member, payloads int) Decision {
 	return decisionOf(C.group_shows(&g.group, clockTime(now), C.size_t(member), C.size_t(payloads)))
 }
 
-// Drops says that a member has no data any more. This is a failure, too: of one end of a connection
-// that drops data, Fails isn't called besides.
+// Drops reports to the group that a member dropped its data. This counts as a failure too: don't
+// call Fails for the same end of a connection.
 func (g *Group) Drops(now time.Duration, member int) Decision {
 	return decisionOf(C.group_drops(&g.group, clockTime(now), C.size_t(member)))
 }
 
-// Fails says that a member failed, or that its cache has no data. The data that it has stay.
+// Fails reports to the group that a member failed, or that its cache has no data. The member keeps
+// its data.
 func (g *Group) Fails(now time.Duration, member int) Decision {
 	return decisionOf(C.group_fails(&g.group, clockTime(now), C.size_t(member)))
 }

@@ -12,9 +12,8 @@ type shaker interface {
 	HandshakeContext(ctx context.Context) error
 }
 
-// shake does the handshake of a connection that has one, within the time limit of the first query.
-// A handshake can't continue after a deadline, so new data don't wake it; closing the server
-// interrupts it.
+// shake does the handshake of a connection that has one, within Limits.First. A handshake can't
+// continue after a deadline, so new data don't interrupt it; closing the server does.
 func (c *served) shake() error {
 	connection, ok := c.connection.(shaker)
 	if !ok {

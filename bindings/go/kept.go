@@ -19,14 +19,14 @@ import (
 // data came, in milliseconds since 1970. Numbers have 64 bits, in network byte order.
 const keptMagic = "rtrkept1"
 
-// The sizes of the head, and of the numbers before a sequence.
+// The size of the head of the file, and of the two numbers before a sequence.
 const keptHead = 16
 
-// ErrTorn reports a file of editions that isn't as Save wrote it.
+// ErrTorn: a file of editions isn't as Save wrote it.
 var ErrTorn = errors.New("rtr: the file of editions is torn")
 
 // Save writes the present data, and the steps back to earlier ones, to a file: it writes and syncs
-// one beside it, then renames that. Without data it writes nothing.
+// a file beside it, then renames that. Without data it writes nothing.
 func (s *Server) Save(path string) error {
 	s.ready()
 	return s.present.Load().save(path)
@@ -72,13 +72,13 @@ func (e *edition) write(file *os.File) error {
 	sum := fnv.New64a()
 	output := io.MultiWriter(file, sum)
 	_, err := file.Write(make([]byte, keptHead))
-	for _, one := range append([]stepBack{{time.Now(), e.data.Bytes()}}, e.back...) {
-		head := [2]uint64{uint64(one.until.UnixMilli()), uint64(len(one.changes))}
+	for _, step := range append([]stepBack{{time.Now(), e.data.Bytes()}}, e.back...) {
+		head := [2]uint64{uint64(step.until.UnixMilli()), uint64(len(step.changes))}
 		if err == nil {
 			err = binary.Write(output, binary.BigEndian, head)
 		}
 		if err == nil {
-			_, err = output.Write(one.changes)
+			_, err = output.Write(step.changes)
 		}
 	}
 	if err == nil {
@@ -117,8 +117,8 @@ func (s *Server) Restore(path string) (Data, error) {
 	return data, nil
 }
 
-// parseKept returns the data and the steps back of a file, and reports whether it is as it was
-// written.
+// parseKept returns the data and the steps back of a file; ok reports whether it is as Save wrote
+// it.
 func parseKept(input []byte) (data Data, back []stepBack, ok bool) {
 	if len(input) < keptHead {
 		return Data{}, nil, false

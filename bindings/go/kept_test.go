@@ -173,12 +173,12 @@ func TestWatchSameTime(t *testing.T) {
 	w, last := watched(t)
 	for _, input := range sequences(1, 1, 1, 1) {
 		overwrite(t, w.path, input)
-		w.look()
+		w.check()
 		if *last != nil || !bytes.Equal(w.server.present.Load().data.Bytes(), input) {
 			t.Fatal(*last)
 		}
 		*last = errFailed
-		w.look()
+		w.check()
 		if *last != errFailed {
 			t.Fatal(*last)
 		}
@@ -223,24 +223,24 @@ func TestWatchFull(t *testing.T) {
 	all := sequences(1, 1)
 	overwrite(t, w.path, all[0])
 	release := withoutDescriptors(t)
-	w.look()
-	w.look()
+	w.check()
+	w.check()
 	err := *last
 	*last = nil
-	w.look()
+	w.check()
 	again := *last
 	release()
 	if !errors.Is(err, syscall.EMFILE) || again != nil {
 		t.Fatal(err, again)
 	}
-	w.look()
+	w.check()
 	if *last != nil || w.server.present.Load().data.Serial() != 1 {
 		t.Fatal(*last)
 	}
 	release = withoutDescriptors(t)
 	os.Chtimes(w.path, time.Unix(2, 0), time.Unix(2, 0))
 	w.server.Update(parsed(t, all[1]))
-	w.look()
+	w.check()
 	release()
 	if !errors.Is(*last, ErrSameSerial) {
 		t.Fatal(*last)

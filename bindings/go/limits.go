@@ -4,15 +4,15 @@ package rtr
 
 import "time"
 
-// ClientLimits limit what a cache can cost a Client in time and memory. Zero stands for the
+// ClientLimits limit the time and the memory that a cache can cost a Client. Zero stands for the
 // default.
 type ClientLimits struct {
-	Dial     time.Duration // to connect
-	Response time.Duration // from a query to the end of data that answers it
-	Bytes    int           // of the payload units of a response
-	Units    uint64        // of a response, the end of data included
+	Dial     time.Duration // to connect, at most
+	Response time.Duration // from a query to the end of data that answers it, at most
+	Bytes    int           // of the payload units of a response, at most
+	Units    uint64        // of a response, at most, including the end of data
 	Pause    time.Duration // between two connections, and between two queries, at least
-	Report   time.Duration // to send a report on a fault, and to let the cache read it
+	Report   time.Duration // to send an error report, and for the cache to read it, at most
 }
 
 // usualClientLimits returns the machine's defaults, for a cache of some million payloads, and two

@@ -2,60 +2,61 @@
 
 package rtr
 
-// UnitLine appends to b the line that rtr_list prints of the unit that input begins with, of one that
-// stands after so many bytes, without its end, and answers the size of the unit. Like rtr_list it
+// UnitLine appends to b the line that rtr_list prints for input's first unit, with this offset of
+// the unit in its line and without the newline, and returns the size of the unit. Like rtr_list it
 // shows a prefix whose lengths break their rule, which Next refuses. The errors are those of
-// UnitSize, and Short if not all of the unit is there; then nothing is appended.
+// UnitSize, and Short if the unit isn't complete; then nothing is appended.
 func UnitLine(b, input []byte, offset uint64) ([]byte, int, error) {
 	return unitBy(line, b, input, offset)
 }
 
-// UnitJSON is UnitLine of the object in JSON, as rtr_list --json prints it.
+// UnitJSON is like UnitLine, for the JSON object that rtr_list --json prints.
 func UnitJSON(b, input []byte, offset uint64) ([]byte, int, error) {
 	return unitBy(object, b, input, offset)
 }
 
-// unitCall writes what is said of the unit that input begins with.
+// unitCall writes a text about input's first unit: line or object.
 type unitCall func(input []byte, offset uint64, output []byte) (int, int, Status, uint8)
 
-// unitBy appends what a call writes.
+// unitBy appends the text that a call writes.
 func unitBy(call unitCall, b, input []byte, offset uint64) ([]byte, int, error) {
-	room := lineRoom
+	capacity := lineRoom
 	for {
-		b = grown(b, room)
-		length, size, status, detail := call(input, offset, b[len(b):len(b)+room])
+		b = grown(b, capacity)
+		length, size, status, detail := call(input, offset, b[len(b):len(b)+capacity])
 		switch status {
 		case OK:
 			return b[:len(b)+length], size, nil
 		case NoRoom:
-			room = length
+			capacity = length
 		default:
 			return b, 0, refusal(status, detail, input, 0)
 		}
 	}
 }
 
-// ChangeLine is a payload unit as a line of text, without its end, as rtr_diff prints it; "" for any
-// other unit, and for one that has no form. Key info is in base64 (RFC 4648 section 5), unpadded.
+// ChangeLine returns a payload unit as the line that rtr_diff prints, without the newline; "" for
+// any other unit, and for one that AppendBinary refuses. Key info is in base64url without padding
+// (RFC 4648 section 5).
 func ChangeLine(unit *Unit) string {
 	return changeBy(changeLine, unit)
 }
 
-// ChangeJSON is a payload unit as an object in JSON, as rtr_diff --json has it; "" for any other
-// unit, and for one that has no form.
+// ChangeJSON returns a payload unit as the JSON object that rtr_diff --json prints; "" for any
+// other unit, and for one that AppendBinary refuses.
 func ChangeJSON(unit *Unit) string {
 	return changeBy(changeJSON, unit)
 }
 
-// changeBy is what a call writes of the change that a unit makes.
+// changeBy returns the text that a call writes about the change of a unit.
 func changeBy(call func(input, output []byte) (int, Status), unit *Unit) string {
-	// A table has many prefixes, whose forms and lines fit these.
-	var inForm, inLine [lineRoom]byte
-	form, err := unit.AppendBinary(inForm[:0])
+	// Most units and lines fit these arrays, which stay on the stack.
+	var formArray, lineArray [lineRoom]byte
+	form, err := unit.AppendBinary(formArray[:0])
 	if err != nil {
 		return ""
 	}
-	output := inLine[:]
+	output := lineArray[:]
 	length, status := call(form, output)
 	if status == NoRoom {
 		output = make([]byte, length)

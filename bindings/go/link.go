@@ -5,8 +5,8 @@ package rtr
 /*
 #include "rtr.h"
 
-// The results by value, so that they stay on the stack. The buffers are values too: their memory is
-// that of Go, and is passed to each call.
+// The results are returned by value, so that they stay on the stack. The buffers are passed by
+// value with each call, since C may not keep pointers to the memory of Go.
 struct link_step {
 	struct rtr_todo todo;
 	uint8_t status;
@@ -66,22 +66,22 @@ import (
 	"math"
 )
 
-// link is a router's end of a session: the proved client of rtr.h, and its buffers. It has no
-// connection and no clock. Times are in milliseconds.
+// link is a router's end of a session: the proved client of rtr.h, and its buffers. It does no I/O
+// and has no clock. Times are in milliseconds.
 type link struct {
 	end    C.struct_rtr_link
 	input  []byte     // payload units of an answer, followed by bytes that were read
-	data   [2][]byte  // one has the data; the next answer is written to the other
+	data   [2][]byte  // one holds the data; the next answer is written to the other
 	index  []C.size_t // to sort the payload units of an answer
-	output []byte     // what is to be sent
-	most   uint64     // the most bytes of a buffer, or entries of the index
+	output []byte     // bytes to send
+	most   uint64     // the largest size of a buffer in bytes, or of the index in entries
 	filled int        // bytes in the input before the last call
 }
 
-// todo is what a host has to do.
+// todo is the next action of the host.
 type todo = C.struct_rtr_todo
 
-// What a host has to do.
+// The actions of the host.
 const (
 	todoWait    = C.RTR_TODO_WAIT
 	todoConnect = C.RTR_TODO_CONNECT
@@ -89,28 +89,29 @@ const (
 	todoData    = C.RTR_TODO_DATA
 	todoDropped = C.RTR_TODO_DROPPED
 	todoNoData  = C.RTR_TODO_NO_DATA
-	todoRoom    = C.RTR_TODO_INPUT_ROOM // of any buffer, which can't be made as long
+	todoGrow    = C.RTR_TODO_INPUT_ROOM // the first of the actions that grow a buffer
 )
 
 const (
-	mostBuffer  = math.MaxInt / 2  // the most bytes of a buffer
-	firstOutput = longestUnit + 64 // a report behind some queries
+	mostBuffer  = math.MaxInt / 2  // the largest size of a buffer
+	firstOutput = longestUnit + 64 // fits a report after some queries
 )
 
 // newLink returns a link without data.
-func newLink(wanted settings) *link {
+func newLink(s settings) *link {
 	l := &link{output: make([]byte, firstOutput), most: mostBuffer}
-	C.rtr_link_init(&l.end, &wanted)
+	C.rtr_link_init(&l.end, &s)
 	return l
 }
 
-// again begins again with the same cache, without data and connection: waits continue to grow.
-func (l *link) again() {
+// restart resets the link to no data and no connection, for the same cache. Pauses between retries
+// continue to grow.
+func (l *link) restart() {
 	must(C.rtr_link_again(&l.end))
 	l.data = [2][]byte{}
 }
 
-// must stops the program if a call was refused: a host makes no wrong call.
+// must panics if a call was refused, which is a bug of this package.
 func must(status C.uint8_t) {
 	if status != C.RTR_LINK_OK {
 		panic(fmt.Sprintf("rtr: a call of a router's end was refused with status %d", status))
@@ -119,152 +120,153 @@ func must(status C.uint8_t) {
 
 // buffers returns the buffers for a call.
 func (l *link) buffers() (b C.struct_rtr_link_buffers) {
-	b.input, b.input_length = place(l.input)
-	b.first, b.first_length = place(l.data[0])
-	b.second, b.second_length = place(l.data[1])
-	b.index, b.index_length = address(l.index), C.size_t(len(l.index))
-	b.output, b.output_length = place(l.output)
+	b.input, b.input_length = cBytes(l.input)
+	b.first, b.first_length = cBytes(l.data[0])
+	b.second, b.second_length = cBytes(l.data[1])
+	b.index, b.index_length = firstOf(l.index), C.size_t(len(l.index))
+	b.output, b.output_length = cBytes(l.output)
 	return b
 }
 
-// opened says that the connection is open.
+// opened tells the link that the connection is open.
 func (l *link) opened() {
 	must(C.rtr_link_opened(&l.end))
 }
 
-// lost says that no connection could be opened, or that it is lost.
+// lost tells the link that connecting failed, or that the connection was lost.
 func (l *link) lost() {
 	must(C.rtr_link_lost(&l.end))
 }
 
-// received says that bytes were read into the room.
+// received tells the link that size bytes were read into the buffer of inputTail.
 func (l *link) received(size int) {
 	must(C.link_received(&l.end, l.buffers(), C.size_t(size)))
 }
 
-// sent says that so many of the unsent bytes were sent.
+// sent tells the link that the first size bytes of unsent were sent.
 func (l *link) sent(size int) {
 	must(C.link_sent(&l.end, l.buffers(), C.size_t(size)))
 }
 
-// state returns what the buffers hold.
+// state returns how much the buffers hold.
 func (l *link) state(now uint64) C.struct_rtr_link_state {
 	held := C.link_state(&l.end, l.buffers(), C.uint64_t(now))
 	must(held.status)
 	return held.state
 }
 
-// room returns where to read to; it isn't empty after todoWait.
-func (l *link) room(now uint64) []byte {
+// inputTail returns the free part of the input buffer, to read into; after todoWait it isn't empty.
+func (l *link) inputTail(now uint64) []byte {
 	return l.input[l.state(now).filled:]
 }
 
-// unsent returns the bytes that are to be sent.
+// unsent returns the bytes to send.
 func (l *link) unsent(now uint64) []byte {
 	return l.output[:l.state(now).unsent]
 }
 
-// next returns what to do next. It makes buffers longer where they have to be.
+// next returns the next action. It grows buffers as needed; if one can't grow enough, it returns
+// todoGrow.
 func (l *link) next(now uint64) todo {
-	return l.turn(now, func() C.struct_link_step {
+	return l.step(now, func() C.struct_link_step {
 		return C.link_next(&l.end, l.buffers(), C.uint64_t(now))
 	})
 }
 
-// askNow says that the caller wants the present data, and returns what to do, as next does.
+// askNow asks for the present data before the refresh time, and returns the next action, as next
+// does.
 func (l *link) askNow(now uint64) todo {
-	return l.turn(now, func() C.struct_link_step {
+	return l.step(now, func() C.struct_link_step {
 		return C.link_ask_now(&l.end, l.buffers(), C.uint64_t(now))
 	})
 }
 
-// giveUp says that a buffer isn't made longer, and returns what to do, as next does.
+// giveUp tells the link that a buffer can't grow, and returns the next action, as next does.
 func (l *link) giveUp(now uint64) todo {
-	return l.turn(now, func() C.struct_link_step {
+	return l.step(now, func() C.struct_link_step {
 		return C.link_give_up(&l.end, l.buffers(), C.uint64_t(now))
 	})
 }
 
-// turn calls until no buffer is too short, or one can't be made longer.
-func (l *link) turn(now uint64, call func() C.struct_link_step) todo {
+// step repeats a call until every buffer is long enough, or one can't grow.
+func (l *link) step(now uint64, call func() C.struct_link_step) todo {
 	held := l.state(now)
 	l.filled = int(held.filled)
 	if held.answers {
-		l.prepare(held)
+		l.reserve(held)
 	}
 	for {
-		step := call()
-		must(step.status)
-		if step.todo.kind < todoRoom {
-			return step.todo
+		result := call()
+		must(result.status)
+		if result.todo.kind < todoGrow {
+			return result.todo
 		}
-		if !l.grow(step.todo) {
-			return todo{kind: todoRoom}
+		if !l.grow(result.todo) {
+			return todo{kind: todoGrow}
 		}
 	}
 }
 
-// prepare makes room for the data that a whole answer makes, before the link looks for it: it sorts
-// the payload units first.
-func (l *link) prepare(held C.struct_rtr_link_state) {
-	room, other := uint64(held.answer)+2*longestEnd, 1
+// reserve allocates the buffer for the data of a whole answer in advance: the link checks the size
+// of that buffer only after it has sorted the payload units.
+func (l *link) reserve(held C.struct_rtr_link_state) {
+	size, other := uint64(held.answer)+2*longestEnd, 1
 	if held.since {
-		room += uint64(held.shown)
+		size += uint64(held.shown)
 	}
 	if held.second {
 		other = 0
 	}
-	if room <= l.most && room > uint64(len(l.data[other])) {
-		l.data[other] = make([]byte, room)
+	if size <= l.most && size > uint64(len(l.data[other])) {
+		l.data[other] = make([]byte, size)
 	}
 }
 
-// grow makes a buffer as long as it has to be, and reports whether it may be as long. The input and
-// the output get twice the length that they had, so that few bytes are copied.
+// grow grows the buffer that an action names, and reports whether the limit allows it. The input
+// and the output at least double, so that few bytes are copied.
 func (l *link) grow(t todo) bool {
-	room := uint64(t.room)
-	if room > l.most {
+	size := uint64(t.room)
+	if size > l.most {
 		return false
 	}
 	switch t.kind {
 	case C.RTR_TODO_INPUT_ROOM:
-		l.input = longer(l.input, l.doubled(l.input, room))
+		l.input = resized(l.input, l.doubled(l.input, size))
 	case C.RTR_TODO_FIRST_ROOM:
-		l.data[0] = longer(l.data[0], room)
+		l.data[0] = resized(l.data[0], size)
 	case C.RTR_TODO_SECOND_ROOM:
-		l.data[1] = longer(l.data[1], room)
+		l.data[1] = resized(l.data[1], size)
 	case C.RTR_TODO_INDEX_ROOM:
-		l.index = make([]C.size_t, room)
+		l.index = make([]C.size_t, size)
 	case C.RTR_TODO_OUTPUT_ROOM:
-		l.output = longer(l.output, l.doubled(l.output, room))
+		l.output = resized(l.output, l.doubled(l.output, size))
 	}
 	return true
 }
 
-// doubled returns the length that a buffer gets: twice its own, or what it needs.
-func (l *link) doubled(buffer []byte, room uint64) uint64 {
-	if twice := 2 * uint64(len(buffer)); room < twice && twice <= l.most {
+// doubled returns twice the size of a buffer if that is enough and allowed, else the needed size.
+func (l *link) doubled(buffer []byte, size uint64) uint64 {
+	if twice := 2 * uint64(len(buffer)); size < twice && twice <= l.most {
 		return twice
 	}
-	return room
+	return size
 }
 
-// longer returns a longer buffer that begins with the same bytes.
-func longer(buffer []byte, room uint64) []byte {
-	made := make([]byte, room)
-	copy(made, buffer)
-	return made
+// resized returns a buffer of a larger size that begins with the same bytes.
+func resized(buffer []byte, size uint64) []byte {
+	larger := make([]byte, size)
+	copy(larger, buffer)
+	return larger
 }
 
-// about returns the bytes of the unit that a todo is about, and those that follow it, until the
-// next call.
-func (l *link) about(t todo) []byte {
+// inputFrom returns the input from the unit that an action names; it is valid until the next call.
+func (l *link) inputFrom(t todo) []byte {
 	return l.input[t.offset:l.filled]
 }
 
-// taken returns the new data, which stay as they are: the next answer is written to another buffer
-// than that of the data before, which others may still read.
-func (l *link) taken(now uint64) Data {
+// newData returns the data of the last answer. The link doesn't write to them any more, nor to the
+// data before them, which others may still read.
+func (l *link) newData(now uint64) Data {
 	held, which := l.state(now), 0
 	if held.second {
 		which = 1
@@ -276,12 +278,12 @@ func (l *link) taken(now uint64) Data {
 	return checkedData(shown)
 }
 
-// dropped gives away the buffers of data that there are no longer.
+// dropped releases the buffers of data that were dropped.
 func (l *link) dropped() {
 	l.data = [2][]byte{}
 }
 
-// release gives away what a long answer took.
+// release frees the memory that a long answer needed.
 func (l *link) release(now uint64) {
 	l.index = nil
 	if len(l.input) > 2*chunk {

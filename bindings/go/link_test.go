@@ -81,7 +81,7 @@ func TestNoMemory(t *testing.T) {
 		return nil
 	})
 	f.link.most = 2 * longestUnit
-	f.told = func(err error) {
+	f.onFailure = func(err error) {
 		failures = append(failures, err)
 		if f.data.Serial() != 1 {
 			t.Error("the data didn't stay")
@@ -95,8 +95,8 @@ func TestNoMemory(t *testing.T) {
 	}
 }
 
-// reading returns a link that has data of serial number 1, has asked for what changed, and was given
-// these bytes.
+// reading returns a link that has data of serial number 1, has asked for what changed, and was
+// given these bytes.
 func reading(t *testing.T, answer []byte) *link {
 	l := newLink(settingsOf(NewClient(""), usualClientLimits(), 0))
 	given := [][]byte{full(7, 1, ipv4), numbered(1, 0, 7, 2), answer}
@@ -105,7 +105,7 @@ func reading(t *testing.T, answer []byte) *link {
 		case todoConnect:
 			l.opened()
 		case todoData:
-			if data := l.taken(now); data.Serial() != 1 {
+			if data := l.newData(now); data.Serial() != 1 {
 				t.Fatal(data.Serial())
 			}
 			now = 5000
@@ -114,7 +114,7 @@ func reading(t *testing.T, answer []byte) *link {
 			if len(given) == 0 {
 				t.Fatal("there was no answer")
 			}
-			l.received(copy(l.room(now), given[0]))
+			l.received(copy(l.inputTail(now), given[0]))
 			if given = given[1:]; len(given) == 0 {
 				return l
 			}
@@ -141,7 +141,7 @@ func TestNoRoom(t *testing.T) {
 		l.most = 0
 		const now = 5000
 		next := l.next(now)
-		for next.kind != todoRoom {
+		for next.kind != todoGrow {
 			if next.kind == todoWait || next.kind == todoData {
 				t.Fatalf("%s: it goes on: %d", name, next.kind)
 			}
@@ -183,7 +183,7 @@ func TestWaitsGrowAgain(t *testing.T) {
 			t.Fatalf("%d ms, not %d s", got, wait)
 		}
 		now += 1000 // in which it is stopped
-		l.again()
+		l.restart()
 	}
 }
 

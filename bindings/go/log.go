@@ -12,7 +12,7 @@ const (
 	LevelWarn  Level = 4
 )
 
-// Log writes a log line: a message, and names and values in turn, as log/slog has them in newer
+// Log writes a log line: a message, and alternating names and values, as log/slog has them in newer
 // versions of Go:
 //
 //	client.Log = func(level rtr.Level, message string, fields ...any) {

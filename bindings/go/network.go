@@ -12,24 +12,24 @@ import (
 )
 
 // peer is the cache of a follower: a clock, and at most one connection. Times are in milliseconds
-// of the clock, which doesn't go back. When a time has passed, the error is a timeout.
+// of the clock, which is monotonic. After a deadline the error is a timeout.
 type peer interface {
 	now() uint64
-	// ended returns why the follower has to end; nil if it hasn't.
+	// ended returns the error with which the follower has to end, or nil.
 	ended() error
-	// rest waits without a connection until a time, or until the caller asks for data.
+	// rest waits without a connection until a deadline, or until AskNow.
 	rest(until uint64) error
 	connect(until uint64) error
-	// read reads until a time, or until the caller asks for data: then its error is a timeout too.
+	// read reads until a deadline, or until AskNow, which gives a timeout too.
 	read(buffer []byte, until uint64) (int, error)
-	// write writes until a time, and returns how many bytes it wrote, also with an error.
+	// write writes until a deadline, and returns the number of written bytes, also with an error.
 	write(bytes []byte, until uint64) (int, error)
-	// close sends the last units, if there are some, and closes the connection, if there is one. A
-	// report is the last of them if `reports`.
+	// close sends the last units, if there are some, and closes the connection, if there is one. If
+	// reports, the last of them is an error report, and the cache gets time to read it.
 	close(last []byte, reports bool)
 }
 
-// clock measures milliseconds since it was made.
+// clock measures milliseconds since newClock.
 type clock struct {
 	begun time.Time
 	time  func() time.Time
@@ -41,7 +41,7 @@ func (c clock) now() uint64 {
 	return uint64(c.time().Sub(c.begun).Milliseconds())
 }
 
-// at converts a time of the clock.
+// at converts a time of the clock, and limits it to what a Duration can hold.
 func (c clock) at(until uint64) time.Time {
 	if most := uint64(math.MaxInt64 / time.Millisecond); until > most {
 		until = most
@@ -52,13 +52,13 @@ func (c clock) at(until uint64) time.Time {
 // network is a peer over connections. Its context interrupts waits.
 type network struct {
 	clock
-	wish       *wish
+	askRequest *askRequest
 	ctx        context.Context
 	dial       func(ctx context.Context, network, address string) (net.Conn, error)
 	address    string
-	patience   time.Duration // for the last units
+	patience   time.Duration // to send the last units
 	connection net.Conn
-	release    func() // the context closes the connection no longer
+	release    func() // stops closing the connection at the end of the context
 }
 
 func (n *network) ended() error {
@@ -68,8 +68,8 @@ func (n *network) ended() error {
 func (n *network) rest(until uint64) error {
 	ctx, cancel := context.WithDeadline(n.ctx, n.at(until))
 	defer cancel()
-	n.wish.waits(cancel)
-	defer n.wish.waits(nil)
+	n.askRequest.setCancel(cancel)
+	defer n.askRequest.setCancel(nil)
 	<-ctx.Done()
 	return n.ctx.Err()
 }
@@ -122,7 +122,7 @@ func (n *network) close(last []byte, reports bool) {
 	if reports {
 		sendLast(n.connection, last, n.patience)
 	} else if len(last) > 0 && n.connection.SetWriteDeadline(time.Now().Add(n.patience)) == nil {
-		// The connection ends anyway.
+		// The connection is closed anyway, so an error doesn't matter.
 		_, _ = n.connection.Write(last)
 	}
 	n.release()

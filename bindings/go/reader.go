@@ -7,55 +7,55 @@ import (
 	"io"
 )
 
-// Reader reads units of all kinds from an io.Reader, that of NewReader, and keeps one at a time. It takes a unit's
-// header, and then exactly the unit's bytes: it never reads ahead. So give it a bufio.Reader where
-// reads are dear, as on a socket or a file.
+// Reader reads units of all kinds from an io.Reader, one at a time. It reads a unit's header, and
+// then exactly the rest of the unit: it never reads ahead. So give it a bufio.Reader where reads
+// are expensive, as on a socket or a file.
 //
-// A length is checked before it is believed: the buffer never grows for a length that no unit has,
+// The length in a header is checked first: the buffer doesn't grow for a length that no unit has,
 // and never above 65535 bytes.
 type Reader struct {
 	reader io.Reader
 	buffer []byte
-	filled int   // bytes in buffer: of the last unit, or of one that isn't whole yet
+	filled int   // bytes in buffer: of the last unit, or of an incomplete one
 	size   int   // of the last unit, which the next call drops; 0 after an error
 	offset int64 // of the first byte in buffer
 	unit   Unit
 }
 
-// The buffer's first size: that of all units but some router keys, error reports and ASPAs.
+// The buffer's first size: enough for all units but some router keys, error reports and ASPAs.
 const firstBuffer = 64
 
-// An io.Reader that reads nothing and gives no error is asked so many times.
+// The number of reads in a row that may return neither bytes nor an error.
 const emptyReads = 100
 
-// ErrNoReader is of a Reader without an io.Reader, as the zero one is.
+// ErrNoReader: the Reader has no io.Reader, like the zero one.
 var ErrNoReader = errors.New("rtr: the Reader has no io.Reader: NewReader makes one that has")
 
 var errCount = errors.New("rtr: the io.Reader or the connection returned an impossible count of bytes")
 
-// NewReader makes a Reader of an io.Reader.
+// NewReader returns a Reader that reads from an io.Reader.
 func NewReader(reader io.Reader) *Reader {
 	return &Reader{reader: reader, buffer: make([]byte, firstBuffer)}
 }
 
-// Next reads a unit. It, and the bytes that it shows, are valid until the next call; Clone keeps
-// them. Nothing is allocated, unless the buffer has to grow or there is an error.
+// Next reads a unit. The unit, and its slices, are valid until the next call; Clone copies them.
+// Next allocates nothing unless the buffer has to grow or there is an error.
 //
 // Errors:
-//   - io.EOF if the input ends after a whole unit, or has none;
-//   - a Fault with Short, for which errors.Is knows io.ErrUnexpectedEOF, if it ends inside a unit;
+//   - io.EOF if the input ends after a complete unit, or is empty;
+//   - a Fault with Short, which is an io.ErrUnexpectedEOF too, if it ends inside a unit;
 //   - a Fault with one of UnitType to EmptyProviders if a header is refused. What follows it isn't
-//     read, and each call answers the same;
-//   - a Fault with PrefixRule if the lengths of a prefix break their rule. The next call goes on
+//     read, and each further call returns the same;
+//   - a Fault with PrefixRule if the lengths of a prefix break their rule. The next call continues
 //     after that unit;
-//   - that of the io.Reader, as it is. What was read is kept, so that the next call goes on where
-//     this one stopped, after a deadline for instance;
-//   - ErrNoReader of the zero Reader.
+//   - that of the io.Reader, unchanged. The bytes read so far are kept, so that the next call
+//     continues there, for instance after a deadline;
+//   - ErrNoReader for the zero Reader.
 func (r *Reader) Next() (*Unit, error) {
 	return r.next(false)
 }
 
-// next is Next, and if the units of a sequence are wanted it refuses the types that none has.
+// next is Next; inside a sequence it also refuses the types that a sequence can't have.
 func (r *Reader) next(inSequence bool) (*Unit, error) {
 	if r == nil || r.reader == nil {
 		return nil, ErrNoReader
@@ -85,7 +85,7 @@ func (r *Reader) next(inSequence bool) (*Unit, error) {
 	return &r.unit, nil
 }
 
-// fill reads until there are so many bytes of the unit.
+// fill reads until the buffer has size bytes of the unit.
 func (r *Reader) fill(size int) error {
 	r.grow(size)
 	for empty := 0; r.filled < size; {
@@ -106,7 +106,7 @@ func (r *Reader) fill(size int) error {
 	return nil
 }
 
-// grow makes the buffer so long at least, and twice as long as it was where the unit isn't longer.
+// grow grows the buffer to at least this size; it at least doubles, up to the longest unit.
 func (r *Reader) grow(size int) {
 	if size <= len(r.buffer) {
 		return
@@ -122,7 +122,7 @@ func (r *Reader) grow(size int) {
 	r.buffer = buffer
 }
 
-// ended is the error of a unit that isn't whole.
+// ended returns the error of an incomplete unit.
 func (r *Reader) ended(err error) error {
 	if err == io.EOF && r.filled > 0 {
 		return r.fault(Short, 0)
@@ -130,19 +130,19 @@ func (r *Reader) ended(err error) error {
 	return err
 }
 
-// fault is a fault of the unit in the buffer, of which it has a copy.
+// fault returns a fault of the unit in the buffer, with a copy of its bytes.
 func (r *Reader) fault(status Status, detail uint8) error {
 	unit := append([]byte{}, r.buffer[:r.filled]...)
 	return &Fault{Status: status, Detail: detail, Offset: r.offset, Unit: unit}
 }
 
-// Offset is how many bytes the units had that were taken: where the next one begins.
+// Offset returns the offset of the next unit: the bytes of all units so far.
 func (r *Reader) Offset() int64 {
 	return r.offset + int64(r.size)
 }
 
-// Bytes are the bytes of the unit that Next gave, as they were read, or of a prefix that it
-// refused, and none after another error. They are valid until the next call.
+// Bytes returns the bytes of the unit that Next returned, as they were read, or of a prefix that it
+// refused; none after another error. They are valid until the next call.
 func (r *Reader) Bytes() []byte {
 	return r.buffer[:r.size:r.size]
 }
@@ -165,14 +165,13 @@ type Sequence struct {
 	ended  bool
 }
 
-// Sequence begins a sequence where the Reader stands. At most limit units are taken, the end of
-// data included.
+// Sequence begins a sequence with the next unit. It has at most limit units, including the end of
+// data.
 func (r *Reader) Sequence(limit uint64) *Sequence {
 	return &Sequence{reader: r, limit: limit}
 }
 
-// Scan reads the next unit, which Unit then gives. It answers false after the end of data, and if
-// there is an error.
+// Scan reads the next unit, for Unit. It returns false after the end of data, and at an error.
 func (s *Sequence) Scan() bool {
 	if s.ended {
 		return false
@@ -187,7 +186,7 @@ func (s *Sequence) Scan() bool {
 	return true
 }
 
-// next is the next unit, which there has to be.
+// next reads the next unit; the end of the input is an error.
 func (s *Sequence) next() (*Unit, error) {
 	if s.reader == nil {
 		return nil, ErrNoReader
@@ -202,27 +201,26 @@ func (s *Sequence) next() (*Unit, error) {
 	return unit, err
 }
 
-// Unit is the unit that Scan read last: a payload unit, or as the last one the end of data. It is
-// valid until the next call; Clone keeps it. After an error it is nil.
+// Unit returns the unit that Scan read: a payload unit, or at last the end of data. It is valid
+// until the next call; Clone copies it. After an error it is nil.
 func (s *Sequence) Unit() *Unit {
 	return s.unit
 }
 
-// Err is the error that ended the loop, and nil if the end of data did. After one of the io.Reader
-// another Sequence goes on.
+// Err returns the error that ended the loop; nil if the end of data did. After an error of the
+// io.Reader another Sequence can continue.
 //
-// Errors: a Fault with TooMany, before a unit is read; those of Reader.Next, but in the place of
-// io.EOF one with Short, and UnitType before any other fault for a header of a type that no
-// sequence has.
+// Errors: a Fault with TooMany, before a unit is read; those of Reader.Next, but a Fault with Short
+// instead of io.EOF, and first of all UnitType for a type that no sequence has.
 func (s *Sequence) Err() error {
 	return s.err
 }
 
-// Collect takes what is left of the sequence, and gives the bytes of its units as they were read:
-// changes, which Order puts into canonical form for Apply. At most so many bytes are kept.
+// Collect reads the rest of the sequence, and returns the bytes of its units as they were read:
+// changes, which Order puts into canonical form for Apply. It keeps at most this number of bytes.
 //
-// Errors: those of Err, and a Fault with NoRoom at the unit that doesn't fit. Units that were taken
-// before are lost.
+// Errors: those of Err, and a Fault with NoRoom at the unit that doesn't fit. The units before it
+// are lost.
 func (s *Sequence) Collect(most int) ([]byte, error) {
 	var all []byte
 	for s.Scan() {

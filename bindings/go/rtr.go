@@ -1,8 +1,8 @@
 //go:build cgo && linux
 
-// Package rtr reads and writes the units of the RPKI to Router protocol (RFC 6810, RFC 8210), of
-// all eleven types, over the proved library rtr_c. What the library's functions promise is proved;
-// this package is tested.
+// Package rtr reads and writes the units (PDUs) of the RPKI to Router protocol (RFC 6810, RFC
+// 8210), of all eleven types, by calls of the proved library rtr_c. What the library's functions
+// promise is proved; this package is tested.
 //
 // # A connection
 //
@@ -21,39 +21,38 @@
 //		fmt.Println(unit.Kind, unit.Serial)
 //	}
 //
-// Reader.Sequence loops over what a cache sends in answer to a query: payload units up to an end of
-// data.
+// Reader.Sequence loops over the units that a cache sends after its cache response: payload units,
+// and an end of data.
 //
 // # Bytes in memory
 //
-// Next shows the unit that bytes begin with, and Unit.AppendBinary appends one. Normalise,
-// NormaliseFor and SameMeaning take whole sequences.
+// Next reads the first unit of a slice, and Unit.AppendBinary appends one. Normalise, NormaliseFor
+// and SameMeaning take whole sequences.
 //
 // # Data and deltas
 //
-// Data is what a cache has, or a router has of it. Delta leads from old data to new, and Apply
-// makes all changes of a delta, or none; Order puts changes that came in any order into the form
-// that Apply takes, and Sequence.Collect reads them from a connection.
+// Data is the data of a cache, or a router's copy of them. Delta computes the changes from old data
+// to new, and Apply applies all changes of a delta, or none; Order puts changes that came in any
+// order into the form that Apply takes, and Sequence.Collect reads them from a connection.
 //
 // # Clients and caches
 //
 // A Client follows the data of a cache over TCP, and a Server is a cache. Follow follows the first
-// of several caches that has data. docs/SESSIONS.md says what they do in each state, by the
+// of several caches that has data. docs/SESSIONS.md describes what they do in each state, by the
 // sections of RFC 8210.
 //
 // # Errors
 //
-// What is wrong with a unit is a *Fault, for errors.As, with the place and the bytes of the unit,
+// A unit that is refused gives a *Fault, for errors.As, with the offset and the bytes of the unit,
 // and the error report that is owed to the peer. Each Status is an error, for errors.Is. Errors of
-// an io.Reader and an io.Writer are returned as they are.
+// an io.Reader and an io.Writer are returned unchanged.
 //
 // # Goroutines and memory
 //
-// Several goroutines may call at once, but one at a time for each Reader, Sequence, Units and
-// Writer. Slices may be nil or empty. What is written must not overlap what is read, and until a
-// call returns no other goroutine may write to its arguments or read its output. No unit allocates
-// memory, when it is read or written, once the buffers are as long as the longest unit; an error
-// does.
+// Several goroutines may call the package at once, but use a Reader, Sequence, Units or Writer from
+// one at a time. Slices may be nil or empty. An output must not overlap an input, and until a call
+// returns no other goroutine may write to its arguments or read its output. Reading or writing a
+// unit allocates nothing once the buffers are as long as the longest unit; an error does.
 //
 // Copyright (c) 2026, the authors of Fishreef; copyright (c) 2018, NLnet Labs. BSD 3-Clause
 // License: see the file LICENSE at the top of the repository.
@@ -65,7 +64,7 @@ package rtr
 #cgo arm64 LDFLAGS: -L${SRCDIR}/../../prebuilt/aarch64 -lrtr_wire
 #include "rtr.h"
 
-// What a call answers by value, so that nothing of it has to be kept outside of the stack.
+// The results are returned by value, so that they stay on the stack.
 struct shown {
 	struct rtr_unit unit;
 	uint8_t status;
@@ -176,23 +175,23 @@ static struct rtr_line change_json(const uint8_t *input, size_t length,
 	return answer;
 }
 
-struct said {
-	uint8_t text[RTR_TEXT_ROOM];
+struct text {
+	uint8_t bytes[RTR_TEXT_ROOM];
 	size_t length;
 };
 
-static struct said status_text(uint8_t status, uint8_t detail)
+static struct text status_text(uint8_t status, uint8_t detail)
 {
-	struct said said;
-	rtr_text(status, detail, said.text, sizeof said.text, &said.length);
-	return said;
+	struct text text;
+	rtr_text(status, detail, text.bytes, sizeof text.bytes, &text.length);
+	return text;
 }
 
-static struct said name_of(uint8_t named, uint16_t number)
+static struct text name_of(uint8_t table, uint16_t number)
 {
-	struct said said;
-	rtr_name(named, number, said.text, sizeof said.text, &said.length);
-	return said;
+	struct text text;
+	rtr_name(table, number, text.bytes, sizeof text.bytes, &text.length);
+	return text;
 }
 
 static struct sized write_unit(struct rtr_unit unit, const uint8_t *part, size_t part_length,
@@ -210,6 +209,7 @@ static struct owed error_code(uint8_t status, const uint8_t *input, size_t lengt
 	owed.owed = rtr_error_code(status, input, length, &owed.code);
 	return owed;
 }
+
 static struct rtr_answer normalise(const uint8_t *input, size_t length,
                                    uint8_t *output, size_t output_length, uint64_t limit)
 {
@@ -244,52 +244,52 @@ import (
 	"unsafe"
 )
 
-// place is the address of a slice, or null, and its length.
-func place(b []byte) (*C.uint8_t, C.size_t) {
+// cBytes returns the address of a slice, or null if it is empty, and its length.
+func cBytes(b []byte) (*C.uint8_t, C.size_t) {
 	if len(b) == 0 {
 		return nil, 0
 	}
 	return (*C.uint8_t)(&b[0]), C.size_t(len(b))
 }
 
-// address is that of a slice, or null where it is empty.
-func address[T any](all []T) *T {
-	if len(all) == 0 {
+// firstOf returns the address of a slice, or null if it is empty.
+func firstOf[T any](slice []T) *T {
+	if len(slice) == 0 {
 		return nil
 	}
-	return &all[0]
+	return &slice[0]
 }
 
-// unitSize is UnitSize in numbers.
+// unitSize is UnitSize with a status in place of an error.
 func unitSize(input []byte) (size int, status Status, detail uint8) {
-	in, n := place(input)
+	in, n := cBytes(input)
 	sized := C.unit_size(in, n)
 	return int(sized.size), Status(sized.status), uint8(sized.detail)
 }
 
-// line writes the front of the line of the unit that input begins with, and answers how long all of
-// it is, and the unit's size.
+// line writes the line of the first unit of input, as far as it fits, and returns the length of the
+// whole line, and the unit's size.
 func line(input []byte, offset uint64, output []byte) (length, size int, status Status, detail uint8) {
-	in, n := place(input)
-	out, room := place(output)
-	a := C.line(in, n, C.uint64_t(offset), out, room)
+	in, n := cBytes(input)
+	out, capacity := cBytes(output)
+	a := C.line(in, n, C.uint64_t(offset), out, capacity)
 	return int(a.length), int(a.size), Status(a.status), uint8(a.detail)
 }
 
-// object is line of the object in JSON.
+// object is like line, for the object in JSON.
 func object(
 	input []byte, offset uint64, output []byte,
 ) (length, size int, status Status, detail uint8) {
-	in, n := place(input)
-	out, room := place(output)
-	a := C.object(in, n, C.uint64_t(offset), out, room)
+	in, n := cBytes(input)
+	out, capacity := cBytes(output)
+	a := C.object(in, n, C.uint64_t(offset), out, capacity)
 	return int(a.length), int(a.size), Status(a.status), uint8(a.detail)
 }
 
-// sequenceState is what is known of a sequence, but for the names that are announced in it.
+// sequenceState is the state of a check, without the names of the announced payloads.
 type sequenceState = C.struct_rtr_check
 
-// naming says which payload a unit names, and what is to be done with the name.
+// naming is the name of a unit's payload, and how it changes the set of announced names.
 type naming struct {
 	size, length      int
 	status            Status
@@ -297,20 +297,20 @@ type naming struct {
 	begins, announces bool
 }
 
-// checkName writes the name of the payload of the unit that input begins with.
+// checkName writes the name of the payload of input's first unit.
 func checkName(input, output []byte) naming {
-	in, n := place(input)
-	out, room := place(output)
-	a := C.check_name(in, n, out, room)
+	in, n := cBytes(input)
+	out, capacity := cBytes(output)
+	a := C.check_name(in, n, out, capacity)
 	return naming{int(a.size), int(a.length), Status(a.status), uint8(a.detail), bool(a.begins),
 		bool(a.announces)}
 }
 
-// checkUnit appends the lines of what the unit breaks that input begins with, and answers the state
+// checkUnit appends a line for each rule that input's first unit breaks, and returns the state
 // after it.
 func checkUnit(lines []string, state sequenceState, input []byte, wasThere bool, offset uint64) (
 	[]string, sequenceState) {
-	in, n := place(input)
+	in, n := cBytes(input)
 	step := C.check_unit(state, in, n, C.bool(wasThere))
 	for _, finding := range step.checked.findings {
 		lines = appendFinding(lines, finding, offset)
@@ -318,7 +318,7 @@ func checkUnit(lines []string, state sequenceState, input []byte, wasThere bool,
 	return lines, step.check
 }
 
-// checkEnd appends the line of what is missing where the input ends.
+// checkEnd appends a line on what is missing at the end of the input, if something is.
 func checkEnd(lines []string, state sequenceState, offset uint64) []string {
 	return appendFinding(lines, C.check_end(state), offset)
 }
@@ -328,28 +328,28 @@ func appendFinding(lines []string, finding C.struct_rtr_finding, offset uint64) 
 		return lines
 	}
 	var output [findingRoom]byte
-	out, room := place(output[:])
-	n := C.finding_line(finding, C.uint64_t(offset), out, room)
+	out, capacity := cBytes(output[:])
+	n := C.finding_line(finding, C.uint64_t(offset), out, capacity)
 	return append(lines, string(output[:n]))
 }
 
-// changeLine is line of the change that the unit makes.
+// changeLine is like line, for the change that the unit makes.
 func changeLine(input, output []byte) (length int, status Status) {
-	in, n := place(input)
-	out, room := place(output)
-	a := C.change_line(in, n, out, room)
+	in, n := cBytes(input)
+	out, capacity := cBytes(output)
+	a := C.change_line(in, n, out, capacity)
 	return int(a.length), Status(a.status)
 }
 
-// changeJSON is changeLine of the object in JSON.
+// changeJSON is like changeLine, for the object in JSON.
 func changeJSON(input, output []byte) (length int, status Status) {
-	in, n := place(input)
-	out, room := place(output)
-	a := C.change_json(in, n, out, room)
+	in, n := cBytes(input)
+	out, capacity := cBytes(output)
+	a := C.change_json(in, n, out, capacity)
 	return int(a.length), Status(a.status)
 }
 
-// What name has names of.
+// The tables of names, for name.
 const (
 	namedStatus   = C.RTR_NAMED_STATUS
 	namedKind     = C.RTR_NAMED_KIND
@@ -359,39 +359,38 @@ const (
 	namedTimeRule = C.RTR_NAMED_TIME_RULE
 )
 
-// brokenTimeRule is the first rule of RFC 8210 section 6 that the times of a cache break, and
+// brokenTimeRule returns the first rule of RFC 8210 section 6 that the times of a cache break, and
 // whether they break one.
 func brokenTimeRule(t Timing) (rule uint16, broken bool) {
 	number := C.rtr_times_rule(C.uint32_t(t.Refresh), C.uint32_t(t.Retry), C.uint32_t(t.Expire))
 	return uint16(number), number != C.RTR_TIME_RULE_NONE
 }
 
-// name is that of a number: of a status, a kind, a cause, a reason or an error code; or the text of
-// a rule on times.
-func name(named uint8, number uint16) string {
-	said := C.name_of(C.uint8_t(named), C.uint16_t(number))
-	return C.GoStringN((*C.char)(unsafe.Pointer(&said.text)), C.int(said.length))
+// name returns the name of a number of one of these tables; for a rule on times, its text.
+func name(table uint8, number uint16) string {
+	text := C.name_of(C.uint8_t(table), C.uint16_t(number))
+	return C.GoStringN((*C.char)(unsafe.Pointer(&text.bytes)), C.int(text.length))
 }
 
-// statusText is the text of a status with its detail.
+// statusText returns the text of a status with its detail.
 func statusText(status Status, detail uint8) string {
-	said := C.status_text(C.uint8_t(status), C.uint8_t(detail))
-	return C.GoStringN((*C.char)(unsafe.Pointer(&said.text)), C.int(said.length))
+	text := C.status_text(C.uint8_t(status), C.uint8_t(detail))
+	return C.GoStringN((*C.char)(unsafe.Pointer(&text.bytes)), C.int(text.length))
 }
 
-// parse makes the unit the one that input begins with, and answers its size. If it is refused, the
-// unit is as it was; then the size is that of the unit if the status is PrefixRule, and else 0.
+// parse sets the unit to input's first unit, and returns its size. If that is refused, the unit
+// stays unchanged, and the size is that of the refused unit for PrefixRule, else 0.
 func (unit *Unit) parse(input []byte) (size int, status Status, detail uint8) {
-	in, n := place(input)
+	in, n := cBytes(input)
 	shown := C.next(in, n)
 	if shown.status == 0 {
-		unit.show(&shown.unit, input)
+		unit.set(&shown.unit, input)
 	}
 	return int(shown.unit.size), Status(shown.status), uint8(shown.unit.detail)
 }
 
-// show makes the unit the one that u says, which input begins with.
-func (unit *Unit) show(u *C.struct_rtr_unit, input []byte) {
+// set sets the unit to u, which was read from the front of input.
+func (unit *Unit) set(u *C.struct_rtr_unit, input []byte) {
 	*unit = Unit{
 		Kind: Kind(u.kind), Version: uint8(u.version), Announce: u.action == 1,
 		MaxLength: uint8(u.max_length), ASN: uint32(u.asn), Customer: uint32(u.customer),
@@ -409,7 +408,7 @@ func (unit *Unit) show(u *C.struct_rtr_unit, input []byte) {
 	case ASPA:
 		unit.Providers = part(input, u.part_start, u.part_length)
 	case ErrorReport:
-		// Of a report whose inner lengths don't fit, no part is shown.
+		// 0 if the inner lengths of a report don't fit.
 		if u.part_start > 0 {
 			unit.Enclosed = part(input, u.part_start, u.part_length)
 			unit.Text = part(input, u.text_start, u.text_length)
@@ -417,57 +416,58 @@ func (unit *Unit) show(u *C.struct_rtr_unit, input []byte) {
 	}
 }
 
-// decoded is room for units that one call of the library shows: a call of C from Go takes longer than
-// the library does for a unit.
+// decoded is a batch of units that one call of the library decoded: a call of C from Go takes
+// longer than decoding a unit.
 type decoded struct {
 	units       [64]C.struct_rtr_unit
 	next, count int
 }
 
-// What calls that end have no use for.
-var decodedUnits = sync.Pool{New: func() any { return new(decoded) }}
+// decodedPool holds the unused batches of NextMany.
+var decodedPool = sync.Pool{New: func() any { return new(decoded) }}
 
-// fill shows units that input begins with, most of them at once, in the places of those before. If
-// one is refused it answers why, with that of an input that ends.
+// fill replaces the batch by the first units of input, at most this number. It returns the status
+// and the detail of the unit after them if that is refused; Short at the end of the input.
 func (p *decoded) fill(input []byte, most int) (status Status, detail uint8) {
 	if most > len(p.units) {
 		most = len(p.units)
 	}
-	in, n := place(input)
-	told := C.next_many(in, n, &p.units[0], C.size_t(most))
-	p.next, p.count = 0, int(told.count)
-	if told.status != 0 {
-		detail = uint8(p.units[told.count].detail)
+	in, n := cBytes(input)
+	result := C.next_many(in, n, &p.units[0], C.size_t(most))
+	p.next, p.count = 0, int(result.count)
+	if result.status != 0 {
+		detail = uint8(p.units[result.count].detail)
 	}
-	return Status(told.status), detail
+	return Status(result.status), detail
 }
 
-// take makes the unit the next one, with which input begins, and answers what follows it.
+// take sets the unit to the next one of the batch, which input begins with, and returns the input
+// after it.
 func (p *decoded) take(unit *Unit, input []byte) []byte {
-	shown := &p.units[p.next]
+	next := &p.units[p.next]
 	p.next++
-	unit.show(shown, input)
-	return input[shown.size:]
+	unit.set(next, input)
+	return input[next.size:]
 }
 
 func prefix(address netip.Addr, u *C.struct_rtr_unit) netip.Prefix {
 	return netip.PrefixFrom(address, int(u.prefix_length))
 }
 
-// part is a part of the input to which nothing can be appended in place.
+// part returns a part of the input; appending to it copies it.
 func part(input []byte, start, length C.size_t) []byte {
 	return input[start : start+length : start+length]
 }
 
-// write writes the unit with this part to the front of output, but a report without its text.
+// write writes the unit with this part to the front of output, a report without its text.
 func (unit *Unit) write(part, output []byte) (int, Status) {
-	in, n := place(part)
-	out, room := place(output)
-	written := C.write_unit(unit.inC(n), in, n, out, room)
+	in, n := cBytes(part)
+	out, capacity := cBytes(output)
+	written := C.write_unit(unit.inC(n), in, n, out, capacity)
 	return int(written.size), Status(written.status)
 }
 
-// inC is the unit for C. A prefix that isn't valid is of no family.
+// inC converts the unit for C. The family of an invalid prefix is 0.
 func (unit *Unit) inC(partLength C.size_t) C.struct_rtr_unit {
 	u := C.struct_rtr_unit{
 		part_length: partLength, asn: C.uint32_t(unit.ASN),
@@ -494,10 +494,10 @@ func (unit *Unit) inC(partLength C.size_t) C.struct_rtr_unit {
 	return u
 }
 
-// errorCode is the error code that is owed to the peer for this status of the unit that input
-// begins with, and whether one is.
+// errorCode returns the code of the report that the peer is owed for this status of input's first
+// unit, and whether it is owed one.
 func errorCode(status Status, input []byte) (ErrorCode, bool) {
-	in, n := place(input)
+	in, n := cBytes(input)
 	owed := C.error_code(C.uint8_t(status), in, n)
 	return ErrorCode(owed.code), bool(owed.owed)
 }
@@ -507,32 +507,33 @@ func versionHas(version uint8, kind Kind) bool {
 	return bool(C.rtr_version_has(C.uint8_t(version), C.uint8_t(kind)))
 }
 
-// serialOrder is the order of serial numbers, an rtr_order of rtr.h.
+// serialOrder returns the order of serial numbers, an rtr_order of rtr.h.
 func serialOrder(left, right uint32) uint8 {
 	return uint8(C.rtr_serial_order(C.uint32_t(left), C.uint32_t(right)))
 }
 
-// normalise is Normalise in numbers.
+// normalise is Normalise with a status in place of an error.
 func normalise(input, output []byte, limit uint64) (Progress, Status, uint8) {
-	in, n := place(input)
-	out, room := place(output)
-	return ended(C.normalise(in, n, out, room, C.uint64_t(limit)))
+	in, n := cBytes(input)
+	out, capacity := cBytes(output)
+	return progressOf(C.normalise(in, n, out, capacity, C.uint64_t(limit)))
 }
 
-// normaliseFor is NormaliseFor in numbers.
+// normaliseFor is NormaliseFor with a status in place of an error.
 func normaliseFor(input, output []byte, limit uint64, version uint8) (Progress, Status, uint8) {
-	in, n := place(input)
-	out, room := place(output)
-	return ended(C.normalise_for(in, n, out, room, C.uint64_t(limit), C.uint8_t(version)))
+	in, n := cBytes(input)
+	out, capacity := cBytes(output)
+	return progressOf(C.normalise_for(in, n, out, capacity, C.uint64_t(limit), C.uint8_t(version)))
 }
 
-// ended is how a call ended that normalises.
-func ended(a C.struct_rtr_answer) (Progress, Status, uint8) {
+// progressOf converts the result of a call that normalises.
+func progressOf(a C.struct_rtr_answer) (Progress, Status, uint8) {
 	progress := Progress{uint64(a.units), uint64(a.forms), int(a.taken), int(a.written)}
 	return progress, Status(a.status), uint8(a.detail)
 }
 
-// comparison is what is told of two inputs: whether they mean the same, or the fault of one.
+// comparison is the result of comparing two inputs: whether they mean the same, or the fault of
+// one.
 type comparison struct {
 	same   bool
 	side   Side
@@ -541,10 +542,10 @@ type comparison struct {
 	offset int
 }
 
-// compare is SameMeaning in numbers.
+// compare is SameMeaning with a status in place of an error.
 func compare(left, right []byte, limit uint64) comparison {
-	l, n := place(left)
-	r, m := place(right)
+	l, n := cBytes(left)
+	r, m := cBytes(right)
 	a := C.same_meaning(l, n, r, m, C.uint64_t(limit))
 	return comparison{bool(a.same), Side(a.side), Status(a.status), uint8(a.detail), int(a.offset)}
 }

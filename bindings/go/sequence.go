@@ -2,26 +2,26 @@
 
 package rtr
 
-// Progress says how far a call that normalises got: whole units, and the end of data if it was
-// accepted.
+// Progress counts what a call that normalises has read and written: complete units, and the end of
+// data if it was accepted.
 type Progress struct {
-	Units   uint64 // payload units that were taken from the input
-	Forms   uint64 // how many of them were written
-	Taken   int    // bytes of the input that were taken
-	Written int    // bytes of the output that were written
+	Units   uint64 // payload units read from the input
+	Forms   uint64 // payload units written to the output
+	Taken   int    // bytes read from the input
+	Written int    // bytes written to the output
 }
 
-// Normalise normalises the sequence that input begins with: it reads payload units up to an end of
-// data, and writes the form of what each means, and the end of data, to the front of output. At
-// most limit units are taken, the end of data included.
+// Normalise normalises the sequence at the start of input: it reads payload units up to an end of
+// data, and writes the normal form of each, and the end of data, to the front of output. It reads
+// at most limit units, including the end of data.
 //
-// It succeeds exactly if input begins with fewer than limit acceptable payload units and an end of
-// data, and output is at least as long as their form. An output as long as the input always is.
-// What follows in the input isn't taken.
+// It succeeds if and only if input begins with fewer than limit valid payload units and an end of
+// data, and their normal form fits into output. It always fits if output is as long as input. What
+// follows the end of data isn't read.
 //
-// Errors, in this order, each a Fault: TooMany; Short to PrefixRule; NoRoom. Then Progress says
-// which whole units were taken before the error; their form is written. A caller goes on after them
-// with more room, more input or another limit.
+// Errors, in this order, each a Fault: TooMany; Short to PrefixRule; NoRoom. Then Progress counts
+// the complete units before the error; their normal form is written. A caller may continue after
+// them with a longer output, more input or another limit.
 func Normalise(input, output []byte, limit uint64) (Progress, error) {
 	progress, status, detail := normalise(input, output, limit)
 	return progress, stopped(input, progress, status, detail)
@@ -32,17 +32,17 @@ func Normalise(input, output []byte, limit uint64) (Progress, error) {
 // written in this version. An output 12 bytes longer than the input always suffices, since an end
 // of data has 12 bytes in version 0 and 24 in versions 1 and 2.
 //
-// For a version above 2 the error is UnitVersion before any other, with nothing taken or written.
+// For a version above 2 it fails with UnitVersion before it reads or writes anything.
 func NormaliseFor(input, output []byte, limit uint64, version uint8) (Progress, error) {
 	progress, status, detail := normaliseFor(input, output, limit, version)
 	if status == UnitVersion && version > 2 {
-		// It is no unit that is refused.
+		// The argument is refused, not a unit.
 		return progress, &Fault{Status: status, Detail: detail, Offset: -1}
 	}
 	return progress, stopped(input, progress, status, detail)
 }
 
-// stopped is the error of a call that normalises the input, if it has one.
+// stopped returns the error of a call that normalises, or nil.
 func stopped(input []byte, progress Progress, status Status, detail uint8) error {
 	if status == OK {
 		return nil
@@ -50,21 +50,21 @@ func stopped(input []byte, progress Progress, status Status, detail uint8) error
 	return refusal(status, detail, input[progress.Taken:], int64(progress.Taken))
 }
 
-// SameMeaning says whether both inputs begin with sequences that mean the same, of fewer than limit
-// payload units each.
+// SameMeaning reports whether both inputs begin with sequences of the same meaning, of fewer than
+// limit payload units each.
 //
-// The error is a Fault with one of Short to TooMany, its Side and its Offset there: that of left,
-// or if left is accepted, that of right.
+// The error is a Fault with one of Short to TooMany, and with Side and Offset in that input: that
+// of left, or if left is accepted, that of right.
 func SameMeaning(left, right []byte, limit uint64) (bool, error) {
-	told := compare(left, right, limit)
-	if told.status == OK {
-		return told.same, nil
+	result := compare(left, right, limit)
+	if result.status == OK {
+		return result.same, nil
 	}
 	input := left
-	if told.side == Right {
+	if result.side == Right {
 		input = right
 	}
-	fault := refusal(told.status, told.detail, input[told.offset:], int64(told.offset))
-	fault.Side = told.side
+	fault := refusal(result.status, result.detail, input[result.offset:], int64(result.offset))
+	fault.Side = result.side
 	return false, fault
 }

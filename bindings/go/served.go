@@ -14,44 +14,46 @@ import (
 	"time"
 )
 
-// The least size of a connection's send buffer.
+// The least size of a connection's send buffer. Data of at least this size are sent from a file in
+// memory.
 const chunk = 1 << 16
 
-// How much is written in one call if the connection can't report a partial write at a deadline: the
-// size of a TLS record.
+// The bytes per write if the connection can't report a partial write at a deadline: the size of a
+// TLS record.
 const tlsRecord = 1 << 14
 
 // A deadline in the past: it interrupts a read or a write.
 var passed = time.Unix(1, 0)
 
 // served is a client of a Server: its connection, and the proved machine of rtr.h, which decides
-// the answers. It holds no data, only its offset in an edition.
+// the answers. It holds no data: all clients share the edition.
 type served struct {
 	server     *Server
 	connection net.Conn
 	raw        syscall.RawConn // the socket, if the connection is one
-	counter    Counter         // what counts what is written to it, if that is wanted
+	counter    Counter         // the connection, if it counts written bytes
 	cache      C.struct_rtr_cache
-	present    C.struct_rtr_present // what names the data of its place
-	serving    C.struct_rtr_serving // what the machine said last
-	input      []byte               // what came and isn't done with; in the buffer, if it can be
+	present    C.struct_rtr_present // session and serial number of its edition
+	serving    C.struct_rtr_serving // the machine's last action
+	input      []byte               // received and not handled; in buffer, if it fits
 	buffer     [64]byte
-	offset     int64  // where the input begins in what came
-	began      uint64 // when the unit that it begins with began to come
+	offset     int64  // of the input in all received bytes
+	began      uint64 // when the first unit of the input began to come
 	closed     error  // why nothing more comes
 
 	lock    sync.Mutex
-	place   mark   // of the edition of which it is served
-	woken   bool   // there may be a newer one
-	long    bool   // more than a chunk of it is being written
-	cut     error  // why no more of the place is written
-	last    bool   // nothing more is written but a report
-	shaking func() // ends a handshake, as long as there is one
+	edition mark   // of the edition that is being sent
+	woken   bool   // there may be a newer edition
+	long    bool   // more than a chunk of the edition is being written
+	cut     error  // why no more of the edition is written
+	last    bool   // nothing is written any more but a report
+	shaking func() // interrupts a handshake; nil without one
 }
 
-// Counter is a connection over a socket that is written to directly, by SyscallConn. Wrote is called
-// with the number of bytes sent, and with the bytes that were to be sent, unless they are a file's.
-type Counter interface{ Wrote(bytes []byte, taken int) }
+// Counter is a connection over a socket to which the Server writes directly, by SyscallConn. Wrote
+// is called with the number of sent bytes, and with the bytes from which they were taken; these are
+// nil if they are a file's.
+type Counter interface{ Wrote(bytes []byte, sent int) }
 
 // usualCacheSettings returns the defaults.
 func usualCacheSettings() (usual C.struct_rtr_cache_settings) {
@@ -66,19 +68,19 @@ func newServed(server *Server, connection net.Conn) *served {
 		c.counter, _ = connection.(Counter)
 	}
 	if _, ok := connection.(shaker); ok {
-		c.shaking = func() {} // serve looks whether the server is closed
+		c.shaking = func() {} // serve checks whether the server is closed
 	}
 	c.input = c.buffer[:0]
-	wanted := usualCacheSettings()
-	wanted.first_limit = milliseconds(server.Limits.First)
-	wanted.idle_limit = milliseconds(server.Limits.Idle)
-	wanted.pause = milliseconds(server.Limits.Notify)
-	wanted.refuses = C.bool(server.Limits.Refuse)
-	C.rtr_cache_init(&c.cache, C.uint64_t(server.clock.now()), &wanted)
+	settings := usualCacheSettings()
+	settings.first_limit = milliseconds(server.Limits.First)
+	settings.idle_limit = milliseconds(server.Limits.Idle)
+	settings.pause = milliseconds(server.Limits.Notify)
+	settings.refuses = C.bool(server.Limits.Refuse)
+	C.rtr_cache_init(&c.cache, C.uint64_t(server.clock.now()), &settings)
 	return c
 }
 
-// wake signals a newer edition, or the end of the server. It doesn't block.
+// wake signals a newer edition, or that the server is closed. It doesn't block.
 func (c *served) wake(present mark) {
 	c.lock.Lock()
 	defer c.lock.Unlock()
@@ -93,24 +95,24 @@ func (c *served) wake(present mark) {
 		return
 	}
 	c.connection.SetReadDeadline(passed)
-	if why := c.place.behind(present); why == ErrSessionEnded || why != nil && c.long {
+	if why := c.edition.behind(present); why == ErrSessionEnded || why != nil && c.long {
 		c.cut = why
 		c.connection.SetWriteDeadline(passed)
 	}
 }
 
-// look takes the present edition, and returns it.
+// look moves the client to the present edition, and returns it.
 func (c *served) look() *edition {
 	c.lock.Lock()
 	defer c.lock.Unlock()
 	e := c.server.present.Load()
-	c.place, c.woken, c.long, c.cut = e.mark, false, false, nil
+	c.edition, c.woken, c.long, c.cut = e.mark, false, false, nil
 	c.present.has, c.present.session = C.bool(e.full), C.uint16_t(e.session)
 	c.present.serial = C.uint32_t(e.data.Serial())
 	return e
 }
 
-// serve answers queries until the connection ends, and returns why it did.
+// serve answers queries until the connection ends, and returns the reason.
 func (c *served) serve() error {
 	if err := c.shake(); err != nil {
 		return err
@@ -137,7 +139,7 @@ func (c *served) serve() error {
 	return c.why()
 }
 
-// refuse ends the connection: the limit is reached.
+// refuse ends the connection, since the limit of clients is reached.
 func (c *served) refuse() {
 	C.rtr_cache_full(&c.cache, C.uint64_t(c.server.clock.now()), &c.present, &c.serving)
 }
@@ -147,8 +149,8 @@ func (c *served) refuse() {
 func (c *served) tell(known []C.uint32_t) {
 	now := C.uint64_t(c.server.clock.now())
 	if len(c.input) > 0 {
-		in, n := place(c.input)
-		C.rtr_cache_read(&c.cache, now, &c.present, address(known), C.size_t(len(known)), in, n,
+		in, n := cBytes(c.input)
+		C.rtr_cache_read(&c.cache, now, &c.present, firstOf(known), C.size_t(len(known)), in, n,
 			C.bool(c.closed != nil), &c.serving)
 		if c.serving.kind != C.RTR_SERVE_WAIT {
 			return
@@ -160,7 +162,7 @@ func (c *served) tell(known []C.uint32_t) {
 	C.rtr_cache_tick(&c.cache, now, &c.present, &c.serving)
 }
 
-// answer carries out the machine's action, and consumes the unit that it is about.
+// answer carries out the machine's action, and drops the unit that it answers from the input.
 func (c *served) answer(e *edition) (err error) {
 	var body piece
 	switch version := uint8(c.serving.version); {
@@ -191,18 +193,18 @@ func (c *served) answer(e *edition) (err error) {
 func (c *served) opening() []byte {
 	if !c.serving.reports {
 		output := make([]byte, serialSize)
-		out, room := place(output)
-		return output[:C.rtr_cache_unit(&c.serving, out, room)]
+		out, capacity := cBytes(output)
+		return output[:C.rtr_cache_unit(&c.serving, out, capacity)]
 	}
 	output := make([]byte, longestUnit)
-	in, n := place(c.input)
-	out, room := place(output)
+	in, n := cBytes(c.input)
+	out, capacity := cBytes(output)
 	var written C.size_t
-	C.rtr_cache_report(&c.serving, in, n, out, room, &written)
+	C.rtr_cache_report(&c.serving, in, n, out, capacity, &written)
 	return output[:written]
 }
 
-// receive waits until bytes come, it is woken, or a deadline has passed.
+// receive waits until bytes come, wake is called, or a deadline has passed.
 func (c *served) receive() {
 	until := uint64(C.rtr_cache_wakes(&c.cache, &c.present))
 	late := c.began + uint64(c.server.Limits.Unit.Milliseconds())
@@ -231,40 +233,41 @@ func (c *served) receive() {
 	}
 }
 
-// write writes parts within the time limit of an answer, as long as the client goes on receiving.
+// write writes the parts of an answer, within Limits.Response for all of it and Limits.Write for
+// each write.
 func (c *served) write(parts ...piece) error {
-	last := c.server.clock.time().Add(c.server.Limits.Response)
+	deadline := c.server.clock.time().Add(c.server.Limits.Response)
 	for i := range parts {
-		one := &parts[i]
-		for slow := false; one.size() > 0; {
-			if err := c.allow(last, one.size() > chunk); err != nil {
+		part := &parts[i]
+		for slow := false; part.size() > 0; {
+			if err := c.allow(deadline, part.size() > chunk); err != nil {
 				return err
 			}
 			if slow {
 				return ErrTooSlow
 			}
-			taken, err := c.writeSome(one)
+			sent, err := c.writeSome(part)
 			if slow = isTimeout(err); err != nil && !slow {
 				return err
 			}
-			one.skip(taken)
+			part.skip(sent)
 		}
 	}
 	return nil
 }
 
-// writeSome writes some of a part. It returns a timeout if nothing was sent until the deadline.
-func (c *served) writeSome(one *piece) (taken int, err error) {
+// writeSome writes some of a part. It returns a timeout if nothing was sent before the deadline.
+func (c *served) writeSome(part *piece) (sent int, err error) {
 	if c.raw == nil {
-		// A write that met its deadline may have been sent in part, but TLS can't continue it.
-		bytes := one.bytes
+		// At a deadline a write may have been sent in part, and TLS can't continue it.
+		bytes := part.bytes
 		if len(bytes) > tlsRecord {
 			bytes = bytes[:tlsRecord]
 		}
 		return c.connection.Write(bytes)
 	}
 	failed := c.raw.Write(func(socket uintptr) bool {
-		taken, err = one.send(int(socket))
+		sent, err = part.send(int(socket))
 		return err != syscall.EAGAIN && err != syscall.EINTR
 	})
 	switch {
@@ -274,26 +277,26 @@ func (c *served) writeSome(one *piece) (taken int, err error) {
 		return 0, os.NewSyscallError("write", err)
 	}
 	if c.counter != nil {
-		c.counter.Wrote(one.bytes, taken)
+		c.counter.Wrote(part.bytes, sent)
 	}
-	return taken, nil
+	return sent, nil
 }
 
-// allow sets the deadline of a write, or returns why the rest isn't to be written.
-func (c *served) allow(last time.Time, long bool) error {
+// allow sets the deadline of the next write, or returns the reason not to write the rest.
+func (c *served) allow(deadline time.Time, long bool) error {
 	c.lock.Lock()
 	defer c.lock.Unlock()
 	c.long = c.long || long
-	if next := c.server.clock.time().Add(c.server.Limits.Write); next.Before(last) {
-		last = next
+	if next := c.server.clock.time().Add(c.server.Limits.Write); next.Before(deadline) {
+		deadline = next
 	}
 	if c.cut == nil {
-		c.connection.SetWriteDeadline(last)
+		c.connection.SetWriteDeadline(deadline)
 	}
 	return c.cut
 }
 
-// why returns the error for a reason; nil if the client closed the connection.
+// why returns the error for the machine's reason; nil if the client closed the connection.
 func (c *served) why() error {
 	switch c.serving.reason {
 	case C.RTR_REASON_LOST:

@@ -14,18 +14,18 @@ import (
 
 // ServerLimits limit what a Server allows its clients, and what it keeps for them. All clients
 // share the data; for each of them only the system buffers bytes. If no number is set, the limits
-// are those of NewServer; if one is set, a zero among the others allows nothing.
+// are those of NewServer; if any is set, zero in another allows nothing.
 type ServerLimits struct {
-	Connections int           // at once; a client above them gets a report, and is closed
+	Connections int           // at once; further clients get a report, and are closed
 	First       time.Duration // from the connection to the first query
-	Unit        time.Duration // from the first byte of a unit to its last one
+	Unit        time.Duration // from the first byte of a unit to its last
 	Idle        time.Duration // from one query to the next
-	Write       time.Duration // in which nothing of an answer is taken
-	Response    time.Duration // of a whole response
+	Write       time.Duration // for which a client may receive nothing of an answer
+	Response    time.Duration // for a whole response
 	Notify      time.Duration // between two notifies to a client, at least
-	Keep        time.Duration // how long deltas lead from data after newer ones came, at least
-	KeepBytes   int           // what is kept for this, at most, and as much for deltas made of it
-	// Whether to answer a serial query from other data by a report of code 0, instead of a cache
+	Keep        time.Duration // for which old data have deltas after newer data came, at least
+	KeepBytes   int           // kept for these, at most; and as many for the computed deltas
+	// Whether to answer a serial query that has no delta with a report of code 0 instead of a cache
 	// reset: for routers that wait after a reset, as BIRD 2.0 does.
 	Refuse bool
 }
@@ -44,7 +44,7 @@ type Server struct {
 	// otherwise several goroutines may call it at once.
 	Log Log
 
-	made     sync.Once
+	once     sync.Once
 	clock    clock
 	present  atomic.Pointer[edition]
 	updating sync.Mutex
@@ -52,14 +52,14 @@ type Server struct {
 	lock      sync.Mutex
 	listeners map[net.Listener]bool
 	clients   map[*served]bool
-	refused   int // of the clients, those above the limit
+	refused   int // the number of clients above the limit
 	closed    atomic.Bool
 	running   sync.WaitGroup
 }
 
 // NewServer makes a Server without data, with limits for a cache of some hundred routers. A router
 // asks at least once a day (RFC 8210 section 6), and gets a notify at most once a minute (section
-// 8.2); it holds data for two hours, if their expire time is the usual one.
+// 8.2); it keeps data for two hours, if they have the recommended expire time.
 func NewServer() *Server {
 	s := new(Server)
 	s.ready()
@@ -68,7 +68,7 @@ func NewServer() *Server {
 
 // ready initialises a zero Server.
 func (s *Server) ready() {
-	s.made.Do(func() {
+	s.once.Do(func() {
 		if s.Limits.areUnset() {
 			refuse := s.Limits.Refuse
 			s.Limits = usualServerLimits()
@@ -114,9 +114,9 @@ func (s *Server) Update(data Data) error {
 	return s.update(data, nothingSaved, func() {})
 }
 
-// UpdateSaved is Update, but saves the new data to a file first, as Save would. So whenever the
-// process ends, the file has each serial number that a client may have data of, and none of them is
-// given to other data after a restart.
+// UpdateSaved is Update, but first saves the new data to a file, as Save does. So whenever the
+// process ends, the file has every serial number that a client may have data of, and after a
+// restart none of them is used for other data.
 //
 // Errors: those of Update, and those of the file; then nothing changes.
 func (s *Server) UpdateSaved(data Data, path string) error {
@@ -126,8 +126,8 @@ func (s *Server) UpdateSaved(data Data, path string) error {
 // nothingSaved saves nothing.
 func nothingSaved(*edition) error { return nil }
 
-// update is Update with two hooks: save, before the next edition is served, and one that runs when
-// the data before aren't served any more, before clients are notified.
+// update is Update with two hooks: save runs before the next edition is served, and before runs
+// when the old data aren't served any more, before clients are notified.
 func (s *Server) update(data Data, save func(*edition) error, before func()) error {
 	if data.IsZero() {
 		return &Fault{Status: Short, Offset: -1}
@@ -193,8 +193,8 @@ const (
 
 // Serve accepts the clients of a listener until the server is closed, and closes the listener.
 //
-// Errors: ErrServerClosed; that of the listener, after ten in a row. While the system has no
-// descriptor for one more connection, errors don't count.
+// Errors: ErrServerClosed; that of the listener, after ten in a row. Errors don't count while the
+// system has no descriptor for another connection.
 func (s *Server) Serve(listener net.Listener) (err error) {
 	defer listener.Close()
 	s.ready()
@@ -231,14 +231,14 @@ func (s *Server) Serve(listener net.Listener) (err error) {
 	return err
 }
 
-// isFull reports whether the system has no descriptor for one more connection.
+// isFull reports whether the system has no descriptor for another connection.
 func isFull(err error) bool {
 	var why syscall.Errno
 	return errors.As(err, &why) && (why == syscall.EMFILE || why == syscall.ENFILE ||
 		why == syscall.ENOBUFS || why == syscall.ENOMEM)
 }
 
-// How many clients above the limit are sent a report at once; further ones are closed.
+// The most clients above the limit that are sent a report at once; further ones are closed.
 const mostRefused = 64
 
 // The size of a connection's send buffer: with a smaller one a goroutine waits more often.

@@ -10,22 +10,22 @@ import (
 	"time"
 )
 
-// settings are those of a link.
+// settings are the settings of a link.
 type settings = C.struct_rtr_settings
 
 // settingsOf returns the settings of a client, with these limits and this random number.
 func settingsOf(client *Client, limits ClientLimits, chance uint16) settings {
-	wanted := usualSettings(client.highest())
-	wanted.most_bytes = C.uint64_t(limits.Bytes)
-	wanted.most_units = C.uint32_t(within32(limits.Units - 1))
-	wanted.pause = milliseconds(limits.Pause)
-	wanted.connect_limit = milliseconds(limits.Dial)
-	wanted.response_limit = milliseconds(limits.Response)
-	wanted.refresh = milliseconds(client.Refresh)
-	wanted.retry = milliseconds(client.Retry)
-	wanted.expire = milliseconds(client.Expire)
-	wanted.chance = C.uint16_t(chance)
-	return wanted
+	s := usualSettings(client.highest())
+	s.most_bytes = C.uint64_t(limits.Bytes)
+	s.most_units = C.uint32_t(within32(limits.Units - 1))
+	s.pause = milliseconds(limits.Pause)
+	s.connect_limit = milliseconds(limits.Dial)
+	s.response_limit = milliseconds(limits.Response)
+	s.refresh = milliseconds(client.Refresh)
+	s.retry = milliseconds(client.Retry)
+	s.expire = milliseconds(client.Expire)
+	s.chance = C.uint16_t(chance)
+	return s
 }
 
 // usualSettings returns the defaults for this version.
@@ -39,7 +39,7 @@ func span(milliseconds C.uint32_t) time.Duration {
 	return time.Duration(milliseconds) * time.Millisecond
 }
 
-// milliseconds converts a duration for C; only 0 becomes 0.
+// milliseconds converts a duration for C. Less than a millisecond becomes 1, since 0 means unset.
 func milliseconds(span time.Duration) C.uint32_t {
 	if 0 < span && span < time.Millisecond {
 		return 1

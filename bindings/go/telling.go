@@ -4,10 +4,10 @@ package rtr
 
 import "errors"
 
-// errDone ends a follower that has what its caller wanted.
+// errDone ends a follower after it has got its data.
 var errDone = errors.New("rtr: done")
 
-// show gives new data to the caller.
+// show passes new data to the caller.
 func (f *follower) show(data Data) {
 	f.logs(LevelInfo, "data", data.fields()...)
 	f.update(data)
@@ -16,7 +16,7 @@ func (f *follower) show(data Data) {
 	}
 }
 
-// drop drops the data, if there are some.
+// drop drops the data, if there are any.
 func (f *follower) drop() {
 	f.link.dropped()
 	if !f.data.IsZero() {
@@ -25,7 +25,7 @@ func (f *follower) drop() {
 	}
 }
 
-// update tells the caller of data: the zero Data if there are none any more.
+// update passes data to the caller: the zero Data if they were dropped.
 func (f *follower) update(data Data) {
 	old := f.data
 	f.data = data
@@ -34,19 +34,19 @@ func (f *follower) update(data Data) {
 	}
 }
 
-// failed tells the caller of a failure. A caller that wants data once, or has no other connection,
-// ends with it.
+// failed reports a failure to the caller. It ends a follower that gets data only once, or that has
+// no other connection.
 func (f *follower) failed(err error) {
 	f.logs(LevelWarn, "failed", "error", err)
 	if f.once || f.last {
 		f.stop(err)
 	}
-	if f.stopped == nil && f.told != nil {
-		f.told(err)
+	if f.stopped == nil && f.onFailure != nil {
+		f.onFailure(err)
 	}
 }
 
-// stop ends the follower if there is an error.
+// stop ends the follower if err isn't nil.
 func (f *follower) stop(err error) {
 	if f.stopped == nil {
 		f.stopped = err
@@ -79,17 +79,17 @@ func (f *follower) reason(t todo) error {
 	case why == causeExpired:
 		return ErrExpired
 	case why == causeReported:
-		return reportedIn(f.link.about(t))
+		return reportedIn(f.link.inputFrom(t))
 	}
-	return breachOf(breaches[why], ErrorCode(t.code), f.link.about(t))
+	return breachOf(breaches[why], ErrorCode(t.code), f.link.inputFrom(t))
 }
 
-// refused returns the fault of a unit, at its offset in what the connection gave, or of a change,
-// at its offset in the changes of the answer.
+// refused returns the fault of a unit, at its offset in the bytes of the connection, or of a
+// change, at its offset in the changes of the answer.
 func (f *follower) refused(t todo) error {
-	about, offset := f.link.about(t), int64(t.offset)
+	input, offset := f.link.inputFrom(t), int64(t.offset)
 	if cause(t.cause) == causeFaulty {
-		offset = f.came - int64(len(about))
+		offset = f.received - int64(len(input))
 	}
-	return owned(refusal(Status(t.status), uint8(t.detail), about, offset))
+	return owned(refusal(Status(t.status), uint8(t.detail), input, offset))
 }

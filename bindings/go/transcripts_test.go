@@ -63,7 +63,7 @@ type played struct {
 	client       Client
 	chance       uint16
 	open, broken bool // open from a connect to a close
-	wish         *wish
+	askRequest   *askRequest
 }
 
 func newPlayed(of steps) transcript { return &played{steps: of} }
@@ -101,7 +101,7 @@ func (p *played) rest(until uint64) error {
 		case err != nil:
 			return err
 		case one.what == "asks":
-			p.wish.make()
+			p.askRequest.set()
 			return nil
 		}
 	}
@@ -122,7 +122,7 @@ func (p *played) connect(until uint64) error {
 		case one.what == "refuses":
 			return errBroken
 		case one.what == "asks":
-			p.wish.make()
+			p.askRequest.set()
 		}
 	}
 }
@@ -141,7 +141,7 @@ func (p *played) read(buffer []byte, until uint64) (int, error) {
 			p.broken = true
 			return 0, errBroken
 		case one.what == "asks":
-			p.wish.make()
+			p.askRequest.set()
 			return 0, os.ErrDeadlineExceeded
 		}
 	}
@@ -187,8 +187,8 @@ func (p *played) play() error {
 	f := &follower{
 		peer: p, link: newLink(settingsOf(&p.client, p.client.Limits.orUsual(), p.chance)),
 	}
-	p.wish = &f.wish
-	f.told = func(err error) {
+	p.askRequest = &f.askRequest
+	f.onFailure = func(err error) {
 		var report *Reported
 		if p.open && errors.As(err, &report) {
 			p.notes("no data")

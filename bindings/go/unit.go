@@ -10,18 +10,18 @@ import (
 // Kind is the type of a unit.
 type Kind uint8
 
-// String is the name of the kind.
+// String returns the name of the kind.
 func (k Kind) String() string {
 	return name(namedKind, uint16(k))
 }
 
-// In says whether a version of the protocol has units of this kind: version 0 doesn't have router
-// keys, versions 0 and 1 don't have ASPAs, and there is no version above 2.
+// In reports whether a version of the protocol has units of this kind: version 0 doesn't have
+// router keys, versions 0 and 1 don't have ASPAs, and there is no version above 2.
 func (k Kind) In(version uint8) bool {
 	return versionHas(version, k)
 }
 
-// inSequence says whether a sequence may have such units.
+// inSequence reports whether a sequence may have such units.
 func (k Kind) inSequence() bool {
 	switch k {
 	case IPv4Prefix, IPv6Prefix, EndOfData, RouterKey, ASPA:
@@ -30,11 +30,10 @@ func (k Kind) inSequence() bool {
 	return false
 }
 
-// Providers are the providers of an ASPA, four bytes each in network order, as they stand in a
-// unit.
+// Providers are the providers of an ASPA, encoded as in a unit: four bytes each in network order.
 type Providers []byte
 
-// NewProviders are the providers with these numbers.
+// NewProviders returns the providers with these AS numbers.
 func NewProviders(asns ...uint32) Providers {
 	p := make(Providers, 0, 4*len(asns))
 	for _, asn := range asns {
@@ -43,12 +42,12 @@ func NewProviders(asns ...uint32) Providers {
 	return p
 }
 
-// Len is how many there are.
+// Len returns the number of providers.
 func (p Providers) Len() int {
 	return len(p) / 4
 }
 
-// At is the i-th provider, from 0 on. It panics if there are not as many.
+// At returns the provider at index i. It panics if the index is out of range.
 func (p Providers) At(i int) uint32 {
 	return binary.BigEndian.Uint32(p[4*i:])
 }
@@ -57,26 +56,26 @@ func (p Providers) At(i int) uint32 {
 type Unit struct {
 	Kind     Kind
 	Version  uint8  // of the protocol
-	Announce bool   // of a prefix, a router key or an ASPA; else it is withdrawn
+	Announce bool   // of a prefix, a router key or an ASPA; false for a withdrawal
 	Session  uint16 // of a serial notify, a serial query, a cache response or an end of data
 	Serial   uint32 // of a serial notify, a serial query or an end of data
 	// Of an end of data, in seconds; 0 in version 0.
 	Refresh, Retry, Expire uint32
-	// The prefix, the bits after its length zero, and the longest prefix length that is meant.
+	// The prefix, with zero bits after its length, and the longest prefix that the AS may announce.
 	Prefix        netip.Prefix
 	MaxLength     uint8
 	ASN           uint32    // of a prefix or a router key
-	KeyIdentifier [20]byte  // of a router key, as what follows
+	KeyIdentifier [20]byte  // of a router key, like KeyInfo
 	KeyInfo       []byte    // the subject public key info
-	Customer      uint32    // of an ASPA, as what follows
-	Providers     Providers // on a withdrawal too, where it has some
-	Code          ErrorCode // of an error report, as what follows
-	Enclosed      []byte    // the unit that the report is about, or its front
-	Text          []byte    // in UTF-8; nil, as Enclosed, if lengths inside the report don't fit
+	Customer      uint32    // of an ASPA, like Providers
+	Providers     Providers // of a withdrawal too, if it has any
+	Code          ErrorCode // of an error report, like Enclosed and Text
+	Enclosed      []byte    // the unit that the report is about, or its first bytes
+	Text          []byte    // in UTF-8; nil, like Enclosed, if the report's inner lengths are wrong
 }
 
-// Clone is a copy of the unit that shares no bytes with it: it stays as it is when the Reader goes
-// on.
+// Clone returns a copy of the unit that shares no memory with it, and stays valid when the Reader
+// continues.
 func (unit *Unit) Clone() *Unit {
 	copied := *unit
 	copied.KeyInfo = clone(unit.KeyInfo)
@@ -86,7 +85,7 @@ func (unit *Unit) Clone() *Unit {
 	return &copied
 }
 
-// clone is nil for nil.
+// clone copies bytes; nil stays nil.
 func clone(b []byte) []byte {
 	if b == nil {
 		return nil
@@ -94,12 +93,12 @@ func clone(b []byte) []byte {
 	return append([]byte{}, b...)
 }
 
-// Next gives the unit that input begins with, and what follows it. Key info, providers and the
-// parts of a report lie in input, and appending to them leaves it as it is. Nothing is allocated,
-// unless there is an error.
+// Next returns input's first unit, and the input after it. Key info, providers and the parts of a
+// report share memory with input; appending to them copies them. It allocates nothing unless there
+// is an error.
 //
-// Errors: a Fault with one of Short to PrefixRule, and the whole input. UnitSize says then how many
-// bytes are wanted (Short), or by how many to go on (PrefixRule).
+// Errors: a Fault with one of Short to PrefixRule; then it returns the whole input. UnitSize
+// returns the number of bytes that are needed (Short) or to skip (PrefixRule).
 func Next(input []byte) (Unit, []byte, error) {
 	var unit Unit
 	size, status, detail := unit.parse(input)
@@ -109,10 +108,9 @@ func Next(input []byte) (Unit, []byte, error) {
 	return unit, input[size:], nil
 }
 
-// NextMany gives the units that input begins with, each as Next does, in the places of units, until
-// all are filled or the input ends after a whole unit. It answers how many there are, and what
-// follows them. One call of the library shows many: a table is read in a fraction of the time that
-// Next takes.
+// NextMany reads units from the start of input, each as Next does, until the slice is full or the
+// input ends after a complete unit. It returns the number of units, and the input after them. Since
+// one call of the library reads many, this takes a fraction of the time of Next.
 //
 //	for units := make([]rtr.Unit, 256); len(input) > 0; {
 //		n, rest, err := rtr.NextMany(input, units)
@@ -125,26 +123,26 @@ func Next(input []byte) (Unit, []byte, error) {
 //		input = rest
 //	}
 //
-// Errors: those of Next, of the unit after those that are given.
+// Errors: those of Next, about the unit after those that are returned.
 func NextMany(input []byte, units []Unit) (int, []byte, error) {
-	shown := decodedUnits.Get().(*decoded)
-	defer decodedUnits.Put(shown)
-	given := 0
-	for given < len(units) && len(input) > 0 {
-		status, detail := shown.fill(input, len(units)-given)
-		for shown.next < shown.count {
-			input = shown.take(&units[given], input)
-			given++
+	batch := decodedPool.Get().(*decoded)
+	defer decodedPool.Put(batch)
+	count := 0
+	for count < len(units) && len(input) > 0 {
+		status, detail := batch.fill(input, len(units)-count)
+		for batch.next < batch.count {
+			input = batch.take(&units[count], input)
+			count++
 		}
 		if status != OK && len(input) > 0 {
-			return given, input, refusal(status, detail, input, 0)
+			return count, input, refusal(status, detail, input, 0)
 		}
 	}
-	return given, input, nil
+	return count, input, nil
 }
 
-// UnitSize says by a header alone how many bytes the unit has that input begins with: at most
-// 65535. What follows the header isn't read, and may be missing.
+// UnitSize returns the size of input's first unit, at most 65535 bytes, from its header only. What
+// follows the header isn't read, and may be missing.
 //
 // Errors: a Fault with Short if there are fewer than the eight bytes of a header, and then the size
 // is 8; UnitType to EmptyProviders, and then it is 0.
@@ -156,34 +154,34 @@ func UnitSize(input []byte) (int, error) {
 	return size, nil
 }
 
-// MarshalBinary is the written form of the unit; the errors are those of AppendBinary.
+// MarshalBinary returns the encoded unit; the errors are those of AppendBinary.
 func (unit *Unit) MarshalBinary() ([]byte, error) {
 	return unit.AppendBinary(nil)
 }
 
-// AppendBinary appends the written form of the unit to b, at most 65535 bytes. The bits of an
-// address after the prefix length are cleared, a withdrawn ASPA is written without providers, and
-// an end of data of version 0 without timings. Nothing is allocated where b has room for 32 bytes
-// and the key info, the providers or the parts of a report.
+// AppendBinary appends the encoded unit to b, at most 65535 bytes. The bits of an address after the
+// prefix length are cleared, a withdrawn ASPA is written without providers, and an end of data of
+// version 0 without times. It allocates nothing if b has capacity for 32 more bytes and the key
+// info, the providers or the parts of a report.
 //
-// Errors, in this order, each a Fault, and nothing is appended: UnitType; NoForm if a unit is
-// announced that has no payload, and for a prefix that isn't valid or isn't of the kind's family;
-// PrefixRule for the max length; TooLong for more than 65503 bytes of key info, or 65519 of the
-// parts of a report or, announced, 65520 of providers; UnitLength for announced providers that
-// aren't 4 bytes each; EmptyProviders if there are none; UnitVersion for an end of data of a
-// version above 2.
+// Errors, in this order, each a Fault, and nothing is appended: UnitType; NoForm for Announce on a
+// unit that isn't a payload unit, and for a prefix that isn't valid or isn't of the kind's family;
+// PrefixRule for the max length; TooLong for more than 65503 bytes of key info, 65519 of the parts
+// of a report, or 65520 of announced providers; UnitLength for announced providers that aren't 4
+// bytes each; EmptyProviders if there are none; UnitVersion for an end of data of a version above
+// 2.
 func (unit *Unit) AppendBinary(b []byte) ([]byte, error) {
 	part := unit.part()
 	if unit.Kind == ErrorReport && !unit.Announce && len(part)+len(unit.Text) > mostReportParts {
 		return b, unit.refused(TooLong)
 	}
-	room := keySize + len(part) // no unit has more fixed fields than a key
-	if room > longestUnit {
-		room = longestUnit
+	capacity := keySize + len(part) // a router key has the longest fixed part
+	if capacity > longestUnit {
+		capacity = longestUnit
 	}
 	start := len(b)
-	b = grown(b, room)
-	size, status := unit.write(part, b[start:start+room])
+	b = grown(b, capacity)
+	size, status := unit.write(part, b[start:start+capacity])
 	if status != OK {
 		return b, unit.refused(status)
 	}
@@ -194,16 +192,16 @@ func (unit *Unit) AppendBinary(b []byte) ([]byte, error) {
 	return b, nil
 }
 
-// grown is b with room for so many bytes more.
-func grown(b []byte, room int) []byte {
-	if cap(b)-len(b) < room {
-		return append(b, make([]byte, room)...)[:len(b)]
+// grown returns b with capacity for n more bytes.
+func grown(b []byte, n int) []byte {
+	if cap(b)-len(b) < n {
+		return append(b, make([]byte, n)...)[:len(b)]
 	}
 	return b
 }
 
-// appendText gives the report without a text that begins at start a text, which the library takes
-// only where it lies in the same bytes as the enclosed unit.
+// appendText appends the text to the report at start. The library can't: it takes unit and text
+// only from one buffer.
 func appendText(b []byte, start int, text []byte) []byte {
 	binary.BigEndian.PutUint32(b[len(b)-4:], uint32(len(text)))
 	b = append(b, text...)
@@ -211,7 +209,7 @@ func appendText(b []byte, start int, text []byte) []byte {
 	return b
 }
 
-// refused is the fault of a unit that has no form.
+// refused returns the fault of a unit that can't be encoded.
 func (unit *Unit) refused(status Status) error {
 	fault := &Fault{Status: status, Offset: -1}
 	switch status {
@@ -220,7 +218,7 @@ func (unit *Unit) refused(status Status) error {
 	case UnitVersion:
 		fault.Detail = unit.Version
 	case PrefixRule:
-		// A valid netip.Prefix has no length above that of its address.
+		// The length of a valid netip.Prefix isn't above that of its address.
 		fault.Detail = 2
 		if int(unit.MaxLength) < unit.Prefix.Bits() {
 			fault.Detail = 3
@@ -229,7 +227,7 @@ func (unit *Unit) refused(status Status) error {
 	return fault
 }
 
-// part is the key info of a router key, the providers of an ASPA, or the unit that a report
+// part returns the key info of a router key, the providers of an ASPA, or the unit that a report
 // encloses.
 func (unit *Unit) part() []byte {
 	switch unit.Kind {
@@ -244,8 +242,8 @@ func (unit *Unit) part() []byte {
 }
 
 // CompareSerials compares serial numbers (RFC 1982): the order is below 0 if left comes before
-// right, 0 if they are equal, and above 0 if it comes after. If they lie half the circle of 2^32
-// numbers apart, neither comes first, and ok is false.
+// right, 0 if they are equal, and above 0 if it comes after. If they differ by 2^31, they have no
+// order, and ok is false.
 func CompareSerials(left, right uint32) (order int, ok bool) {
 	switch serialOrder(left, right) {
 	case 0:

@@ -2,5 +2,5 @@
 
 package rtr
 
-// No other file of this package is compiled here, so that this sentence is all that is said.
+// No other file of this package is compiled on such a system, so this is the compiler's only error.
 const _ uint8 = "package rtr wants Linux, CGO_ENABLED=1 and a C compiler"

@@ -4,20 +4,20 @@ package rtr
 
 import "sync"
 
-// Update is what a Client has after an answer, or after it dropped its data.
+// Update is the state of a Client after an answer, or after it dropped its data.
 type Update struct {
-	Data    Data // all of them now; the zero Data if the client had to drop them
+	Data    Data // all present data; the zero Data if the client dropped them
 	changes *changes
 }
 
-// updateOf returns an update from old data to new ones; the zero Data stands for none.
+// updateOf returns an update from old data to new; the zero Data stands for none.
 func updateOf(old, new Data) Update {
 	return Update{new, &changes{old: old, new: new}}
 }
 
-// Changes is a loop over the units that lead from the data before to these: announcements, and
-// then withdrawals, each in the order of payloads. They are made at the first call; until then the
-// update has the data before, too.
+// Changes returns a loop over the units that lead from the data before to these: announcements, and
+// then withdrawals, each in the order of payloads. The first call computes them; until then the
+// update keeps the data before in memory.
 func (u Update) Changes() *Units {
 	if u.changes == nil {
 		return new(Units)
@@ -28,8 +28,8 @@ func (u Update) Changes() *Units {
 // changes lead from old data to new ones.
 type changes struct {
 	lock     sync.Mutex
-	made     []byte
-	old, new Data // until the changes are made
+	computed []byte
+	old, new Data // both zero once the changes are computed
 }
 
 // units returns the changes.
@@ -37,11 +37,11 @@ func (c *changes) units() []byte {
 	c.lock.Lock()
 	defer c.lock.Unlock()
 	if !c.old.IsZero() || !c.new.IsZero() {
-		made, err := changesBetween(c.old, c.new)
+		computed, err := changesBetween(c.old, c.new)
 		if err != nil {
-			panic(err) // two Data of any version and session have changes
+			panic(err) // it fails for no two Data
 		}
-		c.made, c.old, c.new = made, Data{}, Data{}
+		c.computed, c.old, c.new = computed, Data{}, Data{}
 	}
-	return c.made
+	return c.computed
 }

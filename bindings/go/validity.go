@@ -11,8 +11,8 @@ struct covered {
 	bool found;
 };
 
-// The data's bytes are Go's, so that no struct of Go may point at them: the calls take them beside
-// the lookup, in place of a struct rtr_data.
+// The data's bytes are memory of Go, and no struct for C may point to it: the calls take the bytes
+// and the lookup as arguments, instead of a struct rtr_data.
 static void look_up(const uint8_t *data, size_t length, struct rtr_lookup *lookup)
 {
 	struct rtr_data_answer answer;
@@ -43,7 +43,7 @@ import (
 	"sync"
 )
 
-// Validity is what origin validation says of a route (RFC 6811 section 2).
+// Validity is the result of origin validation of a route (RFC 6811 section 2).
 type Validity uint8
 
 var validityTexts = [...]string{
@@ -53,7 +53,7 @@ var validityTexts = [...]string{
 	NoRoute:  "no route",
 }
 
-// String is the name of the validity.
+// String returns the name of the validity.
 func (v Validity) String() string {
 	if int(v) < len(validityTexts) {
 		return validityTexts[v]
@@ -61,7 +61,7 @@ func (v Validity) String() string {
 	return fmt.Sprintf("validity %d", uint8(v))
 }
 
-// Mismatch is why a VRP that covers a route doesn't match it: the first of these that holds.
+// Mismatch is the reason why a VRP that covers a route doesn't match it: the first that applies.
 type Mismatch uint8
 
 var mismatchTexts = [...]string{
@@ -71,7 +71,7 @@ var mismatchTexts = [...]string{
 	Longer:  "longer than the max length",
 }
 
-// String is the name of the mismatch.
+// String returns the name of the mismatch.
 func (m Mismatch) String() string {
 	if int(m) < len(mismatchTexts) {
 		return mismatchTexts[m]
@@ -79,22 +79,22 @@ func (m Mismatch) String() string {
 	return fmt.Sprintf("mismatch %d", uint8(m))
 }
 
-// lookup has where the prefixes of data lie. It is made once, when it is first asked for.
+// lookup is an index of the prefixes of data, which the first use builds.
 type lookup struct {
-	once sync.Once
-	made C.struct_rtr_lookup
+	once  sync.Once
+	index C.struct_rtr_lookup
 }
 
-// lookedUp is the lookup of the data, which aren't zero.
-func (d Data) lookedUp() *C.struct_rtr_lookup {
+// prefixIndex returns the index of the data, which aren't the zero Data.
+func (d Data) prefixIndex() *C.struct_rtr_lookup {
 	d.lookup.once.Do(func() {
-		first, n := place(d.bytes)
-		C.look_up(first, n, &d.lookup.made)
+		first, n := cBytes(d.bytes)
+		C.look_up(first, n, &d.lookup.index)
 	})
-	return &d.lookup.made
+	return &d.lookup.index
 }
 
-// routeOf is the route of this prefix and this AS, and whether it is one.
+// routeOf returns the route of a prefix and an AS, and whether the prefix is valid.
 func routeOf(prefix netip.Prefix, asn uint32) (C.struct_rtr_route, bool) {
 	route := C.struct_rtr_route{asn: C.uint32_t(asn)}
 	if !prefix.IsValid() {
@@ -115,33 +115,33 @@ func routeOf(prefix netip.Prefix, asn uint32) (C.struct_rtr_route, bool) {
 	return route, true
 }
 
-// Validate is the validity of the route of this prefix with this origin AS, by the VRPs of the
-// data (RFC 6811 section 2): NotFound if none covers it, Valid if one matches it, and else Invalid.
-// An AS of 0 is for a route that has no one origin, since its path ends with an AS_SET: no VRP
-// matches it. Host bits of the prefix don't count.
+// Validate returns the validity of the route of a prefix with an origin AS, by the VRPs of the data
+// (RFC 6811 section 2): NotFound if no VRP covers it, Valid if one matches it, and else Invalid.
+// Use AS 0 for a route without a single origin, whose path ends with an AS_SET: no VRP matches it.
+// Host bits of the prefix are ignored.
 //
-// It is NoRoute for a prefix that isn't valid. The zero Data has no VRPs.
+// It returns NoRoute for a prefix that isn't valid. The zero Data has no VRPs.
 func (d Data) Validate(prefix netip.Prefix, asn uint32) Validity {
-	route, is := routeOf(prefix, asn)
-	if !is {
+	route, ok := routeOf(prefix, asn)
+	if !ok {
 		return NoRoute
 	}
 	if d.IsZero() {
 		return NotFound
 	}
-	first, n := place(d.bytes)
-	return Validity(C.validate(first, n, d.lookedUp(), route))
+	first, n := cBytes(d.bytes)
+	return Validity(C.validate(first, n, d.prefixIndex(), route))
 }
 
-// Covering is a loop over the VRPs of the data that cover the route of this prefix with this origin
+// Covering returns a loop over the VRPs of the data that cover the route of a prefix with an origin
 // AS, in the order of payloads. There are none for a prefix that isn't valid.
 //
 //	for covering := data.Covering(prefix, asn); covering.Scan(); {
 //		fmt.Println(covering.VRP(), covering.Mismatch())
 //	}
 func (d Data) Covering(prefix netip.Prefix, asn uint32) *Covering {
-	route, is := routeOf(prefix, asn)
-	return &Covering{data: d, prefix: prefix, route: route, ended: !is || d.IsZero()}
+	route, ok := routeOf(prefix, asn)
+	return &Covering{data: d, prefix: prefix, route: route, ended: !ok || d.IsZero()}
 }
 
 // Covering is a loop over the VRPs that cover a route.
@@ -155,13 +155,13 @@ type Covering struct {
 	mismatch Mismatch
 }
 
-// Scan goes to the next VRP, which VRP and Mismatch then give. It answers false after the last one.
+// Scan moves to the next VRP, for VRP and Mismatch. It returns false after the last one.
 func (c *Covering) Scan() bool {
 	if c.ended {
 		return false
 	}
-	first, n := place(c.data.bytes)
-	covered := C.covering(first, n, c.data.lookedUp(), c.route, c.from)
+	first, n := cBytes(c.data.bytes)
+	covered := C.covering(first, n, c.data.prefixIndex(), c.route, c.from)
 	if !covered.found {
 		c.ended = true
 		return false
@@ -177,12 +177,12 @@ func (c *Covering) Scan() bool {
 	return true
 }
 
-// VRP is the one that Scan went to, with the max length that it has or stands for.
+// VRP returns the current VRP, with its max length.
 func (c *Covering) VRP() VRP {
 	return c.vrp
 }
 
-// Mismatch is why the VRP doesn't match the route, or Matches.
+// Mismatch returns the reason why the VRP doesn't match the route, or Matches.
 func (c *Covering) Mismatch() Mismatch {
 	return c.mismatch
 }

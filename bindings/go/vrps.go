@@ -9,21 +9,21 @@ import (
 
 // VRP is a validated ROA payload, as validators print it (RFC 6811 section 2).
 type VRP struct {
-	Prefix    netip.Prefix // bits after its length mean nothing
-	MaxLength uint8        // 0 stands for the length of the prefix, as in a ROA without one
+	Prefix    netip.Prefix // bits after its length are ignored
+	MaxLength uint8        // 0 stands for the length of the prefix, as in a ROA without max length
 	ASN       uint32
 }
 
-// String is the VRP as "192.0.2.0/24-26 AS64496".
+// String returns the VRP as "192.0.2.0/24-26 AS64496".
 func (v VRP) String() string {
 	return fmt.Sprintf("%v-%d AS%d", v.Prefix, v.MaxLength, v.ASN)
 }
 
-// NewDataOf makes data of VRPs, which are in any order. One that is there twice counts once, since
-// validators print one for each ROA.
+// NewDataOf makes data of VRPs in any order. Duplicates are ignored, since validators print a VRP
+// for each ROA.
 //
-// Errors: a Fault with UnitVersion for a version above 2; the first VRP that has no unit, with its
-// place among them, and a Fault: NoForm for a prefix that isn't valid, PrefixRule for the max
+// Errors: a Fault with UnitVersion for a version above 2; for the first VRP that can't be encoded a
+// text with its index, and a Fault: NoForm for a prefix that isn't valid, PrefixRule for the max
 // length.
 func NewDataOf(
 	vrps []VRP, version uint8, session uint16, serial uint32, timing Timing,
@@ -52,7 +52,7 @@ func NewDataOf(
 	return checkedData(ordered), nil
 }
 
-// VRPs are those of the data, in the order of payloads.
+// VRPs returns the VRPs of the data, in the order of payloads.
 func (d Data) VRPs() []VRP {
 	vrps := make([]VRP, 0, d.Len())
 	for units := d.Units(); units.Scan(); {
@@ -64,7 +64,7 @@ func (d Data) VRPs() []VRP {
 	return vrps
 }
 
-// plain is the VRP in the one form of all that mean the same.
+// plain returns the VRP with zero host bits and an explicit max length.
 func (v VRP) plain() VRP {
 	v.Prefix = v.Prefix.Masked()
 	if v.MaxLength == 0 && v.Prefix.IsValid() {
@@ -73,7 +73,7 @@ func (v VRP) plain() VRP {
 	return v
 }
 
-// unit is the unit of a version that announces the VRP.
+// unit returns the unit of this version that announces the VRP.
 func (v VRP) unit(version uint8) Unit {
 	kind := IPv6Prefix
 	if v.Prefix.Addr().Is4() {

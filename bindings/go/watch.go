@@ -14,14 +14,14 @@ import (
 	"time"
 )
 
-// KeptSuffix is what the name of a file that Watch saves has behind that of the data.
+// KeptSuffix is the suffix that Watch appends to the name of a file of data for its saved editions.
 const KeptSuffix = ".kept"
 
-// MostDataBytes is how long a file of data may be.
+// MostDataBytes is the maximal size of a file of data.
 const MostDataBytes = 1 << 28
 
-// LoadData loads the data of a file: a recording or a list, as Load takes it. An answer that the
-// next one cuts off is left out.
+// LoadData loads the data of a file: a recording or a list, as Load takes it. It leaves out an
+// answer that the next one interrupts.
 //
 // Errors: those of the file; those of Load, and a Fault with NoRoom for a file of more than
 // MostDataBytes.
@@ -54,23 +54,24 @@ func LoadData(path string) (Data, error) {
 	return data, nil
 }
 
-// Watch looks at a file of data in this interval, until the context ends. It gives the data to the
-// server when the file is another than before, and once at the beginning. It tells which new data
-// the server has, or why data couldn't be taken; the server then keeps those that it has. A file
-// that the system can't give is tried again each time, and told once.
+// Watch checks a file of data at this interval, until the context ends. It loads the file into the
+// server at the start, and whenever the file changed. It calls report with new data, or with the
+// error if data couldn't be loaded; the server then keeps its data. After an error of the system it
+// retries at each interval, and reports the same error only once.
 //
-// Before new data are served it saves what a restart needs beside the file, with KeptSuffix behind
-// its name, and tells where that fails. A server that is started has to Restore that first.
+// Before new data are served it saves the editions that a restart needs beside the file, with
+// KeptSuffix after its name, and reports an error of that. When the server starts again, Restore
+// that file first.
 func (s *Server) Watch(
-	ctx context.Context, path string, every time.Duration, told func(Data, error),
+	ctx context.Context, path string, interval time.Duration, report func(Data, error),
 ) {
 	s.ready()
-	ticks := time.NewTicker(every)
+	ticks := time.NewTicker(interval)
 	defer ticks.Stop()
-	w := newWatcher(s, path, told)
+	w := newWatcher(s, path, report)
 	defer func() { w.spare.Close() }()
 	for {
-		w.look()
+		w.check()
 		select {
 		case <-ctx.Done():
 			return
@@ -79,23 +80,23 @@ func (s *Server) Watch(
 	}
 }
 
-// watcher looks at a file of data for a Server.
+// watcher watches a file of data for a Server.
 type watcher struct {
 	server *Server
 	path   string
-	told   func(Data, error)
+	report func(Data, error)
 	seen   stamp
-	failed string   // why the system couldn't give the file, as it was told
+	failed string   // the last error of the system, as reported; "" if there was none
 	saved  error    // why the last edition wasn't saved
-	spare  *os.File // a descriptor that is kept for the file
+	spare  *os.File // keeps a descriptor free for the file
 }
 
-func newWatcher(server *Server, path string, told func(Data, error)) *watcher {
-	return &watcher{server: server, path: path, told: told, seen: stamp{size: -1}}
+func newWatcher(server *Server, path string, report func(Data, error)) *watcher {
+	return &watcher{server: server, path: path, report: report, seen: stamp{size: -1}}
 }
 
-// look takes the file, if it is another than before or couldn't be had then.
-func (w *watcher) look() {
+// check loads the file if it changed, or if the system had an error at the last check.
+func (w *watcher) check() {
 	now := stampOf(w.path)
 	if now == w.seen && w.failed == "" {
 		return
@@ -105,9 +106,9 @@ func (w *watcher) look() {
 	old := w.server.present.Load().mark
 	failed := w.load()
 	if present := w.server.present.Load(); present.mark != old {
-		w.told(present.data, nil)
+		w.report(present.data, nil)
 		failed = w.saved
-		debug.FreeOSMemory() // what slow clients had that are ended now
+		debug.FreeOSMemory() // of slow clients that are closed now
 	}
 	w.spare, _ = os.Open(os.DevNull)
 	before := w.failed
@@ -119,11 +120,11 @@ func (w *watcher) look() {
 		w.failed = failed.Error()
 	}
 	if w.failed == "" || w.failed != before {
-		w.told(Data{}, failed)
+		w.report(Data{}, failed)
 	}
 }
 
-// load gives the data of the file to the server.
+// load loads the data of the file into the server.
 func (w *watcher) load() error {
 	data, err := LoadData(w.path)
 	var system *os.PathError
@@ -133,27 +134,27 @@ func (w *watcher) load() error {
 	case err != nil:
 		return err
 	}
-	debug.FreeOSMemory() // the file, as it was read
+	debug.FreeOSMemory() // of the file's bytes
 	if err := w.server.update(data, w.save, debug.FreeOSMemory); err != nil {
 		return fmt.Errorf("%s: %w", w.path, err)
 	}
 	return nil
 }
 
-// save saves an edition beside the file. Where that fails it is served all the same.
+// save saves an edition beside the file. After an error the edition is served anyway.
 func (w *watcher) save(next *edition) error {
 	w.saved = next.save(w.path + KeptSuffix)
 	return nil
 }
 
-// stamp says which state of a file was read.
+// stamp identifies the state of a file.
 type stamp struct {
 	device, inode    uint64
 	size             int64
 	written, changed syscall.Timespec
 }
 
-// stampOf is that of the file now; the zero one if there is no file.
+// stampOf returns the present stamp of a file; the zero stamp if there is no file.
 func stampOf(path string) stamp {
 	var now syscall.Stat_t
 	if syscall.Stat(path, &now) != nil {

@@ -7,14 +7,14 @@ import (
 	"io"
 )
 
-// Writer writes units to an io.Writer, each with one call of its Write. It keeps nothing back: give
-// it a bufio.Writer where writes are dear, and flush that.
+// Writer writes units to an io.Writer, each with one call of its Write. It has no buffer: give it a
+// bufio.Writer where writes are expensive, and flush that.
 type Writer struct {
 	writer io.Writer
 	buffer []byte
 }
 
-// ErrNoWriter is of a Writer without an io.Writer, as the zero one is.
+// ErrNoWriter: the Writer has no io.Writer, like the zero one.
 var ErrNoWriter = errors.New("rtr: the Writer has no io.Writer: NewWriter makes one that has")
 
 // NewWriter makes a Writer of an io.Writer.
@@ -22,11 +22,11 @@ func NewWriter(writer io.Writer) *Writer {
 	return &Writer{writer: writer, buffer: make([]byte, 0, firstBuffer)}
 }
 
-// Write writes the written form of a unit, as Unit.AppendBinary makes it. Nothing is allocated,
-// unless the buffer has to grow or there is an error.
+// Write writes the bytes of a unit, as Unit.AppendBinary encodes it. It allocates nothing unless
+// the buffer has to grow or there is an error.
 //
-// Errors: those of AppendBinary, and then nothing is written; that of the io.Writer, as it is, or
-// io.ErrShortWrite; ErrNoWriter of the zero Writer.
+// Errors: those of AppendBinary, and then nothing is written; that of the io.Writer, unchanged, or
+// io.ErrShortWrite; ErrNoWriter for the zero Writer.
 func (w *Writer) Write(unit *Unit) error {
 	if w.writer == nil {
 		return ErrNoWriter
