@@ -16,15 +16,15 @@ import (
 	"fishreef/rtr"
 )
 
-// wanted is the content of the command line.
-type wanted struct {
+// options is the content of the command line.
+type options struct {
 	settings cache.Settings
 	log      logs.Logging
 }
 
 // usual returns the defaults of the command line.
-func usual() *wanted {
-	return &wanted{
+func usual() *options {
+	return &options{
 		settings: cache.Settings{
 			Timing: rtr.RecommendedTiming, Look: 10 * time.Second, Clients: 1024, PerAddress: 100,
 			Fetch: fetch.Usual(),
@@ -35,27 +35,27 @@ func usual() *wanted {
 }
 
 // arguments parses a command line.
-func arguments(line []string) (*wanted, error) {
-	w := usual()
+func arguments(line []string) (*options, error) {
+	o := usual()
 	program := words.Program{
 		Name:     "rtr-cache",
 		Sentence: "serve validated payloads to routers",
 		Calls:    []string{"(--json | --csv | --sequence) FILE|URL.. [OPTION]..", "--help | --version"},
 		Help: `Follows files that validators write, or lists on web servers, and serves their
 payloads, merged, over the RPKI to Router protocol (RFC 6810, RFC 8210).`,
-		Options: words.Join(w.ofFiles(), w.settings.Reader.Options(), w.ofData(),
-			w.settings.Fetch.Options(), w.ofGuard(), w.ofTimings(), w.ofSockets(), w.ofTLS(), w.ofSSH(),
-			w.ofLimits(), w.ofReports(), w.log.Options()),
+		Options: words.Join(o.ofFiles(), o.settings.Reader.Options(), o.ofData(),
+			o.settings.Fetch.Options(), o.ofGuard(), o.ofTimings(), o.ofSockets(), o.ofTLS(), o.ofSSH(),
+			o.ofLimits(), o.ofReports(), o.log.Options()),
 	}
 	if err := program.Parse(line, os.Stdout); err != nil {
 		return nil, err
 	}
-	return w, w.check()
+	return o, o.check()
 }
 
 // check returns an error if the options don't fit together.
-func (w *wanted) check() error {
-	s := &w.settings
+func (o *options) check() error {
+	s := &o.settings
 	if len(s.Files) == 0 {
 		return errors.New("no list is named: use --json, --csv or --sequence")
 	}
@@ -75,14 +75,14 @@ func (w *wanted) check() error {
 	if err := s.Reader.CheckSlurm(s.Files...); err != nil {
 		return err
 	}
-	return w.find()
+	return o.find()
 }
 
 // find finds the program that reads what validators print, if such a file is named.
-func (w *wanted) find() (err error) {
-	for _, file := range w.settings.Files {
+func (o *options) find() (err error) {
+	for _, file := range o.settings.Files {
 		if file.Format != payloads.Sequence {
-			w.settings.Reader.Maker, err = beside.Find("rtr_make")
+			o.settings.Reader.Maker, err = beside.Find("rtr_make")
 			return err
 		}
 	}

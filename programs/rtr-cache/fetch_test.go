@@ -435,7 +435,7 @@ func TestWrongURLs(t *testing.T) {
 		t.Error(status, process.Said())
 	}
 	secret := newWeb(t, func(answer http.ResponseWriter, ask *http.Request) {
-		if name, password, is := ask.BasicAuth(); !is || name != "name" || password != "word" {
+		if name, password, ok := ask.BasicAuth(); !ok || name != "name" || password != "word" {
 			answer.WriteHeader(http.StatusUnauthorized)
 			return
 		}

@@ -18,7 +18,7 @@ func main() { os.Exit(run(os.Args[1:])) }
 
 // run runs the program, and returns its exit status.
 func run(line []string) int {
-	wanted, err := arguments(line)
+	opts, err := arguments(line)
 	if errors.Is(err, words.ErrHelp) {
 		return words.Good
 	}
@@ -26,13 +26,13 @@ func run(line []string) int {
 		fmt.Fprintln(os.Stderr, "rtr-cache:", err)
 		return words.Usage
 	}
-	log := wanted.log.Logger()
+	log := opts.log.Logger()
 	ctx, stop := signal.NotifyContext(context.Background(), syscall.SIGINT, syscall.SIGTERM)
 	defer stop()
 	reload, confirm := make(chan os.Signal, 1), make(chan os.Signal, 1)
 	signal.Notify(reload, syscall.SIGHUP)
 	signal.Notify(confirm, syscall.SIGUSR1)
-	running, err := cache.New(wanted.settings, log)
+	running, err := cache.New(opts.settings, log)
 	if err == nil {
 		err = running.Run(ctx, cache.Signals{Reload: reload, Confirm: confirm})
 	}

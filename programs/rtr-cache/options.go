@@ -15,31 +15,31 @@ import (
 )
 
 // ofFiles returns the options for files.
-func (w *wanted) ofFiles() []words.Option {
+func (o *options) ofFiles() []words.Option {
 	return []words.Option{
 		{
 			Name: "json", Argument: "FILE|URL",
 			Help: "Serve this JSON file, or the one at this http or https URL, as\n" +
 				"validators print it; several are merged",
-			Set: w.file(payloads.JSON),
+			Set: o.file(payloads.JSON),
 		},
 		{
 			Name: "csv", Argument: "FILE|URL",
 			Help: "Serve this CSV file: an AS number, a prefix and a max length",
-			Set:  w.file(payloads.CSV),
+			Set:  o.file(payloads.CSV),
 		},
 		{
 			Name: "sequence", Argument: "FILE|URL",
 			Help: "Serve this recording, or list of units (PDUs) as rtr_make\n" +
 				"writes it",
-			Set: w.file(payloads.Sequence),
+			Set: o.file(payloads.Sequence),
 		},
 	}
 }
 
-// ofData returns the options for data, and what they may change.
-func (w *wanted) ofData() []words.Option {
-	s := &w.settings
+// ofData returns the options for the state, and for checks of files.
+func (o *options) ofData() []words.Option {
+	s := &o.settings
 	return []words.Option{
 		{
 			Name: "state", Argument: "FOLDER",
@@ -60,9 +60,9 @@ func (w *wanted) ofData() []words.Option {
 	}
 }
 
-// ofGuard returns the options for lists that aren't taken at once.
-func (w *wanted) ofGuard() []words.Option {
-	s := &w.settings
+// ofGuard returns the options for lists that aren't accepted at once.
+func (o *options) ofGuard() []words.Option {
+	s := &o.settings
 	return []words.Option{
 		{
 			Name: "guard", Argument: "SHARE",
@@ -94,8 +94,8 @@ func (w *wanted) ofGuard() []words.Option {
 }
 
 // ofTimings returns the options for the times of data.
-func (w *wanted) ofTimings() []words.Option {
-	s, usual := &w.settings, rtr.RecommendedTiming
+func (o *options) ofTimings() []words.Option {
+	s, usual := &o.settings, rtr.RecommendedTiming
 	seconds := func(what string, usual uint32) string {
 		return fmt.Sprintf("Send this %s interval, in seconds (default %d)", what, usual)
 	}
@@ -119,8 +119,8 @@ func (w *wanted) ofTimings() []words.Option {
 }
 
 // ofSockets returns the options for listening.
-func (w *wanted) ofSockets() []words.Option {
-	s := &w.settings
+func (o *options) ofSockets() []words.Option {
+	s := &o.settings
 	return []words.Option{
 		{
 			Name: "listen", Argument: "ADDRESS",
@@ -136,8 +136,8 @@ func (w *wanted) ofSockets() []words.Option {
 }
 
 // ofTLS returns the options for TLS.
-func (w *wanted) ofTLS() []words.Option {
-	s := &w.settings
+func (o *options) ofTLS() []words.Option {
+	s := &o.settings
 	return []words.Option{
 		{
 			Name: "tls-cert", Argument: "FILE",
@@ -164,8 +164,8 @@ func (w *wanted) ofTLS() []words.Option {
 }
 
 // ofSSH returns the options for SSH.
-func (w *wanted) ofSSH() []words.Option {
-	s := &w.settings
+func (o *options) ofSSH() []words.Option {
+	s := &o.settings
 	return []words.Option{
 		{
 			Name: "ssh-host-key", Argument: "FILE",
@@ -181,8 +181,8 @@ func (w *wanted) ofSSH() []words.Option {
 }
 
 // ofLimits returns the options for the number of routers.
-func (w *wanted) ofLimits() []words.Option {
-	s := &w.settings
+func (o *options) ofLimits() []words.Option {
+	s := &o.settings
 	return []words.Option{
 		{
 			Name: "max-clients", Argument: "N",
@@ -204,8 +204,8 @@ func (w *wanted) ofLimits() []words.Option {
 }
 
 // ofReports returns the options for metrics.
-func (w *wanted) ofReports() []words.Option {
-	s := &w.settings
+func (o *options) ofReports() []words.Option {
+	s := &o.settings
 	return []words.Option{
 		{
 			Name: "metrics", Argument: "ADDRESS",
@@ -222,7 +222,7 @@ func (w *wanted) ofReports() []words.Option {
 }
 
 // file returns an option that names a file of a format.
-func (w *wanted) file(format payloads.Format) func(string) error {
+func (o *options) file(format payloads.Format) func(string) error {
 	return func(path string) error {
 		if path == "" {
 			return errors.New("it is empty")
@@ -235,12 +235,12 @@ func (w *wanted) file(format payloads.Format) func(string) error {
 			}
 			file.URL, file.Path = at, at.Redacted()
 		}
-		for _, other := range w.settings.Files {
+		for _, other := range o.settings.Files {
 			if other.Path == file.Path {
 				return fmt.Errorf("%s is named twice", file.Path)
 			}
 		}
-		w.settings.Files = append(w.settings.Files, file)
+		o.settings.Files = append(o.settings.Files, file)
 		return nil
 	}
 }

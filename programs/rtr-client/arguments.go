@@ -18,8 +18,8 @@ import (
 // route is a route to validate.
 type route struct{ prefix, asn string }
 
-// wanted is the content of the command line.
-type wanted struct {
+// options is the content of the command line.
+type options struct {
 	addresses  []string
 	version    int
 	json, once bool
@@ -36,49 +36,49 @@ type wanted struct {
 }
 
 // arguments parses a command line.
-func arguments(line []string) (*wanted, error) {
-	w := &wanted{version: 2}
+func arguments(line []string) (*options, error) {
+	o := &options{version: 2}
 	program := words.Program{
 		Name:     "rtr-client",
 		Sentence: "follow the data of RTR caches",
 		Calls:    []string{"HOST:PORT.. [OPTION]..", "--help | --version"},
 		Help: `Asks the first cache, and while that fails the others, over the RPKI to Router
 protocol (RFC 6810, RFC 8210), and prints what is announced and withdrawn.`,
-		Options: words.Join(w.ofChanges(), w.ofFiles(), w.ofTLS(), w.ofSSH()),
-		Operand: w.address,
+		Options: words.Join(o.ofChanges(), o.ofFiles(), o.ofTLS(), o.ofSSH()),
+		Operand: o.address,
 	}
 	if err := program.Parse(line, os.Stdout); err != nil {
 		return nil, err
 	}
-	return w, w.check()
+	return o, o.check()
 }
 
 // address parses the address of the next cache.
-func (w *wanted) address(word string) error {
+func (o *options) address(word string) error {
 	if _, _, err := net.SplitHostPort(word); err != nil {
 		return fmt.Errorf("%q isn't HOST:PORT", word)
 	}
-	for _, before := range w.addresses {
+	for _, before := range o.addresses {
 		if before == word {
 			return fmt.Errorf("%s is named twice", word)
 		}
 	}
-	w.addresses = append(w.addresses, word)
+	o.addresses = append(o.addresses, word)
 	return nil
 }
 
 // protocol parses the version of the protocol.
-func (w *wanted) protocol(text string) error {
+func (o *options) protocol(text string) error {
 	version, err := strconv.ParseUint(text, 10, 8)
 	if err != nil || version > 2 {
 		return fmt.Errorf("%q isn't a version: 0, 1 or 2", text)
 	}
-	w.version = int(version)
+	o.version = int(version)
 	return nil
 }
 
 // route parses the next route to validate.
-func (w *wanted) route(text string) error {
+func (o *options) route(text string) error {
 	words := strings.Fields(text)
 	if len(words) != 2 {
 		return fmt.Errorf("%q isn't a prefix and an AS number", text)
@@ -89,31 +89,31 @@ func (w *wanted) route(text string) error {
 	if _, err := strconv.ParseUint(strings.TrimPrefix(words[1], "AS"), 10, 32); err != nil {
 		return fmt.Errorf("%q isn't an AS number", words[1])
 	}
-	w.routes = append(w.routes, route{words[0], words[1]})
+	o.routes = append(o.routes, route{words[0], words[1]})
 	return nil
 }
 
 // check returns an error if the options don't fit together, and finds the programs that they need.
-func (w *wanted) check() (err error) {
+func (o *options) check() (err error) {
 	switch {
-	case len(w.addresses) == 0:
+	case len(o.addresses) == 0:
 		return errors.New("no cache is named: HOST:PORT")
-	case len(w.addresses) > rtr.MostMembers:
+	case len(o.addresses) > rtr.MostMembers:
 		return fmt.Errorf("more than %d caches are named", rtr.MostMembers)
-	case w.tls.Check() != nil:
-		return w.tls.Check()
-	case !w.useTLS && w.tls != (transport.TLSRouter{}):
+	case o.tls.Check() != nil:
+		return o.tls.Check()
+	case !o.useTLS && o.tls != (transport.TLSRouter{}):
 		return errors.New("the options about TLS need --tls")
-	case w.useTLS && w.ssh.User != "":
+	case o.useTLS && o.ssh.User != "":
 		return errors.New("--tls and --ssh exclude each other")
-	case w.ssh.Partial():
+	case o.ssh.Partial():
 		return errors.New("--ssh, --ssh-key and --ssh-known-hosts need each other")
 	}
-	if w.outPath != "" {
-		w.out, err = newOutFile(w.outPath)
+	if o.outPath != "" {
+		o.out, err = newOutFile(o.outPath)
 	}
-	if len(w.routes) > 0 && err == nil {
-		w.validator, err = beside.Find("rtr_validate")
+	if len(o.routes) > 0 && err == nil {
+		o.validator, err = beside.Find("rtr_validate")
 	}
 	return err
 }

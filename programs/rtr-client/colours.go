@@ -20,8 +20,8 @@ const (
 // coloursOf returns the colours of an output: none unless it is a terminal, and none if the
 // environment has NO_COLOR (no-color.org) or a terminal without colours.
 func coloursOf(output io.Writer) colours {
-	file, is := output.(*os.File)
-	if !is || !isTerminal(file) || os.Getenv("NO_COLOR") != "" || os.Getenv("TERM") == "dumb" {
+	file, ok := output.(*os.File)
+	if !ok || !isTerminal(file) || os.Getenv("NO_COLOR") != "" || os.Getenv("TERM") == "dumb" {
 		return nil
 	}
 	return colours{"+": green, "-": red}

@@ -19,7 +19,7 @@ func main() { os.Exit(run(os.Args[1:])) }
 
 // run runs the program, and returns its exit status.
 func run(line []string) int {
-	wanted, err := arguments(line)
+	opts, err := arguments(line)
 	if errors.Is(err, words.ErrHelp) {
 		return words.Good
 	}
@@ -31,7 +31,7 @@ func run(line []string) int {
 	defer stop()
 	asked := make(chan os.Signal, 1)
 	signal.Notify(asked, syscall.SIGUSR1)
-	if err := follows(ctx, wanted, os.Stdout, asked); err != nil {
+	if err := follows(ctx, opts, os.Stdout, asked); err != nil {
 		say(err)
 		return words.StatusOf(err)
 	}
@@ -39,9 +39,9 @@ func run(line []string) int {
 }
 
 // follows follows the caches until the context ends, or with --once until there are data.
-func follows(ctx context.Context, w *wanted, output io.Writer, asked <-chan os.Signal) error {
+func follows(ctx context.Context, o *options, output io.Writer, asked <-chan os.Signal) error {
 	counts := newCounts()
-	sources, err := w.sources(counts)
+	sources, err := o.sources(counts)
 	if err != nil {
 		return err
 	}
@@ -58,13 +58,13 @@ func follows(ctx context.Context, w *wanted, output io.Writer, asked <-chan os.S
 		}
 	}()
 	shown := &show{
-		wanted: w, ctx: ctx, counts: counts, output: output, colours: coloursOf(output),
+		options: o, ctx: ctx, counts: counts, output: output, colours: coloursOf(output),
 		progress: newProgress(os.Stderr, counts),
 	}
 	defer counts.say(os.Stderr)
 	defer shown.progress.end()
 	err = rtr.Follow(ctx, sources, shown)
-	if errors.Is(err, errEnough) || errors.Is(err, context.Canceled) && !w.once {
+	if errors.Is(err, errEnough) || errors.Is(err, context.Canceled) && !o.once {
 		return nil
 	}
 	return err

@@ -3,80 +3,80 @@ package main
 import "fishreef/programs/internal/words"
 
 // ofChanges returns the options for queries and output.
-func (w *wanted) ofChanges() []words.Option {
+func (o *options) ofChanges() []words.Option {
 	return []words.Option{
 		{
 			Name: "json",
 			Help: "Print changes as JSON objects instead of lines",
-			Set:  words.Yes(&w.json),
+			Set:  words.Yes(&o.json),
 		},
 		{
 			Name: "times",
 			Help: "Begin lines with the time, the cache, the session and the serial\n" +
 				"number, which JSON objects always have",
-			Set: words.Yes(&w.times),
+			Set: words.Yes(&o.times),
 		},
 		{
 			Name: "once",
 			Help: "Exit after the first data, or once all caches have failed",
-			Set:  words.Yes(&w.once),
+			Set:  words.Yes(&o.once),
 		},
 		{
 			Name: "version", Argument: "0|1|2",
 			Help: "Ask in this protocol version at most (default 2)",
-			Set:  w.protocol,
+			Set:  o.protocol,
 		},
 	}
 }
 
 // ofFiles returns the options for files and routes.
-func (w *wanted) ofFiles() []words.Option {
+func (o *options) ofFiles() []words.Option {
 	return []words.Option{
 		{
 			Name: "out", Argument: "FILE",
 			Help: "Write the newest data to this file, as CSV if its name ends\n" +
 				"with .csv, else as JSON, instead of printing changes",
-			Set: words.Text(&w.outPath),
+			Set: words.Text(&o.outPath),
 		},
 		{
 			Name: "record", Argument: "FILE",
 			Help: "Record both directions of the connection in this file, and\n" +
 				"the time of each piece in FILE.times",
-			Set: words.Text(&w.record),
+			Set: words.Text(&o.record),
 		},
 		{
 			Name: "validate", Argument: "PREFIX ASN",
 			Help: "Print the validity of this route instead of changes, and\n" +
 				"again when it changes; may be repeated",
-			Set: w.route,
+			Set: o.route,
 		},
 	}
 }
 
 // ofTLS returns the options for TLS.
-func (w *wanted) ofTLS() []words.Option {
+func (o *options) ofTLS() []words.Option {
 	return words.Join([]words.Option{
 		{
 			Name: "tls",
 			Help: "Connect over TLS",
-			Set:  words.Yes(&w.useTLS),
+			Set:  words.Yes(&o.useTLS),
 		},
-	}, w.tls.Options(), []words.Option{
+	}, o.tls.Options(), []words.Option{
 		{
 			Name: "tls-name", Argument: "NAME",
 			Help: "Expect this name in the cache's certificate (default HOST)",
-			Set:  words.Text(&w.tls.Name),
+			Set:  words.Text(&o.tls.Name),
 		},
 	})
 }
 
 // ofSSH returns the options for SSH.
-func (w *wanted) ofSSH() []words.Option {
+func (o *options) ofSSH() []words.Option {
 	return words.Join([]words.Option{
 		{
 			Name: "ssh", Argument: "USER",
 			Help: "Connect over SSH as this user",
-			Set:  words.Text(&w.ssh.User),
+			Set:  words.Text(&o.ssh.User),
 		},
-	}, w.ssh.Options())
+	}, o.ssh.Options())
 }

@@ -60,8 +60,8 @@ func (o *outFile) keep(ctx context.Context, data rtr.Data) (lacking string, err 
 	return lacking, err
 }
 
-// drop removes the former data, which mustn't be kept, and reports whether there were any. What was
-// written to a device or a pipe can't be removed.
+// drop removes the file with the former data, which mustn't be kept, and reports whether there was
+// one. What was written to a device or a pipe can't be removed.
 func (o *outFile) drop() (bool, error) {
 	path, info, err := o.target()
 	if err != nil || info == nil || !info.Mode().IsRegular() {
@@ -70,12 +70,11 @@ func (o *outFile) drop() (bool, error) {
 	return true, os.Remove(path)
 }
 
-// target returns the path of the file after following links, and what is there; nil for nothing.
+// target returns the path of the file after following links, and its info; nil if it doesn't exist.
 func (o *outFile) target() (path string, info os.FileInfo, err error) {
 	path, err = filepath.EvalSymlinks(o.path)
 	if errors.Is(err, os.ErrNotExist) {
-		// For a dangling link the file is created at its target; a path to nothing is the file's
-		// own.
+		// For a dangling link the file is created at the link's target, else at the path itself.
 		path = o.path
 		if link, failed := os.Readlink(path); failed == nil {
 			path = link

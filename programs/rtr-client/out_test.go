@@ -149,7 +149,7 @@ func TestOutExpires(t *testing.T) {
 		t.Fatal(err)
 	}
 	shown := &show{
-		wanted: &wanted{out: out}, ctx: context.Background(), counts: newCounts(),
+		options: &options{out: out}, ctx: context.Background(), counts: newCounts(),
 		progress: &progress{counts: newCounts()},
 	}
 	source := rtr.Source{Name: "cache"}

@@ -7,7 +7,7 @@ import (
 	"time"
 )
 
-// How often the line of progress is written, and after how many bytes first.
+// The time between two updates of the line of progress, and the bytes before the first.
 const (
 	pace  = 200 * time.Millisecond
 	least = 1 << 16
@@ -55,8 +55,8 @@ func (p *progress) run() {
 func (p *progress) show() {
 	p.lock.Lock()
 	defer p.lock.Unlock()
-	if come := p.counts.received.Load() - p.since; come >= least {
-		fmt.Fprintf(p.terminal, "\rrtr-client: %.1f MB have come ", float64(come)/1e6)
+	if received := p.counts.received.Load() - p.since; received >= least {
+		fmt.Fprintf(p.terminal, "\rrtr-client: %.1f MB have come ", float64(received)/1e6)
 		p.shown = true
 	}
 }
@@ -71,7 +71,7 @@ func (p *progress) clear() {
 	p.since, p.shown = p.counts.received.Load(), false
 }
 
-// end stops it.
+// end stops the updates, and removes the line.
 func (p *progress) end() {
 	close(p.stop)
 	p.ended.Wait()

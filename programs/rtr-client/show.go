@@ -16,19 +16,19 @@ import (
 // errEnough ends the program successfully.
 var errEnough = errors.New("enough")
 
-// show handles the news of the caches as the command line says.
+// show handles the data and the failures of the caches, by the options.
 type show struct {
-	wanted   *wanted
+	options  *options
 	ctx      context.Context
 	counts   *counts
 	output   io.Writer
 	colours  colours
 	progress *progress
-	said     map[route]string // the last printed validity of each route
+	printed  map[route]string // the last printed validity of each route
 	failed   map[*rtr.Client]bool
 }
 
-// Failed prints why a connection ended. With --once it ends the program after the last cache
+// Failed prints why a connection ended. With --once it ends the program once all caches have
 // failed.
 func (s *show) Failed(source rtr.Source, err error) error {
 	s.progress.clear()
@@ -38,7 +38,7 @@ func (s *show) Failed(source rtr.Source, err error) error {
 		s.failed = make(map[*rtr.Client]bool)
 	}
 	s.failed[source.Client] = true
-	if s.wanted.once && len(s.failed) == len(s.wanted.addresses) {
+	if s.options.once && len(s.failed) == len(s.options.addresses) {
 		return errors.New("there are no data")
 	}
 	return nil
@@ -58,15 +58,15 @@ func (s *show) Data(source rtr.Source, update rtr.Update) error {
 	}
 	var err error
 	switch {
-	case len(s.wanted.routes) > 0:
+	case len(s.options.routes) > 0:
 		err = s.validate(data, stamp)
-	case s.wanted.out == nil:
+	case s.options.out == nil:
 		err = s.print(update.Changes(), stamp)
 	}
-	if err == nil && s.wanted.out != nil {
+	if err == nil && s.options.out != nil {
 		err = s.keep(source, data)
 	}
-	if err == nil && s.wanted.once {
+	if err == nil && s.options.once {
 		err = errEnough
 	}
 	return err
@@ -74,7 +74,7 @@ func (s *show) Data(source rtr.Source, update rtr.Update) error {
 
 // say prints a line on standard error, with the time if asked for.
 func (s *show) say(what ...any) {
-	if s.wanted.times {
+	if s.options.times {
 		what = append([]any{now()}, what...)
 	}
 	say(what...)
@@ -85,7 +85,7 @@ func (s *show) print(changes *rtr.Units, stamp stamp) error {
 	output := bufio.NewWriter(s.output)
 	for changes.Scan() {
 		line := s.colours.of(rtr.ChangeLine(changes.Unit()))
-		if s.wanted.json {
+		if s.options.json {
 			line = rtr.ChangeJSON(changes.Unit())
 		}
 		output.WriteString(s.stamped(line, stamp))
@@ -97,9 +97,9 @@ func (s *show) print(changes *rtr.Units, stamp stamp) error {
 // stamped returns a line or an object of the output, with its stamp if asked for.
 func (s *show) stamped(line string, stamp stamp) string {
 	switch {
-	case s.wanted.json:
+	case s.options.json:
 		return stamp.json() + strings.TrimPrefix(line, "{")
-	case s.wanted.times:
+	case s.options.times:
 		return stamp.text() + line
 	}
 	return line
@@ -107,7 +107,7 @@ func (s *show) stamped(line string, stamp stamp) string {
 
 // keep writes data into the file, or removes it if there are none any more (RFC 8210 section 6).
 func (s *show) keep(source rtr.Source, data rtr.Data) error {
-	out := s.wanted.out
+	out := s.options.out
 	if data.IsZero() {
 		removed, err := out.drop()
 		if removed && err == nil {
@@ -122,27 +122,27 @@ func (s *show) keep(source rtr.Source, data rtr.Data) error {
 	return err
 }
 
-// validate prints the validity of the routes whose validity is new.
+// validate prints the validity of each route whose validity changed.
 func (s *show) validate(data rtr.Data, stamp stamp) error {
-	if s.said == nil {
-		s.said = map[route]string{}
+	if s.printed == nil {
+		s.printed = map[route]string{}
 	}
 	if data.IsZero() {
 		return nil
 	}
-	for _, route := range s.wanted.routes {
+	for _, route := range s.options.routes {
 		line := []string{"-", route.prefix, route.asn}
-		if s.wanted.json {
+		if s.options.json {
 			line = append([]string{"--json"}, line...)
 		}
-		text, _, err := s.wanted.validator.Run(s.ctx, bytes.NewReader(data.Bytes()), line...)
+		text, _, err := s.options.validator.Run(s.ctx, bytes.NewReader(data.Bytes()), line...)
 		if err != nil {
 			return err
 		}
-		if s.said[route] == string(text) {
+		if s.printed[route] == string(text) {
 			continue
 		}
-		s.said[route] = string(text)
+		s.printed[route] = string(text)
 		for _, line := range strings.SplitAfter(strings.TrimSuffix(string(text), "\n"), "\n") {
 			if _, err := io.WriteString(s.output, s.stamped(line, stamp)); err != nil {
 				return err

@@ -9,23 +9,23 @@ import (
 	"fishreef/rtr"
 )
 
-// sources are the caches, whose connections are counted and recorded.
-func (w *wanted) sources(counts *counts) ([]rtr.Source, error) {
-	connect, err := w.connect()
+// sources returns the caches, with clients that count and record their connections.
+func (o *options) sources(counts *counts) ([]rtr.Source, error) {
+	connect, err := o.connect()
 	if err != nil {
 		return nil, err
 	}
-	if w.record != "" {
-		recorder, err := record.New(w.record, func(err error) { say(err) })
+	if o.record != "" {
+		recorder, err := record.New(o.record, func(err error) { say(err) })
 		if err != nil {
 			return nil, err
 		}
 		connect = recorded(connect, recorder)
 	}
 	var sources []rtr.Source
-	for _, address := range w.addresses {
+	for _, address := range o.addresses {
 		client := rtr.NewClient(address)
-		client.AskIn(uint8(w.version))
+		client.AskIn(uint8(o.version))
 		client.Dial = counts.counted(connect)
 		sources = append(sources, rtr.Source{Name: address, Client: client})
 	}
@@ -39,22 +39,22 @@ func recorded(connect transport.Dial, recorder *record.Recorder) transport.Dial 
 		if err != nil {
 			return nil, err
 		}
-		kept, err := recorder.Record(connection)
+		wrapped, err := recorder.Record(connection)
 		if err != nil {
 			connection.Close()
 			return nil, err
 		}
-		return kept, nil
+		return wrapped, nil
 	}
 }
 
 // connect returns the dial function.
-func (w *wanted) connect() (transport.Dial, error) {
+func (o *options) connect() (transport.Dial, error) {
 	switch {
-	case w.ssh.User != "":
-		return w.ssh.Dialer()
-	case w.useTLS:
-		return w.tls.Dialer()
+	case o.ssh.User != "":
+		return o.ssh.Dialer()
+	case o.useTLS:
+		return o.tls.Dialer()
 	}
 	return new(net.Dialer).DialContext, nil
 }

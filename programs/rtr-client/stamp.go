@@ -8,7 +8,7 @@ import (
 	"fishreef/rtr"
 )
 
-// stamp is the time of a line, and the data to which it leads: those of a cache, or none.
+// stamp is the time of a line, and the data after its change: those of a cache, or none.
 type stamp struct {
 	Time    string  `json:"time"`
 	Cache   string  `json:"cache"`

@@ -15,15 +15,15 @@ import (
 	"fishreef/programs/internal/words"
 )
 
-// wanted is the content of the command line.
-type wanted struct {
+// options is the content of the command line.
+type options struct {
 	settings monitor.Settings
 	log      logs.Logging
 }
 
 // usual returns the defaults of the command line.
-func usual() *wanted {
-	return &wanted{
+func usual() *options {
+	return &options{
 		settings: monitor.Settings{
 			Fetch: fetch.Usual(), Version: 2, Look: 10 * time.Second, Grace: 30 * time.Minute,
 		},
@@ -31,12 +31,12 @@ func usual() *wanted {
 	}
 }
 
-// anyone is the default address of the page: only for this machine.
-const anyone = "127.0.0.1:9324"
+// usualHTTP is the default address of the page: only for this machine.
+const usualHTTP = "127.0.0.1:9324"
 
 // arguments parses a command line.
-func arguments(line []string) (*wanted, error) {
-	w := usual()
+func arguments(line []string) (*options, error) {
+	o := usual()
 	program := words.Program{
 		Name:     "rtr-monitor",
 		Sentence: "compare RTR caches and validators",
@@ -50,37 +50,37 @@ in which of them, and since when. A SOURCE is one of these:
   json:FILE, csv:FILE        the list of a validator
   json:URL, csv:URL          the same by http or https
   sequence:FILE              a recording, or a list of units (PDUs)`,
-		Options: words.Join(w.ofComparison(), w.settings.Reader.Options(),
-			w.settings.Fetch.Options(), w.settings.TLS.Options(), w.ofSSH(),
-			w.settings.SSH.Options(), w.ofPage(), w.log.Options()),
-		Operand: w.source,
+		Options: words.Join(o.ofComparison(), o.settings.Reader.Options(),
+			o.settings.Fetch.Options(), o.settings.TLS.Options(), o.ofSSH(),
+			o.settings.SSH.Options(), o.ofPage(), o.log.Options()),
+		Operand: o.source,
 	}
 	if err := program.Parse(line, os.Stdout); err != nil {
 		return nil, err
 	}
-	return w, w.check()
+	return o, o.check()
 }
 
 // source parses the next source.
-func (w *wanted) source(word string) error {
+func (o *options) source(word string) error {
 	source, err := monitor.ParseSource(word)
 	if err != nil {
 		return err
 	}
-	for _, before := range w.settings.Sources {
+	for _, before := range o.settings.Sources {
 		if before.Name == source.Name {
 			return fmt.Errorf("%s is named twice", source.Name)
 		}
 	}
-	w.settings.Sources = append(w.settings.Sources, source)
+	o.settings.Sources = append(o.settings.Sources, source)
 	return nil
 }
 
 // check returns an error if the options don't fit together, and finds the programs that read lists.
-func (w *wanted) check() (err error) {
-	s := &w.settings
+func (o *options) check() (err error) {
+	s := &o.settings
 	if s.HTTP == "" {
-		s.HTTP = anyone
+		s.HTTP = usualHTTP
 	}
 	switch {
 	case len(s.Sources) < 2:

@@ -18,7 +18,7 @@ func main() { os.Exit(run(os.Args[1:])) }
 
 // run runs the program, and returns its exit status.
 func run(line []string) int {
-	wanted, err := arguments(line)
+	opts, err := arguments(line)
 	if errors.Is(err, words.ErrHelp) {
 		return words.Good
 	}
@@ -26,10 +26,10 @@ func run(line []string) int {
 		fmt.Fprintln(os.Stderr, "rtr-monitor:", err)
 		return words.Usage
 	}
-	log := wanted.log.Logger()
+	log := opts.log.Logger()
 	ctx, stop := signal.NotifyContext(context.Background(), syscall.SIGINT, syscall.SIGTERM)
 	defer stop()
-	running, err := monitor.New(wanted.settings, log)
+	running, err := monitor.New(opts.settings, log)
 	if err == nil {
 		err = running.Run(ctx)
 	}

@@ -10,8 +10,8 @@ import (
 )
 
 // ofComparison returns the options for queries and comparisons.
-func (w *wanted) ofComparison() []words.Option {
-	s := &w.settings
+func (o *options) ofComparison() []words.Option {
+	s := &o.settings
 	return []words.Option{
 		{
 			Name: "grace", Argument: "TIME",
@@ -46,19 +46,19 @@ func (w *wanted) ofComparison() []words.Option {
 	}
 }
 
-// ofSSH returns the options for SSH that rtr-client has in another form.
-func (w *wanted) ofSSH() []words.Option {
+// ofSSH returns the option for the SSH user, which rtr-client has in another form.
+func (o *options) ofSSH() []words.Option {
 	return []words.Option{
 		{
 			Name: "ssh-user", Argument: "NAME",
 			Help: "Connect to ssh:HOST:PORT as this user",
-			Set:  words.Text(&w.settings.SSH.User),
+			Set:  words.Text(&o.settings.SSH.User),
 		},
 	}
 }
 
 // ofPage returns the options for the page.
-func (w *wanted) ofPage() []words.Option {
+func (o *options) ofPage() []words.Option {
 	return []words.Option{
 		{
 			Name: "http", Argument: "ADDRESS",
@@ -68,7 +68,7 @@ func (w *wanted) ofPage() []words.Option {
 				if _, _, err := net.SplitHostPort(address); err != nil {
 					return fmt.Errorf("%q isn't ADDRESS:PORT", address)
 				}
-				return words.Text(&w.settings.HTTP)(address)
+				return words.Text(&o.settings.HTTP)(address)
 			},
 		},
 	}

@@ -10,8 +10,8 @@ import (
 	"fishreef/programs/internal/words"
 )
 
-// wanted is the content of the command line.
-type wanted struct {
+// options is the content of the command line.
+type options struct {
 	capture string
 	port    string
 	only    string   // the number of a connection; "" for all
@@ -22,8 +22,8 @@ type wanted struct {
 }
 
 // arguments parses a command line.
-func arguments(line []string) (*wanted, error) {
-	w := &wanted{port: "323"}
+func arguments(line []string) (*options, error) {
+	o := &options{port: "323"}
 	program := words.Program{
 		Name:     "rtr-pcap",
 		Sentence: "list the RTR sessions of a packet capture",
@@ -31,50 +31,50 @@ func arguments(line []string) (*wanted, error) {
 		Help: `Lists the units (PDUs) of each connection of a pcap or pcapng file, of both sides in
 the order in which they came, and says which bytes are missing. tshark reads the
 packets, and rtr_list lists the units.`,
-		Options: words.Join(w.ofConnections(), w.ofForms()),
-		Operand: w.file,
+		Options: words.Join(o.ofConnections(), o.ofForms()),
+		Operand: o.file,
 	}
 	if err := program.Parse(line, os.Stdout); err != nil {
 		return nil, err
 	}
-	return w, w.check()
+	return o, o.check()
 }
 
 // ofConnections returns the options for connections.
-func (w *wanted) ofConnections() []words.Option {
+func (o *options) ofConnections() []words.Option {
 	return []words.Option{
 		{
 			Name: "port", Argument: "PORT",
 			Help: "Read connections of this port of the cache (default 323)",
-			Set:  number("port", &w.port, 1, 65535),
+			Set:  number("port", &o.port, 1, 65535),
 		},
 		{
 			Name: "connection", Argument: "N",
 			Help: "Read only the connection with this number of tshark",
-			Set:  number("connection", &w.only, 0, 1<<31-1),
+			Set:  number("connection", &o.only, 0, 1<<31-1),
 		},
 	}
 }
 
 // ofForms returns the options for output formats.
-func (w *wanted) ofForms() []words.Option {
-	options := []words.Option{{
+func (o *options) ofForms() []words.Option {
+	optionList := []words.Option{{
 		Name: "raw",
 		Help: "Write the raw units, for the other programs",
-		Set:  words.Yes(&w.raw),
+		Set:  words.Yes(&o.raw),
 	}}
 	for _, name := range []string{"json", "check", "csv", "vrps"} {
 		word := "--" + name
-		options = append(options, words.Option{
+		optionList = append(optionList, words.Option{
 			Name: name,
 			Help: "List as rtr_list " + word,
 			Set: func(string) error {
-				w.form = append(w.form, word)
+				o.form = append(o.form, word)
 				return nil
 			},
 		})
 	}
-	return options
+	return optionList
 }
 
 // number returns an option whose argument is a number in this range.
@@ -90,27 +90,27 @@ func number(name string, to *string, least, most int) func(string) error {
 }
 
 // file sets the capture.
-func (w *wanted) file(word string) error {
-	if w.capture != "" {
+func (o *options) file(word string) error {
+	if o.capture != "" {
 		return errors.New("more than one FILE is named")
 	}
-	w.capture = word
+	o.capture = word
 	return nil
 }
 
 // check returns an error if the options don't fit together, and finds the programs that they need.
-func (w *wanted) check() (err error) {
+func (o *options) check() (err error) {
 	switch {
-	case w.capture == "":
+	case o.capture == "":
 		return errors.New("no FILE is named")
-	case len(w.form) > 1, w.raw && len(w.form) > 0:
+	case len(o.form) > 1, o.raw && len(o.form) > 0:
 		return errors.New("more than one form is named")
 	}
-	if !w.raw {
-		w.lister, err = beside.Find("rtr_list")
+	if !o.raw {
+		o.lister, err = beside.Find("rtr_list")
 	}
 	if err == nil {
-		w.tshark, err = beside.Find("tshark")
+		o.tshark, err = beside.Find("tshark")
 	}
 	return err
 }

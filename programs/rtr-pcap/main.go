@@ -20,7 +20,7 @@ func main() { os.Exit(run(os.Args[1:])) }
 
 // run runs the program, and returns its exit status.
 func run(line []string) int {
-	wanted, err := arguments(line)
+	opts, err := arguments(line)
 	if errors.Is(err, words.ErrHelp) {
 		return words.Good
 	}
@@ -30,8 +30,8 @@ func run(line []string) int {
 	}
 	ctx, stop := signal.NotifyContext(context.Background(), syscall.SIGINT, syscall.SIGTERM)
 	defer stop()
-	if err := wanted.list(ctx, os.Stdout); err != nil {
-		if !errors.Is(err, errSaid) {
+	if err := opts.list(ctx, os.Stdout); err != nil {
+		if !errors.Is(err, errPrinted) {
 			say(err)
 		}
 		return words.StatusOf(err)
@@ -39,34 +39,34 @@ func run(line []string) int {
 	return words.Good
 }
 
-// errSaid is the error of a run whose failures were already printed.
-var errSaid = errors.New("some connections failed")
+// errPrinted is the error of a run whose failures were already printed.
+var errPrinted = errors.New("some connections failed")
 
 // list lists the connections of the capture, or writes their units.
-func (w *wanted) list(ctx context.Context, output io.Writer) error {
-	connections, err := w.connections(ctx)
+func (o *options) list(ctx context.Context, output io.Writer) error {
+	connections, err := o.connections(ctx)
 	if err != nil {
 		return err
 	}
 	var all error
 	for _, c := range connections {
-		for _, err := range w.listOne(ctx, c, output) {
+		for _, err := range o.listOne(ctx, c, output) {
 			err = fmt.Errorf("connection %s: %w", c.number, err)
 			if words.StatusOf(err) == words.System {
 				return err
 			}
 			say(err)
-			all = errSaid
+			all = errPrinted
 		}
 	}
 	return all
 }
 
 // connections returns the connections with data, in the order in which they begin.
-func (w *wanted) connections(ctx context.Context) (all []*connection, err error) {
+func (o *options) connections(ctx context.Context) (all []*connection, err error) {
 	known := map[string]*connection{}
 	var seen []*connection
-	err = w.read(ctx, func(p packet) {
+	err = o.read(ctx, func(p packet) {
 		c := known[p.stream]
 		if c == nil {
 			c = &connection{number: p.stream}
@@ -80,13 +80,13 @@ func (w *wanted) connections(ctx context.Context) (all []*connection, err error)
 		}
 	}
 	if err == nil && len(all) == 0 {
-		err = fmt.Errorf("%s: no connection of port %s brings data", w.capture, w.port)
+		err = fmt.Errorf("%s: no connection of port %s brings data", o.capture, o.port)
 	}
 	return all, err
 }
 
 // listOne lists a connection, or writes its units, and returns its problems.
-func (w *wanted) listOne(ctx context.Context, c *connection, output io.Writer) (faults []error) {
+func (o *options) listOne(ctx context.Context, c *connection, output io.Writer) (faults []error) {
 	units := c.units()
 	say(fmt.Sprintf("connection %s: %s: %s", c.number, c.nodes(),
 		words.Number(len(units), "byte")))
@@ -100,10 +100,10 @@ func (w *wanted) listOne(ctx context.Context, c *connection, output io.Writer) (
 		}
 	}
 	var err error
-	if w.raw {
+	if o.raw {
 		_, err = output.Write(units)
 	} else {
-		err = w.show(ctx, units, output)
+		err = o.show(ctx, units, output)
 	}
 	if err != nil {
 		faults = append(faults, err)
@@ -120,8 +120,8 @@ func (c *connection) nodes() string {
 }
 
 // show lists the units of a connection.
-func (w *wanted) show(ctx context.Context, units []byte, output io.Writer) error {
-	run := exec.CommandContext(ctx, string(w.lister), w.form...)
+func (o *options) show(ctx context.Context, units []byte, output io.Writer) error {
+	run := exec.CommandContext(ctx, string(o.lister), o.form...)
 	run.Stdin, run.Stdout, run.Stderr = bytes.NewReader(units), output, os.Stderr
 	if err := run.Run(); err != nil {
 		return fmt.Errorf("rtr_list: %w", err)

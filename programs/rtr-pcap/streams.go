@@ -10,7 +10,7 @@ import (
 	"fishreef/rtr"
 )
 
-// connection is one of a capture: its packets, in the order of the capture, and its two sides.
+// connection is a connection of a capture: its packets, in the order of the capture, and its sides.
 type connection struct {
 	number  string
 	packets []placed
@@ -36,14 +36,14 @@ type side struct {
 	over   int64 // the sequence number after the last byte sent, by its own packets
 	acked  int64 // the highest sequence number that the other side acknowledged
 
-	came    []byte   // its bytes, up to the first missing one
-	listed  int      // how many of them were returned as whole units
+	stream  []byte   // its bytes, up to the first missing one
+	listed  int      // how many of them were returned as complete units
 	pending []placed // the packets after a missing byte, in order
 	differs int64    // the offset of a retransmission with different bytes; -1 for none
 }
 
 // next returns the sequence number of the next byte.
-func (s *side) next() int64 { return s.begin + int64(len(s.came)) }
+func (s *side) next() int64 { return s.begin + int64(len(s.stream)) }
 
 // wide returns a sequence number of the side as 64 bits.
 func (s *side) wide(seq uint32) int64 {
@@ -105,8 +105,8 @@ func most(left, right int64) int64 {
 	return right
 }
 
-// units returns the whole units of both sides, in the order in which their last bytes came, and
-// after them bytes that can't be a unit, which the reader refuses by their offset.
+// units returns the complete units of both sides, in the order in which their last bytes came, and
+// after them bytes that can't be a unit, which rtr_list refuses with their offset.
 func (c *connection) units() []byte {
 	var all []byte
 	for i := range c.packets {
@@ -119,7 +119,7 @@ func (c *connection) units() []byte {
 	}
 	for _, side := range c.sides {
 		if !side.isCut() {
-			all = append(all, side.came[side.listed:]...)
+			all = append(all, side.stream[side.listed:]...)
 		}
 	}
 	return all
@@ -138,8 +138,8 @@ func (s *side) put(p placed) {
 	}
 }
 
-// join appends the new part of a payload that begins no later than the next byte. Of retransmitted
-// bytes the first ones count.
+// join appends the new part of a payload that begins no later than the next byte. It ignores
+// retransmitted bytes.
 func (s *side) join(p placed) {
 	if before := s.begin - p.from; before > 0 {
 		if before >= int64(len(p.payload)) {
@@ -151,33 +151,33 @@ func (s *side) join(p placed) {
 	if again > len(p.payload) {
 		again = len(p.payload)
 	}
-	had := s.came[p.from-s.begin:][:again]
+	had := s.stream[p.from-s.begin:][:again]
 	probe := len(p.payload) == 1
 	if !bytes.Equal(had, p.payload[:again]) && !probe && s.differs < 0 {
 		s.differs = p.from - s.begin
 	}
-	s.came = append(s.came, p.payload[again:]...)
+	s.stream = append(s.stream, p.payload[again:]...)
 }
 
-// whole returns the units that are whole now and weren't before.
+// whole returns the units that are complete since the last call.
 func (s *side) whole() []byte {
 	begin := s.listed
 	for {
-		size, err := rtr.UnitSize(s.came[s.listed:])
-		if err != nil || size > len(s.came)-s.listed {
-			return s.came[begin:s.listed]
+		size, err := rtr.UnitSize(s.stream[s.listed:])
+		if err != nil || size > len(s.stream)-s.listed {
+			return s.stream[begin:s.listed]
 		}
 		s.listed += size
 	}
 }
 
-// isCut reports whether the bytes after the whole units may be the start of one.
+// isCut reports whether the bytes after the complete units may be the start of a unit.
 func (s *side) isCut() bool {
-	_, err := rtr.UnitSize(s.came[s.listed:])
+	_, err := rtr.UnitSize(s.stream[s.listed:])
 	return err == nil || errors.Is(err, rtr.Short)
 }
 
-// lacks returns lines about bytes that aren't in the capture, or not in the units.
+// lacks returns lines about bytes that aren't in the capture, or aren't listed.
 func (s *side) lacks() (lines []string) {
 	missing := s.over - s.next()
 	switch {
@@ -188,9 +188,9 @@ func (s *side) lacks() (lines []string) {
 	}
 	if s.begun && missing > 0 {
 		lines = append(lines, fmt.Sprintf("%s: %s %s missing after byte %d, what it sent after that is left out",
-			s.node, words.Number(int(missing), "byte"), words.Are(int(missing)), len(s.came)))
+			s.node, words.Number(int(missing), "byte"), words.Are(int(missing)), len(s.stream)))
 	}
-	if rest := len(s.came) - s.listed; rest > 0 && s.isCut() {
+	if rest := len(s.stream) - s.listed; rest > 0 && s.isCut() {
 		lines = append(lines, fmt.Sprintf("%s: %s after byte %d %s no whole unit, and %[4]s left out",
 			s.node, words.Number(rest, "byte"), s.listed, words.Are(rest)))
 	}

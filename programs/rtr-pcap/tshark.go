@@ -59,20 +59,20 @@ func (p *packet) has(flags uint64) bool { return p.flags&flags != 0 }
 
 // read prints and runs the command of tshark for the capture, and calls a function with each packet
 // of the port. Packets quoted in ICMP messages don't belong to the connection.
-func (w *wanted) read(ctx context.Context, each func(packet)) error {
-	if err := readable(w.capture); err != nil {
+func (o *options) read(ctx context.Context, each func(packet)) error {
+	if err := readable(o.capture); err != nil {
 		return err
 	}
 	line := []string{
-		"-n", "-r", w.capture, "-d", "tcp.port==" + w.port + ",data",
-		"-o", "tcp.desegment_tcp_streams:FALSE", "-Y", w.filter(),
+		"-n", "-r", o.capture, "-d", "tcp.port==" + o.port + ",data",
+		"-o", "tcp.desegment_tcp_streams:FALSE", "-Y", o.filter(),
 		"-T", "fields", "-E", "occurrence=l",
 	}
 	for _, field := range fields {
 		line = append(line, "-e", field)
 	}
 	say("runs tshark", quoted(line))
-	run := exec.CommandContext(ctx, string(w.tshark), line...)
+	run := exec.CommandContext(ctx, string(o.tshark), line...)
 	var stderr bytes.Buffer
 	run.Stderr = &stderr
 	output, err := run.StdoutPipe()
@@ -106,10 +106,10 @@ func readable(path string) error {
 }
 
 // filter returns the display filter for the packets of the port.
-func (w *wanted) filter() string {
-	filter := "tcp.port == " + w.port + " && !icmp && !icmpv6"
-	if w.only != "" {
-		filter += " && tcp.stream == " + w.only
+func (o *options) filter() string {
+	filter := "tcp.port == " + o.port + " && !icmp && !icmpv6"
+	if o.only != "" {
+		filter += " && tcp.stream == " + o.only
 	}
 	return filter
 }

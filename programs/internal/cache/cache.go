@@ -37,8 +37,8 @@ type Cache struct {
 
 	lock      sync.Mutex // guards the fields below, and the files
 	present   rtr.Data   // the data that are served
-	had       bool       // there were payloads before
-	unsaved   error      // why the data aren't saved
+	had       bool       // the cache has served payloads
+	unsaved   error      // why the data aren't saved; nil if they are
 	clock     trust.Clock
 	confirmed bool // a person confirmed the held list
 }
@@ -55,7 +55,7 @@ func New(settings Settings, log *logrus.Logger) (*Cache, error) {
 	}
 	c.server.Limits.Connections = settings.Clients
 	c.server.Limits.Refuse = settings.Refuse
-	c.server.Log = c.tells
+	c.server.Log = c.logClient
 	for _, file := range settings.Files {
 		c.files = append(c.files, &followed{File: file})
 		c.metrics.Follows(file.Path)
@@ -75,7 +75,7 @@ func New(settings Settings, log *logrus.Logger) (*Cache, error) {
 	c.folder = folder
 	switch data, err := folder.Restore(c.server); {
 	case err == nil:
-		c.serves(data, settings.State, nil)
+		c.recordServed(data, settings.State, nil)
 	case errors.Is(err, os.ErrNotExist):
 	case errors.Is(err, rtr.ErrTorn), errors.Is(err, rtr.ErrTiming):
 		log.Warnf("%s: another session begins", plainText(err))
@@ -107,9 +107,9 @@ func (c *Cache) Close(ctx context.Context) {
 	}
 }
 
-// serves records which data are served, where they are from, and the size of the change; nil if
-// that isn't known.
-func (c *Cache) serves(data rtr.Data, from string, size *payloads.Size) {
+// recordServed records the served data, their source, and the size of the change; nil if that isn't
+// known.
+func (c *Cache) recordServed(data rtr.Data, from string, size *payloads.Size) {
 	c.lock.Lock()
 	defer c.lock.Unlock()
 	c.present = data
@@ -129,7 +129,7 @@ func (c *Cache) serves(data rtr.Data, from string, size *payloads.Size) {
 	c.log.Info(line)
 }
 
-// update serves other payloads, under the next serial number. If they can't be saved, and the state
+// update serves changed payloads with the next serial number. If they can't be saved, and the state
 // folder has older data of their session, they get another session.
 func (c *Cache) update(merged rtr.Data, from string, size payloads.Size) error {
 	session, serial := c.present.Session(), after(c.present.Serial())
@@ -147,11 +147,11 @@ func (c *Cache) update(merged rtr.Data, from string, size payloads.Size) error {
 			data, err = c.under(merged, session, serial)
 		}
 	}
-	if !c.saves(err) {
+	if !c.recordSaved(err) {
 		return err
 	}
-	c.serves(data, from, &size)
-	debug.FreeOSMemory() // the file's content, and the former data
+	c.recordServed(data, from, &size)
+	debug.FreeOSMemory() // of the file's content, and of the former data
 	return nil
 }
 
@@ -164,7 +164,7 @@ func after(serial uint32) uint32 {
 	return serial + 1
 }
 
-// anotherSession returns a random session, other than the one before if there is one.
+// anotherSession returns a random session that differs from the former one, if there is one.
 func anotherSession(before *uint16) (session uint16, err error) {
 	for {
 		var chance [2]byte
@@ -190,8 +190,8 @@ func (c *Cache) under(merged rtr.Data, session uint16, serial uint32) (rtr.Data,
 	return data, c.server.Update(data)
 }
 
-// saves records whether data were saved, and reports whether they are served.
-func (c *Cache) saves(err error) bool {
+// recordSaved records whether data were saved, and reports whether they are served.
+func (c *Cache) recordSaved(err error) bool {
 	var unsaved *state.Unsaved
 	if err != nil && !errors.As(err, &unsaved) {
 		return false
@@ -214,7 +214,7 @@ func (c *Cache) saves(err error) bool {
 // save retries to save data that couldn't be saved.
 func (c *Cache) save() {
 	if c.unsaved != nil && c.folder.Save(c.server, c.present) == nil {
-		c.saves(nil)
+		c.recordSaved(nil)
 	}
 }
 

@@ -15,8 +15,8 @@ import (
 type remote struct {
 	fetcher *fetch.Fetcher
 	body    *payloads.Body // nil before the first list
-	written time.Time      // when it was written
-	failure *fetch.Failure // why the last fetch gave none; nil if it did
+	written time.Time      // when the list was written
+	failure *fetch.Failure // of the last fetch; nil if it succeeded
 }
 
 // remotes returns a fetcher for each file that has a URL.
@@ -76,12 +76,12 @@ func (c *Cache) fetchAgain() {
 	}
 }
 
-// stateOf returns the state of a file; false if nothing was fetched yet.
+// stateOf returns the state of a file, and false if nothing has been fetched yet.
 func (c *Cache) stateOf(file *followed) (payloads.Stamp, bool) {
 	if file.remote == nil {
 		return c.settings.Reader.StateOf(file.File, nil), true
 	}
-	c.hears(file)
+	c.takeFetches(file)
 	if file.remote.body == nil {
 		return payloads.Stamp{}, false
 	}
@@ -104,8 +104,8 @@ func (f *followed) written() time.Time {
 	return f.seen.Time()
 }
 
-// hears takes the news of a file's fetches, and logs each reason once.
-func (c *Cache) hears(file *followed) {
+// takeFetches takes the results of a file's fetches, and logs each reason once.
+func (c *Cache) takeFetches(file *followed) {
 	news := file.remote.fetcher.Take()
 	for _, result := range news.Results {
 		c.metrics.Fetched(file.Path, string(result))
@@ -132,11 +132,11 @@ func (c *Cache) hears(file *followed) {
 			c.metrics.Written(file.Path, news.Written)
 		}
 	}
-	c.tellsFetch(file.Path, before, news)
+	c.logFetch(file.Path, before, news)
 }
 
-// tellsFetch logs a failure with a new reason, and the end of a failure.
-func (c *Cache) tellsFetch(name string, before *fetch.Failure, news fetch.News) {
+// logFetch logs a failure with a new reason, and the end of a failure.
+func (c *Cache) logFetch(name string, before *fetch.Failure, news fetch.News) {
 	next := news.Next.Round(time.Second).String()
 	switch failure := news.Failure; {
 	case failure == nil && before != nil:

@@ -19,38 +19,38 @@ import (
 type followed struct {
 	payloads.File
 	remote  *remote        // the list to fetch; nil for a local file
-	looked  bool           // it was checked once
-	seen    payloads.Stamp // its state then
-	when    time.Time      // the time then
-	again   bool           // it couldn't be read
+	looked  bool           // it was checked before
+	seen    payloads.Stamp // its state at the last check
+	when    time.Time      // the time of the last check
+	again   bool           // the last read failed by an error of the system
 	settles settling
-	data    rtr.Data // its payloads, as last taken, if there are other files
+	data    rtr.Data // its payloads when it was last accepted, if there are other files
 	taken   int      // their number
 	anchors payloads.Anchors
-	held    *held // its list that isn't taken yet; nil for none
-	problem error // why it wasn't taken last time
+	held    *held // its held list; nil for none
+	problem error // why it wasn't accepted at the last check
 	expired payloads.Expired
 }
 
-// settling is the state of a file that is being written in place, and since when it has it.
+// settling is the state of a file that is being written in place, and the start of that state.
 type settling struct {
 	state payloads.Stamp
 	since time.Duration
 }
 
-// held is a list that isn't taken yet.
+// held is a list that isn't accepted yet.
 type held struct {
 	sum   [sha256.Size]byte // of its payloads
 	state payloads.Stamp    // of the file, at the last read
 	since time.Duration     // when it was first read
 }
 
-// Writers that write a file in place write in pieces: such a file is read once it hasn't changed
-// for this time.
+// A file that is written in place is read once it hasn't changed for this time, since it is written
+// in pieces.
 const settled = 2 * time.Second
 
-// look takes the files that changed, or all of them if asked to, and reports whether a file is
-// changing.
+// look reads the files that changed, or all of them if asked to, and reports whether a file is
+// still being written.
 func (c *Cache) look(ctx context.Context, asked bool) (changing bool) {
 	system, running := c.time()
 	c.tick(system, running)
@@ -61,7 +61,7 @@ func (c *Cache) look(ctx context.Context, asked bool) (changing bool) {
 			continue
 		}
 		expires := file.expires(state, c.clock.Now())
-		if !c.wants(file, state, running) && !expires && !asked {
+		if !c.needsRead(file, state, running) && !expires && !asked {
 			continue
 		}
 		if file.isSettling(state, running) && !asked {
@@ -101,9 +101,9 @@ func (c *Cache) tick(system time.Time, running time.Duration) {
 	}
 }
 
-// wants reports whether a file has to be read: it wasn't yet, it couldn't be read, it changed, the
-// time is before that of the last read, or its held list may be taken.
-func (c *Cache) wants(file *followed, state payloads.Stamp, running time.Duration) bool {
+// needsRead reports whether a file has to be read: it wasn't read yet, the last read failed, it
+// changed, the clock went back, or its held list may be accepted now.
+func (c *Cache) needsRead(file *followed, state payloads.Stamp, running time.Duration) bool {
 	switch {
 	case !file.looked, file.again, state != file.seen, c.clock.Now().Before(file.when):
 		return true
@@ -114,7 +114,8 @@ func (c *Cache) wants(file *followed, state payloads.Stamp, running time.Duratio
 	return quiet || c.confirmed
 }
 
-// expires reports whether the file hasn't changed since it was taken, and more of it has expired.
+// expires reports whether the file is unchanged since it was accepted, and more of its items have
+// expired.
 func (f *followed) expires(state payloads.Stamp, now time.Time) bool {
 	return f.looked && f.problem == nil && f.seen == state && f.expired.Has(now)
 }
@@ -132,7 +133,7 @@ func (f *followed) isSettling(state payloads.Stamp, running time.Duration) bool 
 	return running-f.settles.since < settled
 }
 
-// nextExpiry returns when the next item of a file, as taken, expires; zero for none.
+// nextExpiry returns the time when the next item of an accepted file expires; zero for none.
 func (c *Cache) nextExpiry() (next time.Time) {
 	for _, file := range c.files {
 		at := file.expired.Next
@@ -143,7 +144,7 @@ func (c *Cache) nextExpiry() (next time.Time) {
 	return next
 }
 
-// take serves the new payloads of a file, unless they withdraw too much.
+// take serves the new payloads of a file, unless they withdraw more than the guard allows.
 func (c *Cache) take(
 	file *followed, list payloads.List, expires bool, running time.Duration,
 ) error {
@@ -153,7 +154,7 @@ func (c *Cache) take(
 		case other == file:
 			all = append(all, list.Data)
 		case other.data.IsZero():
-			c.accepts(file, list)
+			c.recordAccepted(file, list)
 			c.log.Infof("%s: %s, waiting for %s", file.Path,
 				words.Number(list.Data.Len(), "payload"), other.Path)
 			return nil
@@ -166,7 +167,7 @@ func (c *Cache) take(
 		return err
 	}
 	if c.same(merged) {
-		c.accepts(file, list)
+		c.recordAccepted(file, list)
 		c.log.Infof("%s: nothing changed", file.Path)
 		return nil
 	}
@@ -178,13 +179,13 @@ func (c *Cache) take(
 		err = c.update(merged, file.Path, size)
 	}
 	if err == nil {
-		c.accepts(file, list)
+		c.recordAccepted(file, list)
 	}
 	return err
 }
 
-// accepts records that a list was taken.
-func (c *Cache) accepts(file *followed, list payloads.List) {
+// recordAccepted records that a list was accepted.
+func (c *Cache) recordAccepted(file *followed, list payloads.List) {
 	c.lock.Lock()
 	defer c.lock.Unlock()
 	file.held, file.taken, file.expired = nil, list.Data.Len(), list.Expired
@@ -195,7 +196,7 @@ func (c *Cache) accepts(file *followed, list payloads.List) {
 	c.metrics.Expired(file.Path, list.Expired.LeftOut)
 }
 
-// judge holds a list that would withdraw too much.
+// judge holds a list that would withdraw more than the guard allows.
 func (c *Cache) judge(
 	file *followed, list payloads.List, size payloads.Size, expires bool, running time.Duration,
 ) error {
@@ -217,8 +218,8 @@ func (c *Cache) judge(
 	return err
 }
 
-// lost returns the trust anchors that the file named when it was last taken, and how much a list
-// has of each.
+// lost returns the trust anchors of the file when it was last accepted, with the number of their
+// items then and in a new list.
 func (f *followed) lost(has payloads.Anchors) (all []trust.Anchor) {
 	for name, had := range f.anchors {
 		all = append(all, trust.Anchor{Name: name, Had: had, Has: has[name]})
@@ -227,7 +228,7 @@ func (f *followed) lost(has payloads.Anchors) (all []trust.Anchor) {
 	return all
 }
 
-// note logs the result of checking a file, once unless a person asked.
+// note logs the result of checking a file, and a repeated result only if a person asked.
 func (c *Cache) note(file *followed, list payloads.List, err error, asked bool) {
 	if !errors.As(err, new(*trust.Held)) {
 		file.held = nil

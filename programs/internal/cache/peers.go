@@ -26,7 +26,7 @@ func (o observer) Moved(peer *transport.Peer, direction transport.Direction, byt
 	o.clients.Moved(peer, direction, bytes)
 }
 
-// Came logs what a router asks: the first time at info, later at debug.
+// Came logs the queries of a router: the first at info, later ones at debug.
 func (o observer) Came(peer *transport.Peer, unit *rtr.Unit) {
 	first, query := o.clients.Came(peer, unit)
 	if !query {
@@ -35,28 +35,28 @@ func (o observer) Came(peer *transport.Peer, unit *rtr.Unit) {
 	line := o.log.WithFields(logrus.Fields{
 		"client": peer.String(), "transport": peer.Kind, "version": unit.Version,
 	})
-	says := "reset query"
+	message := "reset query"
 	if unit.Kind == rtr.SerialQuery {
-		says = "serial query"
+		message = "serial query"
 		line = line.WithFields(logrus.Fields{"session": unit.Session, "serial": unit.Serial})
 	}
 	if first {
-		line.Info(says)
+		line.Info(message)
 		return
 	}
-	line.Debug(says)
+	line.Debug(message)
 }
 
-// tells logs the server's messages about its clients.
-func (c *Cache) tells(_ rtr.Level, message string, fields ...any) {
-	named := map[string]any{}
+// logClient logs the server's messages about its clients.
+func (c *Cache) logClient(_ rtr.Level, message string, fields ...any) {
+	byName := map[string]any{}
 	for i := 0; i+1 < len(fields); i += 2 {
-		if name, is := fields[i].(string); is {
-			named[name] = fields[i+1]
+		if name, ok := fields[i].(string); ok {
+			byName[name] = fields[i+1]
 		}
 	}
-	peer, is := named["client"].(*transport.Peer)
-	if !is {
+	peer, ok := byName["client"].(*transport.Peer)
+	if !ok {
 		return
 	}
 	line := c.log.WithFields(logrus.Fields{"client": peer.String(), "transport": peer.Kind})
@@ -65,20 +65,20 @@ func (c *Cache) tells(_ rtr.Level, message string, fields ...any) {
 		c.clients.Connected(peer)
 		line.Info(message)
 	case "answers":
-		line.WithFields(logrus.Fields{"unit": named["unit"], "version": named["version"]}).
+		line.WithFields(logrus.Fields{"unit": byName["unit"], "version": byName["version"]}).
 			Debug(message)
 	case "answered":
-		session, _ := named["session"].(uint16)
-		serial, _ := named["serial"].(uint32)
+		session, _ := byName["session"].(uint16)
+		serial, _ := byName["serial"].(uint32)
 		c.clients.Answered(peer, clients.Serial{Session: session, Serial: serial})
 		line.WithFields(logrus.Fields{"session": session, "serial": serial}).Debug(message)
 	case "ended":
-		err, _ := named["error"].(error)
+		err, _ := byName["error"].(error)
 		c.ended(line, peer, err)
 	}
 }
 
-// ended logs that a router left, and why.
+// ended logs that a router left, with the reason.
 func (c *Cache) ended(line *logrus.Entry, peer *transport.Peer, err error) {
 	client := c.clients.Left(peer)
 	line = line.WithFields(logrus.Fields{
@@ -110,9 +110,9 @@ func (c *Cache) ended(line *logrus.Entry, peer *transport.Peer, err error) {
 	}
 }
 
-// isUsual reports whether an end is nobody's fault: the network or the router ended the connection,
-// or the router has data of another session, which it reports as corrupt (RFC 8210 section 5.1), as
-// after a restart without the state.
+// isUsual reports whether the end of a connection is normal: the network or the router ended it, or
+// the router has data of another session and reports corrupt data (RFC 8210 section 5.1), as after
+// a restart without the state.
 func (c *Cache) isUsual(reason string, err error, client *clients.Client) bool {
 	var report *rtr.Reported
 	if errors.As(err, &report) && report.Code == rtr.CorruptData {
@@ -121,8 +121,8 @@ func (c *Cache) isUsual(reason string, err error, client *clients.Client) bool {
 	return reason == lost || reason == "session" || reason == "unknown"
 }
 
-// strangers are the first bytes of other protocols, and what to do about them.
-var strangers = []struct{ begins, says string }{
+// strangers are the first bytes of other protocols, with an advice for each.
+var strangers = []struct{ begins, advice string }{
 	{"GET ", http}, {"HEAD ", http}, {"POST ", http}, {"PUT ", http}, {"DELETE ", http},
 	{"OPTIONS ", http}, {"CONNECT ", http}, {"PRI * HT", http}, // the last one is HTTP/2
 	{"SSH-", "; it speaks SSH: --listen ssh: is for that"},
@@ -146,7 +146,7 @@ func looksLike(err error) string {
 	}
 	for _, stranger := range strangers {
 		if bytes.HasPrefix(unit, []byte(stranger.begins)) {
-			return stranger.says
+			return stranger.advice
 		}
 	}
 	return ""

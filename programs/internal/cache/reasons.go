@@ -10,7 +10,7 @@ import (
 // lost is the reason of connections that the network or the client ended.
 const lost = "lost"
 
-// reasonOf returns the reason of an end in one word, as metrics have it.
+// reasonOf returns the reason why a connection ended in one word, as in metrics.
 func reasonOf(err error) string {
 	switch {
 	case errors.As(err, new(*rtr.Fault)):

@@ -13,13 +13,13 @@ import (
 	"fishreef/rtr"
 )
 
-// The time limit for answers that have begun when the cache stops.
+// The time limit for completing answers when the cache stops.
 const lastAnswers = 10 * time.Second
 
 // Signals are the commands of a person to a running cache.
 type Signals struct {
-	Reload  <-chan os.Signal // reloads everything: files and certificates
-	Confirm <-chan os.Signal // takes the held lists
+	Reload  <-chan os.Signal // to reload everything: files and certificates
+	Confirm <-chan os.Signal // to accept the held lists
 }
 
 // Run serves until the context ends, and then closes the cache.
@@ -100,7 +100,7 @@ func (c *Cache) open() (s *sockets, err error) {
 		}
 	}
 	s.failed = make(chan error, len(s.bound)+1)
-	s.gate = transport.NewGate(c.settings.PerAddress, c.tells)
+	s.gate = transport.NewGate(c.settings.PerAddress, c.logClient)
 	return s, c.secure(s)
 }
 

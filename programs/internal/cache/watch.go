@@ -9,10 +9,11 @@ import (
 	"github.com/fsnotify/fsnotify"
 )
 
-// Writers write in pieces: a file is checked once nothing was written for this time.
+// A file is checked once nothing was written to its folder for this time, since writers write in
+// pieces.
 const quiet = 100 * time.Millisecond
 
-// The system's clock may be set: the next expiry is computed again after this time.
+// The next expiry is computed again at least this often, since the system's clock may be set.
 const longest = time.Hour
 
 // untilExpiry returns the time until the next item of a file expires.
@@ -48,7 +49,7 @@ func (c *Cache) follow(ctx context.Context, signals Signals, s *sockets) error {
 		case err := <-s.failed:
 			return err
 		case event := <-events:
-			if c.follows(event.Name) {
+			if c.isFollowed(event.Name) {
 				soon.Reset(quiet)
 			}
 			continue
@@ -72,8 +73,8 @@ func (c *Cache) follow(ctx context.Context, signals Signals, s *sockets) error {
 	}
 }
 
-// lookAndWait checks the files, and sets when to check them again: soon after a change, and when
-// the next item expires.
+// lookAndWait checks the files, and sets the timers for the next check: soon after a change, and at
+// the next expiry of an item.
 func (c *Cache) lookAndWait(ctx context.Context, asked bool, soon, expiry *time.Timer) {
 	if c.look(ctx, asked) {
 		soon.Reset(quiet)
@@ -92,8 +93,8 @@ func (c *Cache) paths() []string {
 	return all
 }
 
-// follows reports whether this is the path of a file that the cache follows.
-func (c *Cache) follows(path string) bool {
+// isFollowed reports whether this is the path of a file that the cache follows.
+func (c *Cache) isFollowed(path string) bool {
 	for _, followed := range c.paths() {
 		if filepath.Clean(followed) == filepath.Clean(path) {
 			return true
@@ -103,7 +104,7 @@ func (c *Cache) follows(path string) bool {
 }
 
 // reload reloads all files, certificates and keys, and fetches all lists. If a certificate or a key
-// is wrong, the former one stays.
+// is invalid, the former one stays in use.
 func (c *Cache) reload(ctx context.Context, s *sockets, soon, expiry *time.Timer) {
 	for _, load := range s.reload {
 		if err := load(); err != nil {
@@ -115,8 +116,8 @@ func (c *Cache) reload(ctx context.Context, s *sockets, soon, expiry *time.Timer
 	c.notify(daemon.SdNotifyReady)
 }
 
-// watch sends a value when something is written in a folder of the files. If the system can't
-// report that, files are only checked periodically.
+// watch returns a channel that receives an event for each write to a folder of the files. If the
+// system can't report these, files are only checked periodically.
 func (c *Cache) watch() (events <-chan fsnotify.Event, stop func()) {
 	watcher, err := fsnotify.NewWatcher()
 	if err != nil {

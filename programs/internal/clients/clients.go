@@ -23,10 +23,10 @@ type Client struct {
 	Transport transport.Kind `json:"transport"`
 	Version   *uint8         `json:"version"` // of its first query; nil before that
 	Since     time.Time      `json:"connected"`
-	Asked     *time.Time     `json:"asked"`          // when its last query came; nil for none
-	Queries   int            `json:"queries"`        // how many queries
-	Has       *Serial        `json:"has"`            // the data that it has, if known
-	Behind    *uint32        `json:"behind"`         // by how many serial numbers; nil if unknown
+	Asked     *time.Time     `json:"asked"`          // the time of its last query; nil for none
+	Queries   int            `json:"queries"`        // the number of its queries
+	Has       *Serial        `json:"has"`            // its data; nil if unknown
+	Behind    *uint32        `json:"behind"`         // in serial numbers; nil if unknown
 	Received  int64          `json:"bytes_received"` // by the cache
 	Sent      int64          `json:"bytes_sent"`
 }
@@ -38,12 +38,12 @@ type Clients struct {
 	present *Serial // the cache's data; nil before the first
 }
 
-// New returns the clients of a cache that has none yet.
+// New returns an empty set of clients.
 func New() *Clients {
 	return &Clients{all: map[*transport.Peer]*Client{}}
 }
 
-// Serves records which data the cache has.
+// Serves records the cache's present data.
 func (c *Clients) Serves(data rtr.Data) {
 	c.lock.Lock()
 	defer c.lock.Unlock()
@@ -69,7 +69,7 @@ func (c *Clients) Left(peer *transport.Peer) Client {
 	return c.shown(client)
 }
 
-// Came records a unit of a client, and reports whether it is the first query, or a later one.
+// Came records a unit of a client, and reports whether it is a query, and the first one.
 func (c *Clients) Came(peer *transport.Peer, unit *rtr.Unit) (first, query bool) {
 	c.lock.Lock()
 	defer c.lock.Unlock()
@@ -113,7 +113,7 @@ func (c *Clients) Moved(peer *transport.Peer, direction transport.Direction, byt
 	}
 }
 
-// shown returns a copy of a client, with how far it is behind.
+// shown returns a copy of a client, with Behind computed.
 func (c *Clients) shown(client *Client) Client {
 	copied := *client
 	if has := copied.Has; has != nil && c.present != nil && has.Session == c.present.Session {

@@ -43,7 +43,7 @@ td:first-child, th:first-child { text-align: left; }
 // Connected returns when the client connected, for the page.
 func (c Client) Connected() *time.Time { return &c.Since }
 
-// ServeHTTP lists the clients: as a page for a browser, else as JSON.
+// ServeHTTP lists the clients, as HTML for a browser, else as JSON.
 func (c *Clients) ServeHTTP(answer http.ResponseWriter, ask *http.Request) {
 	answer.Header().Set("Vary", "Accept")
 	if strings.Contains(ask.Header.Get("Accept"), "text/html") {
@@ -57,7 +57,7 @@ func (c *Clients) ServeHTTP(answer http.ResponseWriter, ask *http.Request) {
 	lines.Encode(map[string][]Client{"clients": c.List()})
 }
 
-// The most clients with metrics of their own: those that connected first.
+// The maximal number of clients with metrics of their own: those that connected first.
 const mostMeasured = 100
 
 // The metrics of each client.

@@ -16,7 +16,7 @@ import (
 // Reason is the result of a fetch, in one word.
 type Reason string
 
-// The results of fetches: a new list, the former one, or why there is none.
+// The results of fetches: a new list, the former list, or the reason of a failure.
 const (
 	NewList     Reason = "new"
 	SameList    Reason = "same"
@@ -33,19 +33,19 @@ const (
 	Other       Reason = "other"
 )
 
-// Failures are the reasons why there is no list.
+// Failures are the reasons of failures.
 var Failures = []Reason{
 	Name, Connect, Certificate, Timeout, Status, Redirect, Cut, Size, Encoding, Disk, Other,
 }
 
-// Failure is why a fetch gave no list.
+// Failure is the error of a fetch.
 type Failure struct {
 	Reason Reason
 	Text   string
 	After  time.Duration // the server's Retry-After; 0 if it sent none
 }
 
-// Error is the text.
+// Error returns the text.
 func (f *Failure) Error() string { return f.Text }
 
 // failureOf returns the failure for an error of a request, or of reading its answer.

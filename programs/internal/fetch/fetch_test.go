@@ -63,8 +63,8 @@ func TestRetryAfter(t *testing.T) {
 			t.Fatal(err)
 		}
 		_, err = f.get(context.Background(), false)
-		failure, is := err.(*Failure)
-		if !is || failure.Reason != Status || failure.After < limits[0] || failure.After > limits[1] {
+		failure, ok := err.(*Failure)
+		if !ok || failure.Reason != Status || failure.After < limits[0] || failure.After > limits[1] {
 			t.Errorf("%q: %#v", text, err)
 		}
 		server.Close()
@@ -73,12 +73,12 @@ func TestRetryAfter(t *testing.T) {
 
 // Whether an argument is a URL or a file.
 func TestIsURL(t *testing.T) {
-	for word, is := range map[string]bool{
+	for word, isURL := range map[string]bool{
 		"http://h/f": true, "https://h/f": true, "HTTPS://h/f": true, "http:/f": true, "https:f": true,
 		"ftp://h/f": true, "file:///f": true, "/var/lib/json": false, "http": false, "https.json": false,
 		"./http:f": false, "a:b": false,
 	} {
-		if IsURL(word) != is {
+		if IsURL(word) != isURL {
 			t.Error(word)
 		}
 	}

@@ -1,5 +1,5 @@
 // Package fetch fetches a list from a web server periodically: only if it changed, within limits of
-// size and time, and with growing waits after failures.
+// size and time, and with growing pauses after failures.
 package fetch
 
 import (
@@ -18,7 +18,7 @@ import (
 	"fishreef/programs/internal/payloads"
 )
 
-// Settings are those that all lists of a program share.
+// Settings are the settings for all lists of a program.
 type Settings struct {
 	Every     time.Duration // the time between two fetches
 	Timeout   time.Duration // the time limit of a fetch, from the connection to the last byte
@@ -27,12 +27,12 @@ type Settings struct {
 	Authority string        // a file with authorities (PEM); "" for those of the system
 }
 
-// News are the results of the fetches since the last Take.
+// News has the results of the fetches since the last Take.
 type News struct {
-	Body    *payloads.Body // the newest list, which belongs to the caller; nil for none
-	Written time.Time      // when the list was written, as the server says; zero if no list came
-	At      time.Time      // when the server last had it; zero if it didn't
-	Failure *Failure       // why the last fetch failed; nil if it didn't
+	Body    *payloads.Body // the newest list, which the caller has to close; nil for none
+	Written time.Time      // when the list was written, by the server; zero if no fetch succeeded
+	At      time.Time      // when a fetch last succeeded; zero if none did
+	Failure *Failure       // of the last fetch; nil if it succeeded
 	Next    time.Duration  // from the last fetch to the next one
 	Results []Reason       // the result of each fetch
 }
@@ -42,25 +42,25 @@ type Fetcher struct {
 	url      *url.URL
 	settings Settings
 	client   atomic.Pointer[http.Client]
-	told     chan<- struct{}
+	notify   chan<- struct{}
 	again    chan struct{}
 
 	known  condition // the condition of the newest list
-	bodies uint64    // how many lists were fetched
+	bodies uint64    // the number of fetched lists
 
 	lock sync.Mutex
 	news News
 }
 
-// New returns a fetcher, which sends a value when there is news, unless one is pending.
+// New returns a fetcher, which sends a value when Take has something new, unless one is pending.
 //
 // Errors: those of the file of authorities.
-func New(at *url.URL, settings Settings, told chan<- struct{}) (*Fetcher, error) {
-	f := &Fetcher{url: at, settings: settings, told: told, again: make(chan struct{}, 1)}
+func New(at *url.URL, settings Settings, notify chan<- struct{}) (*Fetcher, error) {
+	f := &Fetcher{url: at, settings: settings, notify: notify, again: make(chan struct{}, 1)}
 	return f, f.Load()
 }
 
-// Load reloads the authorities. After an error the former ones stay.
+// Load reloads the authorities. After an error the former ones stay in use.
 func (f *Fetcher) Load() error {
 	config := &tls.Config{MinVersion: tls.VersionTLS12}
 	if path := f.settings.Authority; path != "" {
@@ -74,7 +74,7 @@ func (f *Fetcher) Load() error {
 		}
 	}
 	f.client.Store(&http.Client{
-		CheckRedirect: sentOn,
+		CheckRedirect: checkRedirect,
 		Transport: &http.Transport{
 			Proxy: http.ProxyFromEnvironment, TLSClientConfig: config,
 			DisableKeepAlives: true, MaxResponseHeaderBytes: 1 << 16,
@@ -83,7 +83,7 @@ func (f *Fetcher) Load() error {
 	return nil
 }
 
-// Again fetches the list at once, whether it changed or not.
+// Again makes Run fetch the list at once, whether it changed or not.
 func (f *Fetcher) Again() {
 	select {
 	case f.again <- struct{}{}:
@@ -91,7 +91,7 @@ func (f *Fetcher) Again() {
 	}
 }
 
-// Take returns what is new.
+// Take returns the results since the last call.
 func (f *Fetcher) Take() News {
 	f.lock.Lock()
 	defer f.lock.Unlock()
@@ -136,7 +136,7 @@ func (f *Fetcher) Run(ctx context.Context) {
 	}
 }
 
-// firstPause is the wait after the first failure; it doubles with each further one, up to the time
+// firstPause is the pause after the first failure; it doubles with each further one, up to the time
 // between two fetches.
 const firstPause = 10 * time.Second
 
@@ -153,7 +153,7 @@ func (f *Fetcher) pause(failures int, err error) time.Duration {
 			wait = doubled
 		}
 	}
-	if failure, is := err.(*Failure); is && failure.After > wait {
+	if failure, ok := err.(*Failure); ok && failure.After > wait {
 		wait = failure.After
 	}
 	return wait + time.Duration(rand.Int63n(int64(wait)/10+1))
@@ -180,7 +180,7 @@ func (f *Fetcher) note(got *list, err error, next time.Duration) {
 	}
 	f.news.Results = append(f.news.Results, result)
 	select {
-	case f.told <- struct{}{}:
+	case f.notify <- struct{}{}:
 	default:
 	}
 }

@@ -19,10 +19,10 @@ import (
 // mostRedirects is the most redirects of a fetch.
 const mostRedirects = 5
 
-// mostAfter is the longest that a server may delay the next fetch.
+// mostAfter is the longest time by which a server may delay the next fetch.
 const mostAfter = time.Hour
 
-// condition tells a server which list is known.
+// condition identifies a list, for a conditional request (RFC 9110 section 13).
 type condition struct {
 	tag      string // the ETag; "" for none
 	modified string // Last-Modified; "" for none
@@ -36,8 +36,8 @@ type list struct {
 	written time.Time
 }
 
-// sentOn allows a redirect, unless it leaves https.
-func sentOn(next *http.Request, before []*http.Request) error {
+// checkRedirect allows a redirect, unless it leaves https or is one too many.
+func checkRedirect(next *http.Request, before []*http.Request) error {
 	switch {
 	case len(before) > mostRedirects:
 		return &Failure{Reason: Redirect, Text: fmt.Sprintf("more than %d redirects", mostRedirects)}
@@ -49,7 +49,7 @@ func sentOn(next *http.Request, before []*http.Request) error {
 	return nil
 }
 
-// get fetches the list once, unless it is the known one; with anew, in any case.
+// get fetches the list once, if it changed; with anew, in any case.
 //
 // Errors: a Failure.
 func (f *Fetcher) get(ctx context.Context, anew bool) (*list, error) {
@@ -94,7 +94,7 @@ func (f *Fetcher) ask(ctx context.Context, anew bool) (*list, error) {
 	return f.read(answer)
 }
 
-// check returns why the body of an answer isn't read.
+// check returns an error if the body of an answer can't be read.
 func (f *Fetcher) check(answer *http.Response) error {
 	encoding := answer.Header.Get("Content-Encoding")
 	switch {
@@ -136,7 +136,7 @@ func after(answer *http.Response) time.Duration {
 	return wait
 }
 
-// written returns when a list was written, by its Last-Modified, or now without that.
+// written returns the time of a Last-Modified, or now if there is none.
 func (f *Fetcher) written(modified string) time.Time {
 	if at, err := http.ParseTime(modified); err == nil {
 		return at
@@ -199,13 +199,13 @@ func (f *Fetcher) copy(file *os.File, to *condition, body io.Reader) (size int64
 	return size, nil
 }
 
-// reader records why a body couldn't be read.
+// reader records the error of a body, so that it can be told from one of the file.
 type reader struct {
 	io.Reader
 	err error
 }
 
-// Read reads.
+// Read reads, and records an error.
 func (r *reader) Read(buffer []byte) (int, error) {
 	n, err := r.Reader.Read(buffer)
 	if err != nil && err != io.EOF {

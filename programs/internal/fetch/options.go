@@ -54,7 +54,7 @@ func (f *Settings) Options() []words.Option {
 	}
 }
 
-// The longest list that may be fetched is that of a file, in whole megabytes.
+// The limit for a fetched list is that of a file, in whole megabytes.
 const (
 	megabyte      = 1000 * 1000
 	mostMegabytes = rtr.MostDataBytes / megabyte

@@ -70,7 +70,7 @@ func New() *Metrics {
 	return m
 }
 
-// register registers all of them, the version, and the standard metrics of a process in Go.
+// register registers the metrics, the version, and the standard metrics of a Go process.
 func (m *Metrics) register() {
 	version := prometheus.NewGaugeFunc(prometheus.GaugeOpts{
 		Namespace: namespace, Name: "info", Help: "The version of the program.",
@@ -78,7 +78,8 @@ func (m *Metrics) register() {
 	}, func() float64 { return 1 })
 	m.registry.MustRegister(
 		m.connections, m.bytes, m.reports, m.ended, m.refusals, m.changes, m.fetches,
-		m.clients, m.served, m.confirmed, m.read, m.written, m.expired, m.session, m.serial, m.changed, m.unsaved, version,
+		m.clients, m.served, m.confirmed, m.read, m.written, m.expired, m.session, m.serial,
+		m.changed, m.unsaved, version,
 		collectors.NewGoCollector(),
 		collectors.NewProcessCollector(collectors.ProcessCollectorOpts{}),
 	)
@@ -121,7 +122,7 @@ func (m *Metrics) Moved(peer *transport.Peer, direction transport.Direction, byt
 	m.bytes.WithLabelValues(string(peer.Kind), string(direction)).Add(float64(bytes))
 }
 
-// Codes from this one on are counted together, since a client may send any code.
+// Codes from this one upwards are counted together, since a client may send any code.
 const otherCodes = 16
 
 // Reported counts an error report.
@@ -136,7 +137,7 @@ func (m *Metrics) Reported(_ *transport.Peer, direction transport.Direction, cod
 // Ended counts the end of a connection.
 func (m *Metrics) Ended(reason string) { m.ended.WithLabelValues(reason).Inc() }
 
-// Serves records the data that are served, since a time.
+// Serves records the served data, and since when they are served.
 func (m *Metrics) Serves(data rtr.Data, since time.Time) {
 	m.session.Set(float64(data.Session()))
 	m.serial.Set(float64(data.Serial()))
@@ -158,7 +159,7 @@ func (m *Metrics) Changes(size payloads.Size) {
 // Collects adds the metrics of another collector.
 func (m *Metrics) Collects(others prometheus.Collector) { m.registry.MustRegister(others) }
 
-// Judges adds gauges of the health: of all together, and of each reason.
+// Judges adds the gauges of the health: one of all faults, and one for each reason.
 func (m *Metrics) Judges(faults func() []trust.Fault) {
 	m.faults = faults
 	has := func(reason trust.Reason) float64 {
@@ -184,10 +185,10 @@ func (m *Metrics) Judges(faults func() []trust.Fault) {
 // Unsaved counts data that couldn't be saved.
 func (m *Metrics) Unsaved() { m.unsaved.Inc() }
 
-// Follows begins the counts of a file.
+// Follows starts the counters of a file at 0.
 func (m *Metrics) Follows(path string) { m.refusals.WithLabelValues(path) }
 
-// Fetches begins the counts of a list that is fetched.
+// Fetches starts the counters of a fetched list at 0.
 func (m *Metrics) Fetches(path string) {
 	for _, result := range append([]fetch.Reason{fetch.NewList, fetch.SameList}, fetch.Failures...) {
 		m.fetches.WithLabelValues(path, string(result))
@@ -197,23 +198,23 @@ func (m *Metrics) Fetches(path string) {
 // Fetched counts a fetch by its result.
 func (m *Metrics) Fetched(path, result string) { m.fetches.WithLabelValues(path, result).Inc() }
 
-// Confirmed records when the server last had the list.
+// Confirmed records when the list was last fetched, new or unchanged.
 func (m *Metrics) Confirmed(path string, at time.Time) {
 	m.confirmed.WithLabelValues(path).Set(seconds(at))
 }
 
-// Written records when the taken list was written.
+// Written records when the accepted list was written.
 func (m *Metrics) Written(path string, at time.Time) {
 	m.written.WithLabelValues(path).Set(seconds(at))
 }
 
-// Took records that a file was taken, which was written at this time.
+// Took records that a file was accepted now, and when it was written.
 func (m *Metrics) Took(path string, written time.Time) {
 	m.read.WithLabelValues(path).Set(seconds(time.Now()))
 	m.Written(path, written)
 }
 
-// Expired records how many items of a file had expired when it was taken.
+// Expired records how many items of a file had expired when it was accepted.
 func (m *Metrics) Expired(path string, count int) {
 	m.expired.WithLabelValues(path).Set(float64(count))
 }

@@ -10,7 +10,7 @@ import (
 	"fishreef/programs/internal/web"
 )
 
-// Serve answers /metrics and /health, and by another handler /clients, until the context ends.
+// Serve serves /metrics, /health and, by the handler clients, /clients until the context ends.
 func (m *Metrics) Serve(
 	ctx context.Context, listener net.Listener, clients http.Handler,
 ) error {
@@ -21,7 +21,7 @@ func (m *Metrics) Serve(
 	return web.Serve(ctx, listener, paths)
 }
 
-// health answers that all is well, or lists the faults.
+// health serves /health: "good", or the faults.
 func (m *Metrics) health(answer http.ResponseWriter, _ *http.Request) {
 	var lines []string
 	for _, fault := range m.faults() {

@@ -84,16 +84,16 @@ func (c *comparison) compare(source int) (err error) {
 	return err
 }
 
-// sources is a set of them.
+// sources is a set of sources.
 type sources uint32
 
 // only returns the set of one source.
 func only(source int) sources { return 1 << source }
 
-// known is which sources have a payload, as far as the changes show.
+// known says which sources have a payload, as far as the changes show.
 type known struct {
-	announced sources // have it, and the pivot doesn't
-	withdrawn sources // don't have it, and the pivot does
+	announced sources // those that have it, if the pivot doesn't
+	withdrawn sources // those that lack it, if the pivot has it
 }
 
 // missing returns all payloads that some of the sources have and others lack.
@@ -115,10 +115,10 @@ func (c *comparison) missing() []missing {
 		})
 	}
 	var found []missing
-	for payload, says := range all {
-		lacking := says.withdrawn
+	for payload, has := range all {
+		lacking := has.withdrawn
 		if lacking == 0 {
-			lacking = c.carriers(payload) &^ says.announced
+			lacking = c.carriers(payload) &^ has.announced
 		}
 		for ; lacking != 0; lacking &= lacking - 1 {
 			found = append(found, missing{payload, bits.TrailingZeros32(uint32(lacking))})
@@ -127,12 +127,12 @@ func (c *comparison) missing() []missing {
 	return found
 }
 
-// note records what a change shows of a payload.
+// note adds the sources of a change to those of a payload.
 func note(all map[string]known, payload string, more known) {
-	says := all[payload]
-	says.announced |= more.announced
-	says.withdrawn |= more.withdrawn
-	all[payload] = says
+	has := all[payload]
+	has.announced |= more.announced
+	has.withdrawn |= more.withdrawn
+	all[payload] = has
 }
 
 // announcing returns the unit that announces what this one withdraws, which isn't an ASPA.

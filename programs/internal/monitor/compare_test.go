@@ -198,19 +198,19 @@ func TestAges(t *testing.T) {
 	}
 	next := func(wanted time.Time) {
 		t.Helper()
-		if when, is := d.next(); !is || !when.Equal(wanted) {
-			t.Error(when, is)
+		if when, ok := d.next(); !ok || !when.Equal(wanted) {
+			t.Error(when, ok)
 		}
 	}
 	over, count := d.replace([]missing{a}, at(0), 9)
 	said("at first", over, count, 0, a)
 	next(at(10))
 	d.replace([]missing{b, a}, at(4), 9)
-	aged, count := d.age(at(9), 9)
+	aged, count := d.markOld(at(9), 9)
 	said("too soon", aged, count, 0, a)
-	aged, count = d.age(at(10), 9)
+	aged, count = d.markOld(at(10), 9)
 	said("a is old", aged, count, 1, a)
-	aged, count = d.age(at(12), 9)
+	aged, count = d.markOld(at(12), 9)
 	said("it was told", aged, count, 0, a)
 	next(at(14))
 	if d.counts[0] != (numbers{0, 1}) || d.counts[1] != (numbers{1, 0}) {
@@ -228,7 +228,7 @@ func TestAges(t *testing.T) {
 	if list := d.list(10, false); len(list) != 1 || !list[0].Since.Equal(at(20)) || list[0].old {
 		t.Error(list)
 	}
-	if _, is := newDifferences(2, 0).next(); is {
+	if _, ok := newDifferences(2, 0).next(); ok {
 		t.Error("there are none")
 	}
 }

@@ -2,7 +2,7 @@ package monitor
 
 import "time"
 
-// The time between two samples, and how long they are kept.
+// The time between two samples, for how long they are kept, and how many are.
 const (
 	sampled  = time.Minute
 	lastDay  = 24 * time.Hour
@@ -12,14 +12,14 @@ const (
 // absent stands for the number of payloads of a source without data.
 const absent = -1
 
-// sample is the numbers at one time.
+// sample has the numbers at one time.
 type sample struct {
 	at         time.Time
 	payloads   []int // of each source; absent for none
 	young, old int   // differences
 }
 
-// day is the samples of the last day.
+// day has the samples of the last day.
 type day struct{ samples []sample }
 
 // newDay returns a day without samples.
@@ -38,7 +38,7 @@ func (d *day) add(s sample) {
 	}
 }
 
-// with returns the samples and a present one.
+// with returns the samples followed by another one.
 func (d *day) with(now sample) []sample {
 	return append(append([]sample{}, d.samples...), now)
 }

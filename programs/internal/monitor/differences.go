@@ -9,11 +9,11 @@ import (
 	"fishreef/rtr"
 )
 
-// Difference is a payload that a source lacks, and since when.
+// Difference is a payload that a source lacks since a time.
 type Difference struct {
 	missing
 	Since time.Time
-	old   bool // it has lasted longer than the grace time, and was logged
+	old   bool // it lasted longer than the grace time, and was logged
 }
 
 // Line returns the payload, as rtr_diff prints it.
@@ -22,30 +22,31 @@ func (d *Difference) Line() string {
 	return strings.TrimPrefix(rtr.ChangeLine(&unit), "+ ")
 }
 
-// numbers is how many payloads a source lacks.
+// numbers are the numbers of payloads that a source lacks.
 type numbers struct{ Young, Old int }
 
-// All returns the number of all of them.
+// All returns the number of all.
 func (n numbers) All() int { return n.Young + n.Old }
 
-// differences is the present differences.
+// differences are the present differences.
 type differences struct {
 	grace time.Duration
 	all   map[missing]*Difference
 
-	counts []numbers // of each source
-	eldest time.Time // of the young ones; zero for none
+	counts      []numbers // of each source
+	oldestYoung time.Time // of the young ones; zero for none
 }
 
-// newDifferences returns no differences, of this many sources; they are young for the grace time.
+// newDifferences returns an empty set of differences for this many sources. Differences are young
+// for the grace time.
 func newDifferences(sources int, grace time.Duration) *differences {
 	return &differences{
 		grace: grace, all: map[missing]*Difference{}, counts: make([]numbers, sources),
 	}
 }
 
-// replace records what is missing now, and returns at most this many of the old differences that
-// have ended, and how many have.
+// replace records the missing payloads, and returns the old differences that have ended, the first
+// ones up to a limit, and their number.
 func (d *differences) replace(
 	found []missing, now time.Time, most int,
 ) (over []Difference, count int) {
@@ -69,9 +70,9 @@ func (d *differences) replace(
 	return first.list(), count
 }
 
-// age marks those as old that have lasted for the grace time, and returns at most this many of
-// them, and their number.
-func (d *differences) age(now time.Time, most int) (aged []Difference, count int) {
+// markOld marks differences as old that have lasted for the grace time, and returns the first of
+// them, up to a limit, and their number.
+func (d *differences) markOld(now time.Time, most int) (aged []Difference, count int) {
 	first := &earliest{most: most}
 	for _, known := range d.all {
 		if !known.old && now.Sub(known.Since) >= d.grace {
@@ -84,32 +85,32 @@ func (d *differences) age(now time.Time, most int) (aged []Difference, count int
 	return first.list(), count
 }
 
-// tally recounts them.
+// tally recounts the differences of each source.
 func (d *differences) tally() {
-	d.counts, d.eldest = make([]numbers, len(d.counts)), time.Time{}
+	d.counts, d.oldestYoung = make([]numbers, len(d.counts)), time.Time{}
 	for key, known := range d.all {
 		if known.old {
 			d.counts[key.source].Old++
 			continue
 		}
 		d.counts[key.source].Young++
-		if d.eldest.IsZero() || known.Since.Before(d.eldest) {
-			d.eldest = known.Since
+		if d.oldestYoung.IsZero() || known.Since.Before(d.oldestYoung) {
+			d.oldestYoung = known.Since
 		}
 	}
 }
 
-// next returns when the next one becomes old; false for never.
-func (d *differences) next() (at time.Time, is bool) {
-	return d.eldest.Add(d.grace), !d.eldest.IsZero()
+// next returns the time when the next difference becomes old, and whether there is one.
+func (d *differences) next() (at time.Time, ok bool) {
+	return d.oldestYoung.Add(d.grace), !d.oldestYoung.IsZero()
 }
 
-// list returns at most this many of them, those that have lasted longest first; only old ones, if
-// asked for.
-func (d *differences) list(most int, oldAlone bool) []Difference {
+// list returns the differences that have lasted longest, in order and up to a limit; only old ones,
+// if asked for.
+func (d *differences) list(most int, onlyOld bool) []Difference {
 	first := &earliest{most: most}
 	for _, known := range d.all {
-		if known.old || !oldAlone {
+		if known.old || !onlyOld {
 			first.offer(known)
 		}
 	}
@@ -145,7 +146,7 @@ func (e *earliest) offer(d *Difference) {
 	}
 }
 
-// list returns copies of the kept ones, in order.
+// list returns copies of the kept differences, in order.
 func (e *earliest) list() []Difference {
 	sort.Slice(e.kept, func(i, j int) bool { return e.kept[i].before(e.kept[j]) })
 	copied := make([]Difference, 0, len(e.kept))

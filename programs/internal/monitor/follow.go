@@ -13,26 +13,26 @@ import (
 	"fishreef/rtr"
 )
 
-// follower follows a source, and sends its news.
+// follower follows a source, and sends its events.
 type follower struct {
 	source   Source
-	place    int // the index of the source
+	index    int // the index of the source
 	settings *Settings
 	dials    map[transport.Kind]transport.Dial
 	fetcher  *fetch.Fetcher // of a list by URL; nil for others
 	fetched  chan struct{}
-	told     chan<- news
-	failing  bool // the last news of a list was a failure
+	events   chan<- event
+	failing  bool // the last event of a list was a failure
 }
 
 // newFollower returns a follower.
 //
 // Errors: those of the file of authorities.
 func newFollower(
-	source Source, place int, settings *Settings, dials map[transport.Kind]transport.Dial,
-	told chan<- news,
+	source Source, index int, settings *Settings, dials map[transport.Kind]transport.Dial,
+	events chan<- event,
 ) (*follower, error) {
-	f := &follower{source: source, place: place, settings: settings, dials: dials, told: told}
+	f := &follower{source: source, index: index, settings: settings, dials: dials, events: events}
 	if source.List.URL == nil {
 		return f, nil
 	}
@@ -46,42 +46,42 @@ func newFollower(
 func (f *follower) run(ctx context.Context) {
 	switch {
 	case f.source.Transport != "":
-		f.cache(ctx)
+		f.followCache(ctx)
 	case f.fetcher != nil:
-		f.fetches(ctx)
+		f.followURL(ctx)
 	default:
-		f.file(ctx)
+		f.followFile(ctx)
 	}
 }
 
-// tell sends news, unless the context ends.
-func (f *follower) tell(ctx context.Context, n news) {
-	n.source = f.place
+// send sends an event, unless the context ends.
+func (f *follower) send(ctx context.Context, e event) {
+	e.source = f.index
 	select {
-	case f.told <- n:
+	case f.events <- e:
 	case <-ctx.Done():
 	}
 }
 
-// fails sends a failure as one line.
-func (f *follower) fails(ctx context.Context, err error) {
+// sendFailure sends a failure as one line.
+func (f *follower) sendFailure(ctx context.Context, err error) {
 	f.failing = true
 	text := strings.ReplaceAll(err.Error(), "rtr: ", "")
-	f.tell(ctx, news{failure: strings.ReplaceAll(text, "\n", "; ")})
+	f.send(ctx, event{failure: strings.ReplaceAll(text, "\n", "; ")})
 }
 
-// cache follows a cache as a router does.
-func (f *follower) cache(ctx context.Context) {
+// followCache follows a cache as a router does.
+func (f *follower) followCache(ctx context.Context) {
 	client := rtr.NewClient(f.source.Address)
 	client.AskIn(f.settings.Version)
 	client.Refresh = f.settings.Refresh
 	client.Dial = func(ctx context.Context, network, address string) (net.Conn, error) {
 		return f.dials[f.source.Transport](ctx, network, address)
 	}
-	client.Failed = func(err error) { f.fails(ctx, err) }
+	client.Failed = func(err error) { f.sendFailure(ctx, err) }
 	client.Run(ctx, func(update rtr.Update) error {
 		data := update.Data
-		f.tell(ctx, news{
+		f.send(ctx, event{
 			data: data, version: data.Version(), cache: true, lost: data.IsZero(),
 			same: !update.Changes().Scan(),
 		})
@@ -89,15 +89,15 @@ func (f *follower) cache(ctx context.Context) {
 	})
 }
 
-// list is a file or a list that is reread when it changes, or when an item of it expires.
+// list is the state of a list, which is reread when it changes, or when an item of it expires.
 type list struct {
 	seen    payloads.Stamp
-	read    bool // seen was read
+	read    bool // the state seen was read
 	expired payloads.Expired
 }
 
-// take reads a list, unless it is the former one.
-func (f *follower) take(ctx context.Context, l *list, body *payloads.Body) {
+// read reads a list, unless it is unchanged.
+func (f *follower) read(ctx context.Context, l *list, body *payloads.Body) {
 	state := f.settings.Reader.StateOf(f.source.List, body)
 	now := time.Now()
 	expires := l.read && state == l.seen && l.expired.Has(now)
@@ -111,30 +111,30 @@ func (f *follower) take(ctx context.Context, l *list, body *payloads.Body) {
 	}
 	*l = list{got.State, true, got.Expired}
 	if err != nil {
-		f.fails(ctx, err)
+		f.sendFailure(ctx, err)
 		return
 	}
-	f.gives(ctx, got.Data)
+	f.sendPayloads(ctx, got.Data)
 }
 
-// gives sends the payloads of a list that are compared.
-func (f *follower) gives(ctx context.Context, data rtr.Data) {
+// sendPayloads sends the payloads of a list, in the version in which it is compared.
+func (f *follower) sendPayloads(ctx context.Context, data rtr.Data) {
 	most := version(f.source.List.Format, f.settings.Version)
 	data, err := payloads.In(data, most)
 	if err != nil {
-		f.fails(ctx, err)
+		f.sendFailure(ctx, err)
 		return
 	}
 	f.failing = false
-	f.tell(ctx, news{data: data, version: most})
+	f.send(ctx, event{data: data, version: most})
 }
 
-// file follows a local file.
-func (f *follower) file(ctx context.Context) {
+// followFile follows a local file.
+func (f *follower) followFile(ctx context.Context) {
 	ticks := time.NewTicker(f.settings.Look)
 	defer ticks.Stop()
 	for l := new(list); ctx.Err() == nil; {
-		f.take(ctx, l, nil)
+		f.read(ctx, l, nil)
 		select {
 		case <-ctx.Done():
 		case <-ticks.C:
@@ -142,8 +142,8 @@ func (f *follower) file(ctx context.Context) {
 	}
 }
 
-// fetches follows a list by its URL.
-func (f *follower) fetches(ctx context.Context) {
+// followURL follows a list by its URL.
+func (f *follower) followURL(ctx context.Context) {
 	ended := make(chan struct{})
 	go func() {
 		defer close(ended)
@@ -167,12 +167,12 @@ func (f *follower) fetches(ctx context.Context) {
 			body = f.fetch(ctx, l, body)
 		}
 		if body != nil {
-			f.take(ctx, l, body)
+			f.read(ctx, l, body)
 		}
 	}
 }
 
-// fetch takes the news of fetches, and returns the newest list.
+// fetch takes the results of fetches, and returns the newest list.
 func (f *follower) fetch(ctx context.Context, l *list, body *payloads.Body) *payloads.Body {
 	got := f.fetcher.Take()
 	if got.Body != nil {
@@ -184,11 +184,11 @@ func (f *follower) fetch(ctx context.Context, l *list, body *payloads.Body) *pay
 	switch {
 	case len(got.Results) == 0:
 	case got.Failure != nil:
-		f.fails(ctx, errors.New("it can't be fetched: "+got.Failure.Text))
+		f.sendFailure(ctx, errors.New("it can't be fetched: "+got.Failure.Text))
 	case got.Body == nil && f.failing:
 		l.read = false // the former list is sent again
 	case got.Body == nil:
-		f.tell(ctx, news{alive: true})
+		f.send(ctx, event{alive: true})
 	}
 	return body
 }

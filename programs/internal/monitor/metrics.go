@@ -13,8 +13,8 @@ import (
 // namespace is the prefix of the names of all metrics.
 const namespace = "rtr_monitor_"
 
-// mostMeasured is the most old differences with metrics of their own: those that have lasted
-// longest.
+// mostMeasured is the maximal number of old differences with metrics of their own: those that have
+// lasted longest.
 const mostMeasured = 100
 
 // described is the description of a metric.
@@ -120,8 +120,8 @@ func (g gauges) of(source *state) {
 }
 
 // number returns 1 for true, else 0.
-func number(is bool) float64 {
-	if is {
+func number(value bool) float64 {
+	if value {
 		return 1
 	}
 	return 0

@@ -21,7 +21,7 @@ type Monitor struct {
 	settings  Settings
 	log       *logrus.Logger
 	followers []*follower
-	told      chan news
+	events    chan event
 	started   time.Time
 
 	lock        sync.Mutex
@@ -36,7 +36,7 @@ type Monitor struct {
 // Errors: those of files with keys and certificates.
 func New(settings Settings, log *logrus.Logger) (*Monitor, error) {
 	m := &Monitor{
-		settings: settings, log: log, told: make(chan news), started: time.Now(),
+		settings: settings, log: log, events: make(chan event), started: time.Now(),
 		comparison:  newComparison(len(settings.Sources)),
 		differences: newDifferences(len(settings.Sources), settings.Grace),
 		day:         newDay(),
@@ -46,7 +46,7 @@ func New(settings Settings, log *logrus.Logger) (*Monitor, error) {
 		return nil, err
 	}
 	for index, source := range settings.Sources {
-		follower, err := newFollower(source, index, &m.settings, dials, m.told)
+		follower, err := newFollower(source, index, &m.settings, dials, m.events)
 		if err != nil {
 			return nil, err
 		}
@@ -104,7 +104,7 @@ func (m *Monitor) Run(ctx context.Context) error {
 	return m.follow(inner, failed)
 }
 
-// follow takes news, and marks old differences, until the context ends or the page fails.
+// follow handles events, and marks old differences, until the context ends or the page fails.
 func (m *Monitor) follow(ctx context.Context, failed <-chan error) error {
 	samples := time.NewTicker(sampled)
 	defer samples.Stop()
@@ -116,38 +116,38 @@ func (m *Monitor) follow(ctx context.Context, failed <-chan error) error {
 			return nil
 		case err := <-failed:
 			return err
-		case n := <-m.told:
-			m.hears(n, time.Now())
+		case e := <-m.events:
+			m.handle(e, time.Now())
 		case <-aged.C:
-			m.ages(time.Now())
+			m.logAged(time.Now())
 		case <-samples.C:
-			m.samples(time.Now())
+			m.addSample(time.Now())
 		}
 		m.lock.Lock()
-		next, is := m.differences.next()
+		next, ok := m.differences.next()
 		m.lock.Unlock()
-		if is {
+		if ok {
 			aged.Reset(time.Until(next))
 		}
 	}
 }
 
-// hears handles the news of a source.
-func (m *Monitor) hears(n news, now time.Time) {
+// handle handles an event of a source.
+func (m *Monitor) handle(e event, now time.Time) {
 	m.lock.Lock()
 	defer m.lock.Unlock()
-	source := m.states[n.source]
+	source := m.states[e.source]
 	switch {
-	case n.failure != "":
-		m.fails(source, n.failure, now)
+	case e.failure != "":
+		m.recordFailure(source, e.failure, now)
 		return
-	case n.alive:
+	case e.alive:
 		source.heard = now
 		return
-	case n.lost:
+	case e.lost:
 		m.log.Warnf("%s: its data expired or were dropped: it isn't compared", source.Name)
 		source.session, source.serial = nil, nil
-		m.sets(n.source, side{}, now)
+		m.setPayloads(e.source, side{}, now)
 		return
 	}
 	if source.failing != nil {
@@ -156,23 +156,23 @@ func (m *Monitor) hears(n news, now time.Time) {
 		source.failing = nil
 	}
 	source.heard = now
-	if n.cache {
-		session, serial := n.data.Session(), n.data.Serial()
+	if e.cache {
+		session, serial := e.data.Session(), e.data.Serial()
 		source.session, source.serial = &session, &serial
 	}
-	if n.same && !source.data.IsZero() && source.version == n.version {
+	if e.same && !source.data.IsZero() && source.version == e.version {
 		return
 	}
-	data, err := payloads.In(n.data, payloads.Version)
+	data, err := payloads.In(e.data, payloads.Version)
 	if err != nil {
-		m.fails(source, err.Error(), now)
+		m.recordFailure(source, err.Error(), now)
 		return
 	}
-	m.sets(n.source, side{data, n.version}, now)
+	m.setPayloads(e.source, side{data, e.version}, now)
 }
 
-// fails records a failure of a source, and logs each new reason.
-func (m *Monitor) fails(source *state, reason string, now time.Time) {
+// recordFailure records a failure of a source, and logs each new reason.
+func (m *Monitor) recordFailure(source *state, reason string, now time.Time) {
 	source.failures++
 	before := source.failing
 	source.failing = &Failing{now, reason}
@@ -186,8 +186,8 @@ func (m *Monitor) fails(source *state, reason string, now time.Time) {
 	m.log.Warnf("%s: it fails: %s", source.Name, reason)
 }
 
-// sets sets or removes the payloads of a source, and compares.
-func (m *Monitor) sets(index int, has side, now time.Time) {
+// setPayloads sets or removes the payloads of a source, and compares it with the others.
+func (m *Monitor) setPayloads(index int, has side, now time.Time) {
 	source := m.states[index]
 	if !has.data.IsZero() && !payloads.Same(source.data, has.data) || source.data.IsZero() {
 		source.changed = now
@@ -201,8 +201,8 @@ func (m *Monitor) sets(index int, has side, now time.Time) {
 		return
 	}
 	over, count := m.differences.replace(m.comparison.missing(), now, mostLines)
-	debug.FreeOSMemory() // the former data, and those of the comparison
-	m.tells(over, count, func(d *Difference) {
+	debug.FreeOSMemory() // of the former data, and of the comparison
+	m.logDifferences(over, count, func(d *Difference) {
 		m.line(d).WithField("lasted", now.Sub(d.Since).Round(time.Second).String()).
 			Info("difference ended: " + d.Line())
 	})
@@ -220,38 +220,38 @@ func (s *state) fields() logrus.Fields {
 	return fields
 }
 
-// ages logs the differences that are old now.
-func (m *Monitor) ages(now time.Time) {
+// logAged logs the differences that have just become old.
+func (m *Monitor) logAged(now time.Time) {
 	m.lock.Lock()
 	defer m.lock.Unlock()
-	aged, count := m.differences.age(now, mostLines)
-	m.tells(aged, count, func(d *Difference) {
+	aged, count := m.differences.markOld(now, mostLines)
+	m.logDifferences(aged, count, func(d *Difference) {
 		m.line(d).Warn("difference: " + d.Line())
 	})
 }
 
-// line logs a line about a difference.
+// line returns a log entry with the fields of a difference.
 func (m *Monitor) line(d *Difference) *logrus.Entry {
 	return m.log.WithFields(logrus.Fields{
 		"missing": m.states[d.source].Name, "since": d.Since.UTC().Format(time.RFC3339),
 	})
 }
 
-// mostLines is the most differences with lines of their own at one time.
+// mostLines is the maximal number of differences that are logged one by one at a time.
 const mostLines = 100
 
-// tells logs a line for each of the first differences, and one for the rest.
-func (m *Monitor) tells(first []Difference, count int, tell func(*Difference)) {
+// logDifferences logs each of the first differences, and the number of the rest.
+func (m *Monitor) logDifferences(first []Difference, count int, log func(*Difference)) {
 	for i := range first {
-		tell(&first[i])
+		log(&first[i])
 	}
 	if rest := count - len(first); rest > 0 {
 		m.log.Warnf("and %s more", words.Number(rest, "difference"))
 	}
 }
 
-// samples records the present numbers for the picture.
-func (m *Monitor) samples(now time.Time) {
+// addSample records the present numbers for the picture.
+func (m *Monitor) addSample(now time.Time) {
 	m.lock.Lock()
 	defer m.lock.Unlock()
 	m.day.add(m.sample(now))

@@ -9,7 +9,7 @@ import (
 	"fishreef/programs/internal/words"
 )
 
-// mostRows is the most differences that the page lists.
+// mostRows is the maximal number of differences on the page.
 const mostRows = 200
 
 // row is a source on the page.
@@ -112,8 +112,8 @@ func stamped(at time.Time) string {
 	return at.UTC().Format("2006-01-02 15:04:05")
 }
 
-// shows returns the present content of the page.
-func (m *Monitor) shows(now time.Time) shown {
+// content returns the present content of the page.
+func (m *Monitor) content(now time.Time) shown {
 	m.lock.Lock()
 	defer m.lock.Unlock()
 	s := shown{
@@ -145,10 +145,10 @@ func (m *Monitor) shows(now time.Time) shown {
 	return s
 }
 
-// row is a source on the page.
+// row returns the row of a source on the page.
 func (s *state) row(now time.Time) row {
 	r := row{Name: s.Name, Changed: stamped(s.changed)}
-	r.State, r.Good = s.says(now)
+	r.State, r.Good = s.stateText(now)
 	for _, kind := range trust.Kinds {
 		text := ""
 		if !s.data.IsZero() && kind.In(s.version) {
@@ -165,12 +165,12 @@ func (s *state) row(now time.Time) row {
 	return r
 }
 
-// serves answers with the page.
-func (m *Monitor) serves(answer http.ResponseWriter, ask *http.Request) {
+// servePage answers with the page.
+func (m *Monitor) servePage(answer http.ResponseWriter, ask *http.Request) {
 	if ask.URL.Path != "/" {
 		http.NotFound(answer, ask)
 		return
 	}
 	answer.Header().Set("Content-Type", "text/html; charset=utf-8")
-	page.Execute(answer, m.shows(time.Now()))
+	page.Execute(answer, m.content(time.Now()))
 }

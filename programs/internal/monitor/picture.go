@@ -20,7 +20,7 @@ const (
 	tickHeight    = 45 // the least distance between two lines of the scale
 )
 
-// colours are those of sources, which people with colour blindness can distinguish, too.
+// colours are the colours of sources; people with colour blindness can distinguish them.
 var colours = []string{
 	"#0072b2", "#d55e00", "#009e73", "#cc79a7", "#e69f00", "#56b4e9", "#000000", "#8a7a00",
 }
@@ -56,7 +56,7 @@ func (c *chart) y(value float64) float64 {
 	return c.bottom - (c.bottom-c.top)*(value-c.low)/(c.high-c.low)
 }
 
-// steps are round distances, which a power of ten scales.
+// steps are round distances, to be multiplied by a power of ten.
 var steps = []float64{1, 2, 5, 10}
 
 // fit extends the scale to these values, with round ends, and returns the distance of its lines.

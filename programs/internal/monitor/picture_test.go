@@ -113,12 +113,12 @@ func TestPage(t *testing.T) {
 		t.Fatal(err)
 	}
 	now := time.Now()
-	m.hears(news{source: 0, failure: `<script>"no"`}, now)
+	m.handle(event{source: 0, failure: `<script>"no"`}, now)
 	for source, lines := range [][]string{{"10.0.0.0/8 1"}, {"10.0.0.0/8 1", "2001:db8::/32 2"}} {
-		m.hears(news{source: source, data: sideOf(t, 2, lines...).data, version: 2}, now.Add(-time.Hour))
+		m.handle(event{source: source, data: sideOf(t, 2, lines...).data, version: 2}, now.Add(-time.Hour))
 	}
-	m.ages(now)
-	m.hears(news{source: 0, failure: `<script>"no"`}, now.Add(-2*time.Minute))
+	m.logAged(now)
+	m.handle(event{source: 0, failure: `<script>"no"`}, now.Add(-2*time.Minute))
 	for path, row := range map[string]struct {
 		status int
 		says   []string
@@ -168,23 +168,23 @@ func TestStates(t *testing.T) {
 	two := sideOf(t, 2, "10.0.0.0/8 1", "10.0.0.0/9 2").data
 	for _, step := range []struct {
 		seconds int
-		news    news
+		event   event
 		says    string
 	}{
-		{0, news{source: 0, data: one, version: 2}, "data b: no data"},
-		{1, news{source: 1, failure: "refused"}, "data b: no data: refused"},
-		{2, news{source: 1, data: two, version: 2}, ""},
-		{63, news{source: 0, alive: true}, "differs a: 1 payload is missing for longer than 1m"},
-		{64, news{source: 1, failure: "closed"}, "differs a: 1 payload is missing for longer than 1m"},
-		{124, news{source: 1, failure: "closed"},
+		{0, event{source: 0, data: one, version: 2}, "data b: no data"},
+		{1, event{source: 1, failure: "refused"}, "data b: no data: refused"},
+		{2, event{source: 1, data: two, version: 2}, ""},
+		{63, event{source: 0, alive: true}, "differs a: 1 payload is missing for longer than 1m"},
+		{64, event{source: 1, failure: "closed"}, "differs a: 1 payload is missing for longer than 1m"},
+		{124, event{source: 1, failure: "closed"},
 			"failing b: failing for 1m0s: closed; differs a: 1 payload is missing for longer than 1m"},
-		{125, news{source: 1, lost: true}, "data b: no data: closed"},
-		{126, news{source: 1, data: one, version: 2}, ""},
-		{200, news{source: 0, data: two, version: 2}, ""},
-		{259, news{source: 1, alive: true}, ""},
+		{125, event{source: 1, lost: true}, "data b: no data: closed"},
+		{126, event{source: 1, data: one, version: 2}, ""},
+		{200, event{source: 0, data: two, version: 2}, ""},
+		{259, event{source: 1, alive: true}, ""},
 	} {
-		m.hears(step.news, at(step.seconds))
-		m.ages(at(step.seconds))
+		m.handle(step.event, at(step.seconds))
+		m.logAged(at(step.seconds))
 		if got := faults(at(step.seconds)); got != step.says {
 			t.Errorf("after %d: %s", step.seconds, got)
 		}
@@ -214,9 +214,9 @@ func TestManyLines(t *testing.T) {
 		lines = append(lines, fmt.Sprintf("10.0.%d.0/24 1", i))
 	}
 	now := time.Now()
-	m.hears(news{source: 0, data: sideOf(t, 2, lines...).data, version: 2}, now)
-	m.hears(news{source: 1, data: sideOf(t, 2).data, version: 2}, now)
-	m.ages(now.Add(time.Hour))
+	m.handle(event{source: 0, data: sideOf(t, 2, lines...).data, version: 2}, now)
+	m.handle(event{source: 1, data: sideOf(t, 2).data, version: 2}, now)
+	m.logAged(now.Add(time.Hour))
 	if strings.Count(said.String(), "msg=\"difference: ") != 100 ||
 		strings.Count(said.String(), "and 150 differences more") != 1 {
 		t.Error(said.String())

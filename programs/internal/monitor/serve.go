@@ -20,9 +20,9 @@ import (
 // paths are the HTTP paths of the monitor.
 func (m *Monitor) paths() http.Handler {
 	paths := http.NewServeMux()
-	paths.HandleFunc("/", m.serves)
+	paths.HandleFunc("/", m.servePage)
 	paths.Handle("/metrics", promhttp.HandlerFor(m.registry(), promhttp.HandlerOpts{}))
-	paths.HandleFunc("/diff.json", m.lists)
+	paths.HandleFunc("/diff.json", m.serveDifferences)
 	paths.HandleFunc("/health", func(answer http.ResponseWriter, _ *http.Request) {
 		var lines []string
 		for _, fault := range m.faults(time.Now()) {
@@ -38,15 +38,15 @@ func numeral(number uint32) string { return strconv.FormatUint(uint64(number), 1
 
 // The reasons why a monitor isn't healthy.
 const (
-	NoData  trust.Reason = "data"    // a source has none
+	NoData  trust.Reason = "data"    // a source has no data
 	Fails   trust.Reason = "failing" // a source has been failing for the patience
 	Differs trust.Reason = "differs" // there are old differences
 )
 
-// Reasons are all of them, the most urgent first.
+// Reasons are all reasons, the most urgent first.
 var Reasons = []trust.Reason{NoData, Fails, Differs}
 
-// patience is how long a source may fail before that is a fault, since a cache may close
+// patience is the time for which a source may fail before that is a fault, since a cache may close
 // connections.
 const patience = time.Minute
 
@@ -55,7 +55,7 @@ func (m *Monitor) faults(now time.Time) (faults []trust.Fault) {
 	m.lock.Lock()
 	defer m.lock.Unlock()
 	for _, source := range m.states {
-		switch text, good := source.says(now); {
+		switch text, good := source.stateText(now); {
 		case source.data.IsZero():
 			faults = append(faults, trust.Fault{Reason: NoData, Text: source.Name + ": " + text})
 		case !good && now.Sub(source.failing.Since) >= patience:
@@ -72,8 +72,8 @@ func (m *Monitor) faults(now time.Time) (faults []trust.Fault) {
 	return faults
 }
 
-// says returns the state of a source in words, and whether it is good.
-func (s *state) says(now time.Time) (text string, good bool) {
+// stateText returns the state of a source in words, and whether it is good.
+func (s *state) stateText(now time.Time) (text string, good bool) {
 	switch {
 	case s.failing != nil && s.data.IsZero():
 		return "no data: " + s.failing.Reason, false
@@ -86,7 +86,7 @@ func (s *state) says(now time.Time) (text string, good bool) {
 	return "good", true
 }
 
-// mostListed is the most differences in diff.json.
+// mostListed is the maximal number of differences in diff.json.
 const mostListed = 10000
 
 // listing is the part of diff.json before the differences.
@@ -130,7 +130,7 @@ func (s *state) listed(now time.Time, missing numbers) listedSource {
 		Name: s.Name, Heard: timeOf(s.heard), Changed: timeOf(s.changed), Session: s.session,
 		Serial: s.serial, Payloads: map[string]int{}, Missing: missing.All(), Old: missing.Old,
 	}
-	l.State, _ = s.says(now)
+	l.State, _ = s.stateText(now)
 	if s.failing != nil {
 		l.Failing = timeOf(s.failing.Since)
 	}
@@ -164,9 +164,9 @@ func (m *Monitor) listing(now time.Time) (l listing, differences []Difference, n
 	return l, differences, names
 }
 
-// lists answers with diff.json: the sources, and the differences, those first that have lasted
-// longest. Members of a payload are those of rtr_diff --json, but for its action.
-func (m *Monitor) lists(answer http.ResponseWriter, _ *http.Request) {
+// serveDifferences answers with diff.json: the sources, and the differences, those that have lasted
+// longest first. The members of a payload are those of rtr_diff --json, without its action.
+func (m *Monitor) serveDifferences(answer http.ResponseWriter, _ *http.Request) {
 	now := time.Now()
 	l, differences, names := m.listing(now)
 	answer.Header().Set("Content-Type", "application/json")

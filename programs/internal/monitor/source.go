@@ -31,7 +31,7 @@ var forms = map[string]payloads.Format{
 // cache, or json:, csv: or sequence: and the path or the URL of a list.
 func ParseSource(word string) (Source, error) {
 	begins, rest, _ := strings.Cut(word, ":")
-	if format, is := forms[begins]; is {
+	if format, ok := forms[begins]; ok {
 		return parseList(begins, format, rest)
 	}
 	source := Source{Name: word, Transport: transport.TCP, Address: word}
@@ -72,7 +72,7 @@ func version(format payloads.Format, most uint8) uint8 {
 	return most
 }
 
-// Failing is since when a source fails, and why.
+// Failing is the failure of a source: its start, and the last reason.
 type Failing struct {
 	Since  time.Time
 	Reason string
@@ -85,14 +85,14 @@ type state struct {
 	kinds    trust.Counts // of its payloads
 	session  *uint16      // of a cache's data
 	serial   *uint32
-	heard    time.Time // when it last had whole data
+	heard    time.Time // when it last had complete data
 	changed  time.Time // when its payloads last changed
 	failing  *Failing  // nil if it doesn't fail
 	failures int
 }
 
-// news is the news of a source: data, the loss of all data, or a failure.
-type news struct {
+// event is an event of a source: data, the loss of all data, or a failure.
+type event struct {
 	source  int
 	failure string   // "" for none
 	alive   bool     // its data are unchanged, and the other fields are unset

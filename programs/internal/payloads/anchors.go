@@ -8,12 +8,12 @@ import (
 	"strings"
 )
 
-// Anchors is how many items of a list name each trust anchor. The protocol's payloads don't have
-// one: validators name it in JSON as "ta", and in a column of CSV.
+// Anchors counts the items of a list by their trust anchor. The protocol's payloads don't have one:
+// validators write it in JSON as "ta", and in a column of CSV.
 type Anchors map[string]int
 
-// mostAnchors is the most anchors that are counted by name: RIRs have six, and a list may have any
-// number.
+// mostAnchors is the maximal number of anchors that are counted: RIRs have six, and a list may have
+// any number.
 const mostAnchors = 64
 
 // count counts an item.
@@ -23,7 +23,8 @@ func (a Anchors) count(name string) {
 	}
 }
 
-// anchorsOf counts the items of a file that rtr_make has read; none if the format has no anchors.
+// anchorsOf counts the items of a file that rtr_make has accepted; nil if the format has no
+// anchors.
 //
 // Errors: those of the input.
 func anchorsOf(input io.Reader, format Format) (Anchors, error) {
@@ -36,7 +37,7 @@ func anchorsOf(input io.Reader, format Format) (Anchors, error) {
 	return nil, nil
 }
 
-// member is the name in JSON. Inside of a string its quotes would have a backslash.
+// member is the name in JSON. Inside a string its quotes would have a backslash.
 var member = []byte(`"ta"`)
 
 // jsonAnchors counts the strings of members named "ta" in a text that is valid JSON.
@@ -52,11 +53,11 @@ func jsonAnchors(input *bufio.Reader) (Anchors, error) {
 			continue
 		}
 		input.Discard(at + len(member))
-		name, is, err := stringAfterColon(input)
+		name, ok, err := stringAfterColon(input)
 		if err != nil {
 			return anchors, unlessEnd(err)
 		}
-		if is {
+		if ok {
 			anchors.count(name)
 		}
 	}
@@ -71,7 +72,7 @@ func unlessEnd(err error) error {
 }
 
 // stringAfterColon returns the string after a colon, if there is one, without escapes.
-func stringAfterColon(input *bufio.Reader) (name string, is bool, err error) {
+func stringAfterColon(input *bufio.Reader) (name string, ok bool, err error) {
 	colon := false
 	for {
 		next, err := input.ReadByte()
@@ -97,29 +98,29 @@ const column = "trust anchor"
 func csvAnchors(input io.Reader) (Anchors, error) {
 	rows := csv.NewReader(input)
 	rows.ReuseRecord, rows.FieldsPerRecord, rows.LazyQuotes = true, -1, true
-	anchors, place := Anchors{}, -1
+	anchors, index := Anchors{}, -1
 	for first := true; ; first = false {
 		row, err := rows.Read()
 		if err != nil {
 			return anchors, unlessEnd(err)
 		}
 		if first {
-			place = placeOf(row)
+			index = columnIndex(row)
 		}
-		if place < 0 {
+		if index < 0 {
 			return nil, nil
 		}
-		if !first && place < len(row) {
-			anchors.count(strings.Clone(row[place]))
+		if !first && index < len(row) {
+			anchors.count(strings.Clone(row[index]))
 		}
 	}
 }
 
-// placeOf returns the index of the column in a header; -1 for none.
-func placeOf(header []string) int {
-	for place, name := range header {
+// columnIndex returns the index of the column in a header; -1 for none.
+func columnIndex(header []string) int {
+	for index, name := range header {
 		if strings.EqualFold(strings.TrimSpace(name), column) {
-			return place
+			return index
 		}
 	}
 	return -1

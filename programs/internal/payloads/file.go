@@ -63,8 +63,8 @@ func StampOf(path string) Stamp {
 	}
 }
 
-// SameContent reports whether nothing was written between two states of a file: its owner or its
-// permissions may have changed.
+// SameContent reports whether two states of a file have the same content: its owner or its
+// permissions may differ.
 func (s Stamp) SameContent(other Stamp) bool {
 	s.Changed = other.Changed
 	return s == other
@@ -75,30 +75,30 @@ func (s Stamp) Time() time.Time {
 	return time.Unix(s.Modified.Unix())
 }
 
-// Reader reads files. What validators print is read by the proved program rtr_make.
+// Reader reads files. The proved program rtr_make reads the lists of validators.
 type Reader struct {
 	Maker   beside.Program // rtr_make
 	Ignored []string       // names that are ignored in JSON
 	Slurm   []string       // SLURM files (RFC 8416), which rtr_make applies to each list
-	Empty   bool           // a file without payloads is taken, too
+	Empty   bool           // whether to accept a file without payloads
 }
 
 // ErrChanged is the error of a file that changed while it was read.
 var ErrChanged = errors.New("the file was changed while it was read")
 
-// Expired is the expired items of a file when it was read.
+// Expired is about the expired items of a file when it was read.
 type Expired struct {
-	LeftOut int       // how many items were left out
-	Next    time.Time // when the next item expires; zero for none
+	LeftOut int       // the number of items that were left out
+	Next    time.Time // when the next item expires; zero for never
 }
 
-// Has reports whether more items of the file have expired since.
+// Has reports whether more items of the file have expired by now.
 func (e Expired) Has(now time.Time) bool { return !e.Next.IsZero() && !now.Before(e.Next) }
 
-// Read is the options for reading a file.
+// Read has the options for reading a file.
 type Read struct {
 	Now     time.Time // items that have expired by this time are left out
-	Expires bool      // the file was taken before, so it may have no items left
+	Expires bool      // the file was accepted before, so it may have no items left
 	Body    *Body     // the fetched list to read; nil for a local file
 }
 
@@ -108,13 +108,13 @@ type List struct {
 	State   Stamp // the state of the file
 	Expired Expired
 	Anchors Anchors // its items by trust anchor, if they name it
-	Notes   string  // the messages about it
+	Notes   string  // messages about the file
 }
 
 // Read reads the payloads of a file, without those that have expired.
 //
-// Errors: ErrChanged; those of the system; what rtr_make says of a file, or why units aren't loaded,
-// with the offset.
+// Errors: ErrChanged; those of the system; the message of rtr_make about a file; why units can't be
+// loaded, with the offset.
 func (r *Reader) Read(ctx context.Context, file File, how Read) (list List, err error) {
 	state := r.StateOf(file, how.Body)
 	if list, err = r.read(ctx, file, how); err == nil {
@@ -127,7 +127,8 @@ func (r *Reader) Read(ctx context.Context, file File, how Read) (list List, err 
 	return list, err
 }
 
-// StateOf returns the state of an input and of the SLURM files; the zero one if there is no input.
+// StateOf returns the state of an input and of the SLURM files; the zero Stamp if there is no
+// input.
 func (r *Reader) StateOf(file File, body *Body) Stamp {
 	var state Stamp
 	if body != nil {
@@ -164,7 +165,7 @@ func (r Read) open(file File) (input, error) {
 	if r.Body != nil {
 		return fetched{io.NewSectionReader(r.Body.File, 0, r.Body.State.Size)}, nil
 	}
-	return opened(file.Path)
+	return openFile(file.Path)
 }
 
 // read reads a file of any format.
@@ -175,16 +176,16 @@ func (r *Reader) read(ctx context.Context, file File, how Read) (list List, err 
 	}
 	defer input.Close()
 	if file.Format == Sequence {
-		return r.loaded(input)
+		return r.loadUnits(input)
 	}
-	if list, err = r.made(ctx, input, r.words(file.Format, how)); err == nil {
+	if list, err = r.runMaker(ctx, input, r.words(file.Format, how)); err == nil {
 		list.Anchors, err = anchorsOf(io.NewSectionReader(input, 0, rtr.MostDataBytes), file.Format)
 	}
 	return list, err
 }
 
-// loaded are the data that a recording or a list of units leaves. Nothing in it expires.
-func (r *Reader) loaded(input io.Reader) (list List, err error) {
+// loadUnits returns the data of a recording or a list of units. Nothing in it expires.
+func (r *Reader) loadUnits(input io.Reader) (list List, err error) {
 	units, err := io.ReadAll(io.LimitReader(input, rtr.MostDataBytes))
 	if err != nil {
 		return List{}, err
@@ -205,10 +206,10 @@ func (r *Reader) loaded(input io.Reader) (list List, err error) {
 	return list, nil
 }
 
-// opened is a file of payloads that is open.
+// openFile opens a file of payloads.
 //
-// Errors: those of the system, without the path, which the caller names.
-func opened(path string) (input, error) {
+// Errors: those of the system, without the path, which the caller adds.
+func openFile(path string) (input, error) {
 	file, err := os.OpenFile(path, os.O_RDONLY|syscall.O_NONBLOCK, 0)
 	var failed *os.PathError
 	if errors.As(err, &failed) {
@@ -228,20 +229,20 @@ func opened(path string) (input, error) {
 	return nil, err
 }
 
-// made returns the data that rtr_make makes of an input.
-func (r *Reader) made(ctx context.Context, input io.Reader, line []string) (list List, err error) {
-	output, told, err := r.Maker.Run(ctx, input, line...)
+// runMaker returns the data that rtr_make makes of an input.
+func (r *Reader) runMaker(ctx context.Context, input io.Reader, line []string) (list List, err error) {
+	output, messages, err := r.Maker.Run(ctx, input, line...)
 	if err != nil {
 		return List{}, errors.New(r.Maker.Unnamed(err.Error()))
 	}
-	if list.Expired, err = expiredOf(r.Maker.Unnamed(string(told))); err != nil {
+	if list.Expired, err = expiredOf(r.Maker.Unnamed(string(messages))); err != nil {
 		return List{}, err
 	}
 	list.Data, err = rtr.ParseData(output)
 	return list, err
 }
 
-// The last line of rtr_make for a time, if other items will expire, and if none will.
+// The last line of rtr_make --at, if other items will expire, and if none will.
 const (
 	someExpire = "left out %d that have expired; the next expires at %d"
 	noneExpire = "left out %d that have expired; none of the others will"
@@ -249,9 +250,9 @@ const (
 
 // expiredOf parses the last line of rtr_make, about expired items.
 //
-// Errors: the line has another form, since then items would expire unnoticed.
-func expiredOf(told string) (expired Expired, err error) {
-	lines := strings.Split(strings.TrimSpace(told), "\n")
+// Errors: the line has another form; ignoring it, items would expire unnoticed.
+func expiredOf(messages string) (expired Expired, err error) {
+	lines := strings.Split(strings.TrimSpace(messages), "\n")
 	last := lines[len(lines)-1]
 	var next int64
 	if _, err := fmt.Sscanf(last, someExpire, &expired.LeftOut, &next); err == nil {

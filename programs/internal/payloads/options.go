@@ -6,7 +6,7 @@ import (
 	"fishreef/programs/internal/words"
 )
 
-// CheckSlurm returns an error if a file can't be filtered by the SLURM files that are named.
+// CheckSlurm returns an error if there are SLURM files, and a file that they can't filter.
 func (r *Reader) CheckSlurm(files ...File) error {
 	for _, file := range files {
 		if file.Format == Sequence && len(r.Slurm) != 0 {

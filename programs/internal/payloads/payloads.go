@@ -1,6 +1,5 @@
-// Package payloads has the payloads of files: it reads files, merges those of several, and computes
-// the changes between two. All rules are those of the library, and of the programs rtr_make and
-// rtr_list.
+// Package payloads reads the payloads of files, merges those of several, and computes the changes
+// between two. All rules are those of the library, and of the programs rtr_make and rtr_list.
 package payloads
 
 import (
@@ -11,7 +10,8 @@ import (
 	"fishreef/rtr"
 )
 
-// Version is that of all data here. Caches convert them for clients of lower versions.
+// Version is the version of all data of this package. Caches convert them for clients of lower
+// versions.
 const Version = 2
 
 // Under returns the payloads of data of version 2 with another session, serial number and timing.
@@ -23,8 +23,8 @@ func Under(data rtr.Data, session uint16, serial uint32, timing rtr.Timing) (rtr
 	return rtr.ParseData(append(units(data), end.Bytes()...))
 }
 
-// plain returns the payloads of data, with the end of data that all have here before they are
-// served.
+// plain returns the payloads of data, with the fixed end of data that all data of this package have
+// until they are served.
 func plain(data rtr.Data) (rtr.Data, error) {
 	data, err := data.For(Version)
 	if err != nil {
@@ -33,7 +33,7 @@ func plain(data rtr.Data) (rtr.Data, error) {
 	return Under(data, 0, 0, rtr.RecommendedTiming)
 }
 
-// In returns the payloads of data that a version has, with the end of data that all have here.
+// In returns the payloads of data that a version has, with the fixed end of data.
 //
 // Errors: a Fault for an unknown version.
 func In(data rtr.Data, version uint8) (rtr.Data, error) {
@@ -103,7 +103,7 @@ func inOrder(units []byte) (rtr.Data, error) {
 	return rtr.ParseData(ordered)
 }
 
-// customers returns those that have an ASPA.
+// customers returns the customers that have an ASPA.
 func customers(data rtr.Data) map[uint32]bool {
 	all := map[uint32]bool{}
 	for units := data.Units(); units.Scan(); {
@@ -117,24 +117,24 @@ func customers(data rtr.Data) map[uint32]bool {
 // Contradiction is the error of an ASPA whose customer has other providers in another file.
 type Contradiction struct{ ASPA *rtr.Unit }
 
-// Error names the ASPA.
+// Error returns a text with the ASPA.
 func (c *Contradiction) Error() string {
 	line := strings.TrimPrefix(rtr.ChangeLine(c.ASPA), "+ ")
 	return line + ": another file has other providers of this customer"
 }
 
 // Changes returns the units that change old data into new, of any sessions and versions. The zero
-// data stand for none.
+// Data stands for none.
 func Changes(old, new rtr.Data) ([]byte, error) {
 	for _, side := range []*rtr.Data{&old, &new} {
-		made, err := rtr.NewData(Version, 0, 0, rtr.RecommendedTiming)
+		converted, err := rtr.NewData(Version, 0, 0, rtr.RecommendedTiming)
 		if !side.IsZero() {
-			made, err = plain(*side)
+			converted, err = plain(*side)
 		}
 		if err != nil {
 			return nil, err
 		}
-		*side = made
+		*side = converted
 	}
 	return rtr.Delta(old, new)
 }
@@ -142,7 +142,7 @@ func Changes(old, new rtr.Data) ([]byte, error) {
 // Size is the size of a change of the data.
 type Size struct{ Had, Announced, Withdrawn trust.Counts }
 
-// String returns how many payloads are announced and withdrawn, of which kinds.
+// String returns the numbers of announced and withdrawn payloads, also by kind.
 func (s Size) String() string {
 	return fmt.Sprintf("%d announced%s, %d withdrawn%s", s.Announced.Total(), kinds(s.Announced),
 		s.Withdrawn.Total(), kinds(s.Withdrawn))
@@ -176,7 +176,7 @@ func Changed(old, new rtr.Data) (size Size, err error) {
 	return size, err
 }
 
-// Kinds returns how many payloads of each kind there are.
+// Kinds returns the number of payloads of each kind.
 func Kinds(data rtr.Data) trust.Counts {
 	counts := trust.Counts{}
 	for _, kind := range trust.Kinds {

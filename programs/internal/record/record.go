@@ -14,26 +14,26 @@ import (
 )
 
 // Recorder records each connection in a file of its own: the first in the named file, the others
-// with .2, .3 and so on after its name. They have the whole units of both directions, in the order
-// in which they were sent or received. A second file, with .times after its name, has a line for
-// each piece: its offset in the file, its time, and its direction.
+// with .2, .3 and so on after its name. They have the complete units of both directions, in the
+// order in which they were sent or received. A second file, with .times after its name, has a line
+// for each piece: its offset in the file, its time, and its direction.
 type Recorder struct {
-	path string
-	told func(error)
+	path   string
+	report func(error)
 
 	lock  sync.Mutex
 	count int
 }
 
-// New returns a recorder. It calls the function with the reason if a piece couldn't be recorded.
+// New returns a recorder. It calls report with the error if a piece couldn't be recorded.
 //
 // Errors: those of the system for the first file, and one if it exists.
-func New(path string, told func(error)) (*Recorder, error) {
+func New(path string, report func(error)) (*Recorder, error) {
 	file, err := os.OpenFile(path, os.O_WRONLY|os.O_CREATE|os.O_EXCL, 0o644)
 	if err != nil {
 		return nil, err
 	}
-	return &Recorder{path: path, told: told}, file.Close()
+	return &Recorder{path: path, report: report}, file.Close()
 }
 
 // Record records a connection.
@@ -47,7 +47,7 @@ func (r *Recorder) Record(connection net.Conn) (net.Conn, error) {
 		file.Close()
 		return nil, err
 	}
-	return &recorded{Conn: connection, file: file, times: times, told: r.told}, nil
+	return &recorded{Conn: connection, file: file, times: times, report: r.report}, nil
 }
 
 // next returns the file of the next connection. Existing files stay.
@@ -78,35 +78,35 @@ const (
 // recorded is a connection that is recorded.
 type recorded struct {
 	net.Conn
-	told func(error)
+	report func(error)
 
 	lock        sync.Mutex
 	file, times *os.File
 	offset      int
-	came        []byte // the start of a unit, not recorded yet
+	partial     []byte // the start of a unit, not recorded yet
 	closed      bool
 }
 
-// Read reads, and records the units that are whole now.
+// Read reads, and records the units that are now complete.
 func (r *recorded) Read(buffer []byte) (int, error) {
 	n, err := r.Conn.Read(buffer)
 	r.lock.Lock()
 	defer r.lock.Unlock()
-	r.came = append(r.came, buffer[:n]...)
+	r.partial = append(r.partial, buffer[:n]...)
 	whole := 0
 	for {
-		size, err := rtr.UnitSize(r.came[whole:])
+		size, err := rtr.UnitSize(r.partial[whole:])
 		if err != nil && !errors.Is(err, rtr.Short) {
-			whole = len(r.came) // the rest of the stream isn't units
+			whole = len(r.partial) // the rest of the stream isn't units
 			break
 		}
-		if err != nil || size > len(r.came)-whole {
+		if err != nil || size > len(r.partial)-whole {
 			break
 		}
 		whole += size
 	}
-	r.keep(received, r.came[:whole])
-	r.came = append(r.came[:0], r.came[whole:]...)
+	r.keep(received, r.partial[:whole])
+	r.partial = append(r.partial[:0], r.partial[whole:]...)
 	return n, err
 }
 
@@ -131,7 +131,7 @@ func (r *recorded) keep(way way, piece []byte) {
 	}
 	r.offset += len(piece)
 	if err != nil {
-		r.told(err)
+		r.report(err)
 	}
 }
 
@@ -151,11 +151,11 @@ func (r *recorded) Close() error {
 	if r.closed {
 		return err
 	}
-	r.keep(received, r.came)
+	r.keep(received, r.partial)
 	r.closed = true
 	for _, file := range []*os.File{r.file, r.times} {
 		if failed := file.Close(); failed != nil {
-			r.told(failed)
+			r.report(failed)
 		}
 	}
 	return err

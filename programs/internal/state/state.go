@@ -24,7 +24,7 @@ type Folder struct {
 	path    string
 	lock    *os.File
 	saved   bool   // the file may have data
-	session uint16 // of this session
+	session uint16 // the session of those data
 }
 
 // Open locks the folder for this process, and creates it if it is missing.
@@ -59,8 +59,8 @@ func (f *Folder) editions() string {
 	return filepath.Join(f.path, editionsName)
 }
 
-// Restore loads the folder's data into a server. A damaged file is renamed, so that it can be
-// examined.
+// Restore loads the folder's data into a server. A damaged file is renamed, and kept for
+// examination.
 //
 // Errors: os.ErrNotExist if the folder has no data; those of the system; rtr.ErrTorn.
 func (f *Folder) Restore(server *rtr.Server) (rtr.Data, error) {
@@ -76,8 +76,8 @@ func (f *Folder) Restore(server *rtr.Server) (rtr.Data, error) {
 	return data, err
 }
 
-// Unsaved is the error of data that are served and couldn't be saved. The folder has no data of
-// their session then, so that after a restart no other data get their serial number.
+// Unsaved is the error of data that are served although they couldn't be saved. Then the folder has
+// no data of their session, so that after a restart no other data get their serial number.
 type Unsaved struct{ Reason error }
 
 // Error returns the reason as text.
@@ -86,13 +86,12 @@ func (u *Unsaved) Error() string { return u.Reason.Error() }
 // Unwrap returns the reason.
 func (u *Unsaved) Unwrap() error { return u.Reason }
 
-// ErrSession is the error of data that can't be saved while the folder has data of their session
-// that can't be removed: after a restart other data could get their serial number. Nothing changes
-// then; the data can be served in another session.
+// ErrSession is the error of data that can't be saved while the folder has older data of their
+// session that can't be removed: after a restart other data could get their serial number. They
+// aren't served; they can be in another session.
 var ErrSession = errors.New("the folder has older data of this session, which can't be removed")
 
-// Update saves new data, and then gives them to the server. If they can't be saved, the server
-// still gets them.
+// Update saves new data, and then passes them to the server, even if they couldn't be saved.
 //
 // Errors: an Unsaved; ErrSession; those of rtr.Server.Update, after which nothing has changed.
 func (f *Folder) Update(server *rtr.Server, data rtr.Data) error {

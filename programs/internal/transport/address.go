@@ -54,8 +54,8 @@ func (a Address) Listen() (Bound, error) {
 	return Bound{a.Kind, listener}, err
 }
 
-// Activated returns the listeners of systemd's socket activation, each for the transport that its
-// name is; TCP for other names.
+// Activated returns the listeners of systemd's socket activation. The name of a socket is that of
+// its transport; other names stand for TCP.
 func Activated() ([]Bound, error) {
 	var all []Bound
 	for _, file := range activation.Files(true) {

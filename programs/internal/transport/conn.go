@@ -51,10 +51,10 @@ type conn struct {
 
 	lock    sync.Mutex
 	closed  bool
-	known   bool // a unit has come, of this version
+	known   bool // the version is known
 	version uint8
 
-	came []byte // the start of a unit; nil once the units can't be followed
+	partial []byte // received bytes of an incomplete unit; nil once the input isn't units
 }
 
 // newConn wraps a connection to count its traffic. leave is called once when it is closed.
@@ -62,7 +62,7 @@ func newConn(connection net.Conn, kind Kind, observer Observer, leave func()) *c
 	peer := &Peer{connection.RemoteAddr(), kind}
 	observer.Opened(peer)
 	return &conn{
-		Conn: connection, peer: peer, observer: observer, leave: leave, came: make([]byte, 0, 64),
+		Conn: connection, peer: peer, observer: observer, leave: leave, partial: make([]byte, 0, 64),
 	}
 }
 
@@ -73,25 +73,25 @@ func (c *conn) RemoteAddr() net.Addr { return c.peer }
 func (c *conn) Read(buffer []byte) (int, error) {
 	n, err := c.Conn.Read(buffer)
 	c.observer.Moved(c.peer, Received, n)
-	if n > 0 && c.came != nil {
-		c.came = append(c.came, buffer[:n]...)
+	if n > 0 && c.partial != nil {
+		c.partial = append(c.partial, buffer[:n]...)
 		c.follow()
 	}
 	return n, err
 }
 
-// mostFollowed is the longest unit of a client that is read.
+// mostFollowed limits the bytes of an incomplete unit.
 const mostFollowed = 1 << 16
 
-// follow reads the units that have come.
+// follow reads the complete units.
 func (c *conn) follow() {
-	for len(c.came) > 0 {
-		unit, rest, err := rtr.Next(c.came)
-		if errors.Is(err, rtr.Short) && len(c.came) < mostFollowed {
+	for len(c.partial) > 0 {
+		unit, rest, err := rtr.Next(c.partial)
+		if errors.Is(err, rtr.Short) && len(c.partial) < mostFollowed {
 			return // the rest is still to come
 		}
 		if err != nil {
-			c.came = nil
+			c.partial = nil
 			return
 		}
 		c.speaks(unit.Version)
@@ -99,7 +99,7 @@ func (c *conn) follow() {
 		if unit.Kind == rtr.ErrorReport {
 			c.observer.Reported(c.peer, Received, unit.Code)
 		}
-		c.came = append(c.came[:0], rest...)
+		c.partial = append(c.partial[:0], rest...)
 	}
 }
 
@@ -120,7 +120,7 @@ func (c *conn) Write(bytes []byte) (int, error) {
 	return n, err
 }
 
-// SyscallConn returns the socket, if bytes go over it as they are.
+// SyscallConn returns the socket, unless the transport encrypts.
 func (c *conn) SyscallConn() (syscall.RawConn, error) {
 	if socket, ok := c.Conn.(*net.TCPConn); ok {
 		return socket.SyscallConn()
@@ -128,9 +128,9 @@ func (c *conn) SyscallConn() (syscall.RawConn, error) {
 	return nil, net.ErrClosed
 }
 
-// Wrote counts the bytes to write, and how many were written.
+// Wrote counts written bytes, and an error report in the bytes to write.
 func (c *conn) Wrote(bytes []byte, taken int) {
-	// A report is written by itself, and long answers in chunks, which begin anywhere.
+	// A report is written alone. Long answers are written in chunks, which may begin inside a unit.
 	unit, rest, failed := rtr.Next(bytes)
 	if failed == nil && unit.Kind == rtr.ErrorReport && len(rest) == 0 {
 		c.observer.Reported(c.peer, Sent, unit.Code)
@@ -138,7 +138,7 @@ func (c *conn) Wrote(bytes []byte, taken int) {
 	c.observer.Moved(c.peer, Sent, taken)
 }
 
-// HandshakeContext runs the handshake, if the transport has one that has to come first.
+// HandshakeContext runs the handshake, if the transport has one before the first read.
 func (c *conn) HandshakeContext(ctx context.Context) error {
 	if shaking, ok := c.Conn.(interface{ HandshakeContext(context.Context) error }); ok {
 		return shaking.HandshakeContext(ctx)

@@ -24,7 +24,7 @@ func NewGate(most int, log rtr.Log) *Gate {
 	g := &Gate{
 		Most: most, clients: map[netip.Addr]int{}, refuser: rtr.NewServer(), above: newQueue(),
 	}
-	// A server with a limit of 0 refuses each client as the protocol says.
+	// A server with a limit of 0 sends an error report to each client.
 	g.refuser.Limits.Connections = 0
 	g.refuser.Log = log
 	go g.refuser.Serve(g.above)
@@ -66,7 +66,7 @@ func addressOf(connection net.Conn) netip.Addr {
 // Secured wraps a connection in TLS or SSH.
 type Secured func(net.Conn) net.Conn
 
-// Plain returns a connection as it is.
+// Plain returns the connection itself, for TCP.
 func Plain(connection net.Conn) net.Conn { return connection }
 
 // listener returns the connections of another listener that the gate accepts.
@@ -78,8 +78,8 @@ type listener struct {
 	observer Observer
 }
 
-// Guarded returns a listener whose connections go through the gate and over a transport, and are
-// counted.
+// Guarded returns a listener that wraps accepted connections in a transport, refuses those above
+// the gate's limit, and counts their traffic.
 func Guarded(bound Bound, secured Secured, gate *Gate, observer Observer) net.Listener {
 	return &listener{bound.Listener, bound.Kind, secured, gate, observer}
 }
@@ -142,5 +142,5 @@ func (q *queue) Close() error {
 	return nil
 }
 
-// Addr returns nil.
+// Addr returns an empty address.
 func (q *queue) Addr() net.Addr { return &net.TCPAddr{} }

@@ -31,9 +31,9 @@ func (f *far) close() {
 	f.output.Close()
 }
 
-// pass copies bytes between a channel and the pipes until nothing more is to be written, and closes
-// the channel and the connection under it. After the peer has closed its writing side, it still
-// gets bytes.
+// pass copies bytes between a channel and the pipes until the near end stops writing, and then
+// closes the channel and the connection under it. After the peer has closed its writing side, it
+// still gets bytes.
 func (f *far) pass(channel io.ReadWriteCloser, under net.Conn) {
 	ended := make(chan struct{})
 	go func() {
@@ -60,7 +60,7 @@ func (p *piped) Write(bytes []byte) (int, error) {
 	return n, p.reason(err)
 }
 
-// reason returns the error of the handshake instead, if that is the cause of an error.
+// reason returns the error of the handshake, if that failed, instead of the error that it caused.
 func (p *piped) reason(err error) error {
 	if why := p.failed.Load(); err != nil && why != nil {
 		return *why
@@ -68,10 +68,10 @@ func (p *piped) reason(err error) error {
 	return err
 }
 
-// lastTime is the time limit for sending what was written before a close.
+// lastTime is the time limit for sending written bytes after a close.
 const lastTime = 2 * time.Second
 
-// Close closes the connection after sending what was written last.
+// Close closes the connection; written bytes are sent first.
 func (p *piped) Close() error {
 	p.input.Close()
 	p.output.Close()
@@ -92,8 +92,8 @@ func (p *piped) SetReadDeadline(at time.Time) error { return p.input.SetReadDead
 // SetWriteDeadline sets the deadline of writes.
 func (p *piped) SetWriteDeadline(at time.Time) error { return p.output.SetWriteDeadline(at) }
 
-// LocalAddr returns that of the connection under it.
+// LocalAddr returns the address of the connection under it.
 func (p *piped) LocalAddr() net.Addr { return p.under.LocalAddr() }
 
-// RemoteAddr returns that of the connection under it.
+// RemoteAddr returns the address of the connection under it.
 func (p *piped) RemoteAddr() net.Addr { return p.under.RemoteAddr() }

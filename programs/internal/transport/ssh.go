@@ -145,12 +145,12 @@ func (h *Host) accept(connection net.Conn) (ssh.Channel, error) {
 func isSubsystem(requests <-chan *ssh.Request) bool {
 	for request := range requests {
 		var named struct{ Name string }
-		is := request.Type == "subsystem" && ssh.Unmarshal(request.Payload, &named) == nil &&
+		accepted := request.Type == "subsystem" && ssh.Unmarshal(request.Payload, &named) == nil &&
 			named.Name == Subsystem
 		if request.WantReply {
-			request.Reply(is, nil)
+			request.Reply(accepted, nil)
 		}
-		if is {
+		if accepted {
 			return true
 		}
 	}

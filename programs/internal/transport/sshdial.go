@@ -38,7 +38,7 @@ func (r *SSHRouter) Options() []words.Option {
 	}
 }
 
-// Partial reports whether some of it is missing.
+// Partial reports whether some of the fields are set, and others missing.
 func (r SSHRouter) Partial() bool {
 	return r != (SSHRouter{}) && (r.User == "" || r.Key == "" || r.KnownHosts == "")
 }
@@ -132,7 +132,7 @@ func endWith(ctx context.Context, connection net.Conn) (release func()) {
 	}
 }
 
-// both is the two halves of an SSH session.
+// both joins the two halves of an SSH session.
 type both struct {
 	io.Reader
 	io.Writer

@@ -32,8 +32,7 @@ func NewIdentity(files TLSFiles) (*Identity, error) {
 	return i, i.Load()
 }
 
-// Load reloads the files. Open connections stay. After an error, new connections use what was
-// loaded before.
+// Load reloads the files, for new connections. After an error the former ones stay in use.
 func (i *Identity) Load() error {
 	certificate, err := tls.LoadX509KeyPair(i.files.Certificate, i.files.Key)
 	if err != nil {

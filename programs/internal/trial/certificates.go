@@ -49,11 +49,11 @@ func (a *Authority) make(template *x509.Certificate) (*x509.Certificate, *ecdsa.
 	if parent == nil {
 		parent, signer = template, key
 	}
-	made, err := x509.CreateCertificate(rand.Reader, template, parent, &key.PublicKey, signer)
+	der, err := x509.CreateCertificate(rand.Reader, template, parent, &key.PublicKey, signer)
 	if err != nil {
 		a.t.Fatal(err)
 	}
-	parsed, err := x509.ParseCertificate(made)
+	parsed, err := x509.ParseCertificate(der)
 	if err != nil {
 		a.t.Fatal(err)
 	}

@@ -15,10 +15,10 @@ import (
 	"time"
 )
 
-// asked is set in the environment of a process that has to run the program.
+// asked is the variable in the environment of a process that runs the program instead of the tests.
 const asked = "RTR_TRIAL"
 
-// Wait is the longest time that a test waits for what has to come.
+// Wait is the time limit of a test for each thing that it waits for.
 const Wait = 120 * time.Second
 
 // Main runs the tests, or the program in a process that Start started.
@@ -144,10 +144,10 @@ func (p *Process) Lines(text string) int {
 }
 
 // Await waits until a condition is true.
-func (p *Process) Await(what string, is func() bool) {
+func (p *Process) Await(what string, condition func() bool) {
 	p.t.Helper()
-	for until := time.Now().Add(Wait); !is(); time.Sleep(5 * time.Millisecond) {
-		if time.Now().After(until) || p.hasEnded() && !is() {
+	for until := time.Now().Add(Wait); !condition(); time.Sleep(5 * time.Millisecond) {
+		if time.Now().After(until) || p.hasEnded() && !condition() {
 			p.t.Fatalf("%s: never came; it said:\n%s", what, p.Said())
 		}
 	}
@@ -232,7 +232,7 @@ func Write(t *testing.T, path, text string) {
 	}
 }
 
-// Same checks that a file has this text.
+// Same reports whether a file has this text.
 func Same(path, text string) bool {
 	read, err := os.ReadFile(path)
 	return err == nil && bytes.Equal(read, []byte(text))

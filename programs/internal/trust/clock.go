@@ -14,9 +14,9 @@ const tolerance = time.Minute
 // wrong for a while expires nothing. The zero Clock has no time yet.
 type Clock struct {
 	now     time.Time     // at the last Look
-	running time.Duration // the machine's uptime then
-	ahead   time.Duration // how far the system's clock is ahead of it; 0 if that is accepted
-	since   time.Duration // the machine's uptime when that began
+	running time.Duration // the machine's uptime at the last Look
+	ahead   time.Duration // of the system's clock before now; 0 if that clock is accepted
+	since   time.Duration // the machine's uptime when the system's clock was set
 }
 
 // Now returns the time of the last Look.
@@ -48,7 +48,7 @@ func isSmall(difference time.Duration) bool {
 	return -tolerance <= difference && difference <= tolerance
 }
 
-// Fault returns an error if the system's clock isn't accepted.
+// Fault returns a text if the system's clock isn't accepted, else "".
 func (c Clock) Fault(rules Rules) string {
 	switch {
 	case c.ahead > 0:

@@ -1,6 +1,6 @@
-// Package trust decides what a cache trusts: whether a list may replace the payloads that are
-// served, which time it is, and whether the cache is healthy. Nothing here reads, writes or waits:
-// each result depends only on the arguments.
+// Package trust decides what a cache trusts: whether a list may replace the served payloads, which
+// time it is, and whether the cache is healthy. It does no I/O and doesn't wait: each result
+// depends only on the arguments.
 package trust
 
 import (
@@ -15,8 +15,8 @@ import (
 // Rules are the settings of the command line for this.
 type Rules struct {
 	Guard Share         // hold a list that withdraws more of the payloads, of a kind or of an anchor
-	Quiet time.Duration // take a held list once it has stayed the same for this time
-	Hold  bool          // never take a held list without confirmation
+	Quiet time.Duration // accept a held list once it has stayed the same for this time
+	Hold  bool          // accept a held list only with confirmation
 	Stale time.Duration // report a file that was written longer ago
 }
 
@@ -35,7 +35,7 @@ func ParseShare(text string) (Share, error) {
 // Counts are numbers of payloads, by kind.
 type Counts map[rtr.Kind]int
 
-// Kinds are those of payloads.
+// Kinds are the kinds of payloads.
 var Kinds = []rtr.Kind{rtr.IPv4Prefix, rtr.IPv6Prefix, rtr.RouterKey, rtr.ASPA}
 
 // Total returns the number of all payloads.
@@ -46,36 +46,36 @@ func (c Counts) Total() (total int) {
 	return total
 }
 
-// Offer is a list that would replace the payloads that are served.
+// Offer is a list that would replace the served payloads.
 type Offer struct {
-	Had       Counts        // what is served
-	Withdrawn Counts        // the part of it that the list lacks
-	Anchors   []Anchor      // the trust anchors that the file named when it was last taken
-	Expiry    bool          // the list is the served one, without what has expired since
+	Had       Counts        // the served payloads
+	Withdrawn Counts        // the served payloads that the list lacks
+	Anchors   []Anchor      // the trust anchors of the file when it was last accepted
+	Expiry    bool          // the list is the served one, without items that have expired since
 	Same      time.Duration // how long the same list has been held; 0 for a new one
 	Confirmed bool          // a person confirmed this list
 }
 
-// Anchor is a trust anchor, and how many items of it a file had, and has now.
+// Anchor is a trust anchor, and the numbers of its items in a file before and now.
 type Anchor struct {
 	Name     string
 	Had, Has int
 }
 
-// Held is the error of a list that isn't taken yet.
+// Held is the error of a list that isn't accepted yet.
 type Held struct {
-	What          string // the payloads that it is about
+	What          string // the payloads of which too many would be withdrawn
 	Withdrawn, Of int
 	Rules         Rules
 }
 
-// Error returns how much would be withdrawn, and what the list waits for.
+// Error returns a text with the number of withdrawn payloads, and how the list gets accepted.
 func (h *Held) Error() string {
 	return fmt.Sprintf("it would withdraw %d of %d %s, which is more than %d%%: held until %s",
 		h.Withdrawn, h.Of, h.What, h.Rules.Guard, h.Rules.waits())
 }
 
-// waits returns what a held list or clock waits for.
+// waits returns the text about how a held list or clock gets accepted.
 func (r Rules) waits() string {
 	if r.Hold {
 		return "SIGUSR1, or a start with --force"
@@ -83,10 +83,10 @@ func (r Rules) waits() string {
 	return fmt.Sprintf("it has stayed the same for %v, SIGUSR1, or a start with --force", r.Quiet)
 }
 
-// Judge decides about a list: it returns a Held, or nil for one that is taken. A list is taken if
-// it withdraws no more than the share of all payloads, of those of each kind, and of the items of each
-// trust anchor; if only time has passed since it was taken; if a person confirmed it; or once it
-// was held for the quiet time, unless Hold requires a person.
+// Judge decides about a list: it returns a Held, or nil for a list that is accepted. A list is
+// accepted if it withdraws no more than the share of all payloads, of those of each kind, and of
+// the items of each trust anchor; if only time has passed since it was accepted; if a person
+// confirmed it; or once it was held for the quiet time, unless Hold requires a person.
 func (r Rules) Judge(offer Offer) error {
 	held := r.excess(offer)
 	quiet := !r.Hold && offer.Same >= r.Quiet && offer.Same > 0
@@ -96,8 +96,8 @@ func (r Rules) Judge(offer Offer) error {
 	return held
 }
 
-// excess returns what a list withdraws too much of: all payloads, or else a kind, or else the items
-// of a trust anchor.
+// excess returns a Held if a list withdraws more than the share: of all payloads, else of a kind,
+// else of the items of a trust anchor.
 func (r Rules) excess(offer Offer) *Held {
 	had, withdrawn := offer.Had.Total(), offer.Withdrawn.Total()
 	if withdrawn*100 > int(r.Guard)*had {
@@ -117,7 +117,7 @@ func (r Rules) excess(offer Offer) *Held {
 	return nil
 }
 
-// items returns what its items are called; the name is from a file, and may be any.
+// items returns the name of the anchor's items, quoted as needed, since it is from a file.
 func (a Anchor) items() string {
 	name := a.Name
 	for _, letter := range name {

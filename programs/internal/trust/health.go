@@ -7,7 +7,7 @@ import (
 	"fishreef/programs/internal/words"
 )
 
-// Reason is why a cache isn't healthy, in one word.
+// Reason is a reason why a cache isn't healthy, in one word.
 type Reason string
 
 // The reasons.
@@ -17,33 +17,33 @@ const (
 	Unsaved Reason = "unsaved" // the served data aren't saved
 	Clocks  Reason = "clock"   // the system's clock was set, and isn't accepted
 	Holding Reason = "held"    // a file would withdraw too much
-	Refused Reason = "refused" // a file is wrong, or can't be read
+	Refused Reason = "refused" // a file is invalid, or can't be read
 	Fetch   Reason = "fetch"   // a list can't be fetched from its server
 	Stale   Reason = "stale"   // a file is old, or from the future
 	Expired Reason = "expired" // too much of a file has expired
 )
 
-// Reasons are all of them, the most urgent first.
+// Reasons are all reasons, the most urgent first.
 var Reasons = []Reason{NoData, Empty, Unsaved, Clocks, Holding, Refused, Fetch, Stale, Expired}
 
-// File is what a cache knows of a file.
+// File is the state of a file of a cache.
 type File struct {
 	Path      string
-	Looked    bool      // it was checked once
-	Unfetched error     // why the last fetch failed
-	Problem   error     // why it wasn't taken last time
+	Looked    bool      // it was checked before
+	Unfetched error     // why the last fetch failed; nil if it didn't
+	Problem   error     // why it wasn't accepted at the last check; nil if it was
 	Held      bool      // the problem is that it would withdraw too much
 	Written   time.Time // when it was written
-	Taken     int       // its payloads when it was last taken
-	Expired   int       // the items that had expired then
+	Taken     int       // the number of its payloads when it was last accepted
+	Expired   int       // the number of its items that had expired then
 }
 
 // State is the state of a cache.
 type State struct {
 	Data     bool  // there are data
-	Payloads int   // in them
-	Had      bool  // there were payloads before
-	Unsaved  error // why the data aren't saved
+	Payloads int   // the number of payloads
+	Had      bool  // the cache has served payloads
+	Unsaved  error // why the data aren't saved; nil if they are
 	Clock    Clock
 	Files    []File
 }
@@ -54,7 +54,7 @@ type Fault struct {
 	Text   string
 }
 
-// Health returns the faults, the most urgent first; none if all is well.
+// Health returns the faults of a cache, the most urgent first.
 func (r Rules) Health(state State) (faults []Fault) {
 	add := func(reason Reason, text string) {
 		if text != "" {

@@ -16,7 +16,7 @@ const (
 	answerTime = 30 * time.Second
 )
 
-// Serve answers requests until the context ends.
+// Serve serves requests until the context ends.
 func Serve(ctx context.Context, listener net.Listener, paths http.Handler) error {
 	server := &http.Server{Handler: paths, ReadTimeout: askTime, WriteTimeout: answerTime}
 	ended := make(chan struct{})
@@ -33,7 +33,7 @@ func Serve(ctx context.Context, listener net.Listener, paths http.Handler) error
 	return err
 }
 
-// Health answers that all is well, or with status 503 and a line for each fault.
+// Health answers "good", or with status 503 and a line for each fault.
 func Health(answer http.ResponseWriter, faults []string) {
 	answer.Header().Set("Content-Type", "text/plain; charset=utf-8")
 	if len(faults) > 0 {

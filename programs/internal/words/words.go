@@ -9,7 +9,7 @@ import (
 	"strings"
 )
 
-// Version is that of the programs.
+// Version is the version of the programs.
 const Version = "0.3.0"
 
 // Option is a word that begins with two dashes.
