@@ -39,7 +39,7 @@ func routers(t *testing.T, url string) []router {
 
 // line returns the last line on standard error that has all of these texts.
 func line(process *trial.Process, texts ...string) (last string) {
-	for _, line := range strings.Split(process.Said(), "\n") {
+	for _, line := range strings.Split(process.Stderr(), "\n") {
 		has := true
 		for _, text := range texts {
 			has = has && strings.Contains(line, text)
@@ -74,17 +74,17 @@ func TestClients(t *testing.T) {
 		{"level=debug", "msg=answered", name, "serial=1"},
 	} {
 		if line(process, texts...) == "" {
-			t.Errorf("there is no %q in\n%s", texts, process.Said())
+			t.Errorf("there is no %q in\n%s", texts, process.Stderr())
 		}
 	}
-	one, two := routers(t, url)[0], routers(t, url)[1]
-	if one.Address != first.LocalAddr().String() || one.Transport != "tcp" || *one.Version != 1 || one.Queries != 1 ||
-		one.Has == nil || one.Has.Serial != 1 || one.Has.Session != data.Session() || *one.Behind != 0 ||
-		one.Asked == nil || one.Sent != int64(len(data.Bytes())+8) {
-		t.Errorf("%+v", one)
+	asking, silent := routers(t, url)[0], routers(t, url)[1]
+	if asking.Address != first.LocalAddr().String() || asking.Transport != "tcp" || *asking.Version != 1 || asking.Queries != 1 ||
+		asking.Has == nil || asking.Has.Serial != 1 || asking.Has.Session != data.Session() || *asking.Behind != 0 ||
+		asking.Asked == nil || asking.Sent != int64(len(data.Bytes())+8) {
+		t.Errorf("%+v", asking)
 	}
-	if two.Address != second.LocalAddr().String() || two.Version != nil || two.Has != nil || two.Queries != 0 {
-		t.Errorf("%+v", two)
+	if silent.Address != second.LocalAddr().String() || silent.Version != nil || silent.Has != nil || silent.Queries != 0 {
+		t.Errorf("%+v", silent)
 	}
 
 	trial.Write(t, folder+"/f", rows(4))
@@ -108,7 +108,7 @@ func TestClients(t *testing.T) {
 	process.Await("the end", func() bool { return line(process, "msg=left", name) != "" })
 	left := line(process, "level=info", "msg=left", name, "version=1", "serial=1", "received=8", "lasted=")
 	if left == "" || len(routers(t, url)) != 1 {
-		t.Error(process.Said())
+		t.Error(process.Stderr())
 	}
 }
 
@@ -190,7 +190,7 @@ func TestLawfulReports(t *testing.T) {
 		name := "client=\"" + connection.LocalAddr().String() + "\""
 		process.Await("the report", func() bool { return line(process, "reason=reported", name) != "" })
 		if line(process, level, "reason=reported", name) == "" {
-			t.Error(process.Said())
+			t.Error(process.Stderr())
 		}
 	}
 }

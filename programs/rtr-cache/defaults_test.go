@@ -23,7 +23,7 @@ func short(span time.Duration) string {
 	return text
 }
 
-// defaults returns those of the code, by option.
+// defaults returns the defaults of the code, by option.
 func defaults() map[string]string {
 	w := usual()
 	s := &w.settings
@@ -64,21 +64,20 @@ func manual(t *testing.T) map[string]string {
 	return says
 }
 
-// Each default that the help or the man page names is the one of the code, and each of the code is
-// named in both.
+// The help and the man page name exactly the defaults of the code.
 func TestDocumentedDefaults(t *testing.T) {
-	w, wanted := usual(), defaults()
+	w, expected := usual(), defaults()
 	options := words.Join(w.ofFiles(), w.settings.Reader.Options(), w.ofData(), w.settings.Fetch.Options(),
 		w.ofGuard(), w.ofTimings(), w.ofSockets(), w.ofTLS(), w.ofSSH(), w.ofLimits(), w.ofReports(), w.log.Options())
 	pages := manual(t)
 	named := regexp.MustCompile(`\(default\s+([^)]*)\)`)
-	listed := []string{wanted["refresh"], wanted["retry"], wanted["expire"]}
+	listed := []string{expected["refresh"], expected["retry"], expected["expire"]}
 	intervals := fmt.Sprintf("%s, %s and %s", listed[0], listed[1], listed[2])
 	for _, option := range options {
 		help := named.FindStringSubmatch(option.Help)
 		page := named.FindStringSubmatch(pages[option.Name])
-		value, has := wanted[option.Name]
-		delete(wanted, option.Name)
+		value, has := expected[option.Name]
+		delete(expected, option.Name)
 		if has != (help != nil) || has && help[1] != value {
 			t.Errorf("--%s: the help says %q, and the code %q", option.Name, help, value)
 		}
@@ -94,12 +93,12 @@ func TestDocumentedDefaults(t *testing.T) {
 			t.Errorf("--%s: the man page says %q, and the code %q", option.Name, page, value)
 		}
 	}
-	if len(wanted) != 0 {
-		t.Errorf("there are no options %v", wanted)
+	if len(expected) != 0 {
+		t.Errorf("there are no options %v", expected)
 	}
 }
 
-// What isn't said has the documented value when the program runs: the port is 3323.
+// Without options the program uses the documented port, 3323.
 func TestUsualPort(t *testing.T) {
 	folder := t.TempDir()
 	trial.Write(t, folder+"/f", rows(3))

@@ -9,7 +9,7 @@ import (
 	"fishreef/programs/internal/trial"
 )
 
-// dated is JSON of a prefix for each of these times, at which it expires; 0 for never.
+// dated returns JSON with a prefix for each of these times, at which it expires; 0 for never.
 func dated(times ...int64) string {
 	var items []string
 	for i, at := range times {
@@ -22,8 +22,8 @@ func dated(times ...int64) string {
 	return `{"roas": [` + strings.Join(items, ", ") + "]}"
 }
 
-// What has expired is left out at its time, whatever the guard says, and clients are told. A file
-// of which all has expired leaves nothing.
+// Items are withdrawn when they expire, whatever the guard says, and clients get the change. In the
+// end no payloads are left.
 func TestExpires(t *testing.T) {
 	folder := t.TempDir()
 	now := time.Now().Unix()
@@ -48,11 +48,11 @@ func TestExpires(t *testing.T) {
 		t.Error(lines(data))
 	}
 	if process.Lines("serial") != 3 || process.Lines("refused") != 0 {
-		t.Error(process.Said())
+		t.Error(process.Stderr())
 	}
 }
 
-// A time that is none is refused by its place, and what was served stays.
+// An invalid time is refused with its path in the file, and the served data stay.
 func TestWrongExpiry(t *testing.T) {
 	folder := t.TempDir()
 	trial.Write(t, folder+"/f", dated(0, 0))
@@ -61,6 +61,6 @@ func TestWrongExpiry(t *testing.T) {
 	trial.Write(t, folder+"/f", dated(0, -1))
 	process.Says("f: roas[1].expires: invalid time", 1)
 	if process.Lines("serial") != 1 {
-		t.Error(process.Said())
+		t.Error(process.Stderr())
 	}
 }

@@ -19,7 +19,7 @@ import (
 	"fishreef/programs/internal/trial"
 )
 
-// web is a web server whose answer a test sets, and what it was asked.
+// web is a web server whose answer a test sets, and that records its requests.
 type web struct {
 	*httptest.Server
 	lock   sync.Mutex
@@ -27,7 +27,7 @@ type web struct {
 	asked  []*http.Request
 }
 
-// newWeb is a server that answers so at first.
+// newWeb starts a server with this answer.
 func newWeb(t *testing.T, answer http.HandlerFunc) *web {
 	w := &web{answer: answer}
 	w.Server = httptest.NewServer(w)
@@ -35,7 +35,7 @@ func newWeb(t *testing.T, answer http.HandlerFunc) *web {
 	return w
 }
 
-// ServeHTTP answers as the test has it.
+// ServeHTTP records the request, and sends the present answer.
 func (w *web) ServeHTTP(answer http.ResponseWriter, ask *http.Request) {
 	w.lock.Lock()
 	w.asked = append(w.asked, ask)
@@ -44,14 +44,14 @@ func (w *web) ServeHTTP(answer http.ResponseWriter, ask *http.Request) {
 	handler(answer, ask)
 }
 
-// answers sets the answer from now on.
+// answers sets the answer for further requests.
 func (w *web) answers(answer http.HandlerFunc) {
 	w.lock.Lock()
 	defer w.lock.Unlock()
 	w.answer = answer
 }
 
-// count is how often it was asked so far; last the last request.
+// count returns the number of requests so far, and the last one.
 func (w *web) count() (count int, last *http.Request) {
 	w.lock.Lock()
 	defer w.lock.Unlock()
@@ -61,17 +61,17 @@ func (w *web) count() (count int, last *http.Request) {
 	return len(w.asked), last
 }
 
-// text is an answer with this text.
+// text returns an answer with this text.
 func text(body string) http.HandlerFunc {
 	return func(answer http.ResponseWriter, _ *http.Request) { io.WriteString(answer, body) }
 }
 
-// status is an answer of this status.
+// status returns an answer with this status.
 func status(code int) http.HandlerFunc {
 	return func(answer http.ResponseWriter, _ *http.Request) { answer.WriteHeader(code) }
 }
 
-// hijacked is an answer of these bytes, after which the connection ends.
+// hijacked returns an answer of these bytes, after which the connection is closed.
 func hijacked(bytes string) http.HandlerFunc {
 	return func(answer http.ResponseWriter, _ *http.Request) {
 		connection, _, err := answer.(http.Hijacker).Hijack()
@@ -82,7 +82,7 @@ func hijacked(bytes string) http.HandlerFunc {
 	}
 }
 
-// trickles is an answer that never ends: pieces with a pause between them.
+// trickles returns an endless answer: pieces with a pause between them.
 func trickles(piece string, pause time.Duration) http.HandlerFunc {
 	return func(answer http.ResponseWriter, ask *http.Request) {
 		for ask.Context().Err() == nil {
@@ -95,7 +95,7 @@ func trickles(piece string, pause time.Duration) http.HandlerFunc {
 	}
 }
 
-// gzipped is a text that is compressed.
+// gzipped compresses a text.
 func gzipped(t *testing.T, text string) string {
 	t.Helper()
 	var output bytes.Buffer
@@ -109,7 +109,7 @@ func gzipped(t *testing.T, text string) string {
 	return output.String()
 }
 
-// encoded is an answer with a content encoding.
+// encoded returns an answer with a content encoding.
 func encoded(encoding, body string) http.HandlerFunc {
 	return func(answer http.ResponseWriter, _ *http.Request) {
 		answer.Header().Set("Content-Encoding", encoding)
@@ -117,7 +117,7 @@ func encoded(encoding, body string) http.HandlerFunc {
 	}
 }
 
-// conditional is an answer with an ETag and Last-Modified, and 304 to who has it.
+// conditional returns an answer with an ETag and Last-Modified, or 304 if the request has both.
 func conditional(tag, modified, body string) http.HandlerFunc {
 	return func(answer http.ResponseWriter, ask *http.Request) {
 		answer.Header().Set("ETag", tag)
@@ -130,7 +130,8 @@ func conditional(tag, modified, body string) http.HandlerFunc {
 	}
 }
 
-// fetching is a cache of these lists that fetches each second, and where its metrics are.
+// fetching starts a cache of these lists that fetches each second, and returns it, its address, and
+// the URL of its metrics.
 func fetching(t *testing.T, line ...string) (process *trial.Process, address, metrics string) {
 	t.Helper()
 	process, address = started(t, t.TempDir(), append(line, "--fetch", "1s",
@@ -138,7 +139,7 @@ func fetching(t *testing.T, line ...string) (process *trial.Process, address, me
 	return process, address, strings.TrimSuffix(process.After("metrics are at "), "/metrics")
 }
 
-// A list is fetched on the condition that it changed; another one is the next serial number.
+// Requests are conditional, and a changed list gets the next serial number.
 func TestFetches(t *testing.T) {
 	t.Parallel()
 	old := time.Now().Add(-time.Minute).UTC().Format(http.TimeFormat)
@@ -155,10 +156,10 @@ func TestFetches(t *testing.T) {
 	}
 	server.answers(conditional(`"two"`, new, rows(3)))
 	process.Says("serial 2: 3 payloads, 1 announced (1 IPv4 prefix), 0 withdrawn", 1)
-	was, _ := server.count()
-	process.Await("three more", func() bool { count, _ := server.count(); return count >= was+3 })
+	before, _ := server.count()
+	process.Await("three more", func() bool { count, _ := server.count(); return count >= before+3 })
 	if process.Lines("announced") != 2 || process.Lines("level=warning") != 0 {
-		t.Error(process.Said())
+		t.Error(process.Stderr())
 	}
 	process.Await("metrics", func() bool {
 		_, says := read(t, metrics+"/metrics")
@@ -174,7 +175,7 @@ func TestFetches(t *testing.T) {
 	process.Await("a fetch anyway", func() bool {
 		server.lock.Lock()
 		defer server.lock.Unlock()
-		for _, ask := range server.asked[was:] {
+		for _, ask := range server.asked[before:] {
 			if ask.Header.Get("If-None-Match") == "" {
 				return true
 			}
@@ -186,8 +187,8 @@ func TestFetches(t *testing.T) {
 	}
 }
 
-// What is wrong with an answer is one line and a count of its reason, as is what isn't a list; what
-// is served stays, and /health says what it is until a good list comes again.
+// A failed fetch is logged by one line and counted by its reason; the served data stay, and /health
+// has the reason until a fetch succeeds again. So does an invalid list.
 func TestFailedFetches(t *testing.T) {
 	t.Parallel()
 	other := newWeb(t, text(rows(1)))
@@ -195,7 +196,7 @@ func TestFailedFetches(t *testing.T) {
 	url := server.URL + "/f"
 	process, address, metrics := fetching(t, "--csv", url, "--fetch-limit", "1", "--fetch-timeout", "3s")
 	process.Says("serial 1: 2 payloads", 1)
-	before := fetched(t, address, 2)
+	served := fetched(t, address, 2)
 	whole := rows(2)
 	for _, row := range []struct {
 		name, reason, says string
@@ -226,12 +227,12 @@ func TestFailedFetches(t *testing.T) {
 		{"a redirect elsewhere", "redirect", "a redirect to ftp",
 			http.RedirectHandler("ftp://127.0.0.1/f", http.StatusFound).ServeHTTP},
 	} {
-		was := process.Lines("level=warning")
+		before := process.Lines("level=warning")
 		server.answers(row.answer)
-		process.Says("level=warning", was+1)
-		if process.Lines("it can't be fetched: ") != was+1 || process.Lines("reason="+row.reason) == 0 ||
-			!strings.Contains(process.Said(), url+": it can't be fetched: "+row.says) {
-			t.Errorf("%s: %s", row.name, process.Said())
+		process.Says("level=warning", before+1)
+		if process.Lines("it can't be fetched: ") != before+1 || process.Lines("reason="+row.reason) == 0 ||
+			!strings.Contains(process.Stderr(), url+": it can't be fetched: "+row.says) {
+			t.Errorf("%s: %s", row.name, process.Stderr())
 		}
 		status, says := read(t, metrics+"/health")
 		if status != 503 || !strings.HasPrefix(says, url+": it can't be fetched: ") {
@@ -242,11 +243,11 @@ func TestFailedFetches(t *testing.T) {
 			!strings.Contains(says, `rtr_cache_unhealthy{reason="fetch"} 1`) {
 			t.Errorf("%s: %s", row.name, says)
 		}
-		if !fetched(t, address, 2).Equal(before) {
-			t.Errorf("%s changed what is served", row.name)
+		if !fetched(t, address, 2).Equal(served) {
+			t.Errorf("%s changed the served data", row.name)
 		}
 		server.answers(text(rows(2)))
-		process.Says("it can be fetched again", was+1)
+		process.Says("it can be fetched again", before+1)
 	}
 	server.answers(http.RedirectHandler(other.URL, http.StatusFound).ServeHTTP)
 	process.Says("serial 2: 1 payload, 0 announced, 1 withdrawn", 1)
@@ -260,8 +261,8 @@ func TestFailedFetches(t *testing.T) {
 	}
 }
 
-// A server that is gone is one line, and its list comes once it is back. Two lists by URL are
-// merged, once both have come.
+// Two lists by URL are merged, once both have been fetched. A server that can't be connected is
+// logged by one line, and its list is fetched once it is back.
 func TestTwoLists(t *testing.T) {
 	t.Parallel()
 	first, at := newWeb(t, text(rows(2))), trial.Reserved(t)
@@ -286,11 +287,12 @@ func TestTwoLists(t *testing.T) {
 	first.answers(text(rows(3)))
 	process.Says("serial 2: 6 payloads", 1)
 	if process.Lines("level=warning") != 1 {
-		t.Error(process.Said())
+		t.Error(process.Stderr())
 	}
 }
 
-// A list that would withdraw too much is held as one of a file is, also while the server fails.
+// A fetched list that would withdraw too much is held like that of a file, also while the server
+// fails.
 func TestHoldsFetched(t *testing.T) {
 	t.Parallel()
 	server := newWeb(t, text(rows(10)))
@@ -303,11 +305,11 @@ func TestHoldsFetched(t *testing.T) {
 	process.Says("the server answered 500", 1)
 	process.Says("serial 2: 1 payload", 1)
 	if took := time.Since(began); took < 6*time.Second || process.Lines("it would withdraw") != 1 {
-		t.Errorf("after %v: %s", took, process.Said())
+		t.Errorf("after %v: %s", took, process.Stderr())
 	}
 }
 
-// Certificates are checked: by the authorities that are named, or those of the system.
+// Certificates are checked, by the authorities of --fetch-ca or those of the system.
 func TestFetchesByHTTPS(t *testing.T) {
 	t.Parallel()
 	ours, others, folder := trial.NewAuthority(t), trial.NewAuthority(t), t.TempDir()
@@ -332,7 +334,7 @@ func TestFetchesByHTTPS(t *testing.T) {
 		process := trial.StartBy(t, folder, row.environment, run)
 		process.Says(row.says, 1)
 		if refused := process.Lines("reason=certificate"); refused != 1-process.Lines("serial 1") {
-			t.Errorf("%s: %s", row.name, process.Said())
+			t.Errorf("%s: %s", row.name, process.Stderr())
 		}
 		process.End()
 	}
@@ -345,7 +347,7 @@ func TestFetchesByHTTPS(t *testing.T) {
 	process.Says("server gave HTTP response to HTTPS client", 1)
 }
 
-// overHTTPS is a server with a certificate for this address or name.
+// overHTTPS starts a server with a certificate for this address or name.
 func overHTTPS(
 	t *testing.T, authority *trial.Authority, name string, answer http.HandlerFunc,
 ) *httptest.Server {
@@ -358,7 +360,7 @@ func overHTTPS(
 	return server
 }
 
-// A proxy of the environment is used, for https by a tunnel; hosts of no_proxy are asked themselves.
+// The proxy of the environment is used, for https by a tunnel, but not for hosts of no_proxy.
 func TestProxy(t *testing.T) {
 	t.Parallel()
 	folder, authority := t.TempDir(), trial.NewAuthority(t)
@@ -409,7 +411,8 @@ func tunnel(answer http.ResponseWriter, address string) {
 	near.Close()
 }
 
-// What begins as a URL is no file, and a wrong one is wrong usage. A password isn't shown.
+// An argument that begins like a URL isn't a file name, and an invalid URL ends the program with
+// status 2. Passwords aren't printed.
 func TestWrongURLs(t *testing.T) {
 	t.Parallel()
 	folder := t.TempDir()
@@ -426,13 +429,13 @@ func TestWrongURLs(t *testing.T) {
 		{"--csv http://h/ --fetch-limit 269", `--fetch-limit: 269 is more than 268`},
 	} {
 		process := trial.Start(t, folder, strings.Fields(row.words)...)
-		if status, said := process.Status(), process.Said(); status != 2 || !strings.Contains(said, row.says) {
-			t.Errorf("%q: status %d, %s", row.words, status, said)
+		if status, stderr := process.Status(), process.Stderr(); status != 2 || !strings.Contains(stderr, row.says) {
+			t.Errorf("%q: status %d, %s", row.words, status, stderr)
 		}
 	}
 	process := trial.Start(t, folder, "--csv", "http://127.0.0.1/", "--fetch-ca", "none", "--listen", "127.0.0.1:0")
 	if status := process.Status(); status != 3 || process.Lines("none: no such file") != 1 {
-		t.Error(status, process.Said())
+		t.Error(status, process.Stderr())
 	}
 	secret := newWeb(t, func(answer http.ResponseWriter, ask *http.Request) {
 		if name, password, ok := ask.BasicAuth(); !ok || name != "name" || password != "word" {
@@ -444,12 +447,12 @@ func TestWrongURLs(t *testing.T) {
 	process, _, metrics := fetching(t, "--csv", strings.Replace(secret.URL, "://", "://name:word@", 1))
 	process.Says("serial 1: 2 payloads", 1)
 	_, says := read(t, metrics+"/metrics")
-	if strings.Contains(process.Said()+says, "word@") || !strings.Contains(process.Said(), "name:xxxxx@") {
-		t.Error(process.Said())
+	if strings.Contains(process.Stderr()+says, "word@") || !strings.Contains(process.Stderr(), "name:xxxxx@") {
+		t.Error(process.Stderr())
 	}
 }
 
-// Fetches leave nothing behind: no file, and no more descriptors than before.
+// Fetches leave no files behind, and leak no descriptors.
 func TestLeavesNothing(t *testing.T) {
 	t.Parallel()
 	server, folder, temporary := newWeb(t, text(rows(1))), t.TempDir(), t.TempDir()
@@ -470,8 +473,8 @@ func TestLeavesNothing(t *testing.T) {
 	}
 }
 
-// After a restart the saved data are served while the server is gone; the new list is their next
-// serial number once it is back.
+// After a restart the saved data are served while the server is down; once it is back, a changed
+// list gets the next serial number.
 func TestRestartsWithoutServer(t *testing.T) {
 	t.Parallel()
 	folder, at := t.TempDir(), trial.Reserved(t)
@@ -504,7 +507,7 @@ func TestRestartsWithoutServer(t *testing.T) {
 	process.Says("serial 2: 3 payloads, 1 announced", 1)
 }
 
-// A list that can't be kept is a failure of its own, and others are served on.
+// A list that can't be stored is a failure with a reason of its own, and the cache keeps running.
 func TestNoRoomForList(t *testing.T) {
 	t.Parallel()
 	folder, server := t.TempDir(), newWeb(t, text(rows(2)))

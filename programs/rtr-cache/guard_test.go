@@ -12,7 +12,7 @@ import (
 	"fishreef/programs/internal/trial"
 )
 
-// guarded is a cache of a file of 10 payloads, with these options.
+// guarded starts a cache of a file of 10 payloads, with these options.
 func guarded(t *testing.T, folder string, line ...string) *trial.Process {
 	t.Helper()
 	trial.Write(t, folder+"/f", rows(10))
@@ -21,8 +21,9 @@ func guarded(t *testing.T, folder string, line ...string) *trial.Process {
 	return process
 }
 
-// A file that would withdraw too much is held: no other state of it is taken, by a list that would
-// withdraw as much, by other rights, or by SIGHUP. A good one is, and then all begins anew.
+// A file that would withdraw too much is held; so are other lists that would, and it stays held
+// after changed permissions, a changed time, or SIGHUP. A list that withdraws less is accepted, and
+// then the guard compares with that.
 func TestHolds(t *testing.T) {
 	folder := t.TempDir()
 	file := folder + "/f"
@@ -51,7 +52,7 @@ func TestHolds(t *testing.T) {
 		t.Error(status, says)
 	}
 	if process.Lines("serial 3") != 0 {
-		t.Error(process.Said())
+		t.Error(process.Stderr())
 	}
 	trial.Write(t, file, rows(9))
 	process.Says("serial 3: 9 payloads", 1)
@@ -60,8 +61,8 @@ func TestHolds(t *testing.T) {
 	process.Says("it would withdraw 8 of 9 payloads", 1)
 }
 
-// The same payloads are taken once they have stayed for the time of the guard, and no others: each
-// change begins that time anew, but for one of the rights.
+// A held list is accepted once it has stayed the same for the guard time. Each change starts that
+// time again, except one of the file's permissions.
 func TestGuardTime(t *testing.T) {
 	folder := t.TempDir()
 	file := folder + "/f"
@@ -73,18 +74,18 @@ func TestGuardTime(t *testing.T) {
 		time.Sleep(3 * time.Second)
 	}
 	if process.Lines("serial 2") != 0 {
-		t.Error(process.Said())
+		t.Error(process.Stderr())
 	}
 	if err := os.Chmod(file, 0o640); err != nil {
 		t.Fatal(err)
 	}
 	process.Says("serial 2: 3 payloads, 0 announced, 7 withdrawn (7 IPv4 prefixes)", 1)
 	if took := time.Since(began); took < 12*time.Second || process.Lines("it would withdraw") != 3 {
-		t.Errorf("after %v: %s", took, process.Said())
+		t.Errorf("after %v: %s", took, process.Stderr())
 	}
 }
 
-// With --hold a person decides: by SIGUSR1, which is about what is held then and nothing else.
+// With --hold a person decides: SIGUSR1 accepts the lists that are held then, and no later ones.
 func TestPersonDecides(t *testing.T) {
 	folder := t.TempDir()
 	file := folder + "/f"
@@ -93,7 +94,7 @@ func TestPersonDecides(t *testing.T) {
 	process.Says("it would withdraw 8 of 10 payloads, which is more than 20%: held until SIGUSR1, or a start with --force", 1)
 	time.Sleep(4 * time.Second)
 	if process.Lines("serial 2") != 0 {
-		t.Error(process.Said())
+		t.Error(process.Stderr())
 	}
 	process.Signal(syscall.SIGUSR1)
 	process.Says("serial 2: 2 payloads", 1)
@@ -105,7 +106,7 @@ func TestPersonDecides(t *testing.T) {
 	process.Says("it would withdraw 9 of 10 payloads", 1)
 }
 
-// --force is about what the files have at the start, once.
+// --force accepts the first list of each file after the start, and no later ones.
 func TestForce(t *testing.T) {
 	folder := t.TempDir()
 	file := folder + "/f"
@@ -126,7 +127,7 @@ func TestForce(t *testing.T) {
 	process.Says("it would withdraw 9 of 10 payloads", 1)
 }
 
-// A list that is written in its place, in pieces, isn't served before it is whole.
+// A list that is written in place, in pieces, isn't served before it is complete.
 func TestWrittenInPieces(t *testing.T) {
 	folder := t.TempDir()
 	process := guarded(t, folder)
@@ -143,11 +144,12 @@ func TestWrittenInPieces(t *testing.T) {
 	}
 	process.Says("serial 2: 12 payloads, 2 announced (2 IPv4 prefixes), 0 withdrawn", 1)
 	if process.Lines("held") != 0 || process.Lines("serial") != 2 {
-		t.Error(process.Said())
+		t.Error(process.Stderr())
 	}
 }
 
-// anchored is a list of so many payloads of each trust anchor, as validators print it.
+// anchored returns a list with these numbers of payloads of each trust anchor, as validators print
+// it.
 func anchored(format string, anchors map[string]int) string {
 	var items []string
 	octet := 0
@@ -168,7 +170,7 @@ func anchored(format string, anchors map[string]int) string {
 	return `{"roas": [` + strings.Join(items, ", ") + "]}"
 }
 
-// A list that lacks too much of a trust anchor is held, however little of all that is.
+// A list that lacks too many items of a trust anchor is held, even if they are few of all payloads.
 func TestHoldsAnchor(t *testing.T) {
 	for _, format := range []string{"--json", "--csv"} {
 		t.Run(format, func(t *testing.T) {

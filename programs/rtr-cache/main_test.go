@@ -16,7 +16,7 @@ import (
 
 func TestMain(tests *testing.M) { trial.Main(tests, run) }
 
-// rows are lines of CSV: so many prefixes of AS 64496.
+// rows returns lines of CSV with this many prefixes of AS 64496.
 func rows(count int) string {
 	var text strings.Builder
 	for i := 0; i < count; i++ {
@@ -25,14 +25,14 @@ func rows(count int) string {
 	return text.String()
 }
 
-// started is a cache with these options that listens, and its address.
+// started starts a cache with these options, and returns it and its address.
 func started(t *testing.T, folder string, line ...string) (*trial.Process, string) {
 	t.Helper()
 	process := trial.Start(t, folder, append(line, "--listen", "127.0.0.1:0")...)
 	return process, process.After("listening at ")
 }
 
-// fetched are the data that a cache gives to a client of a version.
+// fetched returns the data that a client of a version gets from a cache.
 func fetched(t *testing.T, address string, version uint8) rtr.Data {
 	t.Helper()
 	ctx, cancel := context.WithTimeout(context.Background(), trial.Wait)
@@ -46,7 +46,7 @@ func fetched(t *testing.T, address string, version uint8) rtr.Data {
 	return data
 }
 
-// lines are the payloads of data, one on a line.
+// lines returns the payloads of data, one per line.
 func lines(data rtr.Data) string {
 	var all []string
 	for units := data.Units(); units.Scan(); {
@@ -60,7 +60,7 @@ const validators = `{"roas": [
 	{"asn": 65551, "prefix": "2001:db8::/32", "maxLength": 48}],
 	"aspas": [{"customer_asid": 64496, "providers": [64510, 64511]}]}`
 
-// Files of all formats are merged, and what two have is there once. Each client gets what its
+// Files of all formats are merged, without duplicates. Each client gets the payloads that its
 // version has.
 func TestServesFiles(t *testing.T) {
 	folder := t.TempDir()
@@ -70,11 +70,11 @@ func TestServesFiles(t *testing.T) {
 		t.Fatal("a VRP without a prefix")
 	}
 	vrp := rtr.VRP{Prefix: netip.MustParsePrefix("192.0.2.0/24"), ASN: 64496}
-	one, err := rtr.NewDataOf([]rtr.VRP{vrp}, 0, 7, 9, rtr.RecommendedTiming)
+	list, err := rtr.NewDataOf([]rtr.VRP{vrp}, 0, 7, 9, rtr.RecommendedTiming)
 	if err != nil {
 		t.Fatal(err)
 	}
-	trial.Write(t, folder+"/c", string(one.Bytes()))
+	trial.Write(t, folder+"/c", string(list.Bytes()))
 	process, address := started(t, folder, "--json", "a.json", "--csv", "b.csv", "--sequence", "c",
 		"--refresh", "100", "--retry", "50", "--expire", "6000")
 	process.Says("4 payloads", 1)
@@ -95,7 +95,7 @@ func TestServesFiles(t *testing.T) {
 	}
 }
 
-// Where two files contradict each other the second is refused, by the payload.
+// If two files contradict each other, the second is refused, with the payload in the message.
 func TestContradiction(t *testing.T) {
 	folder := t.TempDir()
 	trial.Write(t, folder+"/a", validators)
@@ -103,17 +103,17 @@ func TestContradiction(t *testing.T) {
 	process, _ := started(t, folder, "--json", "a", "--json", "b")
 	process.Says("AS64496 providers AS64512", 1)
 	if process.Lines("session") != 0 {
-		t.Error(process.Said())
+		t.Error(process.Stderr())
 	}
 }
 
-// change is what a client is told.
+// change is an update of a client, with the numbers of its changes.
 type change struct {
 	data               rtr.Data
 	announced, removed int
 }
 
-// follow has a client of version 2 follow a cache until the test ends.
+// follow runs a client of version 2 until the test ends, and returns the channel of its updates.
 func follow(t *testing.T, address string) <-chan change {
 	ctx, cancel := context.WithCancel(context.Background())
 	changes, ended := make(chan change, 100), make(chan struct{})
@@ -141,8 +141,8 @@ func follow(t *testing.T, address string) <-chan change {
 	return changes
 }
 
-// A file that is written anew with the same payloads changes nothing; one with others gets the next
-// serial number, and clients get what changed.
+// A rewritten file with the same payloads changes nothing; with other payloads it gets the next
+// serial number, and clients get the changes.
 func TestSerialNumbers(t *testing.T) {
 	folder := t.TempDir()
 	file := filepath.Join(folder, "vrps.csv")
@@ -166,7 +166,7 @@ func TestSerialNumbers(t *testing.T) {
 	}
 }
 
-// Wrong words end the program with status 2 and one line that names the word; nothing is served.
+// Wrong arguments end the program with status 2 and one line that names the argument.
 func TestWrongWords(t *testing.T) {
 	folder := t.TempDir()
 	trial.Write(t, folder+"/f", rows(1))
@@ -206,15 +206,16 @@ func TestWrongWords(t *testing.T) {
 		{"--csv f --log-level loud", `--log-level: not a valid logrus Level: "loud"`},
 	} {
 		process := trial.Start(t, folder, strings.Fields(row.words)...)
-		status, said := process.Status(), process.Said()
-		if status != 2 || strings.Count(said, "\n") != 1 || !strings.Contains(said, row.says) ||
-			!strings.HasPrefix(said, "rtr-cache: ") || process.Output() != "" {
-			t.Errorf("%q: status %d, %s", row.words, status, said)
+		status, stderr := process.Status(), process.Stderr()
+		if status != 2 || strings.Count(stderr, "\n") != 1 || !strings.Contains(stderr, row.says) ||
+			!strings.HasPrefix(stderr, "rtr-cache: ") || process.Output() != "" {
+			t.Errorf("%q: status %d, %s", row.words, status, stderr)
 		}
 	}
 }
 
-// What can't be had at the beginning ends the program by a line that names it.
+// A folder, address, certificate or key that can't be used at the start ends the program with a
+// line that names it.
 func TestWrongPlaces(t *testing.T) {
 	folder := t.TempDir()
 	trial.Write(t, folder+"/f", rows(1))
@@ -238,14 +239,14 @@ func TestWrongPlaces(t *testing.T) {
 		{"--listen ssh:127.0.0.1:0 --ssh-host-key file --ssh-routers file", "file: ssh: no key found", words.Failed},
 	} {
 		process := trial.Start(t, folder, append([]string{"--csv", "f"}, strings.Fields(row.words)...)...)
-		status, said := process.Status(), process.Said()
-		if status != row.status || !strings.Contains(said, row.says) || process.Lines("level=error") != 1 {
-			t.Errorf("%q: status %d, %s", row.words, status, said)
+		status, stderr := process.Status(), process.Stderr()
+		if status != row.status || !strings.Contains(stderr, row.says) || process.Lines("level=error") != 1 {
+			t.Errorf("%q: status %d, %s", row.words, status, stderr)
 		}
 	}
 }
 
-// A file that is wrong is told by one line, that has the place in it, and what is served stays.
+// An invalid file is reported by one line with the position in it, and the served data stay.
 func TestWrongFiles(t *testing.T) {
 	folder := t.TempDir()
 	trial.Write(t, folder+"/good", rows(2))
@@ -253,7 +254,7 @@ func TestWrongFiles(t *testing.T) {
 	trial.Write(t, folder+"/s", "")
 	process, address := started(t, folder, "--csv", "good", "--json", "j", "--metrics", "127.0.0.1:0")
 	process.Says("5 payloads", 1)
-	before := fetched(t, address, 2)
+	served := fetched(t, address, 2)
 	for _, row := range []struct{ file, text, says string }{
 		{"good", rows(2) + "AS64496,10.0.0.1/24,24\n", "good: line 3: non-zero host portion"},
 		{"good", rows(2) + "AS64496,10.0.0.0/33,33\n", "good: line 3: prefix"},
@@ -265,15 +266,16 @@ func TestWrongFiles(t *testing.T) {
 		{"j", strings.Replace(validators, `"192.0.2.0/24"`, `"192.0.2.1/24"`, 1), "j: roas[0].prefix: non-zero host portion"},
 		{"j", strings.Replace(validators, "64511", "4294967296", 1), "j: aspas[0].providers"},
 	} {
-		was := process.Lines("level=warning")
+		before := process.Lines("level=warning")
 		trial.Write(t, filepath.Join(folder, row.file), row.text)
-		process.Says("level=warning", was+1)
-		all := strings.Split(strings.TrimSpace(process.Said()), "\n")
-		if last := all[len(all)-1]; !strings.Contains(last, row.says) || process.Lines("level=warning") != was+1 {
+		process.Says("level=warning", before+1)
+		all := strings.Split(strings.TrimSpace(process.Stderr()), "\n")
+		last := all[len(all)-1]
+		if !strings.Contains(last, row.says) || process.Lines("level=warning") != before+1 {
 			t.Errorf("%q: %s", row.says, last)
 		}
-		if !fetched(t, address, 2).Equal(before) {
-			t.Errorf("%q changed what is served", row.says)
+		if !fetched(t, address, 2).Equal(served) {
+			t.Errorf("%q changed the served data", row.says)
 		}
 	}
 	if err := os.Remove(folder + "/good"); err != nil {
@@ -284,7 +286,7 @@ func TestWrongFiles(t *testing.T) {
 		t.Fatal(err)
 	}
 	process.Says("good: not a regular file", 1)
-	if !fetched(t, address, 2).Equal(before) {
-		t.Error("a file that is gone changed what is served")
+	if !fetched(t, address, 2).Equal(served) {
+		t.Error("a removed file changed the served data")
 	}
 }

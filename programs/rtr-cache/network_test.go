@@ -22,7 +22,7 @@ import (
 
 const hangup = syscall.SIGHUP
 
-// dialed is a connection to a cache.
+// dialed connects to a cache.
 func dialed(t *testing.T, address string) net.Conn {
 	t.Helper()
 	connection, err := net.Dial("tcp", address)
@@ -42,9 +42,9 @@ func overTLS(address string, config *tls.Config) (rtr.Data, error) {
 	return client.Fetch(ctx)
 }
 
-// Over TLS routers have to show a certificate by the authority, with the address that they have
-// (RFC 8210 section 9.2), unless any address will do. SIGHUP reads a new certificate; a wrong one
-// is told, and the one before stays.
+// Over TLS routers need a certificate by the authority for their own address (RFC 8210 section
+// 9.2), or for any with --tls-any-address. SIGHUP loads a new certificate; an invalid one is
+// reported, and the former one stays in use.
 func TestTLS(t *testing.T) {
 	folder := t.TempDir()
 	trial.Write(t, folder+"/f", rows(3))
@@ -86,9 +86,9 @@ func TestTLS(t *testing.T) {
 	trial.Save(t, second, folder+"/cert", folder+"/key")
 	process.Signal(hangup)
 	process.Says("f: nothing changed", 2)
-	shown := shows(t, address, good)
+	shown := serverCertificate(t, address, good)
 	if !shown.Equal(second.Leaf) {
-		t.Error("the certificate is the one before")
+		t.Error("the certificate is the former one")
 	}
 	process = trial.Start(t, folder, append(line, "--tls-any-address")...)
 	process.Says("3 payloads", 1)
@@ -98,8 +98,8 @@ func TestTLS(t *testing.T) {
 	}
 }
 
-// shows is the certificate that a cache shows.
-func shows(t *testing.T, address string, config *tls.Config) *x509.Certificate {
+// serverCertificate returns the certificate of a cache.
+func serverCertificate(t *testing.T, address string, config *tls.Config) *x509.Certificate {
 	t.Helper()
 	connection, err := tls.Dial("tcp", address, config)
 	if err != nil {
@@ -109,7 +109,8 @@ func shows(t *testing.T, address string, config *tls.Config) *x509.Certificate {
 	return connection.ConnectionState().PeerCertificates[0]
 }
 
-// Clients above a limit, of all or of one address, get a report, and the others are served on.
+// Clients above the limit of all clients, or of those of one address, get an error report; the
+// others are still served.
 func TestLimits(t *testing.T) {
 	folder := t.TempDir()
 	trial.Write(t, folder+"/f", rows(3))
@@ -143,7 +144,7 @@ func TestLimits(t *testing.T) {
 	}
 }
 
-// asked are the data that come over a connection for a reset query.
+// asked sends a reset query over a connection, and returns the data of the answer.
 func asked(t *testing.T, connection net.Conn) rtr.Data {
 	t.Helper()
 	if err := rtr.NewWriter(connection).Write(&rtr.Unit{Kind: rtr.ResetQuery, Version: 1}); err != nil {
@@ -164,7 +165,7 @@ func asked(t *testing.T, connection net.Conn) rtr.Data {
 	return data
 }
 
-// read is what an address answers by HTTP, and with which status.
+// read returns the status and the text of an HTTP answer.
 func read(t *testing.T, url string) (int, string) {
 	t.Helper()
 	answer, err := http.Get(url)
@@ -179,7 +180,7 @@ func read(t *testing.T, url string) (int, string) {
 	return answer.StatusCode, string(text)
 }
 
-// The metrics say what is served to whom, and /health what is wrong.
+// /metrics has the data, the clients and the failures, and /health the faults.
 func TestMetrics(t *testing.T) {
 	folder := t.TempDir()
 	process, address := started(t, folder, "--json", "f", "--stale", "1h", "--metrics", "127.0.0.1:0")
@@ -246,15 +247,15 @@ func TestMetrics(t *testing.T) {
 	})
 }
 
-// Sockets that systemd gives are served, and it is told when the cache is ready, reads and stops.
+// The cache serves sockets from systemd, and notifies it when it is ready, reloads and stops.
 func TestSystemd(t *testing.T) {
 	folder := t.TempDir()
 	trial.Write(t, folder+"/f", rows(3))
-	told, err := net.ListenUnixgram("unixgram", &net.UnixAddr{Name: folder + "/notify", Net: "unixgram"})
+	socket, err := net.ListenUnixgram("unixgram", &net.UnixAddr{Name: folder + "/notify", Net: "unixgram"})
 	if err != nil {
 		t.Fatal(err)
 	}
-	defer told.Close()
+	defer socket.Close()
 	listener, err := net.Listen("tcp", "127.0.0.1:0")
 	if err != nil {
 		t.Fatal(err)
@@ -270,28 +271,29 @@ func TestSystemd(t *testing.T) {
 	process := trial.StartBy(t, folder, []string{
 		"LISTEN_FDS=1", "LISTEN_FDNAMES=rtr-cache.socket", "NOTIFY_SOCKET=" + folder + "/notify",
 	}, run)
-	hears(t, told, "READY=1")
+	awaitNotify(t, socket, "READY=1")
 	if data := fetched(t, listener.Addr().String(), 2); data.Len() != 3 {
 		t.Error(data.Len())
 	}
 	process.Signal(hangup)
-	hears(t, told, "RELOADING=1")
-	hears(t, told, "READY=1")
+	awaitNotify(t, socket, "RELOADING=1")
+	awaitNotify(t, socket, "READY=1")
 	if status := process.End(); status != 0 {
 		t.Error(status)
 	}
-	hears(t, told, "STOPPING=1")
+	awaitNotify(t, socket, "STOPPING=1")
 }
 
-// everywhere is where a cache is reached over each transport, in a folder with its certificate and
-// its keys.
+// everywhere has the addresses of a cache for each transport, and the folder with its certificate
+// and keys.
 type everywhere struct {
 	folder                  string
 	authority               *trial.Authority
 	plain, secured, shelled string
 }
 
-// reachable writes what a cache wants for all transports into a folder.
+// reachable writes the certificate and the keys for all transports into a folder, and reserves the
+// addresses.
 func reachable(t *testing.T, folder string) everywhere {
 	t.Helper()
 	e := everywhere{folder, trial.NewAuthority(t), reserved(t), reserved(t), reserved(t)}
@@ -302,13 +304,13 @@ func reachable(t *testing.T, folder string) everywhere {
 	return e
 }
 
-// secrets are the words that name them.
+// secrets are the options for the certificate and the keys.
 var secrets = []string{
 	"--tls-cert", "cert", "--tls-key", "key", "--ssh-host-key", "host", "--ssh-routers", "routers",
 }
 
-// gives compares how many payloads come over each transport.
-func (e everywhere) gives(t *testing.T, count int) {
+// checkPayloads compares the number of payloads over each transport.
+func (e everywhere) checkPayloads(t *testing.T, count int) {
 	t.Helper()
 	ctx, cancel := context.WithTimeout(context.Background(), trial.Wait)
 	defer cancel()
@@ -326,8 +328,8 @@ func (e everywhere) gives(t *testing.T, count int) {
 	}
 }
 
-// Sockets of systemd-socket-activate, where it is installed, are served for the transports that
-// their names say.
+// Sockets of systemd-socket-activate, if it is installed, are served by the transports of their
+// names.
 func TestSocketActivation(t *testing.T) {
 	path, err := exec.LookPath("systemd-socket-activate")
 	if err != nil {
@@ -342,15 +344,15 @@ func TestSocketActivation(t *testing.T) {
 	process.Says("Listening on "+e.shelled, 1)
 	dialed(t, e.plain).Close() // at which the cache is started
 	process.Says("3 payloads", 1)
-	e.gives(t, 3)
+	e.checkPayloads(t, 3)
 	if status := process.End(); status != 0 {
 		t.Error(status)
 	}
 }
 
-// reserved is an address at which nothing listens, and of which the system gives the port to nobody
-// as long as the test runs: a socket is bound to it. Whoever asks for that port can listen there,
-// since neither socket minds another one (SO_REUSEADDR).
+// reserved returns an address whose port the system gives to no other process while the test runs,
+// since a socket is bound to it. With SO_REUSEADDR on both sockets, a program that asks for that
+// port can still listen there.
 func reserved(t *testing.T) string {
 	t.Helper()
 	socket, err := syscall.Socket(syscall.AF_INET, syscall.SOCK_STREAM|syscall.SOCK_CLOEXEC, 0)
@@ -371,18 +373,18 @@ func reserved(t *testing.T) string {
 	return fmt.Sprintf("127.0.0.1:%d", own.(*syscall.SockaddrInet4).Port)
 }
 
-// hears waits for what systemd is told next.
-func hears(t *testing.T, told *net.UnixConn, text string) {
+// awaitNotify waits for the next notification of systemd, and compares its first line.
+func awaitNotify(t *testing.T, socket *net.UnixConn, text string) {
 	t.Helper()
 	buffer := make([]byte, 100)
-	told.SetReadDeadline(time.Now().Add(trial.Wait))
-	n, err := told.Read(buffer)
+	socket.SetReadDeadline(time.Now().Add(trial.Wait))
+	n, err := socket.Read(buffer)
 	if got := strings.Split(string(buffer[:n]), "\n")[0]; err != nil || got != text {
 		t.Fatalf("%q, %v", got, err)
 	}
 }
 
-// What isn't RTR is refused by a line, and others are served on.
+// Clients that don't speak RTR are refused and logged by one line, and others are still served.
 func TestWrongClients(t *testing.T) {
 	folder := t.TempDir()
 	trial.Write(t, folder+"/f", rows(3))
@@ -393,13 +395,13 @@ func TestWrongClients(t *testing.T) {
 		"\x01\x04\x00\x00\x00\x00\x00\x14" + "0123456789ab": "reason=",
 		"\x01\x02\x00\x00\x00\x00\x00":                      "reason=unit",
 	} {
-		was := process.Lines("level=warning")
+		before := process.Lines("level=warning")
 		connection := dialed(t, address)
 		connection.Write([]byte(text))
 		connection.(*net.TCPConn).CloseWrite()
-		process.Says("level=warning", was+1)
-		if process.Lines(says) == 0 || process.Lines("level=warning") != was+1 {
-			t.Errorf("%q: %s", text, process.Said())
+		process.Says("level=warning", before+1)
+		if process.Lines(says) == 0 || process.Lines("level=warning") != before+1 {
+			t.Errorf("%q: %s", text, process.Stderr())
 		}
 		if data := fetched(t, address, 1); data.Len() != 3 {
 			t.Error(data.Len())
@@ -407,7 +409,7 @@ func TestWrongClients(t *testing.T) {
 	}
 }
 
-// A dump of stayrtr and a client of rtrlib, where they are installed, read the same.
+// stayrtr's rtrdump and rtrlib's rtrclient, if installed, read the same payloads.
 func TestPeers(t *testing.T) {
 	folder := t.TempDir()
 	trial.Write(t, folder+"/f", rows(3))
@@ -428,17 +430,17 @@ func TestPeers(t *testing.T) {
 			}
 			ctx, cancel := context.WithTimeout(context.Background(), trial.Wait)
 			defer cancel()
-			said, err := exec.CommandContext(ctx, path, line...).CombinedOutput()
+			output, err := exec.CommandContext(ctx, path, line...).CombinedOutput()
 			if err != nil {
-				t.Fatalf("%v: %s", err, said)
+				t.Fatalf("%v: %s", err, output)
 			}
 			text, err := os.ReadFile(folder + "/dump")
 			if err != nil {
-				t.Fatalf("%v: %s", err, said)
+				t.Fatalf("%v: %s", err, output)
 			}
 			for _, prefix := range []string{"10.0.0.0", "10.0.1.0", "10.0.2.0"} {
 				if strings.Count(string(text), prefix) != 1 {
-					t.Errorf("%s: %s\n%s", prefix, text, said)
+					t.Errorf("%s: %s\n%s", prefix, text, output)
 				}
 			}
 		})

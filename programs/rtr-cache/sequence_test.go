@@ -17,14 +17,14 @@ const (
 	other       = "\x01\x04\x00\x00\x00\x00\x00\x14\x01\x18\x1a\x00\xc6\x33\x64\x00\x00\x00\xfb\xf1"
 )
 
-// end is an end of data of this serial number.
+// end returns an end of data with this serial number.
 func end(serial string) string {
 	return "\x01\x07\x12\x34\x00\x00\x00\x18\x00\x00\x00" + serial +
 		"\x00\x00\x0e\x10\x00\x00\x02\x58\x00\x00\x1c\x20"
 }
 
-// A file of units is a recording of one answer or several, or a list, in any order: what it leaves
-// is served. What isn't is refused by name, with the offset.
+// A file of units is a recording of one or several answers, or a list, in any order; the data after
+// all of them are served. An invalid one is refused, with the offset.
 func TestSequences(t *testing.T) {
 	folder := t.TempDir()
 	const (
@@ -67,7 +67,7 @@ func TestSequences(t *testing.T) {
 		process, _ := started(t, folder, "--sequence", "f")
 		process.Says(c.says, 1)
 		if process.Lines("session") != 0 {
-			t.Errorf("%s: %s", c.name, process.Said())
+			t.Errorf("%s: %s", c.name, process.Stderr())
 		}
 		process.End()
 	}
@@ -79,7 +79,7 @@ func TestSequences(t *testing.T) {
 	trial.Write(t, folder+"/f", response+end("\x07"))
 	process, _ = started(t, folder, "--sequence", "f", "--empty")
 	process.Says("serial 1: 0 payloads", 1)
-	if !strings.Contains(process.Said(), "0 announced, 0 withdrawn") {
-		t.Error(process.Said())
+	if !strings.Contains(process.Stderr(), "0 announced, 0 withdrawn") {
+		t.Error(process.Stderr())
 	}
 }

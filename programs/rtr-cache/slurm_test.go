@@ -6,15 +6,15 @@ import (
 	"fishreef/programs/internal/trial"
 )
 
-// slurm is a SLURM file (RFC 8416) with these prefix filters and prefix assertions.
+// slurm returns a SLURM file (RFC 8416) with these prefix filters and prefix assertions.
 func slurm(filters, assertions string) string {
 	return `{"slurmVersion": 1,
 		"validationOutputFilters": {"prefixFilters": [` + filters + `], "bgpsecFilters": []},
 		"locallyAddedAssertions": {"prefixAssertions": [` + assertions + `], "bgpsecAssertions": []}}`
 }
 
-// A SLURM file filters what lists have, and adds to it. A change of it is served like one of a list;
-// a file that is refused changes nothing.
+// A SLURM file filters the payloads of lists, and adds others. A change of it is served like a
+// change of a list; an invalid one changes nothing.
 func TestSlurm(t *testing.T) {
 	folder := t.TempDir()
 	trial.Write(t, folder+"/f", "AS1,10.0.0.0/16,16\nAS2,10.1.0.0/16,16\n")
@@ -39,7 +39,7 @@ func TestSlurm(t *testing.T) {
 	process.Await(second, func() bool { return lines(fetched(t, address, 2)) == second })
 }
 
-// Files that overlap are refused, whichever comes first.
+// SLURM files that overlap are refused, in either order.
 func TestSlurmOverlap(t *testing.T) {
 	folder := t.TempDir()
 	trial.Write(t, folder+"/f", "AS1,10.0.0.0/16,16\n")
@@ -48,6 +48,6 @@ func TestSlurmOverlap(t *testing.T) {
 	process, _ := started(t, folder, "--csv", "f", "--slurm", "s", "--slurm", "u")
 	process.Says("f: u: overlaps another SLURM file (RFC 8416 section 4.2)", 1)
 	if process.Lines("serial") != 0 {
-		t.Error(process.Said())
+		t.Error(process.Stderr())
 	}
 }

@@ -14,8 +14,8 @@ import (
 	"fishreef/rtr"
 )
 
-// startedSSH is a cache of three payloads over SSH, its address, and the folder of its keys: of the
-// host, of a router that it knows, and of one that it doesn't.
+// startedSSH starts a cache of three payloads over SSH, and returns it, its address, and the folder
+// of keys: of the host, of routers that it trusts, and of a stranger.
 func startedSSH(t *testing.T, keys trial.Keys) (process *trial.Process, address, folder string) {
 	folder = t.TempDir()
 	trial.Write(t, folder+"/f", rows(3))
@@ -44,14 +44,14 @@ func overSSH(t *testing.T, address, key, known string) *rtr.Client {
 	return client
 }
 
-// Over SSH a router has to have a key that the cache knows, and the cache one that the router knows.
+// Over SSH a router needs a key that the cache trusts, and the cache a key that the router trusts.
 func TestSSH(t *testing.T) {
 	for _, keys := range []trial.Keys{trial.ECDSA, trial.RSA} {
 		t.Run(string(keys), func(t *testing.T) { knownOverSSH(t, keys) })
 	}
 }
 
-// knownOverSSH checks which routers are served over SSH, and which caches are accepted, by keys.
+// knownOverSSH checks that only trusted keys of routers and of caches are accepted.
 func knownOverSSH(t *testing.T, keys trial.Keys) {
 	process, address, folder := startedSSH(t, keys)
 	ctx, cancel := context.WithTimeout(context.Background(), trial.Wait)
@@ -109,11 +109,11 @@ func TestWrongSSH(t *testing.T) {
 	connection.(*net.TCPConn).CloseWrite()
 	process.Says("the handshake of SSH: ", 1)
 	if process.Lines("the handshake of SSH: ") != 1 {
-		t.Error(process.Said())
+		t.Error(process.Stderr())
 	}
 }
 
-// OpenSSH, where it is installed, gets the same bytes.
+// OpenSSH gets the same bytes, if it is installed.
 func TestOpenSSH(t *testing.T) {
 	for _, keys := range []trial.Keys{trial.ECDSA, trial.RSA} {
 		t.Run(string(keys), func(t *testing.T) { byOpenSSH(t, keys) })
@@ -136,10 +136,10 @@ func byOpenSSH(t *testing.T, keys trial.Keys) {
 	run := exec.CommandContext(ctx, path, "-F", "none", "-p", port, "-i", folder+"/router", "-o", "BatchMode=yes",
 		"-o", "IdentitiesOnly=yes", "-o", "UserKnownHostsFile="+folder+"/known", "-l", "rpki", "-s", host, transport.Subsystem)
 	run.Stdin = bytes.NewReader([]byte{1, 2, 0, 0, 0, 0, 0, 8})
-	var said bytes.Buffer
-	run.Stderr = &said
+	var stderr bytes.Buffer
+	run.Stderr = &stderr
 	output, err := run.Output()
 	if err != nil || len(output) != 8+3*20+24 {
-		t.Errorf("%x, %v: %s", output, err, said.String())
+		t.Errorf("%x, %v: %s", output, err, stderr.String())
 	}
 }

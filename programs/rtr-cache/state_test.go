@@ -14,7 +14,7 @@ import (
 	"fishreef/rtr"
 )
 
-// A restarted cache has its session and its serial number, and the changes from earlier data;
+// A restarted cache keeps its session and its serial number, and the changes from earlier data;
 // without a state folder another session begins.
 func TestRestart(t *testing.T) {
 	folder := t.TempDir()
@@ -37,7 +37,7 @@ func TestRestart(t *testing.T) {
 	process, address := started(t, folder, "--csv", "f", "--state", "state")
 	process.Says("state: session", 1)
 	if data := fetched(t, address, 2); !data.Equal(before) {
-		t.Error("a file that stayed changed something")
+		t.Error("an unchanged file changed the data")
 	}
 }
 
@@ -90,7 +90,7 @@ func TestTornState(t *testing.T) {
 		process, address := started(t, folder, "--csv", "f", "--state", "state")
 		process.Says("f: session", 1)
 		if process.Lines("state/editions: the file of editions is torn; it is now state/editions.refused") != 1 {
-			t.Errorf("%s: %s", name, process.Said())
+			t.Errorf("%s: %s", name, process.Stderr())
 		}
 		if data := fetched(t, address, 2); data.Serial() != 1 || data.Len() != 3 {
 			t.Errorf("%s: serial %d, %d payloads", name, data.Serial(), data.Len())
@@ -114,12 +114,12 @@ func TestHalfWrittenState(t *testing.T) {
 	process, address = started(t, folder, "--csv", "f", "--state", "state")
 	process.Says("state: session", 1)
 	if !fetched(t, address, 2).Equal(before) {
-		t.Error(process.Said())
+		t.Error(process.Stderr())
 	}
 }
 
-// moments are when a cache is killed: as soon as the new file exists, when it is renamed, and
-// anywhere around that.
+// moments are the times at which a cache is killed: as soon as the new file exists, when it is
+// renamed, and at random times around that.
 var moments = []func(folder string, since time.Time){
 	func(folder string, _ time.Time) { appears(folder + "/state/editions.new") },
 	func(folder string, since time.Time) { renamed(folder+"/state/editions", since) },
@@ -185,7 +185,7 @@ func before(data, others rtr.Data) bool {
 	return ok && order < 0
 }
 
-// polled loads the data of a cache repeatedly until it stops, and returns the changed ones.
+// polled loads the data of a cache repeatedly until it stops, and returns each changed version.
 func polled(address string) <-chan rtr.Data {
 	all := make(chan rtr.Data, 1000)
 	go func() {
@@ -215,7 +215,7 @@ func TestHangUp(t *testing.T) {
 	process.Says("f: line 1", 1)
 	time.Sleep(300 * time.Millisecond)
 	if process.Lines("f: line 1") != 1 {
-		t.Error(process.Said())
+		t.Error(process.Stderr())
 	}
 	process.Signal(hangup)
 	process.Says("f: line 1", 2)
@@ -236,9 +236,9 @@ func TestStateRights(t *testing.T) {
 	for name, rights := range map[string]os.FileMode{"made": 0o700, "given": 0o750} {
 		process, _ := started(t, folder, "--csv", "f", "--state", name)
 		process.Says("3 payloads", 1)
-		for path, wanted := range map[string]os.FileMode{"": rights, "/lock": 0o600} {
+		for path, expected := range map[string]os.FileMode{"": rights, "/lock": 0o600} {
 			info, err := os.Stat(folder + "/" + name + path)
-			if err != nil || info.Mode().Perm() != wanted {
+			if err != nil || info.Mode().Perm() != expected {
 				t.Errorf("%s%s: %v, %v", name, path, info.Mode(), err)
 			}
 		}

@@ -87,10 +87,10 @@ func TestUnitFilter(t *testing.T) {
 		"--listen", "ssh:" + e.shelled}, secrets...)
 	process := trial.StartBy(t, folder, nil, exec.Command("strace", line...))
 	process.Says("serial 1: 3 payloads", 1)
-	e.gives(t, 3)
+	e.checkPayloads(t, 3)
 	trial.Write(t, folder+"/f", rows(4))
 	process.Says("serial 2: 4 payloads", 1)
-	e.gives(t, 4)
+	e.checkPayloads(t, 4)
 	if status, _ := read(t, "http://"+metrics+"/metrics"); status != 200 {
 		t.Error(status)
 	}

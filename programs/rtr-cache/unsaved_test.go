@@ -39,7 +39,7 @@ func unsaved(t *testing.T, folder string, breaks func()) (*trial.Process, string
 	return process, address, metrics
 }
 
-// saved waits until the state is saved again, and then restarts the cache, which has it.
+// saved waits until the state is saved again, and checks that a restarted cache has it.
 func saved(t *testing.T, folder string, process *trial.Process, address, metrics string) {
 	t.Helper()
 	process.Says("state: the data are saved again", 1)
@@ -67,7 +67,7 @@ func TestUnsavedState(t *testing.T) {
 		t.Error(err)
 	}
 	if process.Lines("another session begins") != 0 {
-		t.Error(process.Said())
+		t.Error(process.Stderr())
 	}
 	if err := os.Remove(folder + "/state/editions.new"); err != nil {
 		t.Fatal(err)
@@ -75,8 +75,8 @@ func TestUnsavedState(t *testing.T) {
 	saved(t, folder, process, address, metrics)
 }
 
-// The same if the folder's data can't be removed either, as in a read-only file system: then they
-// get another session, once, so that no serial number has two data after a restart.
+// If the folder's data can't be removed either, as in a read-only file system, new data get another
+// session, once, so that after a restart no serial number stands for two data.
 func TestStateThatStays(t *testing.T) {
 	folder := t.TempDir()
 	had, aside := folder+"/state/editions", folder+"/state/aside"
@@ -101,7 +101,7 @@ func TestStateThatStays(t *testing.T) {
 	process.Says("serial 3: 5 payloads", 1)
 	third := fetched(t, address, 2)
 	if third.Session() != second.Session() || process.Lines("another session begins") != 1 {
-		t.Error(process.Said())
+		t.Error(process.Stderr())
 	}
 	if err := os.RemoveAll(had); err != nil {
 		t.Fatal(err)

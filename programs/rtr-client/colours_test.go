@@ -35,10 +35,10 @@ func TestColours(t *testing.T) {
 		}
 		command := c.environment + " " + words + " " + os.Args[0] + " --once " + address + " " + c.options
 		on := trial.StartBy(t, t.TempDir(), nil, exec.Command(script, "-qec", command, "/dev/null"))
-		status, said := on.Status(), on.Output()
-		if status != 0 || !strings.Contains(said, c.shows) ||
-			strings.Contains(said, "\x1b[") != strings.Contains(c.shows, "\x1b[") {
-			t.Errorf("%s %s: status %d, %q", c.environment, c.options, status, said)
+		status, output := on.Status(), on.Output()
+		if status != 0 || !strings.Contains(output, c.shows) ||
+			strings.Contains(output, "\x1b[") != strings.Contains(c.shows, "\x1b[") {
+			t.Errorf("%s %s: status %d, %q", c.environment, c.options, status, output)
 		}
 	}
 }

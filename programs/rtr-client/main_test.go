@@ -89,8 +89,8 @@ func TestPrintsChanges(t *testing.T) {
 		}
 		process.Await("the change", func() bool { return printed() == says[0]+says[1] })
 		process.Says("session 7 serial 2", 1)
-		if timed := when.MatchString(process.Said()); timed != (option == "--times") {
-			t.Errorf("%s: %s", option, process.Said())
+		if timed := when.MatchString(process.Stderr()); timed != (option == "--times") {
+			t.Errorf("%s: %s", option, process.Stderr())
 		}
 		for _, text := range when.FindAllString(process.Output(), -1) {
 			at, err := time.Parse(time.RFC3339, text)
@@ -115,15 +115,15 @@ func TestStamps(t *testing.T) {
 		t.Error(got)
 	}
 	_, address := cached(t, "127.0.0.1:0", data(t, 1, vrp("192.0.2.0/24", 26)))
-	for option, wanted := range map[string]string{
+	for option, expected := range map[string]string{
 		"--times": "TIME CACHE session 7 serial 1: 192.0.2.0/24 AS64496 valid\n",
 		"--json":  `{"time":"TIME","cache":"CACHE","session_id":7,"serial_number":1,"prefix":"192.0.2.0/24","asn":64496,"state":"valid"`,
 	} {
 		process := trial.Start(t, t.TempDir(), address, option, "--once", "--validate", "192.0.2.0/24", "AS64496")
 		status := process.Status()
-		said := strings.ReplaceAll(when.ReplaceAllString(process.Output(), "TIME"), address, "CACHE")
-		if status != 0 || !strings.HasPrefix(said, wanted) || strings.Count(said, "\n") != 1 {
-			t.Errorf("%s: status %d, %s", option, status, said)
+		output := strings.ReplaceAll(when.ReplaceAllString(process.Output(), "TIME"), address, "CACHE")
+		if status != 0 || !strings.HasPrefix(output, expected) || strings.Count(output, "\n") != 1 {
+			t.Errorf("%s: status %d, %s", option, status, output)
 		}
 	}
 }
@@ -150,17 +150,18 @@ func TestOnce(t *testing.T) {
 	} {
 		process := trial.Start(t, t.TempDir(), append(strings.Fields(row.words), "--once")...)
 		if status := process.Status(); status != row.status || process.Output() != row.output {
-			t.Errorf("%s: status %d, %s%s", row.words, status, process.Output(), process.Said())
+			t.Errorf("%s: status %d, %s%s", row.words, status, process.Output(), process.Stderr())
 		}
 		for _, text := range row.says {
 			if process.Lines(text) != 1 {
-				t.Errorf("%s: %q is missing in %s", row.words, text, process.Said())
+				t.Errorf("%s: %q is missing in %s", row.words, text, process.Stderr())
 			}
 		}
 	}
 }
 
-// The newest data are in the file, as rpki-client writes it or as CSV, and readers see whole ones.
+// The file has the newest data, as JSON of rpki-client's form or as CSV, and readers never see a
+// part of them.
 func TestOut(t *testing.T) {
 	server, address := cached(t, "127.0.0.1:0", data(t, 1, vrp("192.0.2.0/24", 26)))
 	folder := t.TempDir()
@@ -232,16 +233,16 @@ func TestRecord(t *testing.T) {
 		}
 		ways = append(ways, words[0]+" "+words[2])
 	}
-	said := strings.Join(ways, ",")
-	if !strings.HasPrefix(said, "0 sent,8 received,") || !strings.Contains(said, "60 received,72 sent,84 received") {
-		t.Error(said)
+	joined := strings.Join(ways, ",")
+	if !strings.HasPrefix(joined, "0 sent,8 received,") || !strings.Contains(joined, "60 received,72 sent,84 received") {
+		t.Error(joined)
 	}
 	if info, err := os.Stat(folder + "/r.3"); err != nil || info.Size() == 0 || !trial.Same(folder+"/r.2", "of before") {
 		t.Error(info, err)
 	}
 	process = trial.Start(t, folder, address, "--record", "r", "--once")
 	if status := process.Status(); status != words.System || process.Lines("r: file exists") != 1 {
-		t.Error(status, process.Said())
+		t.Error(status, process.Stderr())
 	}
 }
 
@@ -281,7 +282,7 @@ func TestPreference(t *testing.T) {
 	process.Await("the way back", func() bool { return process.Output() == want })
 	process.End()
 	if process.Lines(second+": session") != 2 {
-		t.Error(process.Said())
+		t.Error(process.Stderr())
 	}
 }
 
@@ -310,11 +311,11 @@ func TestNoPayloads(t *testing.T) {
 		began := time.Now()
 		process := trial.Start(t, t.TempDir(), append(row.words, "--once")...)
 		if got := process.Status(); got != row.status || process.Output() != row.output {
-			t.Errorf("%v: status %d, %s", row.words, got, process.Said())
+			t.Errorf("%v: status %d, %s", row.words, got, process.Stderr())
 		}
-		said := process.Lines(row.words[0] + ": the cache has no payloads")
-		if wanted := row.words[0] == empty && len(row.words) > 1; (said == 1) != wanted {
-			t.Errorf("%v: %s", row.words, process.Said())
+		stderr := process.Lines(row.words[0] + ": the cache has no payloads")
+		if expected := row.words[0] == empty && len(row.words) > 1; (stderr == 1) != expected {
+			t.Errorf("%v: %s", row.words, process.Stderr())
 		}
 		took := time.Since(began)
 		if row.words[0] == silent.Addr().String() && took < 5*time.Second {
@@ -354,7 +355,7 @@ func TestTLS(t *testing.T) {
 	} {
 		process := trial.Start(t, folder, append(strings.Fields(words), address, "--once")...)
 		if got := process.Status(); got != status {
-			t.Errorf("%s: status %d, %s", words, got, process.Said())
+			t.Errorf("%s: status %d, %s", words, got, process.Stderr())
 		}
 	}
 }
@@ -394,10 +395,10 @@ func TestWrongWords(t *testing.T) {
 		{"a:1 --record none/r", 3, "none/r: no such file"},
 	} {
 		process := trial.Start(t, folder, strings.Fields(row.words)...)
-		status, said := process.Status(), process.Said()
-		if status != row.status || strings.Count(said, "\n") != 1 || !strings.Contains(said, row.says) ||
-			!strings.HasPrefix(said, "rtr-client: ") || process.Output() != "" {
-			t.Errorf("%q: status %d, %s", row.words, status, said)
+		status, stderr := process.Status(), process.Stderr()
+		if status != row.status || strings.Count(stderr, "\n") != 1 || !strings.Contains(stderr, row.says) ||
+			!strings.HasPrefix(stderr, "rtr-client: ") || process.Output() != "" {
+			t.Errorf("%q: status %d, %s", row.words, status, stderr)
 		}
 	}
 }
@@ -458,8 +459,8 @@ func proxy(t *testing.T, to string) string {
 	return listener.Addr().String()
 }
 
-// Beside a cache that changes, behind a proxy that cuts connections anywhere, the file only has
-// data that the cache had, and in the end the last ones.
+// With a changing cache behind a proxy that cuts connections at random, the file only ever has data
+// that the cache had, and in the end the last ones.
 func TestCuts(t *testing.T) {
 	folder := t.TempDir()
 	list := func(serial int) (vrps []rtr.VRP) {
@@ -498,11 +499,11 @@ func TestNoOutput(t *testing.T) {
 	_, address := cached(t, "127.0.0.1:0", data(t, 1, vrp("192.0.2.0/24", 24)))
 	process := trial.Start(t, t.TempDir(), address, "--out", "none/vrps.json")
 	if status := process.Status(); status != words.System || process.Lines("none/") != 1 {
-		t.Error(status, process.Said())
+		t.Error(status, process.Stderr())
 	}
 }
 
-// The version that the help and the man page name as the default is the one that is asked in first.
+// The client first asks in the default version of the help and the man page.
 func TestDocumentedVersion(t *testing.T) {
 	page, err := os.ReadFile("../../docs/man/rtr-client.1")
 	if err != nil {

@@ -26,7 +26,7 @@ func written(t *testing.T, address, folder, path string) string {
 	t.Helper()
 	process := trial.Start(t, folder, address, "--once", "--out", path)
 	if status := process.Status(); status != 0 {
-		t.Fatal(status, process.Said())
+		t.Fatal(status, process.Stderr())
 	}
 	text, err := os.ReadFile(folder + "/" + path)
 	if err != nil {
@@ -71,7 +71,7 @@ func TestOutCounts(t *testing.T) {
 	process := trial.Start(t, t.TempDir(), address, "--once", "--out", "vrps.csv")
 	if status := process.Status(); status != 0 || process.Lines("vrps.csv: left out") != 1 ||
 		process.Lines("ASPA") != 1 || process.Lines("2") == 0 {
-		t.Error(status, process.Said())
+		t.Error(status, process.Stderr())
 	}
 }
 
@@ -102,7 +102,7 @@ func TestOutPlaces(t *testing.T) {
 	}
 	unread := trial.Start(t, folder, address, "--once", "--out", "pipe")
 	if status := unread.Status(); status != words.System || unread.Lines("pipe: no such device or address") != 1 {
-		t.Error(status, unread.Said())
+		t.Error(status, unread.Stderr())
 	}
 	reader, err := os.OpenFile(pipe, os.O_RDWR, 0)
 	if err != nil {
@@ -111,7 +111,7 @@ func TestOutPlaces(t *testing.T) {
 	defer reader.Close()
 	read := trial.Start(t, folder, address, "--once", "--out", "pipe")
 	if status := read.Status(); status != 0 {
-		t.Error(status, read.Said())
+		t.Error(status, read.Stderr())
 	}
 	text := make([]byte, 1000)
 	if n, err := reader.Read(text); err != nil || !strings.Contains(string(text[:n]), jsonItem) {
@@ -120,7 +120,7 @@ func TestOutPlaces(t *testing.T) {
 
 	full := trial.Start(t, folder, address, "--once", "--out", "/dev/full")
 	if status := full.Status(); status != words.System || full.Lines("/dev/full: no space left on device") != 1 {
-		t.Error(status, full.Said())
+		t.Error(status, full.Stderr())
 	}
 	if info, err := os.Stat("/dev/full"); err != nil || info.Mode()&os.ModeCharDevice == 0 {
 		t.Error(info, err)
@@ -133,7 +133,7 @@ func TestOutPlaces(t *testing.T) {
 	for path, says := range map[string]string{".": "--out: . is a folder", "socket": "--out: socket is a socket"} {
 		process := trial.Start(t, folder, address, "--once", "--out", path)
 		if status := process.Status(); status != words.Usage || process.Lines(says) != 1 {
-			t.Error(status, process.Said())
+			t.Error(status, process.Stderr())
 		}
 	}
 }

@@ -66,7 +66,7 @@ func TestProgress(t *testing.T) {
 		t.Errorf("status %d, %q", status, on.Output())
 	}
 	off := trial.Start(t, t.TempDir(), slowly(t, address), "--once", "--out", "vrps.csv")
-	if status := off.Status(); status != 0 || strings.Contains(off.Said(), "have come") {
-		t.Errorf("status %d, %q", status, off.Said())
+	if status := off.Status(); status != 0 || strings.Contains(off.Stderr(), "have come") {
+		t.Errorf("status %d, %q", status, off.Stderr())
 	}
 }

@@ -48,7 +48,7 @@ func TestSSH(t *testing.T) {
 	for known, status := range map[string]int{"known": 0, "others": 1} {
 		process := trial.Start(t, folder, address, "--once", "--ssh", "rpki", "--ssh-key", "key", "--ssh-known-hosts", known)
 		if got := process.Status(); got != status {
-			t.Errorf("%s: status %d, %s", known, got, process.Said())
+			t.Errorf("%s: status %d, %s", known, got, process.Stderr())
 		}
 	}
 }

@@ -33,7 +33,7 @@ func prefixes(t *testing.T, count int, serial uint32) rtr.Data {
 	return data
 }
 
-// cache is a cache that listens at an address until it is closed, with these data.
+// cache starts a cache of these data at an address.
 func cache(t *testing.T, address string, data rtr.Data) *rtr.Server {
 	t.Helper()
 	listener, err := net.Listen("tcp", address)
@@ -47,7 +47,7 @@ func cache(t *testing.T, address string, data rtr.Data) *rtr.Server {
 	return server
 }
 
-// updated gives a cache new data.
+// updated updates a cache to new data.
 func updated(t *testing.T, server *rtr.Server, data rtr.Data) {
 	t.Helper()
 	if err := server.Update(data); err != nil {
@@ -86,9 +86,9 @@ func shows(t *testing.T, process *trial.Process, url, text string) {
 	})
 }
 
-// A difference that lasts longer than the grace time is a line, a metric and a fault, and its end
-// is a line; a shorter one isn't reported. Caches notify at most once in a minute (RFC 8210 section
-// 5.2), so they are asked more often.
+// A difference that lasts longer than the grace time gets a log line, a metric and a fault, and
+// another line at its end; a shorter one isn't reported. Caches notify at most once a minute (RFC
+// 8210 section 5.2), so --refresh asks them more often.
 func TestDifferences(t *testing.T) {
 	first, second := trial.Reserved(t), trial.Reserved(t)
 	cache(t, first, prefixes(t, 3, 1))
@@ -96,7 +96,7 @@ func TestDifferences(t *testing.T) {
 	process, page := monitoring(t, t.TempDir(), first, second, "--grace", "4s", "--refresh", "1s")
 	shows(t, process, page+"health", "good")
 	if status, _ := read(t, page+"health"); status != 200 || process.Lines("difference") != 0 {
-		t.Error(status, process.Said())
+		t.Error(status, process.Stderr())
 	}
 	updated(t, other, prefixes(t, 4, 2))
 	shows(t, process, page+"metrics", `rtr_monitor_missing{age="young",source="`+first+`"} 1`)
@@ -106,7 +106,7 @@ func TestDifferences(t *testing.T) {
 	updated(t, other, prefixes(t, 2, 4))
 	process.Says(`msg="difference: IPv4 prefix 10.0.2.0/24-24 AS64496" missing="`+second+`" since=`, 1)
 	if took := time.Since(began); took < 4*time.Second || process.Lines("10.0.3.0") != 0 {
-		t.Errorf("after %v: %s", took, process.Said())
+		t.Errorf("after %v: %s", took, process.Stderr())
 	}
 	if status, says := read(t, page+"health"); status != 503 ||
 		says != second+": 1 payload is missing for longer than 4s\n" {
@@ -130,8 +130,8 @@ func TestDifferences(t *testing.T) {
 	}
 }
 
-// A cache that dies keeps its data in the comparison, as routers keep them, and is a line and a
-// metric; once it is back its data are compared again.
+// The data of a cache that died stay in the comparison, as in routers, and its failure gets a log
+// line and a metric; once it is back, its new data are compared.
 func TestCacheDies(t *testing.T) {
 	first, second := trial.Reserved(t), trial.Reserved(t)
 	cache(t, first, prefixes(t, 3, 1))
@@ -148,7 +148,7 @@ func TestCacheDies(t *testing.T) {
 	shows(t, process, page+"metrics", `rtr_monitor_up{source="`+second+`"} 1`)
 	shows(t, process, page+"metrics", `rtr_monitor_serial{source="`+second+`"} 9`)
 	if process.Lines("it answers again") != 1 {
-		t.Error(process.Said())
+		t.Error(process.Stderr())
 	}
 }
 
@@ -179,14 +179,14 @@ func TestLists(t *testing.T) {
 	process.Says(json+": it fails: it can't be fetched: dial tcp", 1)
 	shows(t, process, page+"metrics", `rtr_monitor_up{source="`+json+`"} 0`)
 	if process.Lines("ASPA") != 0 { // version 1 has none
-		t.Error(process.Said())
+		t.Error(process.Stderr())
 	}
 	trial.Write(t, folder+"/aspas", `{"roas": [{"asn": 64496, "prefix": "10.0.0.0/24"},
 		{"asn": 64496, "prefix": "10.0.1.0/24"}], "aspas": [{"customer_asid": 1, "providers": [2]}]}`)
 	process, _ = monitoring(t, folder, address, "csv:f", "json:aspas", "--grace", "1s")
 	process.Says(`msg="difference: ASPA AS1 providers AS2" missing="`+address+`"`, 1)
 	if process.Lines("csv:f\" since") != 0 { // CSV has none
-		t.Error(process.Said())
+		t.Error(process.Stderr())
 	}
 }
 
@@ -200,7 +200,7 @@ func (nobody) Came(*transport.Peer, *rtr.Unit)                              {}
 func (nobody) Moved(*transport.Peer, transport.Direction, int)              {}
 func (nobody) Reported(*transport.Peer, transport.Direction, rtr.ErrorCode) {}
 
-// secured is a cache over a transport.
+// secured starts a cache over a transport.
 func secured(t *testing.T, kind transport.Kind, secure transport.Secured, data rtr.Data) (address string) {
 	t.Helper()
 	listener, err := net.Listen("tcp", "127.0.0.1:0")
@@ -270,9 +270,9 @@ func TestWrongWords(t *testing.T) {
 		{"a:1 csv:http://127.0.0.1/ --fetch-ca none", "none: no such file", 3},
 	} {
 		process := trial.Start(t, folder, strings.Fields(row.words)...)
-		status, said := process.Status(), process.Said()
-		if status != row.status || strings.Count(said, "\n") != 1 || !strings.Contains(said, row.says) {
-			t.Errorf("%q: status %d, %s", row.words, status, said)
+		status, stderr := process.Status(), process.Stderr()
+		if status != row.status || strings.Count(stderr, "\n") != 1 || !strings.Contains(stderr, row.says) {
+			t.Errorf("%q: status %d, %s", row.words, status, stderr)
 		}
 	}
 }

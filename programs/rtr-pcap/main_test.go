@@ -20,7 +20,7 @@ const (
 	cache  = 323
 )
 
-// sent is what a side sends: from its port, at an offset of its stream.
+// sent is a packet of a side: from its port, at an offset in its stream.
 type sent struct {
 	from, to uint16
 	place    int
@@ -28,7 +28,7 @@ type sent struct {
 	more     more
 }
 
-// more is what few packets have.
+// more has fields that few packets need.
 type more struct {
 	flags byte   // in place of ACK and PSH
 	ack   uint32 // one is added
@@ -36,7 +36,7 @@ type more struct {
 	base  uint32 // of the sequence numbers, in place of 1
 }
 
-// packet is one of IPv4 and TCP, of which the capture has all but what is cut.
+// packet returns a packet of IPv4 and TCP, as captured: without the bytes that are cut.
 func (s sent) packet() []byte {
 	head := make([]byte, 40)
 	head[0], head[8], head[9] = 0x45, 64, 6
@@ -80,7 +80,7 @@ func capture(t *testing.T, name string, packets ...sent) string {
 	return path
 }
 
-// header is what stands before a packet of a pcap file, all of which is in the capture.
+// header returns the header of a completely captured packet in a pcap file.
 func header(size int) string {
 	var file bytes.Buffer
 	for _, number := range []uint32{1, 0, uint32(size), uint32(size)} {
@@ -145,7 +145,7 @@ func TestListsConnections(t *testing.T) {
 		sent{router, 80, 0, "GET / HTTP/1.0\r\n\r\n", more{}}), session(router+1, cache)...)...)
 	process := trial.Start(t, t.TempDir(), path)
 	if status := process.Status(); status != 0 || process.Output() != lines+lines {
-		t.Fatalf("status %d, %q, %q", status, process.Output(), process.Said())
+		t.Fatalf("status %d, %q, %q", status, process.Output(), process.Stderr())
 	}
 	process.Says("rtr-pcap: runs tshark -n -r '"+strings.ReplaceAll(path, "'", `'\''`)+"' ", 1)
 	process.Says("-T fields", 1)
@@ -178,12 +178,12 @@ func TestOptions(t *testing.T) {
 	} {
 		process := trial.Start(t, t.TempDir(), append([]string{path}, strings.Fields(c.options)...)...)
 		if status := process.Status(); status != c.status || process.Output() != c.says {
-			t.Errorf("%s: status %d, %q, %q", c.options, status, process.Output(), process.Said())
+			t.Errorf("%s: status %d, %q, %q", c.options, status, process.Output(), process.Stderr())
 		}
 	}
 }
 
-// A wrong argument and a wrong file get one line that names it.
+// A wrong argument or file ends the program with one line that names it.
 func TestRefuses(t *testing.T) {
 	wants(t, "tshark", "rtr_list")
 	folder, empty := t.TempDir(), capture(t, "empty.pcap")
@@ -214,7 +214,7 @@ func TestRefuses(t *testing.T) {
 	}
 }
 
-// The port that the help and the man page name as the default is the one of the program.
+// The help and the man page name the program's default port.
 func TestDocumentedPort(t *testing.T) {
 	page, err := os.ReadFile("../../docs/man/rtr-pcap.1")
 	if err != nil {
@@ -228,6 +228,6 @@ func TestDocumentedPort(t *testing.T) {
 	wants(t, "tshark", "rtr_list")
 	asked := trial.Start(t, t.TempDir(), capture(t, "one.pcap", sent{router, cache, 0, query, more{}}))
 	if asked.Status(); asked.Lines("tcp.port==323,data") != 1 {
-		t.Error(asked.Said())
+		t.Error(asked.Stderr())
 	}
 }

@@ -8,7 +8,7 @@ import (
 	"fishreef/programs/internal/words"
 )
 
-// key is a router key of 131 bytes, and another one.
+// key returns a router key of 131 bytes, whose identifier and key info repeat a string.
 func key(fill string) string {
 	return "\x01\x09\x01\x00\x00\x00\x00\x83" + strings.Repeat(fill, 20) + "\x00\x00\xfb\xf0" +
 		strings.Repeat(fill, 99)
@@ -62,7 +62,7 @@ func TestMissingBytes(t *testing.T) {
 			t.Errorf("%s: status %d, %q", c.name, status, process.Output())
 		}
 		if process.Lines("connection 0: "+c.says+", what it sent after that is left out") != 1 {
-			t.Errorf("%s: %s", c.name, process.Said())
+			t.Errorf("%s: %s", c.name, process.Stderr())
 		}
 	}
 }
@@ -97,7 +97,7 @@ func TestReassembles(t *testing.T) {
 		path := capture(t, "whole.pcap", packets...)
 		process := trial.Start(t, t.TempDir(), path, "--raw")
 		if status := process.Status(); status != 0 || process.Output() != all {
-			t.Errorf("%s: status %d, %q, %s", name, status, process.Output(), process.Said())
+			t.Errorf("%s: status %d, %q, %s", name, status, process.Output(), process.Stderr())
 		}
 	}
 }
@@ -109,7 +109,7 @@ func TestLongPacket(t *testing.T) {
 	path := capture(t, "long.pcap", sent{cache, router, 0, all, more{}})
 	process := trial.Start(t, t.TempDir(), path, "--raw")
 	if status := process.Status(); status != 0 || process.Output() != all {
-		t.Errorf("status %d, %d bytes, %s", status, len(process.Output()), process.Said())
+		t.Errorf("status %d, %d bytes, %s", status, len(process.Output()), process.Stderr())
 	}
 }
 
@@ -170,7 +170,7 @@ func TestQuoted(t *testing.T) {
 	trial.Write(t, path, text)
 	process := trial.Start(t, t.TempDir(), path)
 	if status := process.Status(); status != 0 || process.Output() != lines {
-		t.Errorf("status %d, %q, %s", status, process.Output(), process.Said())
+		t.Errorf("status %d, %q, %s", status, process.Output(), process.Stderr())
 	}
 }
 

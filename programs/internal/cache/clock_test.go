@@ -31,7 +31,7 @@ type clocked struct {
 	running time.Duration
 	start   time.Time
 	ahead   time.Duration
-	said    bytes.Buffer
+	logged  bytes.Buffer
 }
 
 // newClocked is a cache of a file whose items all expire after an hour.
@@ -53,7 +53,7 @@ func newClocked(t *testing.T, items int) *clocked {
 		t.Fatal(err)
 	}
 	log := logrus.New()
-	log.SetOutput(&c.said)
+	log.SetOutput(&c.logged)
 	c.Cache, err = New(Settings{
 		Files:  []payloads.File{{Format: payloads.JSON, Path: path}},
 		Reader: payloads.Reader{Maker: maker},
@@ -81,7 +81,7 @@ func (c *clocked) shows(later time.Duration, count int, serial uint32, reason tr
 	well := len(reasons) == 0 && reason == "" || len(reasons) > 0 && reasons[0] == reason
 	if c.present.Len() != count || c.present.Serial() != serial || !well {
 		c.t.Errorf("after %v: %d payloads, serial %d, %v\n%s",
-			c.running, c.present.Len(), c.present.Serial(), reasons, c.said.String())
+			c.running, c.present.Len(), c.present.Serial(), reasons, c.logged.String())
 	}
 }
 
@@ -106,8 +106,8 @@ func TestClockStaysAhead(t *testing.T) {
 	c.ahead = 240 * time.Hour
 	c.shows(10*time.Second, 1000, 1, trust.Clocks)
 	c.shows(5*time.Minute, 0, 2, trust.Empty)
-	if !strings.Contains(c.said.String(), "level=warning msg=") {
-		t.Error(c.said.String())
+	if !strings.Contains(c.logged.String(), "level=warning msg=") {
+		t.Error(c.logged.String())
 	}
 	c.ahead = 0
 	c.shows(10*time.Second, 0, 2, trust.Empty)

@@ -79,9 +79,9 @@ func unitFor(line string) *rtr.Unit {
 // found returns the lines of missing payloads, each with the source that lacks it.
 func found(all []missing) string {
 	var lines []string
-	for _, one := range all {
-		d := Difference{missing: one}
-		lines = append(lines, fmt.Sprintf("%s: %d", d.Line(), one.source))
+	for _, m := range all {
+		d := Difference{missing: m}
+		lines = append(lines, fmt.Sprintf("%s: %d", d.Line(), m.source))
 	}
 	sort.Strings(lines)
 	return strings.Join(lines, "\n")
@@ -150,9 +150,9 @@ func TestPivot(t *testing.T) {
 	}
 	of := func() map[missing]bool {
 		all := map[missing]bool{}
-		for _, one := range c.missing() {
-			if one.source != 0 {
-				all[one] = true
+		for _, m := range c.missing() {
+			if m.source != 0 {
+				all[m] = true
 			}
 		}
 		return all
@@ -174,9 +174,9 @@ func TestPivot(t *testing.T) {
 	if after := of(); len(after) != len(before) || len(after) == 0 {
 		t.Errorf("%d and %d", len(before), len(after))
 	} else {
-		for one := range after {
-			if !before[one] {
-				t.Error(one)
+		for m := range after {
+			if !before[m] {
+				t.Error(m)
 			}
 		}
 	}
@@ -190,28 +190,28 @@ func TestAges(t *testing.T) {
 	a, b := missing{"a", 0}, missing{"b", 1}
 	d := newDifferences(2, 10*time.Second)
 	// Each has the returned number, and the first of them.
-	said := func(what string, first []Difference, count, wanted int, which missing) {
+	check := func(what string, first []Difference, count, expected int, which missing) {
 		t.Helper()
-		if count != wanted || len(first) != wanted || wanted > 0 && first[0].missing != which {
+		if count != expected || len(first) != expected || expected > 0 && first[0].missing != which {
 			t.Errorf("%s: %d %v", what, count, first)
 		}
 	}
-	next := func(wanted time.Time) {
+	next := func(expected time.Time) {
 		t.Helper()
-		if when, ok := d.next(); !ok || !when.Equal(wanted) {
+		if when, ok := d.next(); !ok || !when.Equal(expected) {
 			t.Error(when, ok)
 		}
 	}
 	over, count := d.replace([]missing{a}, at(0), 9)
-	said("at first", over, count, 0, a)
+	check("at first", over, count, 0, a)
 	next(at(10))
 	d.replace([]missing{b, a}, at(4), 9)
 	aged, count := d.markOld(at(9), 9)
-	said("too soon", aged, count, 0, a)
+	check("too soon", aged, count, 0, a)
 	aged, count = d.markOld(at(10), 9)
-	said("a is old", aged, count, 1, a)
+	check("a is old", aged, count, 1, a)
 	aged, count = d.markOld(at(12), 9)
-	said("it was told", aged, count, 0, a)
+	check("it was logged", aged, count, 0, a)
 	next(at(14))
 	if d.counts[0] != (numbers{0, 1}) || d.counts[1] != (numbers{1, 0}) {
 		t.Error(d.counts)
@@ -223,7 +223,7 @@ func TestAges(t *testing.T) {
 		t.Error(list)
 	}
 	over, count = d.replace(nil, at(13), 9)
-	said("b was never told", over, count, 1, a)
+	check("b was never logged", over, count, 1, a)
 	d.replace([]missing{a}, at(20), 9)
 	if list := d.list(10, false); len(list) != 1 || !list[0].Since.Equal(at(20)) || list[0].old {
 		t.Error(list)
@@ -243,7 +243,7 @@ func TestEarliest(t *testing.T) {
 			e.offer(&Difference{missing: missing{fmt.Sprint(place), place % 3}, Since: start.Add(time.Duration(place / 2))})
 		}
 		list := e.list()
-		if wanted := most; len(list) != wanted && len(list) != 50 {
+		if expected := most; len(list) != expected && len(list) != 50 {
 			t.Errorf("%d of %d", len(list), most)
 		}
 		for i := range list {

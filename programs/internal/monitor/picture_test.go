@@ -18,9 +18,9 @@ import (
 func ofDay(now time.Time, at func(minute int) sample) *day {
 	d := newDay()
 	for minute := -2000; minute < 1440; minute++ { // those before the day are dropped
-		one := at(minute)
-		one.at = now.Add(time.Duration(minute-1440) * time.Minute)
-		d.add(one)
+		s := at(minute)
+		s.at = now.Add(time.Duration(minute-1440) * time.Minute)
+		d.add(s)
 	}
 	return d
 }
@@ -55,11 +55,11 @@ func inside(t *testing.T, picture string) {
 func TestPicture(t *testing.T) {
 	now := time.Date(2026, 11, 28, 12, 0, 30, 0, time.UTC)
 	d := ofDay(now, func(minute int) sample {
-		one := sample{payloads: []int{500000, 500000 + minute/100}, young: minute % 3}
+		s := sample{payloads: []int{500000, 500000 + minute/100}, young: minute % 3}
 		if minute > 700 && minute < 800 {
-			one.payloads[1], one.old = absent, 7
+			s.payloads[1], s.old = absent, 7
 		}
-		return one
+		return s
 	})
 	if len(d.samples) != 1441 { // with both ends of the day
 		t.Error(len(d.samples))
@@ -148,9 +148,9 @@ func TestPage(t *testing.T) {
 
 // The news of a source lead to the right state: data, their loss, and failures.
 func TestStates(t *testing.T) {
-	var said strings.Builder
+	var logged strings.Builder
 	log := logrus.New()
-	log.SetOutput(&said)
+	log.SetOutput(&logged)
 	m, err := New(Settings{Sources: []Source{{Name: "a"}, {Name: "b"}}, Grace: time.Minute}, log)
 	if err != nil {
 		t.Fatal(err)
@@ -164,14 +164,14 @@ func TestStates(t *testing.T) {
 		}
 		return strings.Join(all, "; ")
 	}
-	one := sideOf(t, 2, "10.0.0.0/8 1").data
+	other := sideOf(t, 2, "10.0.0.0/8 1").data
 	two := sideOf(t, 2, "10.0.0.0/8 1", "10.0.0.0/9 2").data
 	for _, step := range []struct {
 		seconds int
 		event   event
 		says    string
 	}{
-		{0, event{source: 0, data: one, version: 2}, "data b: no data"},
+		{0, event{source: 0, data: other, version: 2}, "data b: no data"},
 		{1, event{source: 1, failure: "refused"}, "data b: no data: refused"},
 		{2, event{source: 1, data: two, version: 2}, ""},
 		{63, event{source: 0, alive: true}, "differs a: 1 payload is missing for longer than 1m"},
@@ -179,7 +179,7 @@ func TestStates(t *testing.T) {
 		{124, event{source: 1, failure: "closed"},
 			"failing b: failing for 1m0s: closed; differs a: 1 payload is missing for longer than 1m"},
 		{125, event{source: 1, lost: true}, "data b: no data: closed"},
-		{126, event{source: 1, data: one, version: 2}, ""},
+		{126, event{source: 1, data: other, version: 2}, ""},
 		{200, event{source: 0, data: two, version: 2}, ""},
 		{259, event{source: 1, alive: true}, ""},
 	} {
@@ -194,17 +194,17 @@ func TestStates(t *testing.T) {
 		"difference ended: IPv4 prefix 10.0.0.0/9-9 AS2": 1, "b: it answers again after": 2,
 		"b: its data expired or were dropped": 1,
 	} {
-		if strings.Count(said.String(), text) != times {
-			t.Errorf("%d of %s:\n%s", strings.Count(said.String(), text), text, said.String())
+		if strings.Count(logged.String(), text) != times {
+			t.Errorf("%d of %s:\n%s", strings.Count(logged.String(), text), text, logged.String())
 		}
 	}
 }
 
 // Many differences at one time have a hundred lines, and one for the rest.
 func TestManyLines(t *testing.T) {
-	var said strings.Builder
+	var logged strings.Builder
 	log := logrus.New()
-	log.SetOutput(&said)
+	log.SetOutput(&logged)
 	m, err := New(Settings{Sources: []Source{{Name: "a"}, {Name: "b"}}, Grace: time.Minute}, log)
 	if err != nil {
 		t.Fatal(err)
@@ -217,8 +217,8 @@ func TestManyLines(t *testing.T) {
 	m.handle(event{source: 0, data: sideOf(t, 2, lines...).data, version: 2}, now)
 	m.handle(event{source: 1, data: sideOf(t, 2).data, version: 2}, now)
 	m.logAged(now.Add(time.Hour))
-	if strings.Count(said.String(), "msg=\"difference: ") != 100 ||
-		strings.Count(said.String(), "and 150 differences more") != 1 {
-		t.Error(said.String())
+	if strings.Count(logged.String(), "msg=\"difference: ") != 100 ||
+		strings.Count(logged.String(), "and 150 differences more") != 1 {
+		t.Error(logged.String())
 	}
 }

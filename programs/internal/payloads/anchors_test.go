@@ -24,9 +24,9 @@ func TestAnchors(t *testing.T) {
 				"ripe" } ], "aspas": [ { "customer_asid": 1, "ta": "ripe" } ] }`
 	)
 	for name, c := range map[string]struct {
-		format Format
-		text   string
-		wanted Anchors
+		format   Format
+		text     string
+		expected Anchors
 	}{
 		"rpki-client":       {JSON, client, Anchors{"ripe": 3, "apnic": 1}},
 		"no names":          {JSON, `{"roas": [{"asn": 1, "prefix": "10.0.0.0/16"}]}`, Anchors{}},
@@ -45,7 +45,7 @@ func TestAnchors(t *testing.T) {
 		"an empty object": {JSON, "{}", Anchors{}},
 	} {
 		got, err := anchorsOf(iotest.HalfReader(strings.NewReader(c.text)), c.format)
-		if err != nil || !reflect.DeepEqual(got, c.wanted) {
+		if err != nil || !reflect.DeepEqual(got, c.expected) {
 			t.Errorf("%s: %v, %v", name, got, err)
 		}
 	}

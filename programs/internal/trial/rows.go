@@ -112,8 +112,8 @@ func (e *Exported) Rows(t *testing.T, least int) {
 		for name := range set("`("+e.Prefix+"\\w+)`", cells[0]) {
 			rows[name] = true
 			labels := strings.NewReplacer("`", "", ",", "").Replace(strings.TrimSpace(cells[1]))
-			if wanted := sorted(e.names[name]); sorted(labels) != wanted {
-				t.Errorf("%s has labels %q, and its row %q", name, wanted, labels)
+			if expected := sorted(e.names[name]); sorted(labels) != expected {
+				t.Errorf("%s has labels %q, and its row %q", name, expected, labels)
 			}
 		}
 	}

@@ -77,7 +77,7 @@ type Process struct {
 
 	lock   sync.Mutex
 	output []byte // standard output
-	said   []byte // standard error
+	stderr []byte // standard error
 }
 
 // Start starts the program with this command line, in this folder.
@@ -92,7 +92,7 @@ func StartBy(t *testing.T, folder string, environment []string, run *exec.Cmd) *
 	p := &Process{t: t, run: run, ended: make(chan struct{})}
 	run.Dir = folder
 	run.Env = append(append(os.Environ(), asked+"=1"), environment...)
-	run.Stdout, run.Stderr = stream{p, &p.output}, stream{p, &p.said}
+	run.Stdout, run.Stderr = stream{p, &p.output}, stream{p, &p.stderr}
 	if err := run.Start(); err != nil {
 		t.Fatal(err)
 	}
@@ -125,17 +125,17 @@ func (p *Process) Output() string {
 	return string(p.output)
 }
 
-// Said returns what the process wrote on standard error so far.
-func (p *Process) Said() string {
+// Stderr returns what the process wrote on standard error so far.
+func (p *Process) Stderr() string {
 	p.lock.Lock()
 	defer p.lock.Unlock()
-	return string(p.said)
+	return string(p.stderr)
 }
 
 // Lines returns how many lines on standard error have this text.
 func (p *Process) Lines(text string) int {
 	count := 0
-	for _, line := range strings.Split(p.Said(), "\n") {
+	for _, line := range strings.Split(p.Stderr(), "\n") {
 		if strings.Contains(line, text) {
 			count++
 		}
@@ -148,7 +148,7 @@ func (p *Process) Await(what string, condition func() bool) {
 	p.t.Helper()
 	for until := time.Now().Add(Wait); !condition(); time.Sleep(5 * time.Millisecond) {
 		if time.Now().After(until) || p.hasEnded() && !condition() {
-			p.t.Fatalf("%s: never came; it said:\n%s", what, p.Said())
+			p.t.Fatalf("%s: never came; it said:\n%s", what, p.Stderr())
 		}
 	}
 }
@@ -174,7 +174,7 @@ func (p *Process) Says(text string, times int) {
 func (p *Process) After(text string) string {
 	p.t.Helper()
 	p.Says(text, 1)
-	_, rest, _ := strings.Cut(p.Said(), text)
+	_, rest, _ := strings.Cut(p.Stderr(), text)
 	ends := func(r rune) bool { return r == ' ' || r == '"' || r == '\n' }
 	return strings.FieldsFunc(rest, ends)[0]
 }
@@ -209,7 +209,7 @@ func (p *Process) Status() int {
 	select {
 	case <-p.ended:
 	case <-time.After(Wait):
-		p.t.Fatalf("the program doesn't end; it said:\n%s", p.Said())
+		p.t.Fatalf("the program doesn't end; it said:\n%s", p.Stderr())
 	}
 	return p.status
 }

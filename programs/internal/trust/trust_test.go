@@ -140,11 +140,11 @@ func TestClock(t *testing.T) {
 		}},
 	} {
 		var clock Clock
-		for i, one := range c.looks {
-			clock = clock.Look(start.Add(one.after+one.system), one.after, c.rules, one.confirmed)
+		for i, reading := range c.looks {
+			clock = clock.Look(start.Add(reading.after+reading.system), reading.after, c.rules, reading.confirmed)
 			says := clock.Fault(c.rules)
-			if !clock.Now().Equal(start.Add(one.after+one.counts)) || (says == "") != (one.says == "") ||
-				!strings.Contains(says, one.says) {
+			if !clock.Now().Equal(start.Add(reading.after+reading.counts)) || (says == "") != (reading.says == "") ||
+				!strings.Contains(says, reading.says) {
 				t.Errorf("%s: look %d: %v, %q", name, i, clock.Now(), says)
 			}
 		}

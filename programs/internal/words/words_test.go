@@ -46,14 +46,14 @@ func TestStatusOf(t *testing.T) {
 	_, missing := os.Open(t.TempDir() + "/missing")
 	_, busy := net.Listen("tcp", "192.0.2.1:0")
 	three := exec.Command("sh", "-c", "exit 3").Run()
-	one := exec.Command("sh", "-c", "exit 1").Run()
+	exitOne := exec.Command("sh", "-c", "exit 1").Run()
 	for _, c := range []struct {
 		err    error
 		status int
 	}{
 		{missing, System}, {fmt.Errorf("f: %w", missing), System}, {busy, System},
 		{&net.DNSError{Err: "no such host"}, System}, {three, System},
-		{one, Failed}, {errors.New("no unit"), Failed},
+		{exitOne, Failed}, {errors.New("no unit"), Failed},
 	} {
 		if got := StatusOf(c.err); c.err == nil || got != c.status {
 			t.Errorf("%v: %d", c.err, got)
