@@ -16,11 +16,11 @@ import (
 func quiet(t *testing.T, scenes ...scene) func(*net.TCPConn) {
 	return func(cache *net.TCPConn) {
 		reader := NewReader(cache)
-		for _, one := range scenes {
-			if got := readUnit(reader); !bytes.Equal(got, one.query) {
-				t.Errorf("%x was asked, not %x", got, one.query)
+		for _, s := range scenes {
+			if got := readUnit(reader); !bytes.Equal(got, s.query) {
+				t.Errorf("%x was asked, not %x", got, s.query)
 			}
-			cache.Write(one.answer)
+			cache.Write(s.answer)
 		}
 		cache.SetReadDeadline(time.Now().Add(50 * time.Millisecond))
 		if got := readUnit(reader); got != nil {

@@ -24,7 +24,7 @@ type playedCache struct {
 	broken   bool
 	deadline [2]time.Time // of the next read, and of the next write
 	later    []step       // steps that came while it wrote
-	room     uint64       // how many bytes the router reads, until a step changes that
+	window   uint64       // how many bytes the router reads, until a step changes that
 }
 
 // The indexes of the deadlines.
@@ -69,13 +69,13 @@ func (p *playedCache) until(which int) uint64 {
 func (p *playedCache) waits(which int) error {
 	until := p.until(which)
 	switch {
-	case len(p.given) > 0:
+	case len(p.pending) > 0:
 	case until <= p.clock:
 		return os.ErrDeadlineExceeded
 	case !p.has(until):
 		return errDone
 	}
-	next := p.given[0].time
+	next := p.pending[0].time
 	if until <= next {
 		next = until
 	}
@@ -90,20 +90,20 @@ func (p *playedCache) waits(which int) error {
 
 // Read takes steps until bytes come, or the deadline passes.
 func (p *playedCache) Read(buffer []byte) (int, error) {
-	p.given, p.later = append(p.later, p.given...), nil
+	p.pending, p.later = append(p.later, p.pending...), nil
 	for {
 		if err := p.waits(toRead); err != nil {
 			return 0, err
 		}
-		one := &p.given[0]
-		if one.what == ">" {
-			n := copy(buffer, one.data)
-			if one.data = one.data[n:]; len(one.data) == 0 {
-				p.given = p.given[1:]
+		s := &p.pending[0]
+		if s.what == ">" {
+			n := copy(buffer, s.data)
+			if s.data = s.data[n:]; len(s.data) == 0 {
+				p.pending = p.pending[1:]
 			}
 			return n, nil
 		}
-		what := one.what
+		what := s.what
 		if err := p.next(); err != nil {
 			return 0, err
 		}
@@ -124,10 +124,10 @@ func (p *playedCache) Write(bytes []byte) (int, error) {
 			return written, errBroken
 		}
 		taken := len(bytes) - written
-		if uint64(taken) > p.room {
-			taken = int(p.room)
+		if uint64(taken) > p.window {
+			taken = int(p.window)
 		}
-		p.room -= uint64(taken)
+		p.window -= uint64(taken)
 		if err := p.sends(bytes[written : written+taken]); err != nil {
 			return written, err
 		}
@@ -137,8 +137,8 @@ func (p *playedCache) Write(bytes []byte) (int, error) {
 		if err := p.waits(toWrite); err != nil {
 			return written, err
 		}
-		if what := p.given[0].what; what == ">" || what == "closes" {
-			p.later, p.given = append(p.later, p.given[0]), p.given[1:]
+		if what := p.pending[0].what; what == ">" || what == "closes" {
+			p.later, p.pending = append(p.later, p.pending[0]), p.pending[1:]
 		} else if err := p.next(); err != nil {
 			return written, err
 		}
@@ -172,30 +172,30 @@ func (p *playedCache) sends(bytes []byte) error {
 
 // next takes a step that isn't about the connection.
 func (p *playedCache) next() error {
-	one := p.given[0]
-	p.given = p.given[1:]
-	if one.time > p.clock {
-		p.clock = one.time
+	s := p.pending[0]
+	p.pending = p.pending[1:]
+	if s.time > p.clock {
+		p.clock = s.time
 	}
-	switch one.what {
+	switch s.what {
 	case "breaks":
 		p.broken = true
 	case "takes":
-		room, err := strconv.ParseUint(string(one.data), 10, 64)
-		p.room = room
+		window, err := strconv.ParseUint(string(s.data), 10, 64)
+		p.window = window
 		return err
 	case "data":
-		data, err := ParseData(one.data)
+		data, err := ParseData(s.data)
 		if err != nil {
 			return err
 		}
 		return p.server.Update(data)
 	case "forgets":
-		p.forgets(one.data)
+		p.forgets(s.data)
 	case "saves":
-		return p.server.Save(string(one.data))
+		return p.server.Save(string(s.data))
 	case "restores":
-		_, err := p.server.Restore(string(one.data))
+		_, err := p.server.Restore(string(s.data))
 		return err
 	}
 	return nil
@@ -204,8 +204,8 @@ func (p *playedCache) next() error {
 // forgets drops the server's deltas from data up to a serial number.
 func (p *playedCache) forgets(serial []byte) {
 	present := p.server.present.Load()
-	for i, one := range present.known {
-		if fmt.Sprint(one) == string(serial) {
+	for i, known := range present.known {
+		if fmt.Sprint(known) == string(serial) {
 			limits := p.server.Limits
 			p.server.present.Store(newEdition(present.number, present.data, present.back[:i], limits))
 		}
@@ -215,7 +215,7 @@ func (p *playedCache) forgets(serial []byte) {
 // play runs a server through the scene.
 func (p *playedCache) play() error {
 	for p.has(math.MaxUint64) {
-		what := p.given[0].what
+		what := p.pending[0].what
 		if err := p.next(); err != nil {
 			return fmt.Errorf("%s: %w", p.name, err)
 		}
@@ -223,7 +223,7 @@ func (p *playedCache) play() error {
 			continue
 		}
 		p.client, p.broken = newServed(p.server, p), false
-		p.later, p.room = nil, math.MaxUint64
+		p.later, p.window = nil, math.MaxUint64
 		p.server.clients = map[*served]bool{p.client: true}
 		if what == "beyond" {
 			p.client.refuse()
@@ -250,29 +250,29 @@ func (p *playedCache) take(line string) error {
 	if err != nil {
 		return err
 	}
-	one := step{time: at, what: words[1]}
+	s := step{time: at, what: words[1]}
 	switch rest := strings.Join(words[1:], " "); {
 	case rest == "router connects beyond the limit":
-		one.what = "beyond"
+		s.what = "beyond"
 	case words[1] == "router" && words[2] == "takes":
-		one.what, one.data = words[2], []byte(words[3])
+		s.what, s.data = words[2], []byte(words[3])
 	case words[1] == "router":
-		one.what = words[2]
+		s.what = words[2]
 	case words[1] == "router>":
-		one.what = ">"
-		one.data, err = hex.DecodeString(strings.Join(words[2:], ""))
+		s.what = ">"
+		s.data, err = hex.DecodeString(strings.Join(words[2:], ""))
 	case words[1] == "data":
-		one.data, err = hex.DecodeString(strings.Join(words[3:len(words)-1], ""))
+		s.data, err = hex.DecodeString(strings.Join(words[3:len(words)-1], ""))
 	case words[1] == "forgets" || words[1] == "saves" || words[1] == "restores":
-		one.data = []byte(words[2])
+		s.data = []byte(words[2])
 	case words[1] == "cache>" && words[2] != "report":
-		p.wanted = append(p.wanted, words[0]+" cache> "+strings.Join(words[2:], ""))
+		p.expected = append(p.expected, words[0]+" cache> "+strings.Join(words[2:], ""))
 		return nil
 	case words[1] != "at":
-		p.wanted = append(p.wanted, strings.Join(words, " "))
+		p.expected = append(p.expected, strings.Join(words, " "))
 		return nil
 	}
-	p.given = append(p.given, one)
+	p.pending = append(p.pending, s)
 	return err
 }
 

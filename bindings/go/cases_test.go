@@ -46,15 +46,15 @@ func cases(t *testing.T) []testCase {
 	}
 	var all []testCase
 	for rest := caseBytes; len(rest) > 0; {
-		one := testCase{version: rest[0], status: rest[1], detail: rest[2]}
+		c := testCase{version: rest[0], status: rest[1], detail: rest[2]}
 		rest = rest[3:]
-		for i := range one.numbers {
-			one.numbers[i] = binary.LittleEndian.Uint64(rest)
+		for i := range c.numbers {
+			c.numbers[i] = binary.LittleEndian.Uint64(rest)
 			rest = rest[8:]
 		}
-		one.input, rest = rest[:one.numbers[3]], rest[one.numbers[3]:]
-		one.form, rest = rest[:one.numbers[4]], rest[one.numbers[4]:]
-		all = append(all, one)
+		c.input, rest = rest[:c.numbers[3]], rest[c.numbers[3]:]
+		c.form, rest = rest[:c.numbers[4]], rest[c.numbers[4]:]
+		all = append(all, c)
 	}
 	return all
 }
@@ -69,48 +69,48 @@ func numbers(err error) (uint8, uint8) {
 }
 
 // normalised calls Normalise, or NormaliseFor if the case is for one version.
-func (one *testCase) normalised(input, output []byte, limit uint64) (Progress, error) {
-	if one.version == 255 {
+func (c *testCase) normalised(input, output []byte, limit uint64) (Progress, error) {
+	if c.version == 255 {
 		return Normalise(input, output, limit)
 	}
-	return NormaliseFor(input, output, limit, one.version)
+	return NormaliseFor(input, output, limit, c.version)
 }
 
 // room returns an output size that always suffices.
-func (one *testCase) room() int {
-	if one.version == 255 {
-		return len(one.input)
+func (c *testCase) size() int {
+	if c.version == 255 {
+		return len(c.input)
 	}
-	return len(one.input) + 12
+	return len(c.input) + 12
 }
 
 // whole returns what is wrong if the case is one call.
-func (one *testCase) whole() error {
-	output := make([]byte, one.room())
-	progress, err := one.normalised(one.input, output, 1<<32)
+func (c *testCase) whole() error {
+	output := make([]byte, c.size())
+	progress, err := c.normalised(c.input, output, 1<<32)
 	status, detail := numbers(err)
-	expected := Progress{one.numbers[0], one.numbers[1], int(one.numbers[2]), len(one.form)}
-	if status != one.status || detail != one.detail || progress != expected {
-		return fmt.Errorf("%x: %v %v", one.input, progress, err)
+	expected := Progress{c.numbers[0], c.numbers[1], int(c.numbers[2]), len(c.form)}
+	if status != c.status || detail != c.detail || progress != expected {
+		return fmt.Errorf("%x: %v %v", c.input, progress, err)
 	}
-	if !bytes.Equal(output[:progress.Written], one.form) {
-		return fmt.Errorf("%x: another form", one.input)
+	if !bytes.Equal(output[:progress.Written], c.form) {
+		return fmt.Errorf("%x: another form", c.input)
 	}
 	return nil
 }
 
 // read returns what is wrong if the case is read as a sequence of a Reader, and written by a
 // Writer.
-func (one *testCase) read() error {
-	if one.version != 255 {
+func (c *testCase) read() error {
+	if c.version != 255 {
 		return nil
 	}
 	var form bytes.Buffer
-	reader, writer := NewReader(bytes.NewReader(one.input)), NewWriter(&form)
+	reader, writer := NewReader(bytes.NewReader(c.input)), NewWriter(&form)
 	sequence := reader.Sequence(1 << 32)
 	for sequence.Scan() {
 		if err := writer.Write(sequence.Unit()); err != nil {
-			return fmt.Errorf("%x: %v", one.input, err)
+			return fmt.Errorf("%x: %v", c.input, err)
 		}
 	}
 	status, detail := numbers(sequence.Err())
@@ -120,18 +120,18 @@ func (one *testCase) read() error {
 		// A refused prefix is skipped.
 		taken = fault.Offset
 	}
-	if status != one.status || detail != one.detail || taken != int64(one.numbers[2]) {
-		return fmt.Errorf("%x: %v after %d bytes", one.input, sequence.Err(), taken)
+	if status != c.status || detail != c.detail || taken != int64(c.numbers[2]) {
+		return fmt.Errorf("%x: %v after %d bytes", c.input, sequence.Err(), taken)
 	}
-	if !bytes.Equal(form.Bytes(), one.form) {
-		return fmt.Errorf("%x: another form", one.input)
+	if !bytes.Equal(form.Bytes(), c.form) {
+		return fmt.Errorf("%x: another form", c.input)
 	}
 	return nil
 }
 
 func TestSequences(t *testing.T) {
-	for _, one := range cases(t) {
-		for _, err := range []error{one.whole(), one.read()} {
+	for _, c := range cases(t) {
+		for _, err := range []error{c.whole(), c.read()} {
 			if err != nil {
 				t.Fatal(err)
 			}
@@ -147,8 +147,8 @@ func TestGoroutines(t *testing.T) {
 		running.Add(1)
 		go func() {
 			defer running.Done()
-			for _, one := range all {
-				for _, err := range []error{one.whole(), one.read()} {
+			for _, c := range all {
+				for _, err := range []error{c.whole(), c.read()} {
 					if err != nil {
 						t.Error(err)
 						return
@@ -162,71 +162,72 @@ func TestGoroutines(t *testing.T) {
 
 // In steps, with a small output and few units each time: the result is the same.
 func TestInTurns(t *testing.T) {
-	for _, one := range cases(t) {
-		if len(one.input) >= 1<<16 {
+	for _, c := range cases(t) {
+		if len(c.input) >= 1<<16 {
 			continue
 		}
 		var form []byte
 		var units uint64
 		var err error
-		rest, room := one.input, 16
+		rest, size := c.input, 16
 		for {
 			var progress Progress
-			output := make([]byte, room)
-			progress, err = one.normalised(rest, output, 3)
+			output := make([]byte, size)
+			progress, err = c.normalised(rest, output, 3)
 			form = append(form, output[:progress.Written]...)
 			rest = rest[progress.Taken:]
 			units += progress.Units
 			if errors.Is(err, NoRoom) && progress.Taken == 0 {
-				room *= 2
+				size *= 2
 			} else if !errors.Is(err, NoRoom) && !errors.Is(err, TooMany) {
 				break
 			}
 		}
 		status, detail := numbers(err)
-		taken := len(one.input) - len(rest)
-		if status != one.status || detail != one.detail || taken != int(one.numbers[2]) {
-			t.Fatalf("%x: %v after %d bytes", one.input, err, taken)
+		taken := len(c.input) - len(rest)
+		if status != c.status || detail != c.detail || taken != int(c.numbers[2]) {
+			t.Fatalf("%x: %v after %d bytes", c.input, err, taken)
 		}
-		if units != one.numbers[0] || !bytes.Equal(form, one.form) {
-			t.Fatalf("%x: another form", one.input)
+		if units != c.numbers[0] || !bytes.Equal(form, c.form) {
+			t.Fatalf("%x: another form", c.input)
 		}
 	}
 }
 
 // An output that is one byte too short, and a limit that is one too low.
 func TestNoRoomAndTooMany(t *testing.T) {
-	for _, one := range cases(t) {
-		if one.status != 0 {
+	for _, c := range cases(t) {
+		if c.status != 0 {
 			continue
 		}
-		output := make([]byte, len(one.form))
-		progress, err := one.normalised(one.input, output[1:], one.numbers[0]+1)
-		if !errors.Is(err, NoRoom) || progress.Taken >= int(one.numbers[2]) {
-			t.Fatalf("%x: %v %v", one.input, progress, err)
+		output := make([]byte, len(c.form))
+		progress, err := c.normalised(c.input, output[1:], c.numbers[0]+1)
+		if !errors.Is(err, NoRoom) || progress.Taken >= int(c.numbers[2]) {
+			t.Fatalf("%x: %v %v", c.input, progress, err)
 		}
-		if !bytes.Equal(output[1:1+progress.Written], one.form[:progress.Written]) {
-			t.Fatalf("%x: another form", one.input)
+		if !bytes.Equal(output[1:1+progress.Written], c.form[:progress.Written]) {
+			t.Fatalf("%x: another form", c.input)
 		}
-		progress, err = one.normalised(one.input, output, one.numbers[0])
-		if !errors.Is(err, TooMany) || progress.Units != one.numbers[0] {
-			t.Fatalf("%x: %v %v", one.input, progress, err)
+		progress, err = c.normalised(c.input, output, c.numbers[0])
+		if !errors.Is(err, TooMany) || progress.Units != c.numbers[0] {
+			t.Fatalf("%x: %v %v", c.input, progress, err)
 		}
-		_, err = one.normalised(one.input, output, one.numbers[0]+1)
+		_, err = c.normalised(c.input, output, c.numbers[0]+1)
 		if err != nil {
-			t.Fatalf("%x: %v", one.input, err)
+			t.Fatalf("%x: %v", c.input, err)
 		}
 	}
 }
 
-// The limit of a Sequence counts as that of Normalise. If it ends one, another continues.
+// The limit of a Sequence counts units as that of Normalise does. After it another Sequence
+// continues.
 func TestSequenceLimit(t *testing.T) {
-	for _, one := range cases(t) {
-		if one.status != 0 || one.version != 255 || one.numbers[0] > 20 {
+	for _, c := range cases(t) {
+		if c.status != 0 || c.version != 255 || c.numbers[0] > 20 {
 			continue
 		}
-		for limit := uint64(0); limit <= one.numbers[0]; limit++ {
-			reader := NewReader(bytes.NewReader(one.input))
+		for limit := uint64(0); limit <= c.numbers[0]; limit++ {
+			reader := NewReader(bytes.NewReader(c.input))
 			for _, left := range []uint64{limit / 2, limit - limit/2} {
 				sequence, count := reader.Sequence(left), uint64(0)
 				for sequence.Scan() {
@@ -235,15 +236,15 @@ func TestSequenceLimit(t *testing.T) {
 				var fault *Fault
 				if !errors.As(sequence.Err(), &fault) || fault.Status != TooMany || count != left ||
 					fault.Offset != reader.Offset() || sequence.Unit() != nil || sequence.Scan() {
-					t.Fatalf("%x: %d units, %v", one.input, count, sequence.Err())
+					t.Fatalf("%x: %d units, %v", c.input, count, sequence.Err())
 				}
 			}
 		}
-		sequence := NewReader(bytes.NewReader(one.input)).Sequence(one.numbers[0] + 1)
+		sequence := NewReader(bytes.NewReader(c.input)).Sequence(c.numbers[0] + 1)
 		for sequence.Scan() {
 		}
 		if sequence.Err() != nil || sequence.Unit().Kind != EndOfData || sequence.Scan() {
-			t.Fatalf("%x: %v", one.input, sequence.Err())
+			t.Fatalf("%x: %v", c.input, sequence.Err())
 		}
 	}
 }
@@ -251,14 +252,14 @@ func TestSequenceLimit(t *testing.T) {
 func TestMeanings(t *testing.T) {
 	// Only an end of data, of version 0.
 	end := []byte{0, 7, 0, 1, 0, 0, 0, 12, 0, 0, 0, 2}
-	for _, one := range cases(t) {
-		if one.version != 255 {
+	for _, c := range cases(t) {
+		if c.version != 255 {
 			continue
 		}
-		same, err := SameMeaning(one.input, one.form, 1<<32)
-		one.checkSame(t, same, one.status == 0, Left, err)
-		same, err = SameMeaning(end, one.input, 1<<32)
-		one.checkSame(t, same, one.status == 0 && bytes.Equal(end, one.form), Right, err)
+		same, err := SameMeaning(c.input, c.form, 1<<32)
+		c.checkSame(t, same, c.status == 0, Left, err)
+		same, err = SameMeaning(end, c.input, 1<<32)
+		c.checkSame(t, same, c.status == 0 && bytes.Equal(end, c.form), Right, err)
 	}
 }
 
@@ -292,18 +293,18 @@ func TestSameMeaningLimit(t *testing.T) {
 
 // checkSame checks the result of SameMeaning for the case, which is the input of this side, and a
 // sequence that is accepted.
-func (one *testCase) checkSame(t *testing.T, same, expected bool, side Side, err error) {
+func (c *testCase) checkSame(t *testing.T, same, expected bool, side Side, err error) {
 	status, detail := numbers(err)
-	if same != expected || status != one.status || detail != one.detail {
-		t.Fatalf("%x: %v %v", one.input, same, err)
+	if same != expected || status != c.status || detail != c.detail {
+		t.Fatalf("%x: %v %v", c.input, same, err)
 	}
 	var fault *Fault
-	if errors.As(err, &fault) && (fault.Offset != int64(one.numbers[2]) || fault.Side != side ||
-		!bytes.HasPrefix(one.input[fault.Offset:], fault.Unit)) {
-		t.Fatalf("%x: %v", one.input, err)
+	if errors.As(err, &fault) && (fault.Offset != int64(c.numbers[2]) || fault.Side != side ||
+		!bytes.HasPrefix(c.input[fault.Offset:], fault.Unit)) {
+		t.Fatalf("%x: %v", c.input, err)
 	}
-	if errors.Is(err, io.ErrUnexpectedEOF) != (one.status == uint8(Short)) {
-		t.Fatalf("%x: %v", one.input, err)
+	if errors.Is(err, io.ErrUnexpectedEOF) != (c.status == uint8(Short)) {
+		t.Fatalf("%x: %v", c.input, err)
 	}
 }
 
@@ -386,26 +387,26 @@ func shown(unit *Unit, size int) [22]uint64 {
 }
 
 // check returns what is wrong with a unit that was read, or refused.
-func (one *answer) check(unit *Unit, read []byte, err error) error {
+func (a *answer) check(unit *Unit, read []byte, err error) error {
 	status, detail := numbers(err)
-	if uint64(status) != one.numbers[0] || uint64(detail) != one.numbers[21] {
-		return fmt.Errorf("%v, but expected is %v", err, one.numbers)
+	if uint64(status) != a.numbers[0] || uint64(detail) != a.numbers[21] {
+		return fmt.Errorf("%v, but expected is %v", err, a.numbers)
 	}
 	if err != nil {
 		return nil
 	}
-	if shown(unit, len(read)) != one.numbers || !bytes.Equal(unit.KeyIdentifier[:], one.identifier) {
-		return fmt.Errorf("%+v, but expected is %v", unit, one.numbers)
+	if shown(unit, len(read)) != a.numbers || !bytes.Equal(unit.KeyIdentifier[:], a.identifier) {
+		return fmt.Errorf("%+v, but expected is %v", unit, a.numbers)
 	}
-	if unit.Prefix.IsValid() && !bytes.HasPrefix(one.address, unit.Prefix.Addr().AsSlice()) {
-		return fmt.Errorf("%v, but expected is %x", unit.Prefix, one.address)
+	if unit.Prefix.IsValid() && !bytes.HasPrefix(a.address, unit.Prefix.Addr().AsSlice()) {
+		return fmt.Errorf("%v, but expected is %x", unit.Prefix, a.address)
 	}
-	if !bytes.Equal(unit.part(), read[one.numbers[3]:][:one.numbers[4]]) ||
-		!bytes.Equal(unit.Text, read[one.numbers[5]:][:one.numbers[6]]) {
+	if !bytes.Equal(unit.part(), read[a.numbers[3]:][:a.numbers[4]]) ||
+		!bytes.Equal(unit.Text, read[a.numbers[5]:][:a.numbers[6]]) {
 		return fmt.Errorf("%+v has other parts", unit)
 	}
 	form, err := unit.AppendBinary(nil)
-	if err != nil || !bytes.Equal(form, one.form) {
+	if err != nil || !bytes.Equal(form, a.form) {
 		return fmt.Errorf("%+v is written as %x: %v", unit, form, err)
 	}
 	return nil
@@ -416,17 +417,17 @@ func TestSessions(t *testing.T) {
 	inputs, answers := sessions(t)
 	for i, input := range inputs {
 		reader, rest := NewReader(bytes.NewReader(input)), input
-		for _, one := range answers[i] {
+		for _, a := range answers[i] {
 			unit, err := reader.Next()
 			if err == io.EOF && len(rest) == 0 {
 				break
 			}
-			if wrong := one.check(unit, reader.Bytes(), err); wrong != nil {
+			if wrong := a.check(unit, reader.Bytes(), err); wrong != nil {
 				t.Fatalf("%x: %v", input, wrong)
 			}
 			inMemory, after, err := Next(rest)
 			size := len(rest) - len(after)
-			if wrong := one.check(&inMemory, rest[:size], err); wrong != nil {
+			if wrong := a.check(&inMemory, rest[:size], err); wrong != nil {
 				t.Fatalf("%x: %v", input, wrong)
 			}
 			if errors.Is(err, PrefixRule) {

@@ -14,21 +14,21 @@ import (
 // check returns the lines of the rules that a recording breaks, up to a unit that is refused.
 func check(recording []byte) (string, error) {
 	var checker Checker
-	var said strings.Builder
+	var text strings.Builder
 	for rest := recording; len(rest) > 0; {
 		found, size, err := checker.Unit(rest)
 		if err != nil {
-			return said.String(), err
+			return text.String(), err
 		}
-		for _, one := range found {
-			said.WriteString(one.String() + "\n")
+		for _, finding := range found {
+			text.WriteString(finding.String() + "\n")
 		}
 		rest = rest[size:]
 	}
-	for _, one := range checker.Finish() {
-		said.WriteString(one.String() + "\n")
+	for _, finding := range checker.Finish() {
+		text.WriteString(finding.String() + "\n")
 	}
-	return said.String(), nil
+	return text.String(), nil
 }
 
 // The recordings of the file that RTR_FINDINGS names, or else of tests/programs/listings
@@ -49,8 +49,8 @@ func TestFindings(t *testing.T) {
 		size := binary.LittleEndian.Uint32(rows)
 		length := binary.LittleEndian.Uint32(rows[4:])
 		recording, lines := rows[8:8+size], string(rows[8+size:8+size+length])
-		if said, err := check(recording); err != nil || said != lines {
-			t.Errorf("% x: %q, %v; wanted %q", recording, said, err, lines)
+		if got, err := check(recording); err != nil || got != lines {
+			t.Errorf("% x: %q, %v; not %q", recording, got, err, lines)
 		}
 		rows = rows[8+size+length:]
 	}
@@ -62,16 +62,16 @@ func TestFindings(t *testing.T) {
 // The fault of a refused unit comes after the findings before it.
 func TestFindingsBeforeRefusal(t *testing.T) {
 	hosts := changed(ipv4, 15, 1)
-	for _, one := range []struct {
+	for _, row := range []struct {
 		last []byte
 		err  error
 	}{
 		{hosts[:9], Short},
 		{[]byte{2, 11, 1, 0, 0, 0, 0, 12, 0, 1, 0, 15}, EmptyProviders},
 	} {
-		said, err := check(append(append([]byte{}, hosts...), one.last...))
-		if said != "offset 0: host bits of the prefix are not zero\n" || !errors.Is(err, one.err) {
-			t.Errorf("%q, %v", said, err)
+		got, err := check(append(append([]byte{}, hosts...), row.last...))
+		if got != "offset 0: host bits of the prefix are not zero\n" || !errors.Is(err, row.err) {
+			t.Errorf("%q, %v", got, err)
 		}
 	}
 }

@@ -34,16 +34,16 @@ func fakeCache(t testing.TB, serve ...func(*net.TCPConn)) string {
 			lock.Lock()
 			open[connection] = true
 			lock.Unlock()
-			one := serve[len(serve)-1]
+			handler := serve[len(serve)-1]
 			if i < len(serve) {
-				one = serve[i]
+				handler = serve[i]
 			}
 			running.Add(1)
 			go func() {
 				defer running.Done()
 				defer connection.Close()
 				connection.SetDeadline(time.Now().Add(patience))
-				one(connection.(*net.TCPConn))
+				handler(connection.(*net.TCPConn))
 			}()
 		}
 	}()
@@ -59,7 +59,7 @@ func fakeCache(t testing.TB, serve ...func(*net.TCPConn)) string {
 	return listener.Addr().String()
 }
 
-// quick returns a client with short waits.
+// quick returns a client with short pauses.
 func quick(address string) *Client {
 	client := NewClient(address)
 	client.Version = 2
@@ -103,7 +103,7 @@ func TestClientLimitsMet(t *testing.T) {
 	_, address := started(t, nil, data)
 	ctx, cancel := limited(t)
 	defer cancel()
-	for _, one := range []struct {
+	for _, row := range []struct {
 		bytes  int
 		units  uint64
 		reason error
@@ -113,10 +113,10 @@ func TestClientLimitsMet(t *testing.T) {
 		{len(ipv4) + len(announced6), 2, ErrTooLong},
 	} {
 		client := quick(address)
-		client.Version, client.Limits.Bytes, client.Limits.Units = 1, one.bytes, one.units
+		client.Version, client.Limits.Bytes, client.Limits.Units = 1, row.bytes, row.units
 		got, err := client.Fetch(ctx)
-		if !errors.Is(err, one.reason) || (err == nil) != got.Equal(data) {
-			t.Fatal(one, got, err)
+		if !errors.Is(err, row.reason) || (err == nil) != got.Equal(data) {
+			t.Fatal(row, got, err)
 		}
 	}
 }
@@ -138,7 +138,8 @@ func readUnit(reader *Reader) []byte {
 // errEnough ends a client successfully.
 var errEnough = errors.New("enough")
 
-// follow runs a client until this returns true for an update, and returns all updates and failures.
+// follow runs a client until enough returns true for an update, and returns all updates and
+// failures.
 func follow(t testing.TB, client *Client, enough func(Update) bool) ([]Update, []error) {
 	t.Helper()
 	ctx, cancel := limited(t)
@@ -250,15 +251,15 @@ type scene struct{ query, answer []byte }
 func play(t testing.TB, last chan<- []byte, scenes ...scene) func(*net.TCPConn) {
 	return func(connection *net.TCPConn) {
 		reader := NewReader(connection)
-		for _, one := range scenes {
-			if got := readUnit(reader); !bytes.Equal(got, one.query) {
-				t.Errorf("%x was asked, not %x", got, one.query)
+		for _, s := range scenes {
+			if got := readUnit(reader); !bytes.Equal(got, s.query) {
+				t.Errorf("%x was asked, not %x", got, s.query)
 				return
 			}
-			if one.answer == nil {
+			if s.answer == nil {
 				return
 			}
-			connection.Write(one.answer)
+			connection.Write(s.answer)
 		}
 		unit := readUnit(reader)
 		if last != nil {

@@ -14,8 +14,8 @@ import (
 	"testing"
 )
 
-// record is a payload in these tests: its rank orders records as the docs of Data say, and its name
-// is unique in data.
+// record is a payload in these tests. Its rank orders records as payloads in Data, and its name is
+// unique in data.
 type record struct {
 	kind Kind
 	body string // of the unit after its flags, without free bits
@@ -101,8 +101,8 @@ type records map[string]record
 func someRecords(random *rand.Rand, count int) records {
 	all := records{}
 	for i := 0; i < count; i++ {
-		one := recordOf(random)
-		all[one.name] = one
+		r := recordOf(random)
+		all[r.name] = r
 	}
 	return all
 }
@@ -110,9 +110,9 @@ func someRecords(random *rand.Rand, count int) records {
 // ordered returns the records for which this holds, by rank.
 func (rs records) ordered(holds func(record) bool) []record {
 	var all []record
-	for _, one := range rs {
-		if holds(one) {
-			all = append(all, one)
+	for _, r := range rs {
+		if holds(r) {
+			all = append(all, r)
 		}
 	}
 	sort.Slice(all, func(i, j int) bool { return all[i].rank < all[j].rank })
@@ -122,8 +122,8 @@ func (rs records) ordered(holds func(record) bool) []record {
 // units returns the units that announce or withdraw these records.
 func units(version byte, announce bool, all []record) [][]byte {
 	var units [][]byte
-	for _, one := range all {
-		units = append(units, one.unit(version, announce))
+	for _, r := range all {
+		units = append(units, r.unit(version, announce))
 	}
 	return units
 }
@@ -136,8 +136,8 @@ func (rs records) canonical(version byte, serial uint32) []byte {
 
 // leadingTo returns the units of the delta to new.
 func (rs records) leadingTo(new records, version byte) [][]byte {
-	announced := new.ordered(func(one record) bool { return rs[one.name] != one })
-	withdrawn := rs.ordered(func(one record) bool { _, stays := new[one.name]; return !stays })
+	announced := new.ordered(func(r record) bool { return rs[r.name] != r })
+	withdrawn := rs.ordered(func(r record) bool { _, stays := new[r.name]; return !stays })
 	return append(units(version, true, announced), units(version, false, withdrawn)...)
 }
 
@@ -184,7 +184,7 @@ func TestDeltas(t *testing.T) {
 	}
 }
 
-// changing is units of changes, and the records after them, up to the first that isn't allowed.
+// changing has units of changes, and the records after them, up to the first that isn't allowed.
 type changing struct {
 	held   records
 	input  []byte
@@ -193,36 +193,36 @@ type changing struct {
 }
 
 // change appends the unit that announces or withdraws a record.
-func (c *changing) change(one record, announce bool) {
-	_, there := c.held[one.name]
+func (c *changing) change(r record, announce bool) {
+	_, there := c.held[r.name]
 	switch {
 	case c.status != OK:
-	case announce && there && one.kind != ASPA:
+	case announce && there && r.kind != ASPA:
 		c.status, c.offset = Duplicate, len(c.input)
 	case !announce && !there:
 		c.status, c.offset = Unknown, len(c.input)
 	case announce:
-		c.held[one.name] = one
+		c.held[r.name] = r
 	default:
-		delete(c.held, one.name)
+		delete(c.held, r.name)
 	}
-	c.input = append(c.input, one.unit(2, announce)...)
+	c.input = append(c.input, r.unit(2, announce)...)
 }
 
-// becomes checks the result of a call that applied these changes.
-func (c *changing) becomes(t *testing.T, made Data, err error) {
+// becomes checks the result of a call that applied the changes.
+func (c *changing) becomes(t *testing.T, got Data, err error) {
 	t.Helper()
 	if c.status == OK {
-		if err != nil || !bytes.Equal(made.Bytes(), c.held.canonical(2, 6)) {
-			t.Fatalf("%x: %x %v", c.input, made.Bytes(), err)
+		if err != nil || !bytes.Equal(got.Bytes(), c.held.canonical(2, 6)) {
+			t.Fatalf("%x: %x %v", c.input, got.Bytes(), err)
 		}
-	} else if wrong := refusedAt(err, c.status, c.input, c.offset); wrong != nil || !made.IsZero() {
+	} else if wrong := refusedAt(err, c.status, c.input, c.offset); wrong != nil || !got.IsZero() {
 		t.Fatalf("%x: %v", c.input, wrong)
 	}
 }
 
-// Changes in any order are applied one after the other, all or none, and the first that isn't
-// allowed is named.
+// Changes in any order are applied one after the other, all or none, and the fault is about the
+// first that isn't allowed.
 func TestApplyInOrder(t *testing.T) {
 	random := rand.New(rand.NewSource(6))
 	refused := map[Status]int{}
@@ -230,25 +230,26 @@ func TestApplyInOrder(t *testing.T) {
 		c := changing{held: someRecords(random, random.Intn(8))}
 		data := parsed(t, c.held.canonical(2, 5))
 		for j := random.Intn(8); j > 0; j-- {
-			one := recordOf(random)
+			r := recordOf(random)
 			if there := c.held.ordered(func(record) bool { return true }); random.Intn(2) == 0 &&
 				len(there) > 0 {
-				one = there[random.Intn(len(there))]
+				r = there[random.Intn(len(there))]
 			}
-			_, there := c.held[one.name]
-			c.change(one, there == (random.Intn(8) == 0))
+			_, there := c.held[r.name]
+			c.change(r, there == (random.Intn(8) == 0))
 		}
 		c.input = append(c.input, ending(2, 0x1234, 6)...)
-		made, err := ApplyInOrder(data, append(c.input, 7))
+		got, err := ApplyInOrder(data, append(c.input, 7))
 		refused[c.status]++
-		c.becomes(t, made, err)
+		c.becomes(t, got, err)
 	}
 	if len(refused) != 3 {
 		t.Fatal(refused)
 	}
 }
 
-// Changes in canonical form are applied, all or none, and the first that isn't allowed is named.
+// Changes in canonical form are applied, all or none, and the fault is about the first that isn't
+// allowed.
 func TestApply(t *testing.T) {
 	random := rand.New(rand.NewSource(2))
 	refused := map[Status]int{}
@@ -257,14 +258,14 @@ func TestApply(t *testing.T) {
 		data := parsed(t, c.held.canonical(2, 5))
 		announced := someRecords(random, random.Intn(3))
 		withdrawn := someRecords(random, random.Intn(3))
-		for _, one := range announced.ordered(func(record) bool { return true }) {
-			c.change(one, true)
+		for _, r := range announced.ordered(func(record) bool { return true }) {
+			c.change(r, true)
 		}
-		for _, one := range withdrawn.ordered(func(one record) bool {
-			_, there := announced[one.name]
+		for _, r := range withdrawn.ordered(func(r record) bool {
+			_, there := announced[r.name]
 			return !there
 		}) {
-			c.change(one, false)
+			c.change(r, false)
 		}
 		c.input = append(c.input, ending(2, 0x1234, 6)...)
 		applied, err := Apply(data, c.input)
@@ -311,9 +312,9 @@ func TestOrder(t *testing.T) {
 		var input []byte
 		var events []event
 		for j := random.Intn(8); j > 0; j-- {
-			one := event{pool[random.Intn(len(pool))], random.Intn(2) == 0, len(input)}
-			events = append(events, one)
-			input = append(input, one.unit(2, one.announce)...)
+			e := event{pool[random.Intn(len(pool))], random.Intn(2) == 0, len(input)}
+			events = append(events, e)
+			input = append(input, e.unit(2, e.announce)...)
 		}
 		input = append(input, ending(2, 0x1234, 6)...)
 		form, status, offset, known := comesTo(pool, events)
@@ -342,19 +343,18 @@ type event struct {
 	offset   int
 }
 
-// comesTo returns the net effect of events on the records of a pool, which are in order, in
-// canonical form; or which unit is refused. An ASPA that is withdrawn, announced and withdrawn
-// again is left out.
+// comesTo returns the net effect of events on the ordered records of a pool, in canonical form, or
+// the refused unit. An ASPA that is withdrawn, announced and withdrawn again has no effect.
 func comesTo(pool []record, events []event) (form []byte, status Status, offset int, known bool) {
 	var announced, withdrawn []byte
-	for _, one := range pool {
+	for _, r := range pool {
 		var own []event
 		for _, event := range events {
-			if event.name != one.name {
+			if event.name != r.name {
 				continue
 			}
 			if n := len(own); n > 0 && own[n-1].announce == event.announce &&
-				(one.kind != ASPA || !event.announce) {
+				(r.kind != ASPA || !event.announce) {
 				status = map[bool]Status{true: Duplicate, false: Unknown}[event.announce]
 				return nil, status, event.offset, true
 			}
@@ -365,11 +365,11 @@ func comesTo(pool []record, events []event) (form []byte, status Status, offset 
 		}
 		first, last := own[0], own[len(own)-1]
 		switch {
-		case one.kind == ASPA && last.announce:
+		case r.kind == ASPA && last.announce:
 			announced = append(announced, last.unit(2, true)...)
-		case one.kind == ASPA && first.announce:
+		case r.kind == ASPA && first.announce:
 			return nil, Undecided, last.offset, true
-		case one.kind == ASPA && len(own) > 1:
+		case r.kind == ASPA && len(own) > 1:
 			return nil, OK, 0, false
 		case first.announce != last.announce:
 		case first.announce:
@@ -398,7 +398,7 @@ var (
 	withdrawn11 = changed(withdrawn, 0, 1)
 )
 
-// Refusals of data, of changes that are applied, and of those that are sorted.
+// Refusals of data, of changes by Apply, and of changes by Order.
 var refusals = []struct {
 	name   string
 	call   func([]byte) error
@@ -476,35 +476,35 @@ func orderError(input []byte) error {
 }
 
 func TestDataRefusals(t *testing.T) {
-	for _, one := range refusals {
-		err := one.call(one.input)
+	for _, row := range refusals {
+		err := row.call(row.input)
 		var fault *Fault
-		if !errors.As(err, &fault) || !errors.Is(err, one.status) {
-			t.Fatalf("%s: %v", one.name, err)
+		if !errors.As(err, &fault) || !errors.Is(err, row.status) {
+			t.Fatalf("%s: %v", row.name, err)
 		}
-		if fault.Detail != one.detail || fault.Offset != one.offset {
-			t.Fatalf("%s: detail %d at %d", one.name, fault.Detail, fault.Offset)
+		if fault.Detail != row.detail || fault.Offset != row.offset {
+			t.Fatalf("%s: detail %d at %d", row.name, fault.Detail, fault.Offset)
 		}
-		if fault.Offset >= 0 && !bytes.HasPrefix(one.input[fault.Offset:], fault.Unit) {
-			t.Fatalf("%s: unit %x", one.name, fault.Unit)
+		if fault.Offset >= 0 && !bytes.HasPrefix(row.input[fault.Offset:], fault.Unit) {
+			t.Fatalf("%s: unit %x", row.name, fault.Unit)
 		}
 	}
 }
 
 // Data of two versions or two sessions have no delta, and the zero Data is refused everywhere.
 func TestDeltaRefusals(t *testing.T) {
-	one, other := parsed(t, join(ipv4, end)), parsed(t, join(ipv4, otherEnd))
-	if _, err := Delta(one, other); !errors.Is(err, OtherSession) {
+	left, right := parsed(t, join(ipv4, end)), parsed(t, join(ipv4, otherEnd))
+	if _, err := Delta(left, right); !errors.Is(err, OtherSession) {
 		t.Fatal(err)
 	}
 	var fault *Fault
-	if _, err := Delta(one, parsed(t, end0)); !errors.As(err, &fault) ||
+	if _, err := Delta(left, parsed(t, end0)); !errors.As(err, &fault) ||
 		fault.Status != UnitVersion || fault.Detail != 0 || fault.Offset >= 0 {
 		t.Fatal(err)
 	}
 	var zero Data
 	for _, err := range []error{
-		second(Delta(zero, one)), second(Delta(one, zero)), second(Delta(zero, zero)),
+		second(Delta(zero, left)), second(Delta(left, zero)), second(Delta(zero, zero)),
 		second(Apply(zero, end)), second(ApplyInOrder(zero, end)), second(zero.For(1)),
 	} {
 		if !errors.Is(err, Short) {
@@ -533,18 +533,18 @@ func TestDataOutputs(t *testing.T) {
 	}
 	forms := map[string][]byte{"delta": changes, "apply": new, "order": changes}
 	for name, call := range calls {
-		for room := 0; room <= len(forms[name])+1; room++ {
-			output := bytes.Repeat([]byte{0xa5}, room+8)
-			n, err := call(output[:room:room])
-			if room < len(forms[name]) {
+		for size := 0; size <= len(forms[name])+1; size++ {
+			output := bytes.Repeat([]byte{0xa5}, size+8)
+			n, err := call(output[:size:size])
+			if size < len(forms[name]) {
 				if !errors.Is(err, NoRoom) || n != 0 {
-					t.Fatalf("%s in %d bytes: %d %v", name, room, n, err)
+					t.Fatalf("%s in %d bytes: %d %v", name, size, n, err)
 				}
 			} else if err != nil || !bytes.Equal(output[:n], forms[name]) {
-				t.Fatalf("%s in %d bytes: %x %v", name, room, output, err)
+				t.Fatalf("%s in %d bytes: %x %v", name, size, output, err)
 			}
-			if !bytes.Equal(output[room:], bytes.Repeat([]byte{0xa5}, 8)) {
-				t.Fatalf("%s in %d bytes: %x", name, room, output)
+			if !bytes.Equal(output[size:], bytes.Repeat([]byte{0xa5}, 8)) {
+				t.Fatalf("%s in %d bytes: %x", name, size, output)
 			}
 		}
 	}
@@ -607,15 +607,15 @@ func TestDataFor(t *testing.T) {
 	for i := 0; i < 300; i++ {
 		all := someRecords(random, 20)
 		version := byte(i % 3)
-		for name, one := range all {
-			if !one.kind.In(version) {
+		for name, r := range all {
+			if !r.kind.In(version) {
 				delete(all, name)
 			}
 		}
 		data := parsed(t, all.canonical(version, 5))
 		for to := uint8(0); to < 3; to++ {
-			for name, one := range all {
-				if !one.kind.In(to) {
+			for name, r := range all {
+				if !r.kind.In(to) {
 					delete(all, name)
 				}
 			}
@@ -646,8 +646,8 @@ func reread(t *testing.T, got, data Data, to uint8, all records) records {
 	}
 	next := records{}
 	for units := data.Units(); units.Scan(); {
-		for name, one := range recordsOf(units.Unit()) {
-			next[name] = one
+		for name, r := range recordsOf(units.Unit()) {
+			next[name] = r
 		}
 	}
 	return next
@@ -657,15 +657,15 @@ func reread(t *testing.T, got, data Data, to uint8, all records) records {
 func recordsOf(unit *Unit) records {
 	form, _ := unit.MarshalBinary()
 	body := string(form[8:])
-	one := record{kind: unit.Kind, body: body, name: body, rank: "k" + body}
+	r := record{kind: unit.Kind, body: body, name: body, rank: "k" + body}
 	switch unit.Kind {
 	case ASPA:
-		one.rank = "p" + body[:4]
+		r.rank = "p" + body[:4]
 	case IPv4Prefix, IPv6Prefix:
 		address := unit.Prefix.Addr().AsSlice()
-		one = origin(unit.Kind, address, form[9], form[10], form[len(form)-4:])
+		r = origin(unit.Kind, address, form[9], form[10], form[len(form)-4:])
 	}
-	return records{one.name: one}
+	return records{r.name: r}
 }
 
 // The raw bytes of a sequence are collected, up to a limit.

@@ -33,59 +33,59 @@ func deltaCases(t *testing.T) (all []deltaCase) {
 		t.Fatal(err)
 	}
 	for len(rest) > 0 {
-		one := deltaCase{call: rest[0], status: rest[1], side: rest[2], detail: rest[3]}
-		one.offset = int64(binary.LittleEndian.Uint64(rest[4:]))
+		c := deltaCase{call: rest[0], status: rest[1], side: rest[2], detail: rest[3]}
+		c.offset = int64(binary.LittleEndian.Uint64(rest[4:]))
 		lengths := rest[12:36]
 		rest = rest[44:] // without the size of the index: here an entry for each unit
-		for i, part := range []*[]byte{&one.first, &one.second, &one.output} {
+		for i, part := range []*[]byte{&c.first, &c.second, &c.output} {
 			length := binary.LittleEndian.Uint64(lengths[8*i:])
 			*part, rest = rest[:length], rest[length:]
 		}
-		all = append(all, one)
+		all = append(all, c)
 	}
 	return all
 }
 
 // called makes the call of the case, with an index entry for each possible unit.
-func (one *deltaCase) called() ([]byte, error) {
-	switch output := make([]byte, len(one.first)+len(one.second)); one.call {
+func (c *deltaCase) called() ([]byte, error) {
+	switch output := make([]byte, len(c.first)+len(c.second)); c.call {
 	case 0:
-		written, err := delta(one.first, one.second, output)
+		written, err := delta(c.first, c.second, output)
 		return output[:written], err
 	case 1:
-		written, err := apply(one.first, one.second, output)
+		written, err := apply(c.first, c.second, output)
 		return output[:written], err
 	case 3:
-		units := len(one.second) / shortestPayload
-		written, err := applyInOrder(one.first, one.second, output, units)
+		units := len(c.second) / shortestPayload
+		written, err := applyInOrder(c.first, c.second, output, units)
 		return output[:written], err
 	}
-	return Order(one.first)
+	return Order(c.first)
 }
 
 // What is computed without the library.
 func TestDeltaCases(t *testing.T) {
 	const noIndex = 17
-	for i, one := range deltaCases(t) {
-		if one.status == noIndex {
+	for i, c := range deltaCases(t) {
+		if c.status == noIndex {
 			continue
 		}
-		output, err := one.called()
+		output, err := c.called()
 		status, detail := numbers(err)
-		if status != one.status || detail != one.detail || !bytes.Equal(output, one.output) {
+		if status != c.status || detail != c.detail || !bytes.Equal(output, c.output) {
 			t.Fatalf("case %d: %x %v", i, output, err)
 		}
 		var fault *Fault
 		if !errors.As(err, &fault) {
 			continue
 		}
-		input := [][]byte{nil, one.first, one.second}[one.side]
-		if one.side == 0 {
-			one.offset = -1
+		input := [][]byte{nil, c.first, c.second}[c.side]
+		if c.side == 0 {
+			c.offset = -1
 		} else {
-			input = input[one.offset:]
+			input = input[c.offset:]
 		}
-		if fault.Offset != one.offset || !bytes.HasPrefix(input, fault.Unit) {
+		if fault.Offset != c.offset || !bytes.HasPrefix(input, fault.Unit) {
 			t.Fatalf("case %d: %+v", i, fault)
 		}
 	}

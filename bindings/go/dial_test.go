@@ -16,7 +16,7 @@ func addressed(query []byte, addresses ...net.IP) []byte {
 		end += 1 + int(query[end])
 	}
 	question := query[12 : end+5]
-	if wanted := question[len(question)-3]; wanted != 1 {
+	if queryType := question[len(question)-3]; queryType != 1 {
 		addresses = nil
 	}
 	answer := join(query[:2], []byte{0x81, 0x80, 0, 1, 0, byte(len(addresses)), 0, 0, 0, 0}, question)

@@ -17,7 +17,7 @@ import (
 	"time"
 )
 
-// How a peer stops.
+// The ways in which a peer stops.
 var stops = map[string]func(*net.TCPConn){
 	"closes": func(connection *net.TCPConn) { connection.Close() },
 	"resets": func(connection *net.TCPConn) {
@@ -27,7 +27,7 @@ var stops = map[string]func(*net.TCPConn){
 	"stalls": func(connection *net.TCPConn) { io.Copy(io.Discard, connection) },
 }
 
-// isNamed says whether an error says why a peer was left.
+// isNamed reports whether an error is one of the documented reasons for ending a connection.
 func isNamed(err error) bool {
 	var fault *Fault
 	var breach *Breach
@@ -36,7 +36,7 @@ func isNamed(err error) bool {
 		errors.Is(err, syscall.EPIPE) || errors.Is(err, net.ErrClosed)
 }
 
-// eachAtOnce calls a function of all numbers below n, some at once.
+// eachAtOnce calls a function with all numbers below n, some concurrently.
 func eachAtOnce(n int, call func(int)) {
 	var running sync.WaitGroup
 	numbers := make(chan int)
@@ -56,8 +56,8 @@ func eachAtOnce(n int, call func(int)) {
 	running.Wait()
 }
 
-// A cache that stops at each byte of a session in turn: the client says why it left, and its data
-// are always a set that the cache had.
+// A cache stops at each byte of a session in turn: the client reports why it ended the connection,
+// and its data are always those of the cache at one serial number.
 func TestCacheStopsAtEachByte(t *testing.T) {
 	noLeaks(t)
 	random := rand.New(rand.NewSource(9))
@@ -102,8 +102,8 @@ func TestCacheStopsAtEachByte(t *testing.T) {
 	}
 }
 
-// cutOff runs a client until it fails, and says what is wrong with its data and its failure. All
-// data of the first response have come after so many bytes.
+// cutOff runs a client until it fails, and returns what is wrong with its data or its failure. The
+// first response is complete after this number of bytes.
 func cutOff(address string, sets map[uint32][]byte, cut, whole int) error {
 	ctx, cancel := context.WithTimeout(context.Background(), patience)
 	defer cancel()
@@ -135,7 +135,7 @@ func cutOff(address string, sets map[uint32][]byte, cut, whole int) error {
 	return nil
 }
 
-// A client that stops at each byte of a session in turn is left in time, for a named reason.
+// A client that stops at each byte of a session in turn is closed in time, for a documented reason.
 func TestClientStopsAtEachByte(t *testing.T) {
 	noLeaks(t)
 	server, address := started(t, func(limits *ServerLimits) {
@@ -173,8 +173,8 @@ func TestClientStopsAtEachByte(t *testing.T) {
 	}
 }
 
-// What may not follow the cache response to a reset query of a version: the reason, and the report
-// that the cache gets.
+// clientRefusals returns responses to a reset query with units that aren't allowed there, with the
+// reason, and the report that the cache gets.
 func clientRefusals() map[string]refusedResponse {
 	const session = 0x1234
 	header := func(version, kind byte, length uint32) []byte {
@@ -255,34 +255,34 @@ type refusedResponse struct {
 
 const noReport = 255
 
-// longKey is a router key of 40000 bytes.
+// longKey returns a router key of 40000 bytes.
 func longKey() []byte {
 	return append([]byte{1, 9, 1, 0, 0, 0, 0x9c, 0x40}, make([]byte, 39992)...)
 }
 
 func TestClientRefusals(t *testing.T) {
 	noLeaks(t)
-	for name, one := range clientRefusals() {
+	for name, row := range clientRefusals() {
 		got := make(chan []byte, 1)
 		address := fakeCache(t, func(connection *net.TCPConn) {
 			readUnit(NewReader(connection))
-			connection.Write(join(response(one.version, 0x1234), one.units))
+			connection.Write(join(response(row.version, 0x1234), row.units))
 			connection.CloseWrite()
 			rest, _ := io.ReadAll(connection)
 			got <- rest
 		})
 		client := quick(address)
-		client.AskIn(one.version)
+		client.AskIn(row.version)
 		client.Limits.Units, client.Limits.Bytes = 100, 65536
 		ctx, cancel := limited(t)
 		data, err := client.Fetch(ctx)
 		cancel()
-		if !errors.Is(err, one.reason) || !data.IsZero() {
+		if !errors.Is(err, row.reason) || !data.IsZero() {
 			t.Fatalf("%s: %v", name, err)
 		}
 		var report []byte
-		if one.code != noReport {
-			report = reportBytes(one.version, one.code, one.about, one.text)
+		if row.code != noReport {
+			report = reportBytes(row.version, row.code, row.about, row.text)
 		}
 		if rest := <-got; !bytes.Equal(rest, report) {
 			t.Fatalf("%s: the cache got %x, not %x", name, rest, report)
@@ -290,7 +290,7 @@ func TestClientRefusals(t *testing.T) {
 	}
 }
 
-// forever writes the same bytes until the peer has gone.
+// forever writes the same bytes until the peer closes the connection.
 func forever(connection net.Conn, input []byte) {
 	for {
 		if _, err := connection.Write(input); err != nil {
@@ -299,7 +299,7 @@ func forever(connection net.Conn, input []byte) {
 	}
 }
 
-// Caches that flood, trickle or say nothing: the client leaves in time, with little memory.
+// Caches flood, trickle or stay silent: the client ends the connection in time, with little memory.
 func TestHostileCaches(t *testing.T) {
 	noLeaks(t)
 	flood := func(first, again []byte) func(*net.TCPConn) {
@@ -311,14 +311,14 @@ func TestHostileCaches(t *testing.T) {
 	}
 	trickle := func(connection *net.TCPConn) {
 		readUnit(NewReader(connection))
-		for _, one := range join(response(1, 7), bytes.Repeat(ipv4, 100)) {
-			if _, err := connection.Write([]byte{one}); err != nil {
+		for _, octet := range join(response(1, 7), bytes.Repeat(ipv4, 100)) {
+			if _, err := connection.Write([]byte{octet}); err != nil {
 				return
 			}
 			time.Sleep(time.Millisecond)
 		}
 	}
-	for name, one := range map[string]struct {
+	for name, row := range map[string]struct {
 		cache  func(*net.TCPConn)
 		reason error
 	}{
@@ -331,10 +331,10 @@ func TestHostileCaches(t *testing.T) {
 		"trickle":        {trickle, ErrTooSlow},
 		"nothing":        {func(connection *net.TCPConn) { stops["stalls"](connection) }, ErrTooSlow},
 	} {
-		client := quick(fakeCache(t, one.cache))
+		client := quick(fakeCache(t, row.cache))
 		client.Version = 1
 		client.Limits.Report = 50 * time.Millisecond
-		if one.reason == ErrTooSlow {
+		if row.reason == ErrTooSlow {
 			client.Limits.Response = 200 * time.Millisecond
 		}
 		client.Limits.Units, client.Limits.Bytes = 10000, 1<<20
@@ -344,7 +344,7 @@ func TestHostileCaches(t *testing.T) {
 		_, err := client.Fetch(ctx)
 		runtime.ReadMemStats(&after)
 		cancel()
-		if !errors.Is(err, one.reason) {
+		if !errors.Is(err, row.reason) {
 			t.Fatalf("%s: %v", name, err)
 		}
 		if taken := after.TotalAlloc - before.TotalAlloc; taken > 16<<20 {
@@ -353,7 +353,7 @@ func TestHostileCaches(t *testing.T) {
 	}
 }
 
-// hostileClients are those that a server must not be hindered by.
+// hostileClients are clients that mustn't disturb a server.
 var hostileClients = []func(*net.TCPConn){
 	stops["closes"],
 	stops["resets"],
@@ -367,8 +367,8 @@ var hostileClients = []func(*net.TCPConn){
 	func(c *net.TCPConn) { c.Write(asked(0, 0)); stops["resets"](c) },
 }
 
-// A hundred clients at once, of which half are hostile: the others get all data in time, and
-// have nothing but what the cache had.
+// A hundred clients at once, half of them hostile: the others get all data in time, and only data
+// that the cache had.
 func TestCrowd(t *testing.T) {
 	noLeaks(t)
 	random := rand.New(rand.NewSource(10))
@@ -394,9 +394,9 @@ func TestCrowd(t *testing.T) {
 		good.Add(1)
 		bad.Add(1)
 		connection := dial(t, address)
-		go func(one func(*net.TCPConn)) {
+		go func(client func(*net.TCPConn)) {
 			defer bad.Done()
-			one(connection)
+			client(connection)
 		}(hostileClients[i%len(hostileClients)])
 		go func(version uint8) {
 			defer good.Done()

@@ -12,13 +12,13 @@ import (
 	"time"
 )
 
-// told is a listener that forwards new data, since it is called for each answer.
-type told struct {
+// collector is a listener that forwards data only if they changed: it is called for each answer.
+type collector struct {
 	changes chan string
 	last    string
 }
 
-func (t *told) Data(source Source, update Update) error {
+func (t *collector) Data(source Source, update Update) error {
 	data := source.Name + ": none"
 	if !update.Data.IsZero() {
 		data = fmt.Sprintf("%s: %d", source.Name, update.Data.Serial())
@@ -30,10 +30,10 @@ func (t *told) Data(source Source, update Update) error {
 	return nil
 }
 
-func (t *told) Failed(Source, error) error { return nil }
+func (t *collector) Failed(Source, error) error { return nil }
 
 // says waits for the next data of a listener.
-func (t *told) says(test *testing.T, want string) {
+func (t *collector) says(test *testing.T, want string) {
 	test.Helper()
 	select {
 	case got := <-t.changes:
@@ -45,7 +45,7 @@ func (t *told) says(test *testing.T, want string) {
 	}
 }
 
-// cache returns a cache at this address, with data of this serial number.
+// cache starts a cache at this address, with data of this serial number.
 func cache(t *testing.T, address string, serial uint32) (*Server, string) {
 	t.Helper()
 	listener, err := net.Listen("tcp", address)
@@ -60,7 +60,7 @@ func cache(t *testing.T, address string, serial uint32) (*Server, string) {
 	return server, listener.Addr().String()
 }
 
-// update gives a cache data of this serial number.
+// update updates a cache to data of this serial number.
 func update(t *testing.T, server *Server, serial uint32) {
 	t.Helper()
 	vrp := VRP{Prefix: netip.MustParsePrefix("192.0.2.0/24"), MaxLength: 24, ASN: serial}
@@ -73,7 +73,7 @@ func update(t *testing.T, server *Server, serial uint32) {
 	}
 }
 
-// sourcesAt returns caches at these addresses, whose data expire after this time.
+// sourcesAt returns sources at these addresses, with this expire time.
 func sourcesAt(expire time.Duration, addresses ...string) (sources []Source) {
 	for number, address := range addresses {
 		client := NewClient(address)
@@ -84,9 +84,9 @@ func sourcesAt(expire time.Duration, addresses ...string) (sources []Source) {
 }
 
 // following runs a function that follows caches, until the test ends.
-func following(t *testing.T, follow func(context.Context, Listener) error) *told {
+func following(t *testing.T, follow func(context.Context, Listener) error) *collector {
 	ctx, cancel := context.WithCancel(context.Background())
-	listener, ended := &told{changes: make(chan string, 100)}, make(chan error)
+	listener, ended := &collector{changes: make(chan string, 100)}, make(chan error)
 	go func() { ended <- follow(ctx, listener) }()
 	t.Cleanup(func() {
 		cancel()
@@ -97,8 +97,8 @@ func following(t *testing.T, follow func(context.Context, Listener) error) *told
 	return listener
 }
 
-// followingAt follows caches at these addresses, whose data expire after this time.
-func followingAt(t *testing.T, expire time.Duration, addresses ...string) *told {
+// followingAt follows caches at these addresses, with this expire time.
+func followingAt(t *testing.T, expire time.Duration, addresses ...string) *collector {
 	return following(t, func(ctx context.Context, listener Listener) error {
 		return Follow(ctx, sourcesAt(expire, addresses...), listener)
 	})
@@ -139,7 +139,7 @@ func TestExpired(t *testing.T) {
 	}
 }
 
-// A silent cache costs the patience.
+// The next cache is asked once a silent one has exceeded the patience.
 func TestSilent(t *testing.T) {
 	silent, err := net.Listen("tcp", "127.0.0.1:0")
 	if err != nil {
@@ -158,7 +158,7 @@ func TestSilent(t *testing.T) {
 	}
 }
 
-// A cache that was left is asked again when the preferred one fails again.
+// A stopped source is started again when the preferred one fails again.
 func TestAgain(t *testing.T) {
 	address := reserved(t)
 	second, other := cache(t, "127.0.0.1:0", 5)
@@ -173,7 +173,7 @@ func TestAgain(t *testing.T) {
 	}
 }
 
-// empty gives a cache data without payloads, of this serial number.
+// empty updates a cache to data without payloads, of this serial number.
 func empty(t *testing.T, server *Server, serial uint32) {
 	t.Helper()
 	data, err := NewData(1, 7, serial, RecommendedTiming)
@@ -202,14 +202,14 @@ func TestEmpty(t *testing.T) {
 // Too many sources are refused.
 func TestTooManySources(t *testing.T) {
 	for _, count := range []int{MostMembers + 1, 100} {
-		err := Follow(context.Background(), make([]Source, count), &told{})
+		err := Follow(context.Background(), make([]Source, count), &collector{})
 		if err != TooManyMembers {
 			t.Error(count, err)
 		}
 	}
 }
 
-// If no other cache has data there are none any more.
+// If data are dropped and no other cache has any, the listener gets the zero Data.
 func TestNone(t *testing.T) {
 	first, address := cache(t, reserved(t), 1)
 	listener := followingAt(t, time.Second, address)

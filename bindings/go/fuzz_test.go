@@ -14,8 +14,8 @@ import (
 // means the same.
 func FuzzReader(f *testing.F) {
 	f.Add(session())
-	for _, one := range shownUnits {
-		f.Add(one.bytes)
+	for _, shown := range shownUnits {
+		f.Add(shown.bytes)
 	}
 	f.Fuzz(func(t *testing.T, input []byte) {
 		reader, rest := NewReader(iotest.OneByteReader(bytes.NewReader(input))), input

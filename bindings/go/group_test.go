@@ -28,7 +28,7 @@ func decisions(t *testing.T, rows [][2]Decision) {
 	}
 }
 
-// The data of the current member are shown, or else those of the last whole answer.
+// The data of the current member are shown, or else those of the last complete answer.
 func TestGroup(t *testing.T) {
 	g := groupOf(t, 3, UsualGroupSettings())
 	decisions(t, [][2]Decision{
@@ -98,7 +98,7 @@ func TestGroupPatience(t *testing.T) {
 	}
 }
 
-// There are at most 16 members, and none of less than one.
+// A group has at most 16 members; a negative number stands for none.
 func TestGroupSizes(t *testing.T) {
 	for _, members := range []int{MostMembers + 1, math.MaxInt} {
 		if g, err := NewGroup(members, UsualGroupSettings(), 0); g != nil || err != TooManyMembers {

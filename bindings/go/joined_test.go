@@ -10,21 +10,21 @@ import (
 	"testing"
 )
 
-// joined is one end of a connection (tests/joined): its events come on standard input, as the steps
-// of a scene, and what it does at each goes to standard output.
+// joined is one end of a connection (tests/joined): it reads its events as the steps of a scene
+// from standard input, and writes what it does to standard output.
 type joined struct {
 	lines *bufio.Scanner
 	out   *bufio.Writer
-	one   transcript
+	scene transcript
 	next  string // the line that begins the next scene
 }
 
 // play plays scenes until there are none.
 func (j *joined) play(begin func(of steps) transcript) error {
 	for j.take(); j.next != ""; {
-		j.one, j.next = begin(steps{name: j.next, more: j.more}), ""
+		j.scene, j.next = begin(steps{name: j.next, more: j.more}), ""
 		j.take()
-		if err := j.one.play(); err != nil {
+		if err := j.scene.play(); err != nil {
 			return err
 		}
 	}
@@ -39,7 +39,7 @@ func (j *joined) take() {
 			j.next = line
 			return
 		}
-		if err := j.one.take(line); err != nil {
+		if err := j.scene.take(line); err != nil {
 			panic(err)
 		}
 		if !strings.HasPrefix(line, "router ") && !strings.HasPrefix(line, "cache ") {
@@ -48,7 +48,7 @@ func (j *joined) take() {
 	}
 }
 
-// more prints what the end did, and when it acts by itself, and takes the next step.
+// more prints what the end did, and when it wakes by itself, and reads the next step.
 func (j *joined) more(s *steps, wakes uint64) {
 	for _, line := range s.seen {
 		fmt.Fprintln(j.out, line)
@@ -59,7 +59,7 @@ func (j *joined) more(s *steps, wakes uint64) {
 	j.take()
 }
 
-// The test program is an end itself, if its argument names one.
+// The test program runs as an end, if its argument names one.
 func TestMain(m *testing.M) {
 	ends := map[string]func(of steps) transcript{"router": newPlayed, "cache": newPlayedCache}
 	if begin := ends[os.Args[len(os.Args)-1]]; begin != nil {

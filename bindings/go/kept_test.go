@@ -262,17 +262,17 @@ func TestWatchRestart(t *testing.T) {
 			t.Fatal(i, data, err)
 		}
 		ctx, stop := context.WithCancel(context.Background())
-		told, ended := make(chan Data, 10), make(chan struct{})
+		updates, ended := make(chan Data, 10), make(chan struct{})
 		go func() {
 			defer close(ended)
 			server.Watch(ctx, path, time.Hour, func(data Data, err error) {
 				if err != nil {
 					t.Error(err)
 				}
-				told <- data
+				updates <- data
 			})
 		}()
-		if data := <-told; data.Serial() != uint32(i+1) {
+		if data := <-updates; data.Serial() != uint32(i+1) {
 			t.Fatal(i, data)
 		}
 		if got := stepsBack(t, dial(t, address), uint32(i+1)); got != uint32(i) {

@@ -12,8 +12,8 @@ import (
 	"time"
 )
 
-// The data of an update stay as they are whatever comes later, and so do the changes that led to
-// them, also where they are asked for only then.
+// The data of an update don't change later, nor do its changes, even if they are first asked for
+// after later updates.
 func TestDataStay(t *testing.T) {
 	noLeaks(t)
 	cacheReset := []byte{1, 8, 0, 0, 0, 0, 0, 8}
@@ -31,20 +31,20 @@ func TestDataStay(t *testing.T) {
 	updates, failures := follow(t, client, func(update Update) bool {
 		return update.Data.Serial() == 5
 	})
-	wanted := []struct{ data, changes []byte }{
+	expected := []struct{ data, changes []byte }{
 		{join(many...), join(many...)},
 		{join(append(many, announced6)...), announced6},
 		{ipv4, join(ipv4, join(withdrawn...), changed(announced6, 8, 0))},
 		{otherIPv4, join(otherIPv4, withdrawn4)},
 		{otherIPv4, nil},
 	}
-	if len(updates) != len(wanted) || len(failures) > 0 {
+	if len(updates) != len(expected) || len(failures) > 0 {
 		t.Fatal(len(updates), texts(failures))
 	}
 	for again := 0; again < 2; again++ {
 		for i, update := range updates {
-			data := parsed(t, join(wanted[i].data, ending(1, 7, uint32(i+1))))
-			if !update.Data.Equal(data) || !bytes.Equal(changesOf(update), wanted[i].changes) {
+			data := parsed(t, join(expected[i].data, ending(1, 7, uint32(i+1))))
+			if !update.Data.Equal(data) || !bytes.Equal(changesOf(update), expected[i].changes) {
 				t.Errorf("%d: %x, by %x", i+1, update.Data.Bytes(), changesOf(update))
 			}
 		}
@@ -61,7 +61,7 @@ func TestUpdateOfNoClient(t *testing.T) {
 	}
 }
 
-// Where an answer gets no memory the connection ends, the data stay, and the client goes on.
+// If there is no memory for an answer, the connection ends, the data stay, and the client retries.
 func TestNoMemory(t *testing.T) {
 	noLeaks(t)
 	long := full(7, 2, bytes.Repeat(otherIPv4, 10000))
@@ -99,7 +99,7 @@ func TestNoMemory(t *testing.T) {
 // given these bytes.
 func reading(t *testing.T, answer []byte) *link {
 	l := newLink(settingsOf(NewClient(""), usualClientLimits(), 0))
-	given := [][]byte{full(7, 1, ipv4), numbered(1, 0, 7, 2), answer}
+	inputs := [][]byte{full(7, 1, ipv4), numbered(1, 0, 7, 2), answer}
 	for now := uint64(0); ; {
 		switch next := l.next(now); next.kind {
 		case todoConnect:
@@ -111,21 +111,21 @@ func reading(t *testing.T, answer []byte) *link {
 			now = 5000
 		case todoWait:
 			l.sent(len(l.unsent(now)))
-			if len(given) == 0 {
+			if len(inputs) == 0 {
 				t.Fatal("there was no answer")
 			}
-			l.received(copy(l.inputTail(now), given[0]))
-			if given = given[1:]; len(given) == 0 {
+			l.received(copy(l.inputTail(now), inputs[0]))
+			if inputs = inputs[1:]; len(inputs) == 0 {
 				return l
 			}
 		}
 	}
 }
 
-// A buffer without room ends the answer, whichever it is, and the data stay.
+// If any buffer can't grow, the answer ends, and the data stay.
 func TestNoRoom(t *testing.T) {
 	whole := full(7, 2, otherIPv4)
-	for name, one := range map[string]struct {
+	for name, row := range map[string]struct {
 		answer  []byte
 		prepare func(*link)
 	}{
@@ -136,8 +136,8 @@ func TestNoRoom(t *testing.T) {
 		"index": {whole, func(*link) {}},
 		"data":  {whole, func(l *link) { l.index = append(l.index, 0) }},
 	} {
-		l := reading(t, one.answer)
-		one.prepare(l)
+		l := reading(t, row.answer)
+		row.prepare(l)
 		l.most = 0
 		const now = 5000
 		next := l.next(now)
@@ -172,7 +172,7 @@ func failed(t *testing.T, l *link, now uint64) uint64 {
 	}
 }
 
-// A link that begins again connects at once, and its waits grow on, up to the retry time.
+// A restarted link connects at once, and its pauses continue to grow, up to the retry time.
 func TestWaitsGrowAgain(t *testing.T) {
 	client := NewClient("")
 	client.AskIn(0) // it can't fall back to a lower version
@@ -187,7 +187,7 @@ func TestWaitsGrowAgain(t *testing.T) {
 	}
 }
 
-// A wrong call stops the program.
+// A wrong call panics.
 func TestWrongCall(t *testing.T) {
 	calls := map[string]func(*link){
 		"opened":   func(l *link) { l.opened() },
@@ -208,7 +208,7 @@ func TestWrongCall(t *testing.T) {
 	}
 }
 
-// dripping is a connection that sends one byte at a time, and then says that it is late.
+// dripping is a connection whose writes send one byte, and then time out.
 type dripping struct{ net.Conn }
 
 func (d dripping) Write(bytes []byte) (int, error) {
@@ -257,32 +257,32 @@ func (m miscounting) Write(bytes []byte) (int, error) {
 	return n + m.written, err
 }
 
-// A connection with an impossible count is left.
+// A connection that returns an impossible count is closed.
 func TestImpossibleCounts(t *testing.T) {
 	noLeaks(t)
-	for _, one := range []miscounting{{read: 1 << 20}, {read: -1 << 20}, {written: 1}, {written: -20}} {
-		one := one
+	for _, row := range []miscounting{{read: 1 << 20}, {read: -1 << 20}, {written: 1}, {written: -20}} {
+		row := row
 		client := quick(fakeCache(t, play(t, nil, scene{reset0, all0})))
 		client.Dial = func(ctx context.Context, network, address string) (net.Conn, error) {
 			connection, err := new(net.Dialer).DialContext(ctx, network, address)
-			return miscounting{connection, one.read, one.written}, err
+			return miscounting{connection, row.read, row.written}, err
 		}
 		client.AskIn(0) // it can't fall back to a lower version
 		ctx, cancel := limited(t)
 		if _, err := client.Fetch(ctx); !errors.Is(err, errCount) {
-			t.Error(one.read, one.written, err)
+			t.Error(row.read, row.written, err)
 		}
 		cancel()
 	}
 }
 
-// What is refused is named by its offset in what the connection gave; a change, by that in the
-// changes of its answer. A query that is owed before is sent before the report.
+// A fault has the offset of a unit in all bytes of the connection, and of a change in the changes
+// of its answer. A query that is due before is sent before the report.
 func TestOffsets(t *testing.T) {
 	noLeaks(t)
 	cacheReset := []byte{1, 8, 0, 0, 0, 0, 0, 8}
 	first := join(full(7, 1, ipv4), numbered(1, 0, 7, 2))
-	for name, one := range map[string]struct {
+	for name, row := range map[string]struct {
 		answer []byte
 		offset int
 		query  []byte
@@ -301,8 +301,8 @@ func TestOffsets(t *testing.T) {
 			readUnit(reader)
 			connection.Write(first)
 			readUnit(reader)
-			connection.Write(one.answer)
-			if one.query != nil {
+			connection.Write(row.answer)
+			if row.query != nil {
 				query <- readUnit(reader)
 			}
 			report <- readUnit(reader)
@@ -316,14 +316,14 @@ func TestOffsets(t *testing.T) {
 		}
 		client.Run(ctx, func(Update) error { return nil })
 		var fault *Fault
-		if !errors.As(failure, &fault) || fault.Offset != int64(one.offset) {
-			t.Errorf("%s: %v, not at byte %d", name, failure, one.offset)
+		if !errors.As(failure, &fault) || fault.Offset != int64(row.offset) {
+			t.Errorf("%s: %v, not at byte %d", name, failure, row.offset)
 		}
-		if one.query != nil && !bytes.Equal(<-query, one.query) {
+		if row.query != nil && !bytes.Equal(<-query, row.query) {
 			t.Errorf("%s: not asked before", name)
 		}
-		if got := <-report; !bytes.Equal(got, one.report) {
-			t.Errorf("%s: %x, not %x", name, got, one.report)
+		if got := <-report; !bytes.Equal(got, row.report) {
+			t.Errorf("%s: %x, not %x", name, got, row.report)
 		}
 	}
 }

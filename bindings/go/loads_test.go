@@ -11,7 +11,7 @@ import (
 	"testing"
 )
 
-// recording is a recording or a list of the file tests/loads, which says what it has.
+// recording is a recording or a list of the file tests/loads, which describes its fields.
 type recording struct {
 	name    string
 	units   [][]byte
@@ -23,7 +23,7 @@ type recording struct {
 
 func (r *recording) bytes() []byte { return bytes.Join(r.units, nil) }
 
-// answers is how many ends of data it has.
+// answers returns the number of ends of data.
 func (r *recording) answers() (count int) {
 	for _, unit := range r.units {
 		if Kind(unit[1]) == EndOfData {
@@ -67,7 +67,7 @@ func readRecordings(t *testing.T) (all []*recording) {
 	return all
 }
 
-// checkFault checks that an input isn't loaded, for the unit at the offset.
+// checkFault checks that Load refuses an input because of the unit at the offset.
 func checkFault(t *testing.T, input []byte, offset int64, text string) {
 	data, hasCut, err := Load(input)
 	var fault *Fault
@@ -86,20 +86,20 @@ func checkFault(t *testing.T, input []byte, offset int64, text string) {
 	}
 }
 
-// What each recording and each list leaves.
+// Each recording and each list is loaded as the file says, or refused.
 func TestLoad(t *testing.T) {
-	for _, one := range readRecordings(t) {
-		t.Run(one.name, func(t *testing.T) {
-			input := one.bytes()
-			if one.refused != "" {
-				checkFault(t, input, one.offset, one.refused)
+	for _, rec := range readRecordings(t) {
+		t.Run(rec.name, func(t *testing.T) {
+			input := rec.bytes()
+			if rec.refused != "" {
+				checkFault(t, input, rec.offset, rec.refused)
 				return
 			}
 			data, hasCut, err := Load(input)
-			if err != nil || !bytes.Equal(data.Bytes(), one.data) || hasCut != one.hasCut {
+			if err != nil || !bytes.Equal(data.Bytes(), rec.data) || hasCut != rec.hasCut {
 				t.Fatalf("%x %v %v", data.Bytes(), hasCut, err)
 			}
-			if parsed, err := ParseData(one.data); err != nil || !data.Equal(parsed) || data.Len() != parsed.Len() {
+			if parsed, err := ParseData(rec.data); err != nil || !data.Equal(parsed) || data.Len() != parsed.Len() {
 				t.Fatal(parsed, err)
 			}
 			again, hasCut, err := Load(data.Bytes())
@@ -110,15 +110,15 @@ func TestLoad(t *testing.T) {
 	}
 }
 
-// What is cut off after any of its bytes leaves no data: the offset is that of the missing unit.
+// A recording that is cut off after any byte is refused, with the offset of the incomplete unit.
 func TestLoadCutOff(t *testing.T) {
-	for _, one := range readRecordings(t) {
-		if one.refused != "" || one.answers() != 1 {
+	for _, rec := range readRecordings(t) {
+		if rec.refused != "" || rec.answers() != 1 {
 			continue
 		}
-		t.Run(one.name, func(t *testing.T) {
-			input, begin := one.bytes(), 0
-			for _, unit := range one.units {
+		t.Run(rec.name, func(t *testing.T) {
+			input, begin := rec.bytes(), 0
+			for _, unit := range rec.units {
 				for length := begin; length < begin+len(unit); length++ {
 					checkFault(t, input[:length:length], int64(begin), "unexpected end of input")
 				}
@@ -128,7 +128,7 @@ func TestLoadCutOff(t *testing.T) {
 	}
 }
 
-// Many payloads in the opposite of their order, and then a withdrawal of each second one.
+// Many payloads in reverse order, and then a withdrawal of each second one.
 func TestLoadMany(t *testing.T) {
 	const count = 5000
 	unit := func(flags byte, asn int) []byte {

@@ -17,7 +17,7 @@ type lines struct {
 	all  []string
 }
 
-// log is a Log that collects lines, without the addresses of this machine.
+// log is a Log that collects lines, without addresses.
 func (l *lines) log(level Level, message string, fields ...any) {
 	line := fmt.Sprintf("%d %s", level, message)
 	for i := 0; i+1 < len(fields); i += 2 {
@@ -40,10 +40,10 @@ func (l *lines) text() string {
 // has waits until these lines were collected, and no others.
 func (l *lines) has(t *testing.T, all ...string) {
 	t.Helper()
-	wanted := strings.Join(all, "\n")
-	for end := time.Now().Add(patience); l.text() != wanted; time.Sleep(time.Millisecond) {
+	expected := strings.Join(all, "\n")
+	for end := time.Now().Add(patience); l.text() != expected; time.Sleep(time.Millisecond) {
 		if time.Now().After(end) {
-			t.Fatalf("%s\n\nbut expected are\n\n%s", l.text(), wanted)
+			t.Fatalf("%s\n\nbut expected are\n\n%s", l.text(), expected)
 		}
 	}
 }

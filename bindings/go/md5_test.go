@@ -48,7 +48,7 @@ func overMD5(cache netip.AddrPort, key string) *rtr.Client {
 	return client
 }
 
-// Both ends sign by one key, over IPv4 and IPv6; with another key, or none, there is no connection.
+// Both ends sign with one key, over IPv4 and IPv6; with another key, or none, they don't connect.
 func TestOverMD5(t *testing.T) {
 	ctx, cancel := context.WithTimeout(context.Background(), tlsWait)
 	defer cancel()

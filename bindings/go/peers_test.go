@@ -13,7 +13,7 @@ import (
 	"time"
 )
 
-// Longer than any step takes that these tests wait for, on a busy machine.
+// patience is the time limit for each step of a test: longer than any takes on a busy machine.
 const patience = 60 * time.Second
 
 // noLeaks checks at the end of a test that none of its goroutines is left.
@@ -68,8 +68,8 @@ func reserved(t testing.TB) string {
 	return fmt.Sprintf("127.0.0.1:%d", name.(*syscall.SockaddrInet4).Port)
 }
 
-// started returns a server on 127.0.0.1 with these data, and its address. Its limits are as a test
-// changes them.
+// started starts a server on 127.0.0.1 with these data, and returns it and its address. limits
+// changes its limits.
 func started(t *testing.T, change func(*ServerLimits), all ...Data) (*Server, string) {
 	t.Helper()
 	server := NewServer()

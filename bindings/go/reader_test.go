@@ -52,18 +52,18 @@ func TestReader(t *testing.T) {
 		var written bytes.Buffer
 		reader, writer := NewReader(as(bytes.NewReader(session()))), NewWriter(&written)
 		offset := int64(0)
-		for _, one := range shownUnits {
+		for _, s := range shownUnits {
 			if reader.Offset() != offset {
 				t.Fatalf("%s: at %d", name, reader.Offset())
 			}
 			unit, err := reader.Next()
-			if err != nil || !reflect.DeepEqual(*unit, one.unit) || !bytes.Equal(reader.Bytes(), one.bytes) {
+			if err != nil || !reflect.DeepEqual(*unit, s.unit) || !bytes.Equal(reader.Bytes(), s.bytes) {
 				t.Fatalf("%s: %+v %v", name, unit, err)
 			}
 			if err := writer.Write(unit); err != nil {
 				t.Fatal(err)
 			}
-			offset += int64(len(one.bytes))
+			offset += int64(len(s.bytes))
 		}
 		for i := 0; i < 3; i++ {
 			if unit, err := reader.Next(); unit != nil || err != io.EOF || reader.Offset() != offset {
@@ -85,15 +85,15 @@ func TestCut(t *testing.T) {
 		for name, as := range asRead {
 			reader := NewReader(as(bytes.NewReader(all[:cut])))
 			at := 0
-			for _, one := range shownUnits {
-				if at+len(one.bytes) > cut {
+			for _, s := range shownUnits {
+				if at+len(s.bytes) > cut {
 					break
 				}
 				unit, err := reader.Next()
-				if err != nil || !reflect.DeepEqual(*unit, one.unit) {
+				if err != nil || !reflect.DeepEqual(*unit, s.unit) {
 					t.Fatalf("%d, %s: %+v %v", cut, name, unit, err)
 				}
-				at += len(one.bytes)
+				at += len(s.bytes)
 			}
 			unit, err := reader.Next()
 			if unit != nil || reader.Offset() != int64(at) || (err == io.EOF) != (at == cut) {
@@ -195,8 +195,8 @@ func TestFailing(t *testing.T) {
 			failures++
 		}
 	}
-	for _, one := range shownUnits {
-		if unit, err := next(); err != nil || !reflect.DeepEqual(*unit, one.unit) {
+	for _, s := range shownUnits {
+		if unit, err := next(); err != nil || !reflect.DeepEqual(*unit, s.unit) {
 			t.Fatalf("%+v %v", unit, err)
 		}
 	}
@@ -263,28 +263,28 @@ func hostileLengths() []hostile {
 
 // A hostile length is refused before anything but the header is read, and before the buffer grows.
 func TestHostileLengths(t *testing.T) {
-	for _, one := range hostileLengths() {
+	for _, row := range hostileLengths() {
 		input := make([]byte, 108)
-		copy(input, []byte{one.version, one.kind, one.flags})
-		binary.BigEndian.PutUint32(input[4:], one.length)
+		copy(input, []byte{row.version, row.kind, row.flags})
+		binary.BigEndian.PutUint32(input[4:], row.length)
 		rest := bytes.NewReader(input)
 		reader := NewReader(rest)
 		for i := 0; i < 2; i++ {
 			var fault *Fault
 			unit, err := reader.Next()
-			if unit != nil || !errors.As(err, &fault) || fault.Status != one.status || fault.Offset != 0 {
-				t.Fatalf("%+v: %v %v", one, unit, err)
+			if unit != nil || !errors.As(err, &fault) || fault.Status != row.status || fault.Offset != 0 {
+				t.Fatalf("%+v: %v %v", row, unit, err)
 			}
 			if !bytes.Equal(fault.Unit, input[:8]) || rest.Len() != 100 ||
 				len(reader.buffer) != firstBuffer {
-				t.Fatalf("%+v: %+v, %d bytes left", one, fault, rest.Len())
+				t.Fatalf("%+v: %+v, %d bytes left", row, fault, rest.Len())
 			}
 		}
-		if _, _, err := Next(input); !errors.Is(err, one.status) {
-			t.Fatalf("%+v: %v", one, err)
+		if _, _, err := Next(input); !errors.Is(err, row.status) {
+			t.Fatalf("%+v: %v", row, err)
 		}
-		if size, err := UnitSize(input); size != 0 || !errors.Is(err, one.status) {
-			t.Fatalf("%+v: %d %v", one, size, err)
+		if size, err := UnitSize(input); size != 0 || !errors.Is(err, row.status) {
+			t.Fatalf("%+v: %d %v", row, size, err)
 		}
 	}
 }
@@ -373,11 +373,11 @@ func TestWholeWrites(t *testing.T) {
 		sizes = append(sizes, len(b))
 		return len(b), nil
 	}))
-	for _, one := range shownUnits {
-		if err := writer.Write(&one.unit); err != nil {
+	for _, s := range shownUnits {
+		if err := writer.Write(&s.unit); err != nil {
 			t.Fatal(err)
 		}
-		expected = append(expected, len(one.bytes))
+		expected = append(expected, len(s.bytes))
 	}
 	if !reflect.DeepEqual(sizes, expected) {
 		t.Fatalf("%v", sizes)

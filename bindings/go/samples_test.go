@@ -24,7 +24,7 @@ type sample struct {
 	object      string
 }
 
-// samples are all of them.
+// samples are the samples of the file.
 var samples = readSamples()
 
 func readSamples() []sample {
@@ -78,31 +78,31 @@ func unspaced(row string) []byte {
 
 // sampleOf returns the bytes of the sample of this name.
 func sampleOf(name string) []byte {
-	for _, one := range samples {
-		if one.unit == name {
-			return one.bytes[:len(one.bytes):len(one.bytes)]
+	for _, s := range samples {
+		if s.unit == name {
+			return s.bytes[:len(s.bytes):len(s.bytes)]
 		}
 	}
 	panic("there is no sample " + name)
 }
 
-// Each sample is shown and encoded as the file says, or refused.
+// Each sample is decoded and encoded as the file says, or refused.
 func TestSamples(t *testing.T) {
 	if len(samples) < 50 {
 		t.Fatalf("%d samples", len(samples))
 	}
-	for _, one := range samples {
-		t.Run(one.unit, one.check)
+	for _, s := range samples {
+		t.Run(s.unit, s.check)
 	}
 }
 
 func (s sample) check(t *testing.T) {
 	line, size, err := UnitLine([]byte("> "), append(s.bytes[:len(s.bytes):len(s.bytes)], 1), 24)
-	switch wanted := "> 24" + strings.TrimPrefix(s.line, "0"); {
+	switch expected := "> 24" + strings.TrimPrefix(s.line, "0"); {
 	case s.line == "" && (string(line) != "> " || size != 0):
 		t.Errorf("%s, %d", line, size)
-	case s.line != "" && (err != nil || size != len(s.bytes) || string(line) != wanted):
-		t.Errorf("%s, %d, %v, but expected is %s", line, size, err, wanted)
+	case s.line != "" && (err != nil || size != len(s.bytes) || string(line) != expected):
+		t.Errorf("%s, %d, %v, but expected is %s", line, size, err, expected)
 	}
 	object, size, err := UnitJSON(nil, s.bytes, 0)
 	if string(object) != s.json || s.json != "" && (err != nil || size != len(s.bytes)) {
@@ -117,11 +117,11 @@ func (s sample) check(t *testing.T) {
 		return
 	}
 	form, failed := unit.AppendBinary(nil)
-	if wanted := s.written(); err != nil || len(rest) > 0 || failed != nil ||
-		!bytes.Equal(form, wanted) {
-		t.Fatalf("%x, %x, %v, %v, but expected is %x", form, rest, err, failed, wanted)
+	if expected := s.written(); err != nil || len(rest) > 0 || failed != nil ||
+		!bytes.Equal(form, expected) {
+		t.Fatalf("%x, %x, %v, %v, but expected is %x", form, rest, err, failed, expected)
 	}
-	// A unit with another form makes the change of its form.
+	// The change of a unit that isn't in normal form is that of its normal form.
 	if s.form == nil && (ChangeLine(&unit) != s.change || ChangeJSON(&unit) != s.object) {
 		t.Errorf("%s, %s", ChangeLine(&unit), ChangeJSON(&unit))
 	}

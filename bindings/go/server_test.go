@@ -40,12 +40,12 @@ func response(version byte, session uint16) []byte {
 	return unit
 }
 
-// versionOf returns those of the records that a version has.
+// versionOf returns the records that a version has.
 func (rs records) versionOf(version byte) records {
 	some := records{}
-	for name, one := range rs {
-		if one.kind.In(version) {
-			some[name] = one
+	for name, r := range rs {
+		if r.kind.In(version) {
+			some[name] = r
 		}
 	}
 	return some
@@ -95,8 +95,8 @@ func sequences(of ...byte) (all [][]byte) {
 	return all
 }
 
-// stepsBack returns from how many earlier data a client gets the changes: it asks by the serial
-// numbers below the present one, downwards.
+// stepsBack returns the number of earlier serial numbers from which a client gets changes: it asks
+// with those before the present one, downwards.
 func stepsBack(t *testing.T, connection net.Conn, serial uint32) (count uint32) {
 	t.Helper()
 	for ; count < serial; count++ {
@@ -115,12 +115,12 @@ func stepsBack(t *testing.T, connection net.Conn, serial uint32) (count uint32) 
 	return count
 }
 
-// Changes are kept for a time, and within a limit of bytes: each of these has a prefix that is
-// announced, one that is withdrawn, and an end of data, which are 64 bytes.
+// Changes are kept for a time, and up to a number of bytes. Each of these changes has an announced
+// and a withdrawn prefix, and an end of data: 64 bytes.
 func TestServerKeeps(t *testing.T) {
 	noLeaks(t)
 	all := sequences(1, 1, 1, 1, 1, 1, 1, 1, 1, 1, 1, 1)
-	for _, one := range []struct {
+	for _, row := range []struct {
 		bytes, count int
 		time         time.Duration
 	}{
@@ -128,15 +128,15 @@ func TestServerKeeps(t *testing.T) {
 		{64, 1, time.Hour}, {63, 0, time.Hour}, {1 << 20, 0, 0},
 	} {
 		server, address := started(t, func(limits *ServerLimits) {
-			limits.KeepBytes, limits.Keep = one.bytes, one.time
+			limits.KeepBytes, limits.Keep = row.bytes, row.time
 		})
 		for _, sequence := range all {
 			if err := server.Update(parsed(t, sequence)); err != nil {
 				t.Fatal(err)
 			}
 		}
-		if got := stepsBack(t, dial(t, address), 12); got != uint32(one.count) {
-			t.Fatalf("%+v: %d", one, got)
+		if got := stepsBack(t, dial(t, address), 12); got != uint32(row.count) {
+			t.Fatalf("%+v: %d", row, got)
 		}
 	}
 }
@@ -166,8 +166,8 @@ func TestServerVersions(t *testing.T) {
 	}
 }
 
-// With Refuse a cache answers queries whose changes it doesn't have by a report of code 0 (RFC 8210
-// section 5.1).
+// With Refuse a cache answers queries whose changes it doesn't have with a report of code 0 (RFC
+// 8210 section 5.1).
 func TestServerRefuse(t *testing.T) {
 	noLeaks(t)
 	server, address := started(t, func(limits *ServerLimits) { limits.Refuse = true })
@@ -191,8 +191,8 @@ func TestServerRefuse(t *testing.T) {
 	}
 }
 
-// New data are taken if their serial number comes later, and end connections if they are of
-// another session.
+// New data are accepted if their serial number comes later; those of another session end
+// connections.
 func TestServerUpdate(t *testing.T) {
 	noLeaks(t)
 	server, address := started(t, nil, parsed(t, join(ipv4, ending(1, 7, 0xffffffff))))
@@ -273,24 +273,24 @@ func TestServerTimes(t *testing.T) {
 // Data of serial number 0 are served, with a warning.
 func TestServerSerialZero(t *testing.T) {
 	noLeaks(t)
-	var said lines
+	var log lines
 	server := NewServer()
-	server.Log = said.log
+	server.Log = log.log
 	for _, serial := range []uint32{0, 1} {
 		if err := server.Update(parsed(t, ending(1, 7, serial))); err != nil {
 			t.Fatal(err)
 		}
 	}
 	server.Close()
-	said.has(t,
+	log.has(t,
 		"0 data session=7 serial=0 version=1 payloads=0",
 		"4 serial number 0: a router that lost its first answer may ask with it, and keep a part of "+
 			"the data session=7",
 		"0 data session=7 serial=1 version=1 payloads=0")
 }
 
-// A client that is slow to read its answer keeps an edition until three have come after it, and
-// none of another session.
+// A client that reads an answer slowly gets all of it unless three newer editions have come, or one
+// of another session.
 func TestServerBehind(t *testing.T) {
 	noLeaks(t)
 	for reason, sessions := range map[error][]uint16{
@@ -323,14 +323,14 @@ func TestServerBehind(t *testing.T) {
 	}
 }
 
-// why returns the errors with which the connections of a server end.
+// why returns a channel of the errors with which the connections of a server end.
 func why(server *Server) <-chan error {
 	errs := make(chan error, 1000)
 	server.Ended = func(_ net.Addr, err error) { errs <- err }
 	return errs
 }
 
-// megabytes returns data that no buffer of a connection holds.
+// megabytes returns data that are larger than the buffers of a connection.
 func megabytes(t *testing.T) Data {
 	t.Helper()
 	large := make([][]byte, 0, 200000)
@@ -343,8 +343,8 @@ func megabytes(t *testing.T) Data {
 	return parsed(t, join(join(large...), ending(1, 7, 1)))
 }
 
-// A client that is silent, stops inside of a unit, or doesn't read is closed, with the reason, and
-// another one is served in the meantime.
+// A client that is silent, stops inside a unit, or doesn't read is closed for that reason, and
+// another client is served in the meantime.
 func TestServerLimits(t *testing.T) {
 	noLeaks(t)
 	data := megabytes(t)
@@ -380,7 +380,7 @@ func TestServerLimits(t *testing.T) {
 	}
 }
 
-// A client above the limit gets a report at once, and when another has left a new one is accepted.
+// A client above the limit gets a report at once; when another has left, a new one is accepted.
 func TestServerConnections(t *testing.T) {
 	noLeaks(t)
 	server, address := started(t, func(limits *ServerLimits) { limits.Connections = 2 })
@@ -519,15 +519,15 @@ func TestServerListener(t *testing.T) {
 	noLeaks(t)
 	server, _ := started(t, nil, parsed(t, ending(1, 7, 1)))
 	full := &net.OpError{Op: "accept", Err: syscall.EMFILE}
-	for _, one := range []struct {
+	for _, row := range []struct {
 		err    error
 		times  int
 		broken bool
 	}{{full, 12, false}, {errFailed, 9, false}, {errFailed, 10, true}} {
 		listener := listen(t, "127.0.0.1:0")
 		done := make(chan error, 1)
-		go func() { done <- server.Serve(&failingListener{listener, one.err, one.times}) }()
-		if one.broken {
+		go func() { done <- server.Serve(&failingListener{listener, row.err, row.times}) }()
+		if row.broken {
 			if err := <-done; err != errFailed {
 				t.Fatal(err)
 			}
@@ -539,11 +539,11 @@ func TestServerListener(t *testing.T) {
 	}
 }
 
-// A file of a recording or a list, and one that is neither.
+// LoadData loads a file of a recording or a list, and refuses others.
 func TestLoadData(t *testing.T) {
 	path := t.TempDir() + "/data"
 	ordered := join(ipv4, announced6, end)
-	for name, one := range map[string]struct {
+	for name, row := range map[string]struct {
 		input, data []byte
 		status      Status
 		offset      int64
@@ -561,16 +561,16 @@ func TestLoadData(t *testing.T) {
 		"one withdrawal": {join(ipv4, ipv6, end), nil, Unknown, 20},
 		"more":           {join(ordered, ipv4[:7]), nil, Short, int64(len(ordered))},
 	} {
-		if err := os.WriteFile(path, one.input, 0o600); err != nil {
+		if err := os.WriteFile(path, row.input, 0o600); err != nil {
 			t.Fatal(err)
 		}
 		data, err := LoadData(path)
 		var fault *Fault
-		if one.status == OK {
-			if err != nil || !bytes.Equal(data.Bytes(), one.data) {
+		if row.status == OK {
+			if err != nil || !bytes.Equal(data.Bytes(), row.data) {
 				t.Fatalf("%s: %x %v", name, data.Bytes(), err)
 			}
-		} else if !errors.As(err, &fault) || fault.Status != one.status || fault.Offset != one.offset {
+		} else if !errors.As(err, &fault) || fault.Status != row.status || fault.Offset != row.offset {
 			t.Fatalf("%s: %v", name, err)
 		}
 	}
@@ -579,7 +579,7 @@ func TestLoadData(t *testing.T) {
 	}
 }
 
-// A file is reloaded when it changes; one that isn't data is reported once, and the data stay.
+// A file is reloaded when it changes; an invalid one is reported once, and the data stay.
 func TestServerWatch(t *testing.T) {
 	noLeaks(t)
 	server, address := started(t, nil)

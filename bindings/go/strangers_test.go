@@ -30,8 +30,8 @@ func fetchedTLS(
 	return overTLS(address, cacheName, trusted.pool(), router...).Fetch(ctx)
 }
 
-// A cache with another name, even if its common name is right (RFC 8210 section 9.2), with a
-// self-signed certificate, or with an expired one: no data are shown, and the reason is reported.
+// A cache whose certificate has another name, even with the right common name (RFC 8210 section
+// 9.2), is self-signed, or expired: the client gets no data, and reports the reason.
 func TestStrangeCachesOverTLS(t *testing.T) {
 	trusted, nobody := newAuthority(t), newAuthority(t)
 	for name, row := range map[string]struct {
@@ -99,8 +99,9 @@ func insistent(
 	return client, connections
 }
 
-// A router without a certificate, or with one of another address, a self-signed or an expired one:
-// it gets no data, the cache reports why it ended each of its connections, and still serves others.
+// A router without a certificate, or with a certificate of another address, a self-signed or an
+// expired one: it gets no data, and the cache reports why it ended each connection, and still
+// serves others.
 func TestStrangeRoutersOverTLS(t *testing.T) {
 	trusted, nobody := newAuthority(t), newAuthority(t)
 	for name, row := range map[string]struct {
@@ -187,7 +188,7 @@ func connectedLog() (rtr.Log, <-chan bool) {
 	}, connected
 }
 
-// New data don't disturb a handshake: the router then has them.
+// New data don't disturb a handshake: the router gets them after it.
 func TestUpdateInAHandshake(t *testing.T) {
 	trusted := newAuthority(t)
 	server := rtr.NewServer()
@@ -220,7 +221,7 @@ func TestUpdateInAHandshake(t *testing.T) {
 	}
 }
 
-// The end of a server ends a handshake.
+// Closing a server interrupts a handshake.
 func TestShutdownInAHandshake(t *testing.T) {
 	trusted := newAuthority(t)
 	server := rtr.NewServer()
@@ -242,7 +243,7 @@ func TestShutdownInAHandshake(t *testing.T) {
 	awaitEnding(t, ended, rtr.ErrServerClosed.Error())
 }
 
-// openssl is a running program of OpenSSL, as one end of TLS.
+// openssl is a running openssl program, as one end of TLS.
 type openssl struct {
 	t       *testing.T
 	command *exec.Cmd
@@ -258,7 +259,7 @@ func (o *openssl) Write(bytes []byte) (int, error) {
 	return len(bytes), nil
 }
 
-// startedOpenSSL starts OpenSSL's client or server, in version 1.2 of TLS, which can renegotiate.
+// startedOpenSSL starts OpenSSL's client or server with TLS 1.2, which can renegotiate.
 func startedOpenSSL(
 	t *testing.T, own tls.Certificate, trusted *authority, words ...string,
 ) *openssl {
@@ -298,23 +299,23 @@ func startedOpenSSL(
 }
 
 // await waits until the output has these bytes, and returns what follows them.
-func (o *openssl) await(wanted string) string {
+func (o *openssl) await(text string) string {
 	o.t.Helper()
 	for until := time.Now().Add(tlsWait); ; time.Sleep(5 * time.Millisecond) {
 		o.lock.Lock()
-		_, rest, found := bytes.Cut(o.output, []byte(wanted))
+		_, rest, found := bytes.Cut(o.output, []byte(text))
 		text := string(rest)
 		o.lock.Unlock()
 		if found {
 			return text
 		}
 		if time.Now().After(until) {
-			o.t.Fatalf("%q never came", wanted)
+			o.t.Fatalf("%q never came", text)
 		}
 	}
 }
 
-// A cache that renegotiates instead of answering is abandoned, and its answer isn't shown.
+// A client closes a connection whose cache renegotiates, and doesn't show the answer.
 func TestRenegotiatingCache(t *testing.T) {
 	trusted := newAuthority(t)
 	cache := startedOpenSSL(t, trusted.issue(cacheName, time.Hour), trusted, "s_server",

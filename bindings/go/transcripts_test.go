@@ -17,7 +17,7 @@ import (
 	"time"
 )
 
-// step is a line of a scene that the cache or the clock does (tests/transcripts/README.md).
+// step is a line of a scene about the cache or the clock (tests/transcripts/README.md).
 type step struct {
 	time uint64
 	what string // accepts, refuses, closes, breaks, > for bytes, asks, or at
@@ -26,12 +26,12 @@ type step struct {
 
 // steps is the common part of a client and a cache that play a scene, with a simulated clock.
 type steps struct {
-	name         string
-	given        []step
-	wanted, seen []string
-	clock        uint64
-	over         bool
-	more         func(s *steps, wakes uint64) // takes further steps, if not nil
+	name           string
+	pending        []step
+	expected, seen []string
+	clock          uint64
+	over           bool
+	more           func(s *steps, wakes uint64) // takes further steps, if not nil
 }
 
 // notes records what the playing end does.
@@ -39,20 +39,20 @@ func (s *steps) notes(format string, values ...any) {
 	s.seen = append(s.seen, fmt.Sprintf("%d ", s.clock)+fmt.Sprintf(format, values...))
 }
 
-// has reports whether a further step is given to an end that acts by itself at this time.
+// has reports whether there is another step, for an end that wakes by itself at this time.
 func (s *steps) has(wakes uint64) bool {
-	if len(s.given) == 0 && !s.over && s.more != nil {
+	if len(s.pending) == 0 && !s.over && s.more != nil {
 		s.more(s, wakes)
 	}
-	s.over = len(s.given) == 0
+	s.over = len(s.pending) == 0
 	return !s.over
 }
 
-// differs returns the difference from the scene.
+// differs returns an error if the end did something else than the scene says.
 func (s *steps) differs() error {
-	wanted, seen := strings.Join(s.wanted, "\n"), strings.Join(s.seen, "\n")
-	if s.more == nil && wanted != seen {
-		return fmt.Errorf("%s: wanted\n%s\nseen\n%s", s.name, wanted, seen)
+	expected, seen := strings.Join(s.expected, "\n"), strings.Join(s.seen, "\n")
+	if s.more == nil && expected != seen {
+		return fmt.Errorf("%s: expected\n%s\nseen\n%s", s.name, expected, seen)
 	}
 	return nil
 }
@@ -82,25 +82,25 @@ func (p *played) next(until uint64) (step, error) {
 	if !p.has(until) {
 		return step{}, errDone
 	}
-	one := p.given[0]
-	if one.time >= until && until > p.clock {
+	s := p.pending[0]
+	if s.time >= until && until > p.clock {
 		p.clock = until
 		return step{}, os.ErrDeadlineExceeded
 	}
-	p.given = p.given[1:]
-	p.clock = one.time
-	return one, nil
+	p.pending = p.pending[1:]
+	p.clock = s.time
+	return s, nil
 }
 
 func (p *played) rest(until uint64) error {
 	for {
-		one, err := p.next(until)
+		s, err := p.next(until)
 		switch {
 		case errors.Is(err, os.ErrDeadlineExceeded):
 			return nil
 		case err != nil:
 			return err
-		case one.what == "asks":
+		case s.what == "asks":
 			p.askRequest.set()
 			return nil
 		}
@@ -113,15 +113,15 @@ func (p *played) connect(until uint64) error {
 	p.notes("connects")
 	p.open, p.broken = true, false
 	for {
-		one, err := p.next(until)
+		s, err := p.next(until)
 		switch {
 		case err != nil:
 			return err
-		case one.what == "accepts":
+		case s.what == "accepts":
 			return nil
-		case one.what == "refuses":
+		case s.what == "refuses":
 			return errBroken
-		case one.what == "asks":
+		case s.what == "asks":
 			p.askRequest.set()
 		}
 	}
@@ -129,18 +129,18 @@ func (p *played) connect(until uint64) error {
 
 func (p *played) read(buffer []byte, until uint64) (int, error) {
 	for {
-		one, err := p.next(until)
+		s, err := p.next(until)
 		switch {
 		case err != nil:
 			return 0, err
-		case one.what == ">":
-			return copy(buffer, one.data), nil
-		case one.what == "closes":
+		case s.what == ">":
+			return copy(buffer, s.data), nil
+		case s.what == "closes":
 			return 0, io.EOF
-		case one.what == "breaks":
+		case s.what == "breaks":
 			p.broken = true
 			return 0, errBroken
-		case one.what == "asks":
+		case s.what == "asks":
 			p.askRequest.set()
 			return 0, os.ErrDeadlineExceeded
 		}
@@ -182,7 +182,7 @@ func (p *played) sends(bytes []byte) {
 	}
 }
 
-// play runs a client through the scene, and returns the difference.
+// play runs a client through the scene, and returns an error if it differs.
 func (p *played) play() error {
 	f := &follower{
 		peer: p, link: newLink(settingsOf(&p.client, p.client.Limits.orUsual(), p.chance)),
@@ -230,14 +230,14 @@ func (p *played) take(line string) error {
 	switch {
 	case words[1] == "cache>":
 		data, err := hex.DecodeString(strings.Join(words[2:], ""))
-		p.given = append(p.given, step{time, ">", data})
+		p.pending = append(p.pending, step{time, ">", data})
 		return err
 	case words[1] == "cache" || words[1] == "caller":
-		p.given = append(p.given, step{time, words[2], nil})
+		p.pending = append(p.pending, step{time, words[2], nil})
 	case words[1] == "router>" && words[2] != "report":
-		p.wanted = append(p.wanted, words[0]+" router> "+strings.Join(words[2:], ""))
+		p.expected = append(p.expected, words[0]+" router> "+strings.Join(words[2:], ""))
 	default:
-		p.wanted = append(p.wanted, strings.Join(words, " "))
+		p.expected = append(p.expected, strings.Join(words, " "))
 	}
 	return nil
 }
@@ -303,23 +303,23 @@ func scenesOf(t *testing.T, path string, begin func(of steps) transcript) []tran
 // playAll plays the scenes in a folder, and those that are generated with these options.
 func playAll(t *testing.T, folder string, begin func(of steps) transcript, options ...string) {
 	const transcripts = "../../tests/transcripts/"
-	made := t.TempDir()
-	out, err := exec.Command(transcripts+"make", append(options, made)...).CombinedOutput()
+	generated := t.TempDir()
+	out, err := exec.Command(transcripts+"make", append(options, generated)...).CombinedOutput()
 	if errors.Is(err, exec.ErrNotFound) {
 		t.Skip("there is no python3 to make scenes")
 	} else if err != nil {
 		t.Fatalf("%v: %s", err, out)
 	}
 	count := 0
-	for _, folder := range []string{transcripts + folder, made} {
+	for _, folder := range []string{transcripts + folder, generated} {
 		paths, err := filepath.Glob(folder + "/*.scene")
 		if err != nil {
 			t.Fatal(err)
 		}
 		for _, path := range paths {
-			for _, one := range scenesOf(t, path, begin) {
+			for _, s := range scenesOf(t, path, begin) {
 				count++
-				if err := one.play(); err != nil {
+				if err := s.play(); err != nil {
 					t.Error(err)
 				}
 			}

@@ -103,7 +103,7 @@ func (a *authority) issue(name string, lasts time.Duration) tls.Certificate {
 	return a.issueWithCommonName(name, name, lasts)
 }
 
-// issueWithCommonName returns one whose common name may differ from the name that it is for.
+// issueWithCommonName returns a certificate whose common name may differ from its name or address.
 func (a *authority) issueWithCommonName(common, name string, lasts time.Duration) tls.Certificate {
 	a.t.Helper()
 	key, err := ecdsa.GenerateKey(elliptic.P256(), rand.Reader)
@@ -123,11 +123,11 @@ func (a *authority) issueWithCommonName(common, name string, lasts time.Duration
 	} else {
 		template.DNSNames = []string{name}
 	}
-	made, err := x509.CreateCertificate(rand.Reader, template, a.self, &key.PublicKey, a.key)
+	der, err := x509.CreateCertificate(rand.Reader, template, a.self, &key.PublicKey, a.key)
 	if err != nil {
 		a.t.Fatal(err)
 	}
-	return tls.Certificate{Certificate: [][]byte{made}, PrivateKey: key}
+	return tls.Certificate{Certificate: [][]byte{der}, PrivateKey: key}
 }
 
 // selfSigned returns a self-signed certificate for a name or an address.
@@ -141,11 +141,11 @@ func selfSigned(t *testing.T, name string) tls.Certificate {
 	}
 	template.Issuer = template.Subject
 	public := own.PrivateKey.(*ecdsa.PrivateKey).Public()
-	made, err := x509.CreateCertificate(rand.Reader, template, template, public, own.PrivateKey)
+	der, err := x509.CreateCertificate(rand.Reader, template, template, public, own.PrivateKey)
 	if err != nil {
 		t.Fatal(err)
 	}
-	return tls.Certificate{Certificate: [][]byte{made}, PrivateKey: own.PrivateKey}
+	return tls.Certificate{Certificate: [][]byte{der}, PrivateKey: own.PrivateKey}
 }
 
 // twoPayloads returns data of version 1: 192.0.2.0/24 and 198.51.100.0/24 of AS 64496.
@@ -169,7 +169,7 @@ func startedTLS(t *testing.T, cache tls.Certificate, trusted *x509.CertPool) str
 	return servedTLS(t, rtr.NewServer(), cache, trusted)
 }
 
-// servedTLS makes a server do so.
+// servedTLS serves the data of a server over TLS, as startedTLS does.
 func servedTLS(
 	t *testing.T, server *rtr.Server, cache tls.Certificate, trusted *x509.CertPool,
 ) string {
@@ -243,8 +243,8 @@ func (c slowConn) Read(buffer []byte) (int, error) {
 	return c.Conn.Read(buffer)
 }
 
-// A router that reads some of an answer now and then gets all of it over TLS, too, in more time
-// than the limit of a write.
+// A router that reads slowly gets all of an answer over TLS too, in more time than the limit of a
+// write.
 func TestSlowRouterOverTLS(t *testing.T) {
 	trusted := newAuthority(t)
 	listener, err := net.Listen("tcp", "127.0.0.1:0")
@@ -287,7 +287,7 @@ func TestSlowRouterOverTLS(t *testing.T) {
 	}
 }
 
-// An existing connection is the only one of its client: Run ends with it.
+// A client of NewClientConn has only that connection: Run ends with it.
 func TestClientOfAConnection(t *testing.T) {
 	listener, err := net.Listen("tcp", "127.0.0.1:0")
 	if err != nil {
@@ -318,7 +318,7 @@ func TestClientOfAConnection(t *testing.T) {
 	}
 }
 
-// An error of Dial is that of the failure, and the client continues.
+// An error of Dial is reported as it is, and the client retries.
 func TestDialFails(t *testing.T) {
 	refused := errors.New("refused")
 	ctx, cancel := context.WithCancel(context.Background())

@@ -36,7 +36,7 @@ var (
 	withdrawn     = sampleOf("withdrawn ASPA")
 )
 
-// The fields of each of them.
+// The fields of each sample.
 var shownUnits = []struct {
 	bytes []byte
 	unit  Unit
@@ -88,31 +88,31 @@ func join(all ...[]byte) []byte {
 // session returns the concatenated units.
 func session() []byte {
 	var all []byte
-	for _, one := range shownUnits {
-		all = append(all, one.bytes...)
+	for _, shown := range shownUnits {
+		all = append(all, shown.bytes...)
 	}
 	return all
 }
 
 // Next decodes each unit, and AppendBinary encodes it again after existing bytes.
 func TestFields(t *testing.T) {
-	for _, one := range shownUnits {
-		unit, rest, err := Next(join(one.bytes, []byte{7}))
-		if err != nil || !reflect.DeepEqual(unit, one.unit) || !bytes.Equal(rest, []byte{7}) {
-			t.Fatalf("%x: %+v %x %v", one.bytes, unit, rest, err)
+	for _, shown := range shownUnits {
+		unit, rest, err := Next(join(shown.bytes, []byte{7}))
+		if err != nil || !reflect.DeepEqual(unit, shown.unit) || !bytes.Equal(rest, []byte{7}) {
+			t.Fatalf("%x: %+v %x %v", shown.bytes, unit, rest, err)
 		}
-		if size, err := UnitSize(one.bytes[:8]); size != len(one.bytes) || err != nil {
-			t.Fatalf("%x: %d %v", one.bytes, size, err)
+		if size, err := UnitSize(shown.bytes[:8]); size != len(shown.bytes) || err != nil {
+			t.Fatalf("%x: %d %v", shown.bytes, size, err)
 		}
-		if size, err := UnitSize(one.bytes[:7]); size != 8 || !errors.Is(err, Short) {
-			t.Fatalf("%x: %d %v", one.bytes, size, err)
+		if size, err := UnitSize(shown.bytes[:7]); size != 8 || !errors.Is(err, Short) {
+			t.Fatalf("%x: %d %v", shown.bytes, size, err)
 		}
 		form, err := unit.AppendBinary([]byte("front"))
-		if err != nil || !bytes.Equal(form, join([]byte("front"), one.bytes)) {
-			t.Fatalf("%x: %x %v", one.bytes, form, err)
+		if err != nil || !bytes.Equal(form, join([]byte("front"), shown.bytes)) {
+			t.Fatalf("%x: %x %v", shown.bytes, form, err)
 		}
 		if clone := unit.Clone(); !reflect.DeepEqual(*clone, unit) {
-			t.Fatalf("%x: %v", one.bytes, clone)
+			t.Fatalf("%x: %v", shown.bytes, clone)
 		}
 	}
 	unit, _, err := Next(aspa)
@@ -125,21 +125,21 @@ func TestFields(t *testing.T) {
 // Free bits are written as zero: host bits, sessions without a meaning, flags but the lowest, and
 // the providers of a withdrawal.
 func TestForms(t *testing.T) {
-	for _, one := range []struct{ bytes, form []byte }{
+	for _, shown := range []struct{ bytes, form []byte }{
 		{[]byte{2, 2, 3, 4, 0, 0, 0, 8}, resetQuery},
 		{[]byte{1, 8, 3, 4, 0, 0, 0, 8}, cacheReset},
 		{[]byte{1, 4, 3, 4, 0, 0, 0, 20, 0xff, 23, 26, 7, 192, 0, 3, 0xff, 0, 1, 0, 15}, ipv4},
 		{join([]byte{2, 11, 0xfe, 7, 0, 0, 0, 20}, aspa[8:]), withdrawn},
 	} {
-		unit, _, err := Next(one.bytes)
+		unit, _, err := Next(shown.bytes)
 		if err != nil {
 			t.Fatal(err)
 		}
-		if form, err := unit.MarshalBinary(); err != nil || !bytes.Equal(form, one.form) {
-			t.Fatalf("%x: %x %v", one.bytes, form, err)
+		if form, err := unit.MarshalBinary(); err != nil || !bytes.Equal(form, shown.form) {
+			t.Fatalf("%x: %x %v", shown.bytes, form, err)
 		}
 	}
-	// The host bits of a unit that was made.
+	// The host bits of a unit in Go.
 	unit := Unit{
 		Kind: IPv4Prefix, Version: 1, Announce: true, ASN: 65551, MaxLength: 26,
 		Prefix: netip.MustParsePrefix("192.0.3.255/23"),
@@ -149,7 +149,7 @@ func TestForms(t *testing.T) {
 	}
 }
 
-// A report whose inner lengths don't fit has no parts.
+// A report whose inner lengths are wrong has no parts.
 func TestReportsThatDontFit(t *testing.T) {
 	for _, lengths := range [][2]uint32{
 		{9, 2}, {7, 2}, {8, 3}, {8, 1}, {0xffffffff, 2}, {8, 0xffffffff}, {11, 0},
@@ -200,7 +200,7 @@ func TestVersions(t *testing.T) {
 	}
 }
 
-// Units that have no form.
+// Units that can't be encoded.
 var formless = []struct {
 	unit   Unit
 	status Status
@@ -237,35 +237,35 @@ var formless = []struct {
 	{Unit{Kind: EndOfData, Version: 3}, UnitVersion, 3},
 }
 
-// A unit without a form is refused, nothing is appended or written, and no report is owed.
+// A unit that can't be encoded is refused, nothing is appended or written, and no report is owed.
 func TestNoForm(t *testing.T) {
-	for _, one := range formless {
-		form, err := one.unit.AppendBinary([]byte("front"))
+	for _, shown := range formless {
+		form, err := shown.unit.AppendBinary([]byte("front"))
 		var fault *Fault
-		if string(form) != "front" || !errors.As(err, &fault) || !errors.Is(err, one.status) {
-			t.Fatalf("%v: %x %v", one.unit.Kind, form, err)
+		if string(form) != "front" || !errors.As(err, &fault) || !errors.Is(err, shown.status) {
+			t.Fatalf("%v: %x %v", shown.unit.Kind, form, err)
 		}
-		if fault.Detail != one.detail || fault.Offset != -1 {
-			t.Fatalf("%v: %+v", one.unit.Kind, fault)
+		if fault.Detail != shown.detail || fault.Offset != -1 {
+			t.Fatalf("%v: %+v", shown.unit.Kind, fault)
 		}
 		if report, owed := fault.Report(); owed {
-			t.Fatalf("%v: %+v", one.unit.Kind, report)
+			t.Fatalf("%v: %+v", shown.unit.Kind, report)
 		}
-		form, err = one.unit.AppendBinary(make([]byte, 0, 1<<17))
+		form, err = shown.unit.AppendBinary(make([]byte, 0, 1<<17))
 		if len(form) != 0 || !bytes.Equal(form[:cap(form)], make([]byte, 1<<17)) {
-			t.Fatalf("%v: something was written: %v", one.unit.Kind, err)
+			t.Fatalf("%v: something was written: %v", shown.unit.Kind, err)
 		}
 		var written bytes.Buffer
 		writer := NewWriter(&written)
-		if err := writer.Write(&one.unit); !errors.Is(err, one.status) || written.Len() > 0 {
-			t.Fatalf("%v: %x %v", one.unit.Kind, written.Bytes(), err)
+		if err := writer.Write(&shown.unit); !errors.Is(err, shown.status) || written.Len() > 0 {
+			t.Fatalf("%v: %x %v", shown.unit.Kind, written.Bytes(), err)
 		}
 	}
 }
 
 // The longest router key, reports and ASPA.
 func TestLongest(t *testing.T) {
-	for _, one := range []struct {
+	for _, shown := range []struct {
 		unit Unit
 		size int
 	}{
@@ -275,25 +275,25 @@ func TestLongest(t *testing.T) {
 		{Unit{Kind: ErrorReport, Enclosed: []byte{1, 2}, Text: make([]byte, 65517)}, 65535},
 		{Unit{Kind: ASPA, Version: 2, Announce: true, Providers: make([]byte, 65520)}, 65532},
 	} {
-		form, err := one.unit.MarshalBinary()
-		if err != nil || len(form) != one.size {
-			t.Fatalf("%v: %d bytes, %v", one.unit.Kind, len(form), err)
+		form, err := shown.unit.MarshalBinary()
+		if err != nil || len(form) != shown.size {
+			t.Fatalf("%v: %d bytes, %v", shown.unit.Kind, len(form), err)
 		}
 		unit, rest, err := Next(form)
-		if err != nil || len(rest) != 0 || !reflect.DeepEqual(unit, one.unit) {
-			t.Fatalf("%v: %v", one.unit.Kind, err)
+		if err != nil || len(rest) != 0 || !reflect.DeepEqual(unit, shown.unit) {
+			t.Fatalf("%v: %v", shown.unit.Kind, err)
 		}
 		read, err := NewReader(bytes.NewReader(form)).Next()
-		if err != nil || !reflect.DeepEqual(*read, one.unit) {
-			t.Fatalf("%v: %v", one.unit.Kind, err)
+		if err != nil || !reflect.DeepEqual(*read, shown.unit) {
+			t.Fatalf("%v: %v", shown.unit.Kind, err)
 		}
 	}
 }
 
 // Appending to a part of a unit doesn't write into the input, and a clone doesn't change with it.
 func TestParts(t *testing.T) {
-	for _, one := range [][]byte{key, aspa, errorReport} {
-		input := join(one, []byte{7})
+	for _, shown := range [][]byte{key, aspa, errorReport} {
+		input := join(shown, []byte{7})
 		unit, _, err := Next(input)
 		if err != nil {
 			t.Fatal(err)
@@ -302,13 +302,13 @@ func TestParts(t *testing.T) {
 		for _, part := range [][]byte{unit.KeyInfo, unit.Providers, unit.Enclosed, unit.Text} {
 			_ = append(part, 8)
 		}
-		if !bytes.Equal(input, join(one, []byte{7})) {
+		if !bytes.Equal(input, join(shown, []byte{7})) {
 			t.Fatalf("%v: the input was changed", unit.Kind)
 		}
 		for i := range input {
 			input[i] ^= 0xff
 		}
-		expected, _, err := Next(one)
+		expected, _, err := Next(shown)
 		if err != nil || !reflect.DeepEqual(*clone, expected) || reflect.DeepEqual(unit, expected) {
 			t.Fatalf("%v: the clone has the bytes of the input", unit.Kind)
 		}
@@ -318,9 +318,9 @@ func TestParts(t *testing.T) {
 // Nothing is allocated for a unit, in memory, by a Reader or by a Writer.
 func TestAllocations(t *testing.T) {
 	output := make([]byte, 0, 100)
-	for _, one := range shownUnits {
+	for _, shown := range shownUnits {
 		count := testing.AllocsPerRun(100, func() {
-			unit, _, err := Next(one.bytes)
+			unit, _, err := Next(shown.bytes)
 			if err != nil {
 				t.Fatal(err)
 			}
@@ -329,7 +329,7 @@ func TestAllocations(t *testing.T) {
 			}
 		})
 		if count != 0 {
-			t.Fatalf("%x: %v allocations", one.bytes, count)
+			t.Fatalf("%x: %v allocations", shown.bytes, count)
 		}
 	}
 	count := testing.AllocsPerRun(100, func() {
@@ -371,11 +371,11 @@ func TestAllocations(t *testing.T) {
 }
 
 func BenchmarkNext(b *testing.B) {
-	for _, one := range shownUnits {
-		b.Run(one.unit.Kind.String(), func(b *testing.B) {
+	for _, shown := range shownUnits {
+		b.Run(shown.unit.Kind.String(), func(b *testing.B) {
 			b.ReportAllocs()
 			for i := 0; i < b.N; i++ {
-				if _, _, err := Next(one.bytes); err != nil {
+				if _, _, err := Next(shown.bytes); err != nil {
 					b.Fatal(err)
 				}
 			}
@@ -383,12 +383,12 @@ func BenchmarkNext(b *testing.B) {
 	}
 }
 
-// Many units at once are those that Next returns one after the other, in a slice of any length.
+// NextMany returns the same units as Next, for slices of any length.
 func TestNextMany(t *testing.T) {
 	var input []byte
 	for i := 0; i < 30; i++ {
-		for _, one := range shownUnits {
-			input = append(input, one.bytes...)
+		for _, shown := range shownUnits {
+			input = append(input, shown.bytes...)
 		}
 	}
 	for _, end := range [][]byte{nil, ipv4[:5], {1, 5, 0, 0, 0, 0, 0, 8}} {
@@ -425,7 +425,7 @@ func TestNextMany(t *testing.T) {
 	}
 }
 
-// Reading data makes few calls of C: a call takes Go longer than a unit takes the library.
+// Reading data makes few calls of C: a call from Go takes longer than decoding a unit.
 func TestNextManyCrossings(t *testing.T) {
 	input := bytes.Repeat(ipv4, 64000)
 	units := make([]Unit, 256)
@@ -457,10 +457,10 @@ func BenchmarkNextMany(b *testing.B) {
 }
 
 func BenchmarkAppendBinary(b *testing.B) {
-	for _, one := range shownUnits {
-		b.Run(one.unit.Kind.String(), func(b *testing.B) {
+	for _, shown := range shownUnits {
+		b.Run(shown.unit.Kind.String(), func(b *testing.B) {
 			b.ReportAllocs()
-			unit, output := one.unit, make([]byte, 0, 100)
+			unit, output := shown.unit, make([]byte, 0, 100)
 			var err error
 			for i := 0; i < b.N; i++ {
 				if output, err = unit.AppendBinary(output[:0]); err != nil {
@@ -512,7 +512,7 @@ func TestTextRows(t *testing.T) {
 		if err != nil {
 			t.Fatal(row)
 		}
-		said := ""
+		got := ""
 		switch word {
 		case "text":
 			digits, after, _ := strings.Cut(text, " ")
@@ -521,22 +521,22 @@ func TestTextRows(t *testing.T) {
 				t.Fatal(row)
 			}
 			fault := Fault{Status: Status(number), Detail: uint8(detail), Offset: -1}
-			text, said = "rtr: "+after, fault.Error()
+			text, got = "rtr: "+after, fault.Error()
 		case "status":
-			said = name(namedStatus, uint16(number))
+			got = name(namedStatus, uint16(number))
 		case "kind":
-			said = name(namedKind, uint16(number))
+			got = name(namedKind, uint16(number))
 		case "cause":
-			said = name(namedCause, uint16(number))
+			got = name(namedCause, uint16(number))
 		case "reason":
-			said = name(namedReason, uint16(number))
+			got = name(namedReason, uint16(number))
 		case "code":
-			said = ErrorCode(number).String()
+			got = ErrorCode(number).String()
 		case "time_rule":
-			said = name(namedTimeRule, uint16(number))
+			got = name(namedTimeRule, uint16(number))
 		}
-		if said != text {
-			t.Fatalf("%s: %q", row, said)
+		if got != text {
+			t.Fatalf("%s: %q", row, got)
 		}
 		rows++
 	}
@@ -638,7 +638,7 @@ func reportBytes(version, code byte, about []byte, text string) []byte {
 // The text of a fault, its error code by RFC 8210 section 12, and the report that it owes.
 func TestReports(t *testing.T) {
 	prefix := []byte{1, 4, 0, 0, 0, 0, 0, 20, 1, 24, 23, 0, 192, 0, 2, 0, 0, 1, 0, 15}
-	for _, one := range []struct {
+	for _, shown := range []struct {
 		input []byte
 		text  string
 		code  int // -1 if no report is owed
@@ -657,26 +657,26 @@ func TestReports(t *testing.T) {
 		{[]byte{1, 10, 0, 0, 0, 1, 0, 0, 9, 9}, "unit is longer than 65535 bytes", -1, 0},
 		{[]byte{1, 10, 0, 0, 0, 0, 0, 16, 9, 9}, "unexpected end of input", -1, 0},
 	} {
-		_, _, inMemory := Next(one.input)
-		_, read := NewReader(bytes.NewReader(one.input)).Next()
+		_, _, inMemory := Next(shown.input)
+		_, read := NewReader(bytes.NewReader(shown.input)).Next()
 		for _, err := range []error{inMemory, read} {
 			var fault *Fault
-			if !errors.As(err, &fault) || err.Error() != "rtr: "+one.text+", at byte 0" {
-				t.Fatalf("%x: %v", one.input, err)
+			if !errors.As(err, &fault) || err.Error() != "rtr: "+shown.text+", at byte 0" {
+				t.Fatalf("%x: %v", shown.input, err)
 			}
 			if err == inMemory && cap(fault.Unit) != len(fault.Unit) {
-				t.Fatalf("%x: what is appended to %x would change the input", one.input, fault.Unit)
+				t.Fatalf("%x: what is appended to %x would change the input", shown.input, fault.Unit)
 			}
 			report, owed := fault.Report()
-			if owed != (one.code >= 0) {
-				t.Fatalf("%x: %+v", one.input, report)
+			if owed != (shown.code >= 0) {
+				t.Fatalf("%x: %+v", shown.input, report)
 			}
 			if !owed {
 				continue
 			}
-			expected := reportBytes(one.input[0], byte(one.code), one.input[:one.about], one.text)
+			expected := reportBytes(shown.input[0], byte(shown.code), shown.input[:shown.about], shown.text)
 			if form, err := report.MarshalBinary(); err != nil || !bytes.Equal(form, expected) {
-				t.Fatalf("%x: %x %v", one.input, form, err)
+				t.Fatalf("%x: %x %v", shown.input, form, err)
 			}
 		}
 	}
@@ -709,7 +709,7 @@ func TestReportsCut(t *testing.T) {
 
 // By RFC 1982 section 3.2.
 func TestSerials(t *testing.T) {
-	for _, one := range []struct {
+	for _, shown := range []struct {
 		left, right uint32
 		order       int
 		ok          bool
@@ -720,8 +720,8 @@ func TestSerials(t *testing.T) {
 		{0, 0x7fffffff, -1, true}, {0, 0x80000001, 1, true},
 		{0, 0x80000000, 0, false}, {0x80000000, 0, 0, false}, {5, 0x80000005, 0, false},
 	} {
-		if order, ok := CompareSerials(one.left, one.right); order != one.order || ok != one.ok {
-			t.Fatalf("%d %d: %d %v", one.left, one.right, order, ok)
+		if order, ok := CompareSerials(shown.left, shown.right); order != shown.order || ok != shown.ok {
+			t.Fatalf("%d %d: %d %v", shown.left, shown.right, order, ok)
 		}
 	}
 }

@@ -14,7 +14,7 @@ import (
 
 // A VRP that covers a route, as tests/libraries/validity.py computed it.
 type coveringVRP struct {
-	place                       uint32
+	index                       uint32
 	asn                         uint32
 	length, maxLength, mismatch uint8
 }
@@ -76,7 +76,7 @@ func validityTables(t *testing.T) (tables []validityTable) {
 			route.covering = make([]coveringVRP, head[3])
 			for j := range route.covering {
 				vrp := &route.covering[j]
-				vrp.place, vrp.asn = number(), number()
+				vrp.index, vrp.asn = number(), number()
 				last := take(4)
 				vrp.length, vrp.maxLength, vrp.mismatch = last[0], last[1], last[2]
 			}
@@ -101,7 +101,7 @@ func TestValidity(t *testing.T) {
 			seen[got]++
 			covering := table.data.Covering(route.prefix, route.asn)
 			for _, want := range route.covering {
-				unit := vrps[want.place]
+				unit := vrps[want.index]
 				vrp := VRP{Prefix: unit.Prefix, MaxLength: want.maxLength, ASN: want.asn}
 				if !covering.Scan() || covering.VRP() != vrp || unit.Prefix.Bits() != int(want.length) ||
 					covering.Mismatch() != Mismatch(want.mismatch) {

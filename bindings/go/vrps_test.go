@@ -23,7 +23,7 @@ func TestNewDataOf(t *testing.T) {
 	whole := []byte{1, 4, 0, 0, 0, 0, 0, 20, 1, 0, 0, 0, 0, 0, 0, 0, 0, 1, 0, 15}
 	exact := changed(changed(ipv4, 9, 23), 10, 23)
 	end := ending(1, 7, 9)
-	for name, one := range map[string]struct {
+	for name, row := range map[string]struct {
 		vrps     []VRP
 		expected []byte
 	}{
@@ -37,8 +37,8 @@ func TestNewDataOf(t *testing.T) {
 			join(whole, exact, end),
 		},
 	} {
-		data, err := NewDataOf(one.vrps, 1, 7, 9, Timing{3600, 600, 7200})
-		if err != nil || !bytes.Equal(data.Bytes(), one.expected) {
+		data, err := NewDataOf(row.vrps, 1, 7, 9, Timing{3600, 600, 7200})
+		if err != nil || !bytes.Equal(data.Bytes(), row.expected) {
 			t.Errorf("%s: %x %v", name, data.Bytes(), err)
 		}
 		again, err := NewDataOf(data.VRPs(), 1, 7, 9, Timing{3600, 600, 7200})
@@ -59,9 +59,9 @@ func TestVRPs(t *testing.T) {
 	}
 }
 
-// VRPs that no unit has, each with a valid one before it.
+// VRPs that can't be encoded, each after a valid one.
 func TestNewDataOfRefused(t *testing.T) {
-	for text, one := range map[string]struct {
+	for text, row := range map[string]struct {
 		vrp     VRP
 		version uint8
 		status  Status
@@ -71,9 +71,9 @@ func TestNewDataOfRefused(t *testing.T) {
 		"VRP 1, 192.0.2.0/23-33 AS65551": {vrp("192.0.2.0/23", 33), 1, PrefixRule},
 		"VRP 1, 192.0.2.0/23-22 AS65551": {vrp("192.0.2.0/23", 22), 1, PrefixRule},
 	} {
-		vrps := []VRP{vrp("192.0.2.0/24", 24), one.vrp}
-		data, err := NewDataOf(vrps, one.version, 7, 9, Timing{})
-		if !errors.Is(err, one.status) || !strings.Contains(err.Error(), text) || !data.IsZero() {
+		vrps := []VRP{vrp("192.0.2.0/24", 24), row.vrp}
+		data, err := NewDataOf(vrps, row.version, 7, 9, Timing{})
+		if !errors.Is(err, row.status) || !strings.Contains(err.Error(), text) || !data.IsZero() {
 			t.Errorf("%s: %v", text, err)
 		}
 	}

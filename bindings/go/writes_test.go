@@ -14,8 +14,7 @@ import (
 	"time"
 )
 
-// stalled is a connection that accepts a part of each of the first writes before the deadline
-// passes.
+// stalled is a connection that accepts only a part of each of the first writes, and then times out.
 type stalled struct {
 	net.Conn
 	takes     []int
@@ -36,7 +35,7 @@ func (s *stalled) Write(bytes []byte) (int, error) {
 	return taken, os.ErrDeadlineExceeded
 }
 
-// A write whose deadline passed gets no second one, whatever part was written before.
+// After a write that timed out nothing more is written, however much of it was sent.
 func TestWriteTakenInPart(t *testing.T) {
 	for name, takes := range map[string][]int{
 		"nothing":                {0},
@@ -67,7 +66,7 @@ func TestWriteToASocket(t *testing.T) {
 	writeToASocket(t, file)
 }
 
-func writeToASocket(t *testing.T, one piece) {
+func writeToASocket(t *testing.T, part piece) {
 	listener := listen(t, "127.0.0.1:0")
 	defer listener.Close()
 	taken := make(chan net.Conn, 1)
@@ -80,35 +79,35 @@ func writeToASocket(t *testing.T, one piece) {
 	defer connection.Close()
 	c := newServed(NewServer(), connection)
 	connection.SetWriteDeadline(time.Now().Add(time.Hour))
-	written, err := c.writeSome(&one)
-	if err != nil || written <= tlsRecord || written == one.size() {
+	written, err := c.writeSome(&part)
+	if err != nil || written <= tlsRecord || written == part.size() {
 		t.Fatal(written, err)
 	}
 	connection.SetWriteDeadline(time.Now().Add(50 * time.Millisecond))
 	for err == nil {
-		_, err = c.writeSome(&one)
+		_, err = c.writeSome(&part)
 	}
 	if !isTimeout(err) {
 		t.Fatal(err)
 	}
 }
 
-// Many bytes are stored in a file, unless the file size limit is lower.
+// Many bytes are stored in a file in memory, unless the limit of file sizes is lower.
 func TestFiled(t *testing.T) {
 	all := make([]byte, 5*hugePage/2+1)
 	for i := range all {
 		all[i] = byte(i * i >> 8)
 	}
 	for _, length := range []int{0, 24, chunk - 1, chunk, 3*chunk + 1, hugePage / 2, len(all)} {
-		one := filed(all[:length])
-		if one.size() != length || (one.file != nil) != (length >= chunk) {
-			t.Errorf("%d bytes: %d, a file: %t", length, one.size(), one.file != nil)
+		part := filed(all[:length])
+		if part.size() != length || (part.file != nil) != (length >= chunk) {
+			t.Errorf("%d bytes: %d, a file: %t", length, part.size(), part.file != nil)
 		}
-		if one.file == nil {
+		if part.file == nil {
 			continue
 		}
-		one.file.Seek(0, io.SeekStart)
-		if read, err := io.ReadAll(one.file); err != nil || !bytes.Equal(read, all[:length]) {
+		part.file.Seek(0, io.SeekStart)
+		if read, err := io.ReadAll(part.file); err != nil || !bytes.Equal(read, all[:length]) {
 			t.Errorf("%d bytes: others in the file, %v", length, err)
 		}
 	}
@@ -121,12 +120,12 @@ func TestFiled(t *testing.T) {
 	if err := syscall.Setrlimit(syscall.RLIMIT_FSIZE, &less); err != nil {
 		t.Fatal(err)
 	}
-	one := filed(all)
+	part := filed(all)
 	if err := syscall.Setrlimit(syscall.RLIMIT_FSIZE, &usual); err != nil {
 		t.Fatal(err)
 	}
-	if one.file != nil || len(one.bytes) != len(all) {
-		t.Error(one.file != nil, len(one.bytes))
+	if part.file != nil || len(part.bytes) != len(all) {
+		t.Error(part.file != nil, len(part.bytes))
 	}
 }
 
@@ -141,30 +140,30 @@ func TestFiledEdition(t *testing.T) {
 		t.Fatal(err)
 	}
 	e := newEdition(0, data, nil, ServerLimits{})
-	isOpen := func(one piece) bool {
-		_, err := one.file.Stat()
+	isOpen := func(part piece) bool {
+		_, err := part.file.Stat()
 		return err == nil
 	}
 	file := func() piece {
-		one, err := e.file(1)
-		if err != nil || one.file == nil || !isOpen(one) {
+		part, err := e.file(1)
+		if err != nil || part.file == nil || !isOpen(part) {
 			t.Fatal(err, "no file")
 		}
-		return one
+		return part
 	}
-	one := file()
+	part := file()
 	e.sent()
-	if other := file(); !isOpen(one) || other.file != one.file {
+	if other := file(); !isOpen(part) || other.file != part.file {
 		t.Fatal("closed before there was a newer edition")
 	}
-	if e.replaced(); !isOpen(one) {
+	if e.replaced(); !isOpen(part) {
 		t.Fatal("closed before a client was done with it")
 	}
-	if e.sent(); isOpen(one) {
+	if e.sent(); isOpen(part) {
 		t.Fatal("still open")
 	}
-	one = file() // for a late client
-	if e.sent(); isOpen(one) {
+	part = file() // for a late client
+	if e.sent(); isOpen(part) {
 		t.Fatal("open again")
 	}
 }

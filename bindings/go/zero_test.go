@@ -13,7 +13,7 @@ import (
 	"time"
 )
 
-// The zero Server is that of NewServer: it serves, and its limits are the same.
+// The zero Server serves, with the limits of NewServer.
 func TestZeroServer(t *testing.T) {
 	noLeaks(t)
 	data := parsed(t, join(ipv4, ending(1, 7, 9)))
@@ -76,7 +76,7 @@ func isShort(err error) bool {
 	return errors.As(err, &fault) && fault.Status == Short
 }
 
-// If a limit is set, all limits are as given; setting only Refuse keeps the default limits.
+// If any limit is set, all are used as set; setting only Refuse keeps the default limits.
 func TestZeroServerLimits(t *testing.T) {
 	usual := NewServer().Limits
 	usual.Refuse = true
@@ -155,11 +155,11 @@ func TestZeroReader(t *testing.T) {
 	}
 }
 
-// The version that a client asks in first, by what is set.
+// The version in which a client first asks, by its fields.
 func TestClientVersion(t *testing.T) {
-	for name, one := range map[string]struct {
-		client *Client
-		wanted byte
+	for name, row := range map[string]struct {
+		client   *Client
+		expected byte
 	}{
 		"zero":         {&Client{}, 1},
 		"NewClient":    {NewClient(""), 1},
@@ -176,7 +176,7 @@ func TestClientVersion(t *testing.T) {
 		t.Run(name, func(t *testing.T) {
 			ours, theirs := net.Pipe()
 			defer theirs.Close()
-			client := one.client
+			client := row.client
 			client.connection = ours
 			ctx, cancel := limited(t)
 			defer cancel()
@@ -186,7 +186,7 @@ func TestClientVersion(t *testing.T) {
 				failed <- err
 			}()
 			query := make([]byte, 8)
-			if _, err := io.ReadFull(theirs, query); err != nil || query[0] != one.wanted {
+			if _, err := io.ReadFull(theirs, query); err != nil || query[0] != row.expected {
 				t.Error(query, err)
 			}
 			theirs.Close()
