@@ -47,7 +47,7 @@ func TestExpires(t *testing.T) {
 	if data := fetched(t, address, 2); data.Len() != 0 {
 		t.Error(lines(data))
 	}
-	if process.Lines("serial") != 3 || process.Lines("refused") != 0 {
+	if process.Lines("f: session") != 3 || process.Lines("refused") != 0 {
 		t.Error(process.Stderr())
 	}
 }
