@@ -29,7 +29,7 @@ var (
 	ErrOtherData = errors.New(causeOtherData.String())
 	// ErrNoQuery: the unit of a client isn't a query.
 	ErrNoQuery = errors.New(reasonText(C.RTR_REASON_NO_QUERY))
-	// ErrMisplaced: a unit of this type isn't allowed where it came.
+	// ErrMisplaced: a unit of this type isn't allowed at this point of the session.
 	ErrMisplaced = errors.New(causeOutOfPlace.String())
 	// ErrNoPayload: the version has no payload unit of this type.
 	ErrNoPayload = errors.New(causeNoSuchPayload.String())

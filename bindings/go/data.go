@@ -24,7 +24,7 @@ var RecommendedTiming = Timing{
 }
 
 // ErrTiming: RFC 8210 section 6 doesn't allow these times.
-var ErrTiming = errors.New("rtr: no cache may name these times")
+var ErrTiming = errors.New("rtr: a cache may not send these times")
 
 // Check returns nil if a cache may send these times, else an ErrTiming with the rule of RFC 8210
 // section 6 that they break: the refresh time is 1 to 86400 seconds, the retry time 1 to 7200, the

@@ -63,7 +63,7 @@ func (c *deltaCase) called() ([]byte, error) {
 	return Order(c.first)
 }
 
-// What is computed without the library.
+// The expected results are computed without the library.
 func TestDeltaCases(t *testing.T) {
 	const noIndex = 17
 	for i, c := range deltaCases(t) {

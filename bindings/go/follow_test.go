@@ -104,8 +104,8 @@ func followingAt(t *testing.T, expire time.Duration, addresses ...string) *colle
 	})
 }
 
-// The data of a dead cache are shown until the next one has a whole answer, and those of the
-// preferred one again as soon as it has a whole answer.
+// The data of a dead cache are shown until the next one has a complete answer, and those of the
+// preferred one again as soon as it has a complete answer.
 func TestNewer(t *testing.T) {
 	first, address := cache(t, reserved(t), 1)
 	second, other := cache(t, "127.0.0.1:0", 5)

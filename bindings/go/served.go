@@ -144,8 +144,8 @@ func (c *served) refuse() {
 	C.rtr_cache_full(&c.cache, C.uint64_t(c.server.clock.now()), &c.present, &c.serving)
 }
 
-// tell gives the machine an event (a unit, the end of the connection, the time), with the known
-// serial numbers.
+// tell passes an event to the machine: a unit, the end of the connection, or the time. known are the
+// serial numbers that have deltas.
 func (c *served) tell(known []C.uint32_t) {
 	now := C.uint64_t(c.server.clock.now())
 	if len(c.input) > 0 {

@@ -171,12 +171,12 @@ func TestWrongWords(t *testing.T) {
 	folder := t.TempDir()
 	trial.Write(t, folder+"/f", rows(1))
 	for _, row := range []struct{ words, says string }{
-		{"", "no list is named"},
+		{"", "no list given"},
 		{"--sequence f --slurm s", "--slurm filters the lists of validators, and no units (sequence)"},
 		{"f", `"f" isn't an option`},
 		{"--csv", "--csv needs FILE"},
 		{"--csv=", "--csv: it is empty"},
-		{"--csv f --csv f", "--csv: f is named twice"},
+		{"--csv f --csv f", "--csv: f is given twice"},
 		{"--csv f --nothing", `unknown option "--nothing"`},
 		{"--csv f -x", `unknown option "-x"`},
 		{"--csv f --help", `unknown option "--help"`},
@@ -188,7 +188,7 @@ func TestWrongWords(t *testing.T) {
 		{"--csv f --look 10", `--look: "10" isn't a time`},
 		{"--csv f --look 1ms", `--look: "1ms" isn't a time`},
 		{"--csv f --refresh 4294967296", `--refresh: "4294967296" isn't a number`},
-		{"--csv f --refresh 0", "--refresh 0 --retry 600 --expire 7200: rtr: no cache may name these " +
+		{"--csv f --refresh 0", "--refresh 0 --retry 600 --expire 7200: rtr: a cache may not send these " +
 			"times: the refresh time has to be 1 to 86400 seconds"},
 		{"--csv f --retry 7201 --expire 8000", "the retry time has to be 1 to 7200 seconds"},
 		{"--csv f --expire 10", "the expire time has to be 600 to 172800 seconds"},

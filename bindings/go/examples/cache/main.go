@@ -1,6 +1,6 @@
-// Cache serves the data in a file to RTR clients of versions 0 to 2, and takes it up again when
-// the file changes. What it has to know after it was started again is kept beside the file, with
-// ".kept" behind its name. SIGINT and SIGTERM end it.
+// Cache serves the data of a file to RTR clients of versions 0 to 2, and reloads it when it changes.
+// What it needs after a restart is saved beside the file, with ".kept" after its name. SIGINT and
+// SIGTERM end it.
 package main
 
 import (
@@ -20,78 +20,78 @@ import (
 
 const usage = "usage: cache FILE [--listen ADDRESS:PORT].. [--max-clients N] [--refuse]"
 
-// Where a cache listens that isn't told where: every address, at a port that needs no rights.
+// anywhere is the default address: all interfaces, at a port that needs no privileges.
 const anywhere = ":3323"
 
-// How often the file is looked at.
+// interval is the time between two checks of the file.
 const interval = time.Second / 4
 
-// options are what the command line asks for.
+// options is the content of the command line.
 type options struct {
 	path      string
 	addresses []string
-	clients   int // at once; 0 where it isn't said
+	clients   int // the most at once; 0 for the default
 	refuse    bool
 }
 
 func main() {
-	wanted, ok := arguments(os.Args[1:])
+	opts, ok := arguments(os.Args[1:])
 	if !ok {
 		fmt.Fprintln(os.Stderr, usage)
 		os.Exit(2)
 	}
 	ctx, stop := signal.NotifyContext(context.Background(), syscall.SIGINT, syscall.SIGTERM)
 	defer stop()
-	if err := run(ctx, wanted); err != nil {
+	if err := run(ctx, opts); err != nil {
 		say(err)
 		os.Exit(1)
 	}
 }
 
-// arguments are the options of a command line.
-func arguments(words []string) (wanted options, ok bool) {
+// arguments parses a command line.
+func arguments(words []string) (opts options, ok bool) {
 	for ; len(words) > 0; words = words[1:] {
 		switch {
 		case words[0] == "--listen" && len(words) > 1:
-			wanted.addresses = append(wanted.addresses, words[1])
+			opts.addresses = append(opts.addresses, words[1])
 			words = words[1:]
 		case words[0] == "--max-clients" && len(words) > 1:
 			var err error
-			if wanted.clients, err = strconv.Atoi(words[1]); err != nil || wanted.clients < 1 {
+			if opts.clients, err = strconv.Atoi(words[1]); err != nil || opts.clients < 1 {
 				return options{}, false
 			}
 			words = words[1:]
 		case words[0] == "--refuse":
-			wanted.refuse = true
-		case wanted.path == "" && words[0] != "" && words[0][0] != '-':
-			wanted.path = words[0]
+			opts.refuse = true
+		case opts.path == "" && words[0] != "" && words[0][0] != '-':
+			opts.path = words[0]
 		default:
 			return options{}, false
 		}
 	}
-	if len(wanted.addresses) == 0 {
-		wanted.addresses = []string{anywhere}
+	if len(opts.addresses) == 0 {
+		opts.addresses = []string{anywhere}
 	}
-	return wanted, wanted.path != ""
+	return opts, opts.path != ""
 }
 
 // run serves until the context ends, or a listener fails.
-func run(ctx context.Context, wanted options) error {
+func run(ctx context.Context, opts options) error {
 	server := rtr.NewServer()
-	server.Limits.Refuse = wanted.refuse
-	if wanted.clients > 0 {
-		server.Limits.Connections = wanted.clients
+	server.Limits.Refuse = opts.refuse
+	if opts.clients > 0 {
+		server.Limits.Connections = opts.clients
 	}
 	defer server.Close()
 	server.Ended = func(client net.Addr, err error) { say(client, ": ", err) }
-	kept := wanted.path + rtr.KeptSuffix
-	if data, err := server.Restore(kept); err == nil {
-		sayTaken(kept, data)
+	saved := opts.path + rtr.KeptSuffix
+	if data, err := server.Restore(saved); err == nil {
+		sayServed(saved, data)
 	} else if !errors.Is(err, os.ErrNotExist) {
 		say(err)
 	}
-	failed := make(chan error, len(wanted.addresses))
-	for _, address := range wanted.addresses {
+	failed := make(chan error, len(opts.addresses))
+	for _, address := range opts.addresses {
 		listener, err := net.Listen("tcp", address)
 		if err != nil {
 			return err
@@ -103,12 +103,12 @@ func run(ctx context.Context, wanted options) error {
 	watched := make(chan struct{})
 	go func() {
 		defer close(watched)
-		server.Watch(ctx, wanted.path, interval, func(data rtr.Data, err error) {
+		server.Watch(ctx, opts.path, interval, func(data rtr.Data, err error) {
 			if err != nil {
 				say(err)
 				return
 			}
-			sayTaken(wanted.path, data)
+			sayServed(opts.path, data)
 		})
 	}()
 	var err error
@@ -124,8 +124,8 @@ func run(ctx context.Context, wanted options) error {
 	return err
 }
 
-// sayTaken says which data of a file the server has, and warns of serial number 0.
-func sayTaken(path string, data rtr.Data) {
+// sayServed prints which data of a file the server has now, and warns of serial number 0.
+func sayServed(path string, data rtr.Data) {
 	say(fmt.Sprintf("%s: session %d serial %d: %s",
 		path, data.Session(), data.Serial(), payloads(data.Len())))
 	if data.Serial() == 0 {
@@ -134,7 +134,7 @@ func sayTaken(path string, data rtr.Data) {
 	}
 }
 
-// payloads is a number of them.
+// payloads returns a number of payloads as text.
 func payloads(count int) string {
 	if count == 1 {
 		return "1 payload"
@@ -142,7 +142,7 @@ func payloads(count int) string {
 	return fmt.Sprintf("%d payloads", count)
 }
 
-// say writes a line on standard error, with the time before it.
+// say prints a line with the time on standard error.
 func say(words ...any) {
 	line := strings.ReplaceAll(fmt.Sprint(words...), "rtr: ", "")
 	fmt.Fprintln(os.Stderr, time.Now().UTC().Format(time.RFC3339), line)

@@ -1,5 +1,5 @@
-// Client follows the data of an RTR cache, and prints what is announced and withdrawn. With
-// --prefer it has the data of the first of several caches that answers.
+// Client follows the data of an RTR cache, and prints announcements and withdrawals. With --prefer
+// it follows the first of several caches that answers.
 package main
 
 import (
@@ -20,7 +20,7 @@ import (
 const usage = "usage: client (HOST:PORT | (--prefer HOST:PORT)..) " +
 	"[--version 0|1|2] [--once] [--json]"
 
-// options are what the command line asks for.
+// options is the content of the command line.
 type options struct {
 	addresses  []string // by preference
 	version    uint8
@@ -28,71 +28,71 @@ type options struct {
 }
 
 func main() {
-	wanted, ok := arguments(os.Args[1:])
+	opts, ok := arguments(os.Args[1:])
 	if !ok {
 		fmt.Fprintln(os.Stderr, usage)
 		os.Exit(2)
 	}
 	ctx, stop := signal.NotifyContext(context.Background(), syscall.SIGINT, syscall.SIGTERM)
 	defer stop()
-	err := run(ctx, wanted, os.Stdout)
-	if err != nil && (wanted.once || !errors.Is(err, context.Canceled)) {
+	err := run(ctx, opts, os.Stdout)
+	if err != nil && (opts.once || !errors.Is(err, context.Canceled)) {
 		fmt.Fprintln(os.Stderr, err)
 		os.Exit(1)
 	}
 }
 
-// arguments are the options of a command line.
-func arguments(words []string) (wanted options, ok bool) {
-	wanted.version = 1
+// arguments parses a command line.
+func arguments(words []string) (opts options, ok bool) {
+	opts.version = 1
 	for alone := false; len(words) > 0; words = words[1:] {
 		switch word := words[0]; {
 		case word == "--once":
-			wanted.once = true
+			opts.once = true
 		case word == "--json":
-			wanted.json = true
+			opts.json = true
 		case word == "--version" && len(words) > 1:
 			version, err := strconv.ParseUint(words[1], 10, 8)
 			if err != nil || version > 2 {
 				return options{}, false
 			}
-			wanted.version = uint8(version)
+			opts.version = uint8(version)
 			words = words[1:]
 		case word == "--prefer" && len(words) > 1 && !alone && isAddress(words[1]):
-			wanted.addresses = append(wanted.addresses, words[1])
+			opts.addresses = append(opts.addresses, words[1])
 			words = words[1:]
-		case len(wanted.addresses) == 0 && isAddress(word):
-			wanted.addresses = append(wanted.addresses, word)
+		case len(opts.addresses) == 0 && isAddress(word):
+			opts.addresses = append(opts.addresses, word)
 			alone = true
 		default:
 			return options{}, false
 		}
 	}
-	return wanted, len(wanted.addresses) > 0 && len(wanted.addresses) <= rtr.MostMembers
+	return opts, len(opts.addresses) > 0 && len(opts.addresses) <= rtr.MostMembers
 }
 
-// isAddress says whether a word is a host and a port.
+// isAddress reports whether an argument is a host and a port.
 func isAddress(word string) bool {
 	_, _, err := net.SplitHostPort(word)
 	return err == nil && word[0] != '-'
 }
 
-// errEnough ends a client that was to have the first data.
+// errEnough ends the client after the first data.
 var errEnough = errors.New("enough")
 
 // run prints changes until the context ends or the output fails, or after the first data.
-func run(ctx context.Context, wanted options, output io.Writer) error {
+func run(ctx context.Context, opts options, output io.Writer) error {
 	shown := &show{
-		once: wanted.once, line: rtr.ChangeLine, output: bufio.NewWriter(output),
+		once: opts.once, line: rtr.ChangeLine, output: bufio.NewWriter(output),
 		failed: make(map[*rtr.Client]bool),
 	}
-	if wanted.json {
+	if opts.json {
 		shown.line = rtr.ChangeJSON
 	}
 	var sources []rtr.Source
-	for _, address := range wanted.addresses {
+	for _, address := range opts.addresses {
 		client := rtr.NewClient(address)
-		client.AskIn(wanted.version)
+		client.AskIn(opts.version)
 		sources = append(sources, rtr.Source{Name: address, Client: client})
 	}
 	shown.left = len(sources)
@@ -102,16 +102,16 @@ func run(ctx context.Context, wanted options, output io.Writer) error {
 	return nil
 }
 
-// show prints what comes of the caches.
+// show prints the changes and the failures of the caches.
 type show struct {
 	once   bool
 	line   func(*rtr.Unit) string
 	output *bufio.Writer
-	left   int                  // how many of the caches didn't fail
+	left   int                  // the number of caches that haven't failed
 	failed map[*rtr.Client]bool // the others
 }
 
-// payloads is a number of them.
+// payloads returns a number of payloads as text.
 func payloads(count int) string {
 	if count == 1 {
 		return "1 payload"
@@ -119,7 +119,7 @@ func payloads(count int) string {
 	return fmt.Sprintf("%d payloads", count)
 }
 
-// Data prints what leads from the data before to these.
+// Data prints the changes from the data before.
 func (s *show) Data(_ rtr.Source, update rtr.Update) error {
 	if data := update.Data; !data.IsZero() {
 		fmt.Fprintf(os.Stderr, "session %d serial %d version %d: %s\n",
@@ -135,8 +135,7 @@ func (s *show) Data(_ rtr.Source, update rtr.Update) error {
 	return errEnough
 }
 
-// Failed says why a connection ended. If data are wanted once, it ends the client after the last
-// cache to fail.
+// Failed prints why a connection ended. With --once it ends the client once all caches have failed.
 func (s *show) Failed(source rtr.Source, err error) error {
 	err = fmt.Errorf("%s: %w", source.Name, err)
 	if !s.failed[source.Client] {

@@ -14,10 +14,10 @@ import (
 	"fishreef/rtr"
 )
 
-// patience is how long a test waits at most for what has to come.
+// patience is the time limit of a test for each thing that it waits for.
 const patience = 120 * time.Second
 
-// cache is one without data, which says so, and its address.
+// cache starts a cache without data, and returns it and its address.
 func cache(t *testing.T) (*rtr.Server, string) {
 	t.Helper()
 	listener, err := net.Listen("tcp", "127.0.0.1:0")
@@ -31,7 +31,7 @@ func cache(t *testing.T) (*rtr.Server, string) {
 	return server, listener.Addr().String()
 }
 
-// update gives a cache data of this serial number, of one prefix and these origins.
+// update updates a cache to data of this serial number, with one prefix and these origins.
 func update(t *testing.T, server *rtr.Server, serial uint32, origins ...uint32) {
 	t.Helper()
 	var vrps []rtr.VRP
@@ -48,12 +48,12 @@ func update(t *testing.T, server *rtr.Server, serial uint32, origins ...uint32) 
 	}
 }
 
-// line is the line of a change.
+// line returns the line of a change.
 func line(sign, asn string) string {
 	return sign + " IPv4 prefix 192.0.2.0/24-24 AS" + asn + "\n"
 }
 
-// written passes on what a client writes, a change of the data at a time.
+// written sends what a client writes, one change of the data at a time.
 type written chan string
 
 func (w written) Write(text []byte) (int, error) {
@@ -61,7 +61,7 @@ func (w written) Write(text []byte) (int, error) {
 	return len(text), nil
 }
 
-// says waits for what is written next.
+// says waits for the next text, and compares it.
 func (w written) says(t *testing.T, want string) {
 	t.Helper()
 	select {
@@ -74,7 +74,7 @@ func (w written) says(t *testing.T, want string) {
 	}
 }
 
-// The data are those of the first cache that has some, and a change of caches prints what differs.
+// The client follows the first cache that has data; a change of caches prints the differences.
 func TestPrefer(t *testing.T) {
 	first, address := cache(t)
 	second, other := cache(t)
@@ -91,7 +91,7 @@ func TestPrefer(t *testing.T) {
 	output.says(t, line("+", "3"))
 	update(t, first, 1, 2, 4)
 	output.says(t, line("+", "4")+line("-", "1")+line("-", "3"))
-	update(t, second, 7, 9) // it is left
+	update(t, second, 7, 9) // the client doesn't follow it any more
 	update(t, first, 2, 2)
 	output.says(t, line("-", "4"))
 	cancel()
@@ -100,7 +100,7 @@ func TestPrefer(t *testing.T) {
 	}
 }
 
-// A client that wants data once ends with the first ones, or where the last cache failed too.
+// With --once the client ends after the first data, or once all caches have failed.
 func TestPreferOnce(t *testing.T) {
 	ctx, cancel := context.WithTimeout(context.Background(), patience)
 	defer cancel()
@@ -118,7 +118,7 @@ func TestPreferOnce(t *testing.T) {
 	}
 }
 
-// What the command line may have.
+// Valid and invalid command lines.
 func TestArguments(t *testing.T) {
 	most := strings.Fields(strings.Repeat("--prefer a:1 ", rtr.MostMembers))
 	for _, words := range [][]string{

@@ -1,4 +1,4 @@
-// Session lists the units of the session on standard input, as a router or a cache has recorded it.
+// Session lists the units of a recorded session on standard input.
 package main
 
 import (
@@ -37,7 +37,7 @@ func list(reader *rtr.Reader, output io.Writer) error {
 	}
 }
 
-// fields are what the unit's kind has.
+// fields returns the fields of a unit as text.
 func fields(unit *rtr.Unit) string {
 	action := "withdraw"
 	if unit.Announce {
