@@ -57,7 +57,7 @@ payloads, merged, over the RPKI to Router protocol (RFC 6810, RFC 8210).`,
 func (o *options) check() error {
 	s := &o.settings
 	if len(s.Files) == 0 {
-		return errors.New("no list is named: use --json, --csv or --sequence")
+		return errors.New("no list given: use --json, --csv or --sequence")
 	}
 	if err := s.Timing.Check(); err != nil {
 		return fmt.Errorf("--refresh %d --retry %d --expire %d: %w", s.Timing.Refresh, s.Timing.Retry,
@@ -78,7 +78,7 @@ func (o *options) check() error {
 	return o.find()
 }
 
-// find finds the program that reads what validators print, if such a file is named.
+// find finds rtr_make, if a file needs it.
 func (o *options) find() (err error) {
 	for _, file := range o.settings.Files {
 		if file.Format != payloads.Sequence {

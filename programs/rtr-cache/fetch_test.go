@@ -422,7 +422,7 @@ func TestWrongURLs(t *testing.T) {
 		{"--csv ftp://127.0.0.1/f", `--csv: "ftp://127.0.0.1/f" isn't an http:// or https:// URL`},
 		{"--csv http://127.0.0.1/f#x", "has a fragment"},
 		{"--csv http://127.0.0.1:x/", "--csv: not a URL: invalid port"},
-		{"--csv http://a:b@h/ --csv http://a:b@h/", "--csv: http://a:xxxxx@h/ is named twice"},
+		{"--csv http://a:b@h/ --csv http://a:b@h/", "--csv: http://a:xxxxx@h/ is given twice"},
 		{"--csv http://h/ --fetch 10", `--fetch: "10" isn't a time`},
 		{"--csv http://h/ --fetch-timeout 0s", `--fetch-timeout: "0s" isn't a time`},
 		{"--csv http://h/ --fetch-limit 0", `--fetch-limit: "0" isn't a number`},

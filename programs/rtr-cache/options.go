@@ -237,7 +237,7 @@ func (o *options) file(format payloads.Format) func(string) error {
 		}
 		for _, other := range o.settings.Files {
 			if other.Path == file.Path {
-				return fmt.Errorf("%s is named twice", file.Path)
+				return fmt.Errorf("%s is given twice", file.Path)
 			}
 		}
 		o.settings.Files = append(o.settings.Files, file)

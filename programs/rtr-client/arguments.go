@@ -60,7 +60,7 @@ func (o *options) address(word string) error {
 	}
 	for _, before := range o.addresses {
 		if before == word {
-			return fmt.Errorf("%s is named twice", word)
+			return fmt.Errorf("%s is given twice", word)
 		}
 	}
 	o.addresses = append(o.addresses, word)
@@ -97,9 +97,9 @@ func (o *options) route(text string) error {
 func (o *options) check() (err error) {
 	switch {
 	case len(o.addresses) == 0:
-		return errors.New("no cache is named: HOST:PORT")
+		return errors.New("no cache given: HOST:PORT")
 	case len(o.addresses) > rtr.MostMembers:
-		return fmt.Errorf("more than %d caches are named", rtr.MostMembers)
+		return fmt.Errorf("more than %d caches given", rtr.MostMembers)
 	case o.tls.Check() != nil:
 		return o.tls.Check()
 	case !o.useTLS && o.tls != (transport.TLSRouter{}):

@@ -370,11 +370,11 @@ func TestWrongWords(t *testing.T) {
 		status int
 		says   string
 	}{
-		{"", 2, "no cache is named: HOST:PORT"},
+		{"", 2, "no cache given: HOST:PORT"},
 		{"localhost", 2, `"localhost" isn't HOST:PORT`},
-		{"a:1 a:1", 2, "a:1 is named twice"},
+		{"a:1 a:1", 2, "a:1 is given twice"},
 		{"a:1 a:2 a:3 a:4 a:5 a:6 a:7 a:8 a:9 b:1 b:2 b:3 b:4 b:5 b:6 b:7 b:8", 2,
-			"more than 16 caches are named"},
+			"more than 16 caches given"},
 		{"a:1 --version 3", 2, `--version: "3" isn't a version`},
 		{"a:1 --version", 2, "--version needs 0|1|2"},
 		{"a:1 --nothing", 2, `unknown option "--nothing"`},

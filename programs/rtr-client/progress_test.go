@@ -47,8 +47,8 @@ func slowly(t *testing.T, from string) string {
 	return listener.Addr().String()
 }
 
-// On a terminal a line says how much of a long answer has come, and is gone at its end. Elsewhere
-// there is none.
+// On a terminal a line shows how much of a long answer has come, and is removed at its end. Without
+// a terminal there is no such line.
 func TestProgress(t *testing.T) {
 	script, err := exec.LookPath("script")
 	if err != nil {

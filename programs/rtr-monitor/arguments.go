@@ -69,7 +69,7 @@ func (o *options) source(word string) error {
 	}
 	for _, before := range o.settings.Sources {
 		if before.Name == source.Name {
-			return fmt.Errorf("%s is named twice", source.Name)
+			return fmt.Errorf("%s is given twice", source.Name)
 		}
 	}
 	o.settings.Sources = append(o.settings.Sources, source)
@@ -84,9 +84,9 @@ func (o *options) check() (err error) {
 	}
 	switch {
 	case len(s.Sources) < 2:
-		return errors.New("two sources or more have to be named, to be compared")
+		return errors.New("at least two sources are needed")
 	case len(s.Sources) > monitor.MostSources:
-		return fmt.Errorf("more than %d sources are named", monitor.MostSources)
+		return fmt.Errorf("more than %d sources given", monitor.MostSources)
 	case s.TLS.Check() != nil:
 		return s.TLS.Check()
 	case s.SSH.Partial():

@@ -250,9 +250,9 @@ func TestWrongWords(t *testing.T) {
 		words, says string
 		status      int
 	}{
-		{"", "two sources or more have to be named", 2},
-		{"a:1", "two sources or more have to be named", 2},
-		{"a:1 a:1", "a:1 is named twice", 2},
+		{"", "at least two sources are needed", 2},
+		{"a:1", "at least two sources are needed", 2},
+		{"a:1 a:1", "a:1 is given twice", 2},
 		{"a:1 b", `"b" isn't a source: HOST:PORT`, 2},
 		{"a:1 http://b/c", `"http://b/c" isn't a source`, 2},
 		{"a:1 json:", "json: needs a file", 2},
@@ -263,7 +263,7 @@ func TestWrongWords(t *testing.T) {
 		{"a:1 ssh:b:1", "ssh:b:1 needs --ssh-user, --ssh-key and --ssh-known-hosts", 2},
 		{"a:1 b:1 --ssh-user me", "--ssh-user, --ssh-key and --ssh-known-hosts need each other", 2},
 		{"a:1 b:1 --tls-cert f", "--tls-cert and --tls-key need each other", 2},
-		{strings.TrimSpace(strings.Repeat("a:1 ", 1) + many(16)), "more than 16 sources are named", 2},
+		{strings.TrimSpace(strings.Repeat("a:1 ", 1) + many(16)), "more than 16 sources given", 2},
 		{"a:1 sequence:f --slurm s", "--slurm filters the lists of validators, and no units (sequence)", 2},
 		{"a:1 tls:b:1 --tls-ca none", "none: no such file", 3},
 		{"a:1 b:1 --http 192.0.2.1:1", "cannot assign requested address", 3},

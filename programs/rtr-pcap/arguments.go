@@ -92,7 +92,7 @@ func number(name string, to *string, least, most int) func(string) error {
 // file sets the capture.
 func (o *options) file(word string) error {
 	if o.capture != "" {
-		return errors.New("more than one FILE is named")
+		return errors.New("more than one FILE given")
 	}
 	o.capture = word
 	return nil
@@ -102,9 +102,9 @@ func (o *options) file(word string) error {
 func (o *options) check() (err error) {
 	switch {
 	case o.capture == "":
-		return errors.New("no FILE is named")
+		return errors.New("no FILE given")
 	case len(o.form) > 1, o.raw && len(o.form) > 0:
-		return errors.New("more than one form is named")
+		return errors.New("more than one output format given")
 	}
 	if !o.raw {
 		o.lister, err = beside.Find("rtr_list")

@@ -80,7 +80,7 @@ func (o *options) connections(ctx context.Context) (all []*connection, err error
 		}
 	}
 	if err == nil && len(all) == 0 {
-		err = fmt.Errorf("%s: no connection of port %s brings data", o.capture, o.port)
+		err = fmt.Errorf("%s: no connection of port %s has data", o.capture, o.port)
 	}
 	return all, err
 }

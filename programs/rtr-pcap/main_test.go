@@ -32,7 +32,7 @@ type sent struct {
 type more struct {
 	flags byte   // in place of ACK and PSH
 	ack   uint32 // one is added
-	cut   int    // so many bytes at the end aren't in the capture
+	cut   int    // the number of bytes at the end that aren't in the capture
 	base  uint32 // of the sequence numbers, in place of 1
 }
 
@@ -194,17 +194,17 @@ func TestRefuses(t *testing.T) {
 		says   string
 		status int
 	}{
-		{nil, "no FILE is named", words.Usage},
-		{[]string{"a", "b"}, "more than one FILE is named", words.Usage},
-		{[]string{"a", "--json", "--csv"}, "more than one form is named", words.Usage},
-		{[]string{"a", "--raw", "--csv"}, "more than one form is named", words.Usage},
+		{nil, "no FILE given", words.Usage},
+		{[]string{"a", "b"}, "more than one FILE given", words.Usage},
+		{[]string{"a", "--json", "--csv"}, "more than one output format given", words.Usage},
+		{[]string{"a", "--raw", "--csv"}, "more than one output format given", words.Usage},
 		{[]string{"a", "--port", "0"}, `--port: "0" isn't a port`, words.Usage},
 		{[]string{"a", "--connection", "-1"}, `--connection: "-1" isn't a connection`, words.Usage},
 		{[]string{"a", "--pcap"}, `unknown option "--pcap"`, words.Usage},
 		{[]string{"missing"}, "open missing: no such file or directory", words.System},
 		{[]string{folder}, "read " + folder + ": is a directory", words.System},
 		{[]string{text}, "rtr-pcap: tshark: exit status ", words.Failed},
-		{[]string{empty}, empty + ": no connection of port 323 brings data", words.Failed},
+		{[]string{empty}, empty + ": no connection of port 323 has data", words.Failed},
 	} {
 		process := trial.Start(t, t.TempDir(), c.line...)
 		if status := process.Status(); status != c.status || process.Output() != "" {

@@ -108,7 +108,7 @@ func (f *Fetcher) check(answer *http.Response) error {
 		return f.tooLong()
 	case answer.ContentLength < 0 && len(answer.TransferEncoding) == 0 && !answer.Uncompressed:
 		return &Failure{Reason: Cut,
-			Text: "the answer has no length, so that nothing would show that it was cut off"}
+			Text: "the answer has no length, so a truncated one could go unnoticed"}
 	}
 	return nil
 }

@@ -171,7 +171,7 @@ func (m *Metrics) Judges(faults func() []trust.Fault) {
 		return 0
 	}
 	m.registry.MustRegister(prometheus.NewGaugeFunc(prometheus.GaugeOpts{
-		Namespace: namespace, Name: "healthy", Help: "1 where /health is good, else 0.",
+		Namespace: namespace, Name: "healthy", Help: "1 if /health is good, else 0.",
 	}, func() float64 { return 1 - has("") }))
 	for _, reason := range trust.Reasons {
 		reason := reason

@@ -24,10 +24,10 @@ func described(name, help string, labels ...string) *prometheus.Desc {
 
 // The metrics.
 var (
-	healthy   = described("healthy", "1 where /health is good, else 0.")
+	healthy   = described("healthy", "1 if /health is good, else 0.")
 	unhealthy = described("unhealthy", "1 for each reason why /health isn't good.", "reason")
 	counted   = described("payloads", "Payloads of a source, by kind.", "source", "kind")
-	up        = described("up", "1 where a source has data and doesn't fail, else 0.", "source")
+	up        = described("up", "1 if a source has data and doesn't fail, else 0.", "source")
 	failures  = described("failures_total", "Failures of a source.", "source")
 	heard     = described("heard_timestamp_seconds", "When a source last had whole data.", "source")
 	changed   = described("changed_timestamp_seconds",

@@ -64,7 +64,7 @@ func (i *Identity) Secure(connection net.Conn) net.Conn {
 		address := addressOf(connection).String()
 		config.VerifyConnection = func(state tls.ConnectionState) error {
 			if len(state.PeerCertificates) == 0 {
-				return errors.New("the router shows no certificate")
+				return errors.New("the router has no certificate")
 			}
 			return state.PeerCertificates[0].VerifyHostname(address)
 		}
