@@ -137,8 +137,8 @@ func (b *Breach) Unwrap() error {
 	return b.Reason
 }
 
-// Report returns the error report that is owed to the peer, and whether one is owed: none is about
-// an error report (RFC 8210 section 5.11).
+// Report returns the error report that is owed to the peer, and whether one is owed: it isn't if the
+// unit is an error report itself (RFC 8210 section 5.11).
 func (b *Breach) Report() (report *Unit, owed bool) {
 	if len(b.Unit) >= 2 && Kind(b.Unit[1]) == ErrorReport {
 		return nil, false

@@ -15,7 +15,7 @@ import (
 // sections 6 to 8). NewClient makes one; Client{Address: address} is the same.
 type Client struct {
 	Address  string       // as net.Dial takes it, for IPv4 or IPv6
-	Version  uint8        // the highest version that it asks in: 1 or 2; 0 stands for 1
+	Version  uint8        // the highest version in which it asks: 1 or 2; 0 stands for 1
 	Version0 bool         // it asks in version 0 only (RFC 6810); Version is then ignored
 	Limits   ClientLimits // of the time and the memory that a cache can cost it
 	// If not zero, these replace the times of the cache's end of data.

@@ -59,7 +59,8 @@ type GroupSettings struct {
 	// How long a member may have no complete answer before the next one is started too, while none
 	// is current.
 	Patience time.Duration
-	// Whether a whole answer without payloads counts as data, and not as a failure that drops them.
+	// Whether a complete answer without payloads counts as data, instead of as a failure that drops
+	// the former ones.
 	EmptyIsData bool
 }
 

@@ -17,7 +17,7 @@ type Writer struct {
 // ErrNoWriter: the Writer has no io.Writer, like the zero one.
 var ErrNoWriter = errors.New("rtr: the Writer has no io.Writer: NewWriter makes one that has")
 
-// NewWriter makes a Writer of an io.Writer.
+// NewWriter returns a Writer that writes to an io.Writer.
 func NewWriter(writer io.Writer) *Writer {
 	return &Writer{writer: writer, buffer: make([]byte, 0, firstBuffer)}
 }
