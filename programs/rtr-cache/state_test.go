@@ -156,13 +156,13 @@ func TestKilled(t *testing.T) {
 	for turn := 0; turn < 30; turn++ {
 		process, address := started(t, folder, "--csv", "f", "--state", "state", "--max-per-address", "1000")
 		process.Says("payloads", 1)
-		given := polled(address)
+		got := polled(address)
 		count++
 		since := time.Now()
 		trial.Write(t, file, rows(count))
 		moments[turn%len(moments)](folder, since)
 		process.Kill()
-		for data := range given {
+		for data := range got {
 			name := fmt.Sprintf("session %d serial %d", data.Session(), data.Serial())
 			if had, known := seen[name]; known && had != lines(data) {
 				t.Fatalf("%s stands for other data after turn %d", name, turn)

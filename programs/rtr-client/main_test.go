@@ -30,11 +30,11 @@ func vrp(prefix string, maxLength uint8) rtr.VRP {
 // data returns data of version 1 and session 7.
 func data(t *testing.T, serial uint32, vrps ...rtr.VRP) rtr.Data {
 	t.Helper()
-	made, err := rtr.NewDataOf(vrps, 1, 7, serial, rtr.RecommendedTiming)
+	withPayloads, err := rtr.NewDataOf(vrps, 1, 7, serial, rtr.RecommendedTiming)
 	if err != nil {
 		t.Fatal(err)
 	}
-	return made
+	return withPayloads
 }
 
 // cached returns a cache with data at an address, and the address.

@@ -63,11 +63,11 @@ func TestOutCounts(t *testing.T) {
 			t.Fatal(err)
 		}
 	}
-	made, err := rtr.ParseData(bytes)
+	parsed, err := rtr.ParseData(bytes)
 	if err != nil {
 		t.Fatal(err)
 	}
-	_, address := cached(t, "127.0.0.1:0", made)
+	_, address := cached(t, "127.0.0.1:0", parsed)
 	process := trial.Start(t, t.TempDir(), address, "--once", "--out", "vrps.csv")
 	if status := process.Status(); status != 0 || process.Lines("vrps.csv: left out") != 1 ||
 		process.Lines("ASPA") != 1 || process.Lines("2") == 0 {

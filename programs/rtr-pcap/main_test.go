@@ -23,17 +23,17 @@ const (
 // sent is a packet of a side: from its port, at an offset in its stream.
 type sent struct {
 	from, to uint16
-	place    int
+	offset   int
 	bytes    string
 	more     more
 }
 
 // more has fields that few packets need.
 type more struct {
-	flags byte   // in place of ACK and PSH
+	flags byte   // instead of ACK and PSH
 	ack   uint32 // one is added
 	cut   int    // the number of bytes at the end that aren't in the capture
-	base  uint32 // of the sequence numbers, in place of 1
+	base  uint32 // of the sequence numbers, instead of 1
 }
 
 // packet returns a packet of IPv4 and TCP, as captured: without the bytes that are cut.
@@ -48,7 +48,7 @@ func (s sent) packet() []byte {
 	if base == 0 {
 		base = 1
 	}
-	binary.BigEndian.PutUint32(head[24:], base+uint32(s.place))
+	binary.BigEndian.PutUint32(head[24:], base+uint32(s.offset))
 	binary.BigEndian.PutUint32(head[28:], s.more.ack+1)
 	head[32], head[33] = 0x50, 0x18
 	if s.more.flags != 0 {

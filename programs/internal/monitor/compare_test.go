@@ -122,10 +122,10 @@ func TestMissing(t *testing.T) {
 		count := len(row.sides)
 		for first := 0; first < count; first++ {
 			c := newComparison(count)
-			for i := range row.sides { // in each order of coming, and twice
-				place := (first + i) % count
-				for _, has := range []side{{}, sideOf(t, 2, "198.51.100.0/24 9"), row.sides[place]} {
-					if err := c.set(place, has); err != nil {
+			for i := range row.sides { // in each order, and twice
+				source := (first + i) % count
+				for _, has := range []side{{}, sideOf(t, 2, "198.51.100.0/24 9"), row.sides[source]} {
+					if err := c.set(source, has); err != nil {
 						t.Fatal(err)
 					}
 				}
@@ -143,8 +143,8 @@ func TestPivot(t *testing.T) {
 	c := newComparison(3)
 	sides := []side{sideOf(t, 2, "aspa 1 2", "10.0.0.0/8 1"), sideOf(t, 2, "aspa 1 3"),
 		sideOf(t, 2, "aspa 1 3", "10.0.0.0/8 2")}
-	for place, has := range sides {
-		if err := c.set(place, has); err != nil {
+	for source, has := range sides {
+		if err := c.set(source, has); err != nil {
 			t.Fatal(err)
 		}
 	}
@@ -233,14 +233,14 @@ func TestAges(t *testing.T) {
 	}
 }
 
-// Of many differences the first are kept, in order, in whichever order they come.
+// Of many differences the first are kept and sorted, in whichever order they come.
 func TestEarliest(t *testing.T) {
 	start := time.Now()
 	for _, most := range []int{0, 1, 2, 7, 100} {
 		e := &earliest{most: most}
 		for i := 0; i < 50; i++ {
-			place := i * 37 % 50
-			e.offer(&Difference{missing: missing{fmt.Sprint(place), place % 3}, Since: start.Add(time.Duration(place / 2))})
+			rank := i * 37 % 50
+			e.offer(&Difference{missing: missing{fmt.Sprint(rank), rank % 3}, Since: start.Add(time.Duration(rank / 2))})
 		}
 		list := e.list()
 		if expected := most; len(list) != expected && len(list) != 50 {

@@ -79,13 +79,13 @@ func TestPrefer(t *testing.T) {
 	first, address := cache(t)
 	second, other := cache(t)
 	update(t, second, 5, 1, 2)
-	wanted, ok := arguments([]string{"--prefer", address, "--prefer", other})
+	opts, ok := arguments([]string{"--prefer", address, "--prefer", other})
 	if !ok {
-		t.Fatal(wanted)
+		t.Fatal(opts)
 	}
 	ctx, cancel := context.WithCancel(context.Background())
 	output, ended := make(written, 100), make(chan error, 1)
-	go func() { ended <- run(ctx, wanted, output) }()
+	go func() { ended <- run(ctx, opts, output) }()
 	output.says(t, line("+", "1")+line("+", "2"))
 	update(t, second, 6, 1, 2, 3)
 	output.says(t, line("+", "3"))
@@ -106,14 +106,14 @@ func TestPreferOnce(t *testing.T) {
 	defer cancel()
 	_, address := cache(t)
 	second, other := cache(t)
-	wanted := options{addresses: []string{address, address, other}, version: 1, once: true}
+	opts := options{addresses: []string{address, address, other}, version: 1, once: true}
 	var output bytes.Buffer
-	err := run(ctx, wanted, &output)
+	err := run(ctx, opts, &output)
 	if err == nil || !strings.HasPrefix(err.Error(), other+": ") || output.Len() > 0 {
 		t.Fatal(err, output.String())
 	}
 	update(t, second, 5, 1)
-	if err := run(ctx, wanted, &output); err != nil || output.String() != line("+", "1") {
+	if err := run(ctx, opts, &output); err != nil || output.String() != line("+", "1") {
 		t.Fatal(err, output.String())
 	}
 }
@@ -127,8 +127,8 @@ func TestArguments(t *testing.T) {
 		{"--prefer", "-a:1"}, {"--prefer", "a:1", "b:2"}, {"a:1", "--prefer", "b:2"}, {"", "a:1"},
 		append(most[:len(most):len(most)], "--prefer", "a:1"),
 	} {
-		if wanted, ok := arguments(words); ok {
-			t.Error(words, wanted)
+		if opts, ok := arguments(words); ok {
+			t.Error(words, opts)
 		}
 	}
 	for _, row := range []struct {
