@@ -33,7 +33,7 @@ const (
 	Other       Reason = "other"
 )
 
-// Failures are the reasons of failures.
+// Failures are the results that a Failure has as its reason.
 var Failures = []Reason{
 	Name, Connect, Certificate, Timeout, Status, Redirect, Cut, Size, Encoding, Disk, Other,
 }
