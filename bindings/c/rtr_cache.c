@@ -1,5 +1,5 @@
-/* See rtr_cache.h. What to answer when, the calls of rtr.h on a struct rtr_cache say: here are
- * data, buffers and the limits of time of what is sent. */
+/* See rtr_cache.h. The calls of rtr.h on a struct rtr_cache decide what to answer and when; this
+ * file keeps data and buffers, and limits the time to send. */
 #ifndef _GNU_SOURCE
 #define _GNU_SOURCE /* for memfd_create */
 #endif
@@ -19,29 +19,29 @@
 
 enum { VERSIONS = RTR_HIGHEST_VERSION + 1 };
 
-/* How many newer data there may be than those of an answer that is being sent. */
+/* A connection is closed when its answer is more than this many updates old. */
 enum { MOST_BEHIND = 2 };
 
-/* Data of so many bytes are put into a file in memory before they are sent; it has huge pages of
- * these bytes. */
+/* Data of at least FILED bytes are moved to a file in memory before they are sent; the size of its
+ * huge pages. */
 enum { FILED = 1 << 16, HUGE_PAGE = 1 << 21 };
 
-/* Bytes that several connections send; the last of their holders frees them. They lie in a file in
- * memory, all of the struct, unless that is -1. */
+/* Bytes that several connections send, with a reference count. If `file` isn't -1, the whole
+ * struct is mapped from that file in memory. */
 struct rtr_shared {
     size_t holders, length;
     int file;
     uint8_t bytes[];
 };
 
-/* Changes in canonical form that lead from data back to those before them, which newer ones
- * followed at this time. */
+/* Changes in canonical form from data back to those before them, which were the newest `until`
+ * that time. */
 struct rtr_back {
     struct rtr_shared *changes;
     int64_t until;
 };
 
-/* Changes for routers of a version that lead from the data of a serial number to the newest. */
+/* Changes from the data of `serial` to the newest data, encoded for routers of `version`. */
 struct rtr_made {
     struct rtr_shared *changes;
     uint32_t serial;
@@ -50,121 +50,123 @@ struct rtr_made {
 
 /* ---- shared bytes */
 
-static struct rtr_shared *shared(size_t room)
+/* Allocates a block with one reference; null without memory. */
+static struct rtr_shared *new_shared(size_t capacity)
 {
-    struct rtr_shared *one = malloc(sizeof *one + room);
-    if (one) {
-        one->holders = 1;
-        one->length = room;
-        one->file = -1;
+    struct rtr_shared *block = malloc(sizeof *block + capacity);
+    if (block) {
+        block->holders = 1;
+        block->length = capacity;
+        block->file = -1;
     }
-    return one;
+    return block;
 }
 
-/* Gives back what isn't needed of it. */
-static struct rtr_shared *cut(struct rtr_shared *one, size_t length)
+/* Shortens a block to `length` bytes. */
+static struct rtr_shared *shrink(struct rtr_shared *block, size_t length)
 {
-    one->length = length;
-    struct rtr_shared *less = realloc(one, sizeof *one + length);
-    return less ? less : one;
+    block->length = length;
+    struct rtr_shared *shorter = realloc(block, sizeof *block + length);
+    return shorter ? shorter : block;
 }
 
-static struct rtr_shared *held(struct rtr_shared *one)
+/* Adds a reference. */
+static struct rtr_shared *hold(struct rtr_shared *block)
 {
-    one->holders += 1;
-    return one;
+    block->holders += 1;
+    return block;
 }
 
 #ifdef __linux__
 
-/* How many bytes of it lie in a file. */
-static size_t filed_size(const struct rtr_shared *one)
+/* Returns the size of the whole struct, as in a file. */
+static size_t filed_size(const struct rtr_shared *block)
 {
-    return offsetof(struct rtr_shared, bytes) + one->length;
+    return offsetof(struct rtr_shared, bytes) + block->length;
 }
 
-static void free_filed(struct rtr_shared *one)
+static void free_filed(struct rtr_shared *block)
 {
-    close(one->file);
-    munmap(one, filed_size(one));
+    close(block->file);
+    munmap(block, filed_size(block));
 }
 
-/* Has an empty file in memory begin with huge pages, as many as these bytes fill at least by half:
- * to send them takes less time. A page has to have a byte before. Where the system has none, or a
- * write behind its limit would end the process, the bytes get the usual pages later. */
+/* Lets an empty file in memory start with huge pages, which are faster to send: as many as `size`
+ * bytes fill at least by half. MADV_COLLAPSE needs a byte in each page. If the system has no huge
+ * pages, or a write beyond RLIMIT_FSIZE would kill the process, the file keeps small pages. */
 static void begin_huge(int file, size_t size)
 {
     struct rlimit limit;
     size_t huge = (size + HUGE_PAGE / 2) / HUGE_PAGE * HUGE_PAGE;
     if (!huge || getrlimit(RLIMIT_FSIZE, &limit) || limit.rlim_cur < size)
         return;
-    char *room = mmap(NULL, huge + HUGE_PAGE, PROT_NONE, MAP_PRIVATE | MAP_ANONYMOUS, -1, 0);
-    if (room == MAP_FAILED)
+    char *reserved = mmap(NULL, huge + HUGE_PAGE, PROT_NONE, MAP_PRIVATE | MAP_ANONYMOUS, -1, 0);
+    if (reserved == MAP_FAILED)
         return;
-    char *at = room + (-(uintptr_t)room & (HUGE_PAGE - 1));
-    bool begun = mmap(at, huge, PROT_READ, MAP_SHARED | MAP_FIXED, file, 0) == at;
-    for (size_t place = 0; begun && place < huge; place += HUGE_PAGE)
-        begun = pwrite(file, "", 1, (off_t)place) == 1;
-    if (begun)
-        madvise(at, huge, MADV_COLLAPSE);
-    munmap(room, huge + HUGE_PAGE);
+    char *aligned = reserved + (-(uintptr_t)reserved & (HUGE_PAGE - 1));
+    bool good = mmap(aligned, huge, PROT_READ, MAP_SHARED | MAP_FIXED, file, 0) == aligned;
+    for (size_t offset = 0; good && offset < huge; offset += HUGE_PAGE)
+        good = pwrite(file, "", 1, (off_t)offset) == 1;
+    if (good)
+        madvise(aligned, huge, MADV_COLLAPSE);
+    munmap(reserved, huge + HUGE_PAGE);
 }
 
-/* The same bytes in a file in memory, in the place of those that were allocated; where there is no
- * such file, or somebody else holds them, they stay. */
-static struct rtr_shared *filed(struct rtr_shared *one)
+/* Moves a block to a file in memory. Returns the block itself if that fails, if it is short, or if
+ * it has other references. */
+static struct rtr_shared *moved_to_file(struct rtr_shared *block)
 {
-    size_t size = filed_size(one);
-    bool stays = one->file >= 0 || one->length < FILED || one->holders > 1;
+    size_t size = filed_size(block);
+    bool stays = block->file >= 0 || block->length < FILED || block->holders > 1;
     int file = stays ? -1 : memfd_create("rtr data", MFD_CLOEXEC);
-    struct rtr_shared *made = MAP_FAILED;
+    struct rtr_shared *mapped = MAP_FAILED;
     if (file >= 0)
         begin_huge(file, size);
-    if (file >= 0 && write(file, one, size) == (ssize_t)size)
-        made = mmap(NULL, size, PROT_READ | PROT_WRITE, MAP_SHARED | MAP_POPULATE, file, 0);
-    if (made == MAP_FAILED) {
+    if (file >= 0 && write(file, block, size) == (ssize_t)size)
+        mapped = mmap(NULL, size, PROT_READ | PROT_WRITE, MAP_SHARED | MAP_POPULATE, file, 0);
+    if (mapped == MAP_FAILED) {
         if (file >= 0)
             close(file);
-        return one;
+        return block;
     }
-    made->file = file;
-    free(one);
-    return made;
+    mapped->file = file;
+    free(block);
+    return mapped;
 }
 
 #else
 
-static void free_filed(struct rtr_shared *one)
+static void free_filed(struct rtr_shared *block)
 {
-    (void)one;
+    (void)block;
 }
 
-static struct rtr_shared *filed(struct rtr_shared *one)
+static struct rtr_shared *moved_to_file(struct rtr_shared *block)
 {
-    return one;
+    return block;
 }
 
 #endif
 
-static void release(struct rtr_shared *one)
+static void release(struct rtr_shared *block)
 {
-    if (!one || --one->holders)
+    if (!block || --block->holders)
         return;
-    if (one->file >= 0)
-        free_filed(one);
+    if (block->file >= 0)
+        free_filed(block);
     else
-        free(one);
+        free(block);
 }
 
 /* ---- data */
 
-/* The length of the end of data at the end of a sequence in canonical form. */
+/* Returns the length of the End of Data PDU of a sequence in canonical form. */
 static size_t end_length(const struct rtr_shared *sequence)
 {
     return sequence->bytes[0] ? RTR_LONGEST_END : RTR_SHORTEST_END;
 }
 
-/* The end of data of a sequence in canonical form. */
+/* Returns the end of data of a sequence in canonical form. */
 static struct rtr_unit end_of(const struct rtr_shared *sequence)
 {
     struct rtr_unit end;
@@ -173,31 +175,32 @@ static struct rtr_unit end_of(const struct rtr_shared *sequence)
     return end;
 }
 
-/* A sequence in canonical form as that of a version; null where there is no memory. */
+/* Converts a sequence in canonical form to a version; null without memory. */
 static struct rtr_shared *in_version(const struct rtr_shared *from, uint8_t version)
 {
     struct rtr_answer answer;
-    struct rtr_shared *to = shared(from->length + RTR_LONGEST_END);
+    struct rtr_shared *to = new_shared(from->length + RTR_LONGEST_END);
     if (!to)
         return NULL;
     rtr_normalise_for_slice(from->bytes, from->length, to->bytes, to->length, UINT64_MAX, version,
                             &answer);
-    return cut(to, answer.written);
+    return shrink(to, answer.written);
 }
 
-/* The changes from old data to new ones of the same version and session, or null. */
+/* Returns the changes from old data to new data of the same version and session; null without
+ * memory. */
 static struct rtr_shared *delta(const struct rtr_shared *old, const struct rtr_shared *new)
 {
     struct rtr_data_answer answer;
-    struct rtr_shared *changes = shared(old->length + new->length);
+    struct rtr_shared *changes = new_shared(old->length + new->length);
     if (!changes)
         return NULL;
     rtr_delta(old->bytes, old->length, new->bytes, new->length, changes->bytes, changes->length,
               &answer);
-    return cut(changes, answer.written);
+    return shrink(changes, answer.written);
 }
 
-/* Why new data aren't taken, because of the unit at this offset. */
+/* Records why new data are refused, and the offset of the unit. */
 static enum rtr_update refuse(struct rtr_server *s, uint8_t status, size_t offset)
 {
     s->status = status;
@@ -205,7 +208,7 @@ static enum rtr_update refuse(struct rtr_server *s, uint8_t status, size_t offse
     return RTR_UPDATE_REFUSED;
 }
 
-/* Loads the data of a recording or a list. */
+/* Loads the data of a recording or a list; `data` is set on success. */
 static enum rtr_update load(struct rtr_server *s, const uint8_t *input, size_t length,
                             struct rtr_shared **data)
 {
@@ -213,22 +216,22 @@ static enum rtr_update load(struct rtr_server *s, const uint8_t *input, size_t l
     size_t most = length / RTR_SHORTEST_PAYLOAD;
     size_t *index = malloc((most + 1) * sizeof *index);
     uint8_t *work = malloc(length + 1);
-    struct rtr_shared *made = shared(length);
-    bool has_memory = index && work && made;
+    struct rtr_shared *block = new_shared(length);
+    bool has_memory = index && work && block;
     if (has_memory)
-        rtr_load(input, length, index, most, work, length, made->bytes, length, &loaded);
+        rtr_load(input, length, index, most, work, length, block->bytes, length, &loaded);
     free(index);
     free(work);
     if (has_memory && loaded.status == RTR_OK) {
-        *data = cut(made, loaded.length);
+        *data = shrink(block, loaded.length);
         s->has_cut = loaded.has_cut;
         return RTR_UPDATE_TAKEN;
     }
-    release(made);
+    release(block);
     return has_memory ? refuse(s, loaded.status, loaded.offset) : RTR_UPDATE_MEMORY;
 }
 
-/* How many payload units stand before the end of data. */
+/* Counts the payload units before the end of data. */
 static size_t payloads_of(const struct rtr_shared *data)
 {
     uint8_t detail;
@@ -238,7 +241,7 @@ static size_t payloads_of(const struct rtr_shared *data)
     return count;
 }
 
-/* The newest data as those of a version, or null. They are made when they are asked for first. */
+/* Returns the newest data in a version, encoded at the first call; null without memory. */
 static struct rtr_shared *form(struct rtr_server *s, uint8_t version)
 {
     if (!s->forms[version])
@@ -246,15 +249,15 @@ static struct rtr_shared *form(struct rtr_server *s, uint8_t version)
     return s->forms[version];
 }
 
-/* The same, held by one that sends them. */
+/* Returns the same to a connection that sends them, with a reference. */
 static struct rtr_shared *sent_form(struct rtr_server *s, uint8_t version)
 {
     if (form(s, version))
-        s->forms[version] = filed(s->forms[version]);
-    return s->forms[version] ? held(s->forms[version]) : NULL;
+        s->forms[version] = moved_to_file(s->forms[version]);
+    return s->forms[version] ? hold(s->forms[version]) : NULL;
 }
 
-/* Forgets what is made of the newest data. */
+/* Frees the encodings of the newest data, and the changes that lead to them. */
 static void forget_made(struct rtr_server *s)
 {
     for (size_t i = 0; i < s->made_count; i++)
@@ -266,7 +269,7 @@ static void forget_made(struct rtr_server *s)
     }
 }
 
-/* Forgets the changes that lead back, from this one on. */
+/* Frees the changes that lead back, from index `from` on. */
 static void forget_back(struct rtr_server *s, size_t from)
 {
     for (size_t i = from; i < s->back_count; i++)
@@ -274,8 +277,8 @@ static void forget_back(struct rtr_server *s, size_t from)
     s->back_count = from < s->back_count ? from : s->back_count;
 }
 
-/* Forgets the changes that are too old, or too many, or lead to a serial number that isn't before
- * the present one. */
+/* Frees the changes that are too old, exceed `keep_bytes`, or lead to a serial number that isn't
+ * before the present one. */
 static void limit_back(struct rtr_server *s, int64_t now)
 {
     size_t bytes = 0, i = 0;
@@ -290,8 +293,8 @@ static void limit_back(struct rtr_server *s, int64_t now)
     forget_back(s, i);
 }
 
-/* Makes the data and the changes that lead back those of a higher version. Changes for which there
- * is no memory are forgotten, with those behind them. */
+/* Converts the data and the changes that lead back to a higher version. If memory runs out for
+ * changes, these and all older ones are freed. Returns false without memory for the data. */
 static bool raise(struct rtr_server *s, uint8_t version)
 {
     struct rtr_shared *data = form(s, version);
@@ -307,8 +310,8 @@ static bool raise(struct rtr_server *s, uint8_t version)
     return data != NULL;
 }
 
-/* Room for one more change that leads back. */
-static bool make_room(struct rtr_server *s)
+/* Grows the lists of changes that lead back by one; returns false without memory. */
+static bool grow_back(struct rtr_server *s)
 {
     struct rtr_back *back = realloc(s->back, (s->back_count + 1) * sizeof *back);
     s->back = back ? back : s->back;
@@ -317,7 +320,7 @@ static bool make_room(struct rtr_server *s)
     return back && kept;
 }
 
-/* How these data, of the version and session of the present ones, differ from them. */
+/* Compares data with the present ones, of the same version and session. */
 static enum rtr_update compare(const struct rtr_server *s, const struct rtr_shared *data)
 {
     const struct rtr_shared *old = s->forms[s->end.version];
@@ -331,14 +334,14 @@ static enum rtr_update compare(const struct rtr_server *s, const struct rtr_shar
     return same && order == RTR_SERIAL_EQUAL ? RTR_UPDATE_TIMING : RTR_UPDATE_SERIAL;
 }
 
-/* Puts the changes that lead from new data back to the present ones before the others. */
+/* Computes the changes from new data back to the present data, and puts them first. */
 static enum rtr_update step_back(struct rtr_server *s, int64_t now, const struct rtr_shared *data)
 {
     enum rtr_update update = compare(s, data);
     s->refused = end_of(data).serial;
     if (update != RTR_UPDATE_TAKEN)
         return update;
-    struct rtr_shared *changes = make_room(s) ? delta(data, s->forms[s->end.version]) : NULL;
+    struct rtr_shared *changes = grow_back(s) ? delta(data, s->forms[s->end.version]) : NULL;
     if (!changes)
         return RTR_UPDATE_MEMORY;
     memmove(s->back + 1, s->back, s->back_count * sizeof *s->back);
@@ -347,7 +350,7 @@ static enum rtr_update step_back(struct rtr_server *s, int64_t now, const struct
     return RTR_UPDATE_TAKEN;
 }
 
-/* Makes these the newest data. */
+/* Makes these the newest data, whose reference it takes over. */
 static void take(struct rtr_server *s, int64_t now, struct rtr_shared *data)
 {
     s->end = end_of(data);
@@ -361,8 +364,8 @@ static void take(struct rtr_server *s, int64_t now, struct rtr_shared *data)
     limit_back(s, now);
 }
 
-/* Whether a cache may name the timings of these data; version 0 has none. */
-static bool may_name(struct rtr_server *s, const struct rtr_shared *data)
+/* Reports whether RFC 8210 section 6 allows a cache these timings; version 0 has none. */
+static bool are_times_allowed(struct rtr_server *s, const struct rtr_shared *data)
 {
     struct rtr_unit end = end_of(data);
     s->time_rule = RTR_TIME_RULE_NONE;
@@ -371,10 +374,10 @@ static bool may_name(struct rtr_server *s, const struct rtr_shared *data)
     return s->time_rule == RTR_TIME_RULE_NONE;
 }
 
-/* Takes data in canonical form, unless it says that it doesn't; then it releases them. */
+/* Takes data in canonical form, or refuses and releases them. */
 static enum rtr_update update(struct rtr_server *s, int64_t now, struct rtr_shared *data)
 {
-    enum rtr_update update = may_name(s, data) ? RTR_UPDATE_TAKEN : RTR_UPDATE_TIMES;
+    enum rtr_update update = are_times_allowed(s, data) ? RTR_UPDATE_TAKEN : RTR_UPDATE_TIMES;
     if (update == RTR_UPDATE_TAKEN && s->present.has
         && s->present.session == end_of(data).session) {
         if (s->end.version > data->bytes[0]) {
@@ -405,7 +408,8 @@ enum rtr_update rtr_server_update(struct rtr_server *s, int64_t now, const uint8
 
 /* ---- changes that lead back */
 
-/* The data that the first of the changes that lead back lead to, up to this one; or null. */
+/* Returns the data to which the changes back up to index `last` lead; null without memory, or if
+ * they don't apply. */
 static struct rtr_shared *data_before(struct rtr_server *s, size_t last)
 {
     struct rtr_data_answer answer;
@@ -414,9 +418,9 @@ static struct rtr_shared *data_before(struct rtr_server *s, size_t last)
     for (size_t i = 0; i <= last; i++)
         length += s->back[i].changes->length;
     uint8_t *changes = malloc(length);
-    size_t places = length / RTR_SHORTEST_PAYLOAD;
-    size_t *index = malloc(places * sizeof *index);
-    struct rtr_shared *old = changes && index ? shared(data->length + length) : NULL;
+    size_t most = length / RTR_SHORTEST_PAYLOAD;
+    size_t *index = malloc(most * sizeof *index);
+    struct rtr_shared *old = changes && index ? new_shared(data->length + length) : NULL;
     for (size_t i = 0; old && i <= last; i++) {
         const struct rtr_shared *each = s->back[i].changes;
         size_t units = each->length - (i < last ? end_length(each) : 0);
@@ -424,7 +428,7 @@ static struct rtr_shared *data_before(struct rtr_server *s, size_t last)
         at += units;
     }
     if (old)
-        rtr_apply_in_order(data->bytes, data->length, changes, at, index, places, old->bytes,
+        rtr_apply_in_order(data->bytes, data->length, changes, at, index, most, old->bytes,
                            old->length, &answer);
     free(changes);
     free(index);
@@ -432,13 +436,13 @@ static struct rtr_shared *data_before(struct rtr_server *s, size_t last)
         release(old);
         old = NULL;
     }
-    return old ? cut(old, answer.written) : NULL;
+    return old ? shrink(old, answer.written) : NULL;
 }
 
-/* Keeps changes that were made, if there is room for them. */
-static void keep_made(struct rtr_server *s, struct rtr_made one)
+/* Caches changes, unless that exceeds `keep_bytes` or memory runs out. */
+static void keep_made(struct rtr_server *s, struct rtr_made entry)
 {
-    size_t bytes = one.changes->length;
+    size_t bytes = entry.changes->length;
     for (size_t i = 0; i < s->made_count; i++)
         bytes += s->made[i].changes->length;
     struct rtr_made *made = NULL;
@@ -447,47 +451,48 @@ static void keep_made(struct rtr_server *s, struct rtr_made one)
     if (!made)
         return;
     s->made = made;
-    s->made[s->made_count++] = one;
-    held(one.changes);
+    s->made[s->made_count++] = entry;
+    hold(entry.changes);
 }
 
-/* Changes in a version that lead to the newest data, made of the place of their serial number among
- * those that are kept; behind them there are none to be made. */
-static struct rtr_shared *make_changes(struct rtr_server *s, uint8_t version, size_t place)
+/* Computes the changes to the newest data from those of index `i` among the kept serial numbers,
+ * in a version; there are none from the newest data itself, at index `back_count`. */
+static struct rtr_shared *make_changes(struct rtr_server *s, uint8_t version, size_t i)
 {
-    struct rtr_shared *data = s->forms[s->end.version], *old = NULL, *made = NULL, *told = NULL;
-    if (place < s->back_count)
-        old = data_before(s, place);
+    struct rtr_shared *data = s->forms[s->end.version];
+    struct rtr_shared *old = NULL, *changes = NULL, *encoded = NULL;
+    if (i < s->back_count)
+        old = data_before(s, i);
     else
-        old = held(data);
+        old = hold(data);
     if (old)
-        made = delta(old, data);
-    if (made)
-        told = in_version(made, version);
+        changes = delta(old, data);
+    if (changes)
+        encoded = in_version(changes, version);
     release(old);
-    release(made);
-    return told;
+    release(changes);
+    return encoded;
 }
 
-/* The changes for routers of a version from the data of a serial number that is kept, or the
- * present one; or null where there is no memory. Who asks for them holds them. */
+/* Returns the changes from the data of a serial number, which is kept or the present one, for
+ * routers of a version. The caller releases them. Null without memory. */
 static struct rtr_shared *changes_from(struct rtr_server *s, uint8_t version, uint32_t serial)
 {
-    size_t place = 0;
+    size_t index = 0;
     for (size_t i = 0; i < s->made_count; i++)
         if (s->made[i].version == version && s->made[i].serial == serial)
-            return held(s->made[i].changes);
-    while (place < s->back_count && s->kept[place] != serial)
-        place += 1;
-    struct rtr_shared *changes = make_changes(s, version, place);
+            return hold(s->made[i].changes);
+    while (index < s->back_count && s->kept[index] != serial)
+        index += 1;
+    struct rtr_shared *changes = make_changes(s, version, index);
     if (changes)
         keep_made(s, (struct rtr_made){changes, serial, version});
     return changes;
 }
 
-/* ---- data that are saved: these bytes, the FNV-1a hash in 64 bits of what follows, and then the
- * data and what leads back from them, one after the other. Before each stand when newer data came,
- * in milliseconds since 1970, and its length. Numbers have 64 bits, the highest first. */
+/* ---- the saved file: `magic`, the 64-bit FNV-1a hash of the rest, the data, and then the changes
+ * that lead back. Each has a head of SAVED_HEAD bytes: when newer data replaced it, in
+ * milliseconds since 1970, and its length. Numbers have 64 bits, in network byte order. */
 
 static const uint8_t magic[8] = {'r', 't', 'r', 'k', 'e', 'p', 't', '1'};
 
@@ -516,19 +521,19 @@ static uint64_t number_at(const uint8_t *at)
     return number;
 }
 
-/* One of what is saved, with what stands before it: the data, or changes. */
-static const struct rtr_shared *saved(const struct rtr_server *s, int64_t now, int64_t date,
-                                      size_t place, uint8_t head[SAVED_HEAD])
+/* Returns entry `i` of the file and writes its head: the data at 0, then changes. */
+static const struct rtr_shared *saved_entry(const struct rtr_server *s, int64_t now, int64_t date,
+                                            size_t i, uint8_t head[SAVED_HEAD])
 {
-    const struct rtr_shared *one = s->forms[s->end.version];
+    const struct rtr_shared *block = s->forms[s->end.version];
     int64_t until = now;
-    if (place) {
-        one = s->back[place - 1].changes;
-        until = s->back[place - 1].until;
+    if (i) {
+        block = s->back[i - 1].changes;
+        until = s->back[i - 1].until;
     }
     put_number(head, (uint64_t)(date - now + until));
-    put_number(head + 8, one->length);
-    return one;
+    put_number(head + 8, block->length);
+    return block;
 }
 
 bool rtr_server_save(const struct rtr_server *s, int64_t now, int64_t date,
@@ -537,27 +542,27 @@ bool rtr_server_save(const struct rtr_server *s, int64_t now, int64_t date,
     uint8_t head[SAVED_HEAD];
     uint64_t sum = hash_basis;
     size_t count = s->present.has ? s->back_count + 1 : 0;
-    for (size_t place = 0; place < count; place++) {
-        const struct rtr_shared *one = saved(s, now, date, place, head);
-        sum = hash(hash(sum, head, sizeof head), one->bytes, one->length);
+    for (size_t i = 0; i < count; i++) {
+        const struct rtr_shared *block = saved_entry(s, now, date, i, head);
+        sum = hash(hash(sum, head, sizeof head), block->bytes, block->length);
     }
     memcpy(head, magic, sizeof magic);
     put_number(head + sizeof magic, sum);
     bool written = write(to, head, sizeof head);
-    for (size_t place = 0; written && place < count; place++) {
-        const struct rtr_shared *one = saved(s, now, date, place, head);
-        written = write(to, head, sizeof head) && write(to, one->bytes, one->length);
+    for (size_t i = 0; written && i < count; i++) {
+        const struct rtr_shared *block = saved_entry(s, now, date, i, head);
+        written = write(to, head, sizeof head) && write(to, block->bytes, block->length);
     }
     return written;
 }
 
-/* Takes one of what was saved; the first are the data. */
-static enum rtr_update restore_one(struct rtr_server *s, int64_t now, int64_t until,
-                                   const uint8_t *bytes, size_t length)
+/* Restores an entry of the file; the first one has the data. */
+static enum rtr_update restore_entry(struct rtr_server *s, int64_t now, int64_t until,
+                                     const uint8_t *bytes, size_t length)
 {
     if (!s->present.has)
         return rtr_server_update(s, now, bytes, length);
-    struct rtr_shared *changes = make_room(s) ? shared(length) : NULL;
+    struct rtr_shared *changes = grow_back(s) ? new_shared(length) : NULL;
     if (!changes)
         return RTR_UPDATE_MEMORY;
     memcpy(changes->bytes, bytes, length);
@@ -565,7 +570,7 @@ static enum rtr_update restore_one(struct rtr_server *s, int64_t now, int64_t un
     return length < RTR_SHORTEST_END ? RTR_UPDATE_TORN : RTR_UPDATE_TAKEN;
 }
 
-/* Takes what was saved, without the hash. */
+/* Restores the entries of the file. */
 static enum rtr_update restore_all(struct rtr_server *s, int64_t now, int64_t date,
                                    const uint8_t *input, size_t length)
 {
@@ -579,11 +584,11 @@ static enum rtr_update restore_all(struct rtr_server *s, int64_t now, int64_t da
             return RTR_UPDATE_TORN;
         int64_t until = now - date + (int64_t)number_at(input + at);
         at += SAVED_HEAD;
-        update = restore_one(s, now, until, input + at, size);
+        update = restore_entry(s, now, until, input + at, size);
         at += size;
     }
-    bool told = update == RTR_UPDATE_MEMORY || update == RTR_UPDATE_TIMES;
-    return update == RTR_UPDATE_TAKEN || told ? update : RTR_UPDATE_TORN;
+    bool refused = update == RTR_UPDATE_MEMORY || update == RTR_UPDATE_TIMES;
+    return update == RTR_UPDATE_TAKEN || refused ? update : RTR_UPDATE_TORN;
 }
 
 enum rtr_update rtr_server_restore(struct rtr_server *s, int64_t now, int64_t date,
@@ -658,7 +663,7 @@ const char *rtr_update_text(const struct rtr_server *s, enum rtr_update update)
 
 static const char no_memory[] = "no memory";
 
-/* How much of an answer isn't sent yet. */
+/* Returns the number of unsent bytes of the answer. */
 static size_t unsent(const struct rtr_served *c)
 {
     return c->head_length + (c->body ? c->body->length : 0) - c->sent;
@@ -682,25 +687,25 @@ static void cut_off(struct rtr_served *c, int64_t now, const char *text)
         snprintf(c->text, sizeof c->text, "%s", text);
 }
 
-/* What the report says that came. */
-static void say_report(struct rtr_served *c)
+/* Sets `text` to the router's error report. */
+static void explain_report(struct rtr_served *c)
 {
     struct rtr_unit unit;
     rtr_next(c->input, c->filled, &unit);
     int count = snprintf(c->text, sizeof c->text, "the router reports code %u", unit.code);
     for (size_t i = 0; i < unit.text_length && i < 100; i++) {
-        uint8_t one = c->input[unit.text_start + i];
+        uint8_t byte = c->input[unit.text_start + i];
         count += snprintf(c->text + count, sizeof c->text - (size_t)count, "%s%c", i ? "" : ": ",
-                          one >= ' ' && one <= '~' ? one : '?');
+                          byte >= ' ' && byte <= '~' ? byte : '?');
     }
 }
 
-/* Why the connection ends. */
-static void say_end(struct rtr_served *c, const struct rtr_serving *serving)
+/* Sets `text` to the reason why the connection ends. */
+static void explain_end(struct rtr_served *c, const struct rtr_serving *serving)
 {
     size_t count;
     if (serving->reason == RTR_REASON_REPORTED) {
-        say_report(c);
+        explain_report(c);
     } else if (serving->reason == RTR_REASON_FAULTY) {
         rtr_text(serving->status, serving->detail, (uint8_t *)c->text, RTR_TEXT_ROOM, &count);
         snprintf(c->text + count, sizeof c->text - count, ", at byte %llu",
@@ -710,24 +715,24 @@ static void say_end(struct rtr_served *c, const struct rtr_serving *serving)
     }
 }
 
-/* Has a report be sent, if it is owed and there is memory for it. */
+/* Queues the error report that is owed, if memory allows. */
 static void report(struct rtr_served *c, const struct rtr_serving *serving)
 {
     size_t length;
-    c->body = shared(RTR_LONGEST_UNIT);
+    c->body = new_shared(RTR_LONGEST_UNIT);
     if (!c->body)
         return;
     if (rtr_cache_report(serving, c->input, c->filled, c->body->bytes, RTR_LONGEST_UNIT, &length))
-        c->body = cut(c->body, length);
+        c->body = shrink(c->body, length);
     else
         drop_answer(c);
 }
 
-/* Does what the cache says. */
+/* Carries out the answer of rtr.h: sets what to send, and ends the connection if it ends. */
 static void act(struct rtr_served *c, int64_t now, const struct rtr_serving *serving)
 {
     struct rtr_server *s = c->server;
-    bool gives = serving->kind == RTR_SERVE_ALL || serving->kind == RTR_SERVE_CHANGES;
+    bool has_body = serving->kind == RTR_SERVE_ALL || serving->kind == RTR_SERVE_CHANGES;
     c->head_length = rtr_cache_unit(serving, c->head, sizeof c->head);
     if (serving->kind == RTR_SERVE_ALL)
         c->body = sent_form(s, serving->version);
@@ -739,25 +744,25 @@ static void act(struct rtr_served *c, int64_t now, const struct rtr_serving *ser
     c->answer = c->taken = now;
     if (serving->kind == RTR_SERVE_END) {
         c->over = true;
-        say_end(c, serving);
-    } else if (gives && !c->body) {
+        explain_end(c, serving);
+    } else if (has_body && !c->body) {
         cut_off(c, now, no_memory);
     }
 }
 
-/* Has room for a unit that is longer than the input is now. */
+/* Grows the input buffer to the longest unit; returns false without memory. */
 static bool grow(struct rtr_served *c)
 {
-    uint8_t *more = malloc(RTR_LONGEST_UNIT);
-    if (!more)
+    uint8_t *longer = malloc(RTR_LONGEST_UNIT);
+    if (!longer)
         return false;
-    memcpy(more, c->input, c->filled);
-    c->input = more;
+    memcpy(longer, c->input, c->filled);
+    c->input = longer;
     c->room = RTR_LONGEST_UNIT;
     return true;
 }
 
-/* Tells the cache what came, or that time passed. Answers whether there is something to do. */
+/* Processes received bytes, or the passing of time. Returns whether there may be more to do. */
 static bool tell(struct rtr_served *c, int64_t now)
 {
     struct rtr_serving serving;
@@ -765,7 +770,7 @@ static bool tell(struct rtr_served *c, int64_t now)
     uint64_t time = (uint64_t)now;
     rtr_cache_read(&c->cache, time, &s->present, s->kept, s->back_count, c->input, c->filled,
                    c->closed, &serving);
-    size_t wanted = serving.wanted, taken = serving.taken;
+    size_t needed = serving.wanted, taken = serving.taken;
     if (serving.kind == RTR_SERVE_WAIT && !taken && c->closed)
         rtr_cache_lost(&c->cache, time, &s->present, &serving);
     else if (serving.kind == RTR_SERVE_WAIT && !taken)
@@ -775,12 +780,13 @@ static bool tell(struct rtr_served *c, int64_t now)
     c->offset += taken;
     c->begun = taken ? now : c->begun;
     memmove(c->input, c->input + taken, c->filled);
-    if (serving.kind == RTR_SERVE_WAIT && wanted > c->room && !grow(c))
+    if (serving.kind == RTR_SERVE_WAIT && needed > c->room && !grow(c))
         cut_off(c, now, no_memory);
     return serving.kind != RTR_SERVE_WAIT || taken;
 }
 
-/* Whether something is being sent, and may go on. */
+/* Returns whether unsent bytes of an answer may still be sent; ends the connection if they are too
+ * late. */
 static bool sends(struct rtr_served *c, int64_t now)
 {
     const struct rtr_server *s = c->server;
@@ -801,7 +807,7 @@ static bool sends(struct rtr_served *c, int64_t now)
     return !c->over;
 }
 
-/* When something has to be done, if nothing comes before. */
+/* Returns when the connection has to act if nothing is received before. */
 static int64_t wakes(const struct rtr_served *c)
 {
     uint64_t until = rtr_cache_wakes(&c->cache, &c->server->present);

@@ -1,16 +1,16 @@
-/* See rtr_client.h. The calls of rtr.h on a struct rtr_link take the units that come, apply
- * answers, and write queries and reports; this file has the buffers, the texts and the events for
+/* See rtr_client.h. The calls of rtr.h on a struct rtr_link process received units, apply answers,
+ * and write queries and reports; this file allocates the buffers, and makes texts and events for
  * the program. */
 #include <stdio.h>
 #include <stdlib.h>
 #include <string.h>
 #include "rtr_client.h"
 
-/* The length of the output: a report fits behind two queries. A cache that doesn't take them is not
- * asked again. The input has INPUT bytes between two answers. */
+/* The sizes of buffers. The output holds two queries and a report: while they are unsent, no more
+ * queries are made. The input shrinks to INPUT bytes between two answers. */
 enum { OUTPUT = 2 * RTR_SERIAL_SIZE + RTR_LONGEST_UNIT, INPUT = RTR_LONGEST_UNIT };
 
-/* The rtr_client_failure that the program gets for each rtr_cause. */
+/* The rtr_client_failure for each rtr_cause. */
 static const uint8_t failures[] = {
     RTR_CLIENT_LOST,   RTR_CLIENT_SLOW,   RTR_CLIENT_REFUSED, RTR_CLIENT_REPORTED,
     RTR_CLIENT_BREACH, RTR_CLIENT_BREACH, RTR_CLIENT_BREACH,  RTR_CLIENT_BREACH,
@@ -22,8 +22,8 @@ struct bytes {
     size_t length;
 };
 
-/* This file calls nothing out of turn: a refused call is a fault of its own, or the program has
- * overwritten the client. */
+/* Aborts if a call was refused: then this file has a bug, or the program has overwritten the
+ * client. */
 static void must(uint8_t status)
 {
     if (status != RTR_LINK_OK) {
@@ -32,12 +32,13 @@ static void must(uint8_t status)
     }
 }
 
+/* Queues an event for the program. */
 static void happens(struct rtr_client *c, enum rtr_client_event event)
 {
     c->events[c->count++] = (uint8_t)event;
 }
 
-/* What the buffers hold; nothing before the first rtr_client_next. */
+/* Returns the link's state; all zero before the first rtr_client_next. */
 static struct rtr_link_state state(const struct rtr_client *c)
 {
     struct rtr_link_state held = {.wakes = 0};
@@ -48,7 +49,7 @@ static struct rtr_link_state state(const struct rtr_client *c)
 
 /* ---- buffers */
 
-/* Makes a buffer this long, with what it holds; false without memory. */
+/* Resizes a buffer and keeps its content; returns false without memory. */
 static bool resize(uint8_t **buffer, size_t *length, size_t size)
 {
     uint8_t *moved = realloc(*buffer, size);
@@ -73,7 +74,7 @@ static void release_index(struct rtr_client *c)
     c->buffers.index_length = 0;
 }
 
-/* Makes an index with this many entries; false without memory. */
+/* Replaces the index by an empty one of `count` entries; returns false without memory. */
 static bool new_index(struct rtr_client *c, size_t count)
 {
     release_index(c);
@@ -84,8 +85,8 @@ static bool new_index(struct rtr_client *c, size_t count)
     return c->buffers.index != NULL;
 }
 
-/* Makes this many bytes of room for changes; false without memory. */
-static bool room_for_changes(struct rtr_client *c, size_t size)
+/* Grows the buffer for changes to `size` bytes; returns false without memory. */
+static bool grow_changes(struct rtr_client *c, size_t size)
 {
     if (size <= c->room_length)
         return true;
@@ -98,9 +99,9 @@ static void forget_output(struct rtr_client *c)
     must(rtr_link_sent(&c->link, &c->buffers, state(c).unsent));
 }
 
-/* Makes the buffer longer that this asks for; false without memory. The input doubles, so that a
- * long answer is moved a few times only. The output stays as long as it is. */
-static bool give_room(struct rtr_client *c, const struct rtr_todo *todo)
+/* Grows the buffer that the link asks for; returns false without memory. The input doubles, so
+ * that a long answer is copied only a few times. The output doesn't grow. */
+static bool grow_buffer(struct rtr_client *c, const struct rtr_todo *todo)
 {
     struct rtr_link_buffers *b = &c->buffers;
     size_t twice = 2 * b->input_length;
@@ -120,7 +121,7 @@ static bool give_room(struct rtr_client *c, const struct rtr_todo *todo)
     }
 }
 
-/* Releases what an answer needed, and the buffer that doesn't hold the data. */
+/* Frees the buffers that only an answer needs, and those that don't hold the data. */
 static void trim(struct rtr_client *c)
 {
     struct rtr_link_buffers *b = &c->buffers;
@@ -135,7 +136,7 @@ static void trim(struct rtr_client *c)
 
 /* ---- data */
 
-/* Writes data in another version and session, and returns their length; 0 if they aren't data. */
+/* Writes data in another version and session, and returns their length; 0 if `data` is invalid. */
 static size_t write_form(struct bytes data, uint8_t version, uint16_t session, struct bytes form)
 {
     struct rtr_answer answer;
@@ -148,7 +149,7 @@ static size_t write_form(struct bytes data, uint8_t version, uint16_t session, s
     return answer.written;
 }
 
-/* Data without payloads, with this end of data, in at most RTR_LONGEST_END bytes. */
+/* Writes data without payloads, with this end of data, to `at`: at most RTR_LONGEST_END bytes. */
 static struct bytes nothing(const struct rtr_unit *end, uint8_t *at)
 {
     struct bytes none = {at, 0};
@@ -156,14 +157,15 @@ static struct bytes nothing(const struct rtr_unit *end, uint8_t *at)
     return none;
 }
 
-/* The room for changes from old data to new ones, and for both in another form behind them. */
+/* Returns the buffer size for the changes from old data to new data, and for both data in another
+ * version behind them. */
 static size_t size_of_changes(size_t old, size_t new)
 {
     return 2 * (old + new + 2 * RTR_LONGEST_END);
 }
 
-/* Writes the client's changes from the old data to the new, whatever their versions and sessions,
- * to the room that there is for them. Returns the status of rtr_delta. */
+/* Writes the changes from old data to new data of any versions and sessions to the client's buffer
+ * for changes. Returns the status of rtr_delta. */
 static uint8_t write_changes(struct rtr_client *c, struct bytes old, const struct rtr_unit *old_end,
                              struct bytes new, const struct rtr_unit *end)
 {
@@ -184,20 +186,21 @@ static uint8_t write_changes(struct rtr_client *c, struct bytes old, const struc
     return status;
 }
 
-/* Makes room for the data that a whole answer makes, so that it isn't sorted in vain first, and for
- * what changes then, while the data are still those before it; false without memory. */
+/* Grows the buffers for the data after a whole answer and for the changes to them, before the
+ * answer is applied: without memory it isn't sorted in vain, and the present data stay. Returns
+ * false without memory. */
 static bool reserve(struct rtr_client *c, const struct rtr_link_state *held)
 {
     struct rtr_link_buffers *b = &c->buffers;
     uint8_t **buffer = held->second ? &b->first : &b->second;
     size_t *length = held->second ? &b->first_length : &b->second_length;
     size_t before = held->since ? c->data_length : RTR_LONGEST_END;
-    size_t made = before + held->answer + RTR_LONGEST_END;
-    return (made <= *length || resize(buffer, length, made))
-        && (!c->data || room_for_changes(c, size_of_changes(c->data_length, made)));
+    size_t after = before + held->answer + RTR_LONGEST_END;
+    return (after <= *length || resize(buffer, length, after))
+        && (!c->data || grow_changes(c, size_of_changes(c->data_length, after)));
 }
 
-/* Sets the number of payload units of the data, and their end of data. */
+/* Sets `payloads` and `end` from the data. */
 static void count_payloads(struct rtr_client *c)
 {
     uint8_t detail;
@@ -210,7 +213,7 @@ static void count_payloads(struct rtr_client *c)
     must(rtr_next(c->data + at, size, &c->end));
 }
 
-/* There are new data. Those before them are in the other buffer. */
+/* Publishes new data and the changes to them. The old data are still in the other buffer. */
 static void show(struct rtr_client *c)
 {
     struct rtr_link_state held = state(c);
@@ -229,11 +232,12 @@ static void show(struct rtr_client *c)
     happens(c, RTR_CLIENT_DATA);
 }
 
+/* Publishes the loss of the data, and the changes that withdraw them. */
 static void drop(struct rtr_client *c)
 {
     uint8_t at[RTR_LONGEST_END];
     struct bytes old = {c->data, c->data_length}, none = nothing(&c->end, at);
-    if (room_for_changes(c, size_of_changes(old.length, none.length)))
+    if (grow_changes(c, size_of_changes(old.length, none.length)))
         must(write_changes(c, old, &c->end, none, &c->end));
     c->data = NULL;
     c->data_length = c->payloads = 0;
@@ -241,10 +245,10 @@ static void drop(struct rtr_client *c)
     happens(c, RTR_CLIENT_DROPPED);
 }
 
-/* ---- what is to be done */
+/* ---- what the link asks for */
 
-/* Writes the text of a cache's error report. */
-static void say_report(struct rtr_client *c, struct bytes report)
+/* Sets `text` and `code` to those of a cache's error report. */
+static void explain_report(struct rtr_client *c, struct bytes report)
 {
     struct rtr_unit unit;
     rtr_next(report.at, report.length, &unit);
@@ -257,9 +261,9 @@ static void say_report(struct rtr_client *c, struct bytes report)
     c->code = unit.code;
 }
 
-/* Writes which unit is refused, and its offset: that of a change in its answer, of another unit in
- * what came on the connection. */
-static void say_refused(struct rtr_client *c, const struct rtr_todo *todo, size_t filled)
+/* Sets `text` to why a unit is refused, and its offset: within the answer if a change doesn't
+ * apply, else within all bytes of the connection. `filled` is the length of the input. */
+static void explain_refused(struct rtr_client *c, const struct rtr_todo *todo, size_t filled)
 {
     size_t count;
     uint64_t at = todo->offset;
@@ -269,7 +273,7 @@ static void say_refused(struct rtr_client *c, const struct rtr_todo *todo, size_
     snprintf(c->text + count, sizeof c->text - count, ", at byte %llu", (unsigned long long)at);
 }
 
-/* The connection failed for this reason, which `text` says. */
+/* Queues a failure with its text; null keeps the present text. */
 static void fail(struct rtr_client *c, enum rtr_client_failure failure, const char *text)
 {
     c->failure = (uint8_t)failure;
@@ -278,7 +282,7 @@ static void fail(struct rtr_client *c, enum rtr_client_failure failure, const ch
     happens(c, RTR_CLIENT_FAILED);
 }
 
-/* Says why the connection ends. The input had this many bytes. */
+/* Queues the failure that ended the connection. `filled` is the length of the input. */
 static void explain(struct rtr_client *c, const struct rtr_todo *todo, size_t filled)
 {
     enum rtr_client_failure failure = failures[todo->cause];
@@ -286,18 +290,18 @@ static void explain(struct rtr_client *c, const struct rtr_todo *todo, size_t fi
     if (c->starved || (todo->cause == RTR_CAUSE_NOT_APPLIED && todo->status == RTR_OK)) {
         fail(c, RTR_CLIENT_MEMORY, "no memory");
     } else if (failure == RTR_CLIENT_REPORTED) {
-        say_report(c, (struct bytes){c->buffers.input + todo->offset, filled - todo->offset});
+        explain_report(c, (struct bytes){c->buffers.input + todo->offset, filled - todo->offset});
         fail(c, failure, NULL);
     } else if (failure == RTR_CLIENT_REFUSED) {
-        say_refused(c, todo, filled);
+        explain_refused(c, todo, filled);
         fail(c, failure, NULL);
     } else {
         fail(c, failure, failure == RTR_CLIENT_LOST ? c->reason : rtr_cause_text(todo->cause));
     }
 }
 
-/* The connection ends, and the data may be dropped. After a change to a lower version, or back to a
- * higher one, the next connection follows at once. The input had this many bytes. */
+/* Ends the connection, and drops the data if the link says so. A change of version is no failure:
+ * the client reconnects at once. `filled` is the length of the input. */
 static void end(struct rtr_client *c, const struct rtr_todo *todo, size_t filled)
 {
     if (todo->drops)
@@ -311,7 +315,7 @@ static void end(struct rtr_client *c, const struct rtr_todo *todo, size_t filled
     trim(c);
 }
 
-/* Does what is to be done. The input had this many bytes. */
+/* Carries out what the link asks for. `filled` is the length of the input. */
 static void act(struct rtr_client *c, const struct rtr_todo *todo, size_t filled)
 {
     if (todo->kind == RTR_TODO_CONNECT) {
@@ -326,12 +330,12 @@ static void act(struct rtr_client *c, const struct rtr_todo *todo, size_t filled
         drop(c);
         fail(c, RTR_CLIENT_EXPIRED, rtr_cause_text(RTR_CAUSE_EXPIRED));
     } else if (todo->kind == RTR_TODO_NO_DATA) {
-        say_report(c, (struct bytes){c->buffers.input + todo->offset, filled - todo->offset});
+        explain_report(c, (struct bytes){c->buffers.input + todo->offset, filled - todo->offset});
         happens(c, RTR_CLIENT_NO_DATA);
     }
 }
 
-/* Asks the link what is to be done, or gives up where there is no memory for what it needs. */
+/* Gets the link's next request, or gives up the answer if there is no memory for it. */
 static void ask_link(struct rtr_client *c, const struct rtr_link_state *held, struct rtr_todo *todo)
 {
     uint64_t now = (uint64_t)c->now;
@@ -341,7 +345,7 @@ static void ask_link(struct rtr_client *c, const struct rtr_link_state *held, st
         must(asks ? rtr_link_ask_now(&c->link, &c->buffers, now, todo)
                   : rtr_link_next(&c->link, &c->buffers, now, todo));
         if (todo->kind >= RTR_TODO_INPUT_ROOM)
-            c->starved = !give_room(c, todo);
+            c->starved = !grow_buffer(c, todo);
         else if (asks)
             c->wished = false;
     }
@@ -349,7 +353,7 @@ static void ask_link(struct rtr_client *c, const struct rtr_link_state *held, st
         must(rtr_link_give_up(&c->link, &c->buffers, now, todo));
 }
 
-/* Takes a step; returns whether there may be another one now. */
+/* Takes a step; returns whether the link may have another one now. */
 static bool step(struct rtr_client *c)
 {
     struct rtr_todo todo;
@@ -374,7 +378,7 @@ void rtr_client_init(struct rtr_client *c, uint8_t version)
     c->report_limit = 2000;
 }
 
-/* Forgets the changes of an earlier event. */
+/* Frees the changes of an earlier event. */
 static void forget_changes(struct rtr_client *c)
 {
     release(&c->room, &c->room_length);
@@ -407,8 +411,8 @@ void rtr_client_again(struct rtr_client *c)
     c->begun = old.begun;
 }
 
-/* Begins, with the buffers that each connection needs. Without memory for them there is a failure
- * now, and the next try a pause later; false until then. */
+/* Initializes the link and the buffers of a connection. Without memory it fails, returns false,
+ * and retries after a pause. */
 static bool begin(struct rtr_client *c)
 {
     struct rtr_link_buffers *b = &c->buffers;
@@ -473,11 +477,11 @@ bool rtr_client_instead(struct rtr_client *c, uint8_t *data, size_t length,
         c->changes_length = c->data_length;
         return true;
     }
-    return room_for_changes(c, size_of_changes(length, new.length))
+    return grow_changes(c, size_of_changes(length, new.length))
         && write_changes(c, (struct bytes){data, length}, end, new, &c->end) == RTR_OK;
 }
 
-/* Whether a call for the connection came in turn. */
+/* Reports whether the link was in the right state for a call. */
 static bool in_turn(uint8_t status)
 {
     if (status != RTR_LINK_OUT_OF_TURN)
