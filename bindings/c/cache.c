@@ -6,13 +6,13 @@
  * machine's if it is empty. It listens at [::]:3323 by default, and serves at most 1024 routers at
  * once by default.
  *
- * The file is a recording of one answer or several, or a list, in any order: the data that it leaves
- * are served. Put another in its place by renaming: one that can't be taken is named, and the data
- * before it stay. Beside it, as FILE.kept, the cache keeps what it has, for routers that ask after
- * it was started again. With --refuse a serial query whose changes can't be told is answered by a
- * report of code 0. On standard error is where it listens, which data it took, and why a file or a
- * router was refused, with the time in UTC. It ends with status 0 after a signal, 1 where it can't
- * serve, else with 2. */
+ * The file is a recording of one or more answers, or a list in any order; the cache serves the
+ * data that it results in. Replace it by renaming. If a new file is refused, the cache logs why
+ * and keeps its present data. It saves its state in FILE.kept, so that after a restart routers
+ * still get changes. With --refuse it answers a serial query for changes that it doesn't have by a
+ * report of code 0. On standard error it logs, with the time in UTC, where it listens, which data
+ * it took, and why it refused a file or a router. It exits with status 0 after a signal, 1 if it
+ * can't listen, and 2 for wrong arguments. */
 #define _GNU_SOURCE
 #include <errno.h>
 #include <fcntl.h>
@@ -33,17 +33,18 @@
 #include <unistd.h>
 #include "rtr_cache.h"
 
-/* Times in milliseconds: between two checks of the file, after a failed accept, and to read what a
- * router still sends after the last bytes were sent to it. */
+/* Times in milliseconds: between two checks of the file, before accepting again after a failure,
+ * and to read what a router still sends after it was sent the last bytes. */
 enum { LOOK = 250, REST = 100, LINGER = 200 };
 
-/* The most connections above the limit that get a report at once, and the longest file. */
+/* The most connections above the limit that get a report at once; the most listeners; events per
+ * wait; sizes of send buffers, and of blocks that are mapped; and the longest file. */
 enum { MOST_REFUSED = 64, LISTENERS = 16, EVENTS = 64, BUFFER = 1 << 17, MAPPED = 1 << 16 };
 static const off_t most_bytes = 1 << 28;
 
 /* A connection, in the list of all. */
 struct connection {
-    struct connection *next, **place;
+    struct connection *next, **link; /* `link`: the pointer that leads here */
     int socket;
     bool closing, sending; /* whether it is closing, and whether it waits until it can send */
     int64_t until;         /* its deadline */
@@ -110,7 +111,7 @@ static void name_of(int fd, bool peer, char *name, size_t size)
         snprintf(name, size, strchr(host, ':') ? "[%s]:%s" : "%s:%s", host, port);
 }
 
-/* Has epoll wait until a connection can be read, or written if `sending`. */
+/* Makes epoll wait until a connection can be read, or written if `sending`. */
 static void wait_for(struct connection *c, int how, bool sending)
 {
     struct epoll_event event = {.events = sending ? EPOLLOUT : EPOLLIN, .data.ptr = c};
@@ -128,15 +129,15 @@ static void wait_until(struct connection *c, int64_t until)
 static void forget(struct connection *c)
 {
     taken -= 1;
-    *c->place = c->next;
+    *c->link = c->next;
     if (c->next)
-        c->next->place = c->place;
+        c->next->link = c->link;
     close(c->socket);
     rtr_served_free(&c->served);
     free(c);
 }
 
-/* Sends parts: one in a file by sendfile, without a copy, else by sendmsg. */
+/* Sends parts: the first by sendfile, without a copy, if it is in a file; else all by sendmsg. */
 static ssize_t send_parts(int fd, const struct rtr_part *parts, int count)
 {
     struct iovec pieces[2];
@@ -171,12 +172,12 @@ static bool send_some(struct connection *c)
     return true;
 }
 
-/* Reads what came. Returns whether anything did, or the router closed. */
+/* Reads from a connection. Returns whether bytes came or the router closed. */
 static bool read_some(struct connection *c)
 {
     size_t length;
-    uint8_t *room = rtr_served_room(&c->served, &length);
-    ssize_t count = length ? recv(c->socket, room, length, MSG_DONTWAIT) : -1;
+    uint8_t *input = rtr_served_room(&c->served, &length);
+    ssize_t count = length ? recv(c->socket, input, length, MSG_DONTWAIT) : -1;
     if (count > 0)
         rtr_served_received(&c->served, now(), (size_t)count);
     else if (length && (count == 0 || (errno != EAGAIN && errno != EINTR)))
@@ -216,7 +217,7 @@ static void begin_closing(struct connection *c)
     go_on_closing(c);
 }
 
-/* Does everything that is due for a connection. */
+/* Sends and reads until the connection has to wait or close. */
 static void go_on(struct connection *c)
 {
     struct rtr_part parts[2];
@@ -234,6 +235,7 @@ static void go_on(struct connection *c)
     wait_until(c, c->served.wakes);
 }
 
+/* Advances a connection after an event, a deadline or new data. */
 static void act(struct connection *c)
 {
     if (c->closing)
@@ -257,9 +259,9 @@ static void take(int fd)
     c->socket = fd;
     name_of(fd, true, c->name, sizeof c->name);
     c->next = connections;
-    c->place = &connections;
+    c->link = &connections;
     if (c->next)
-        c->next->place = &c->next;
+        c->next->link = &c->next;
     connections = c;
     rtr_served_init(&c->served, &server, now());
     wait_for(c, EPOLL_CTL_ADD, false);
@@ -322,9 +324,9 @@ static uint8_t *read_file(const char *path, size_t *length)
     struct stat now;
     int file = open(path, O_RDONLY | O_CLOEXEC);
     ssize_t count = file < 0 || fstat(file, &now) ? -1 : 1;
-    bool long_one = count > 0 && now.st_size > most_bytes;
-    uint8_t *bytes = count > 0 && !long_one ? malloc((size_t)now.st_size + 1) : NULL;
-    errno = long_one ? EFBIG : errno;
+    bool too_long = count > 0 && now.st_size > most_bytes;
+    uint8_t *bytes = count > 0 && !too_long ? malloc((size_t)now.st_size + 1) : NULL;
+    errno = too_long ? EFBIG : errno;
     for (*length = 0; bytes && count > 0; *length += count > 0 ? (size_t)count : 0)
         count = read(file, bytes + *length, (size_t)now.st_size - *length);
     int error = errno;
@@ -397,7 +399,7 @@ static void fail(struct watched *w, const char *reason)
     snprintf(w->failed, sizeof w->failed, "%s", reason);
 }
 
-/* Takes the file if it changed, or couldn't be read before. */
+/* Loads the file if it changed, or couldn't be read before; then lets connections send it. */
 static void look(struct watched *w)
 {
     size_t length;
@@ -490,8 +492,8 @@ static bool listen_on(const char *word, const struct addrinfo *address, bool sev
     return true;
 }
 
-/* Listens at every address of HOST:PORT that the machine has; returns false if there is none, or it
- * is in use. */
+/* Listens at every address of HOST:PORT that the machine has; returns false if there is none, or
+ * it is in use. */
 static bool listen_at(const char *word)
 {
     struct addrinfo *found = look_up(word);
@@ -505,7 +507,7 @@ static bool listen_at(const char *word)
     return good && listening > before;
 }
 
-/* Has epoll watch the listeners, or not for a moment after accept failed. */
+/* Makes epoll watch the listeners, or stop that after accept failed. */
 static void look_at_listeners(bool looked_at)
 {
     for (int i = 0; i < listening; i++) {
@@ -525,8 +527,8 @@ static void end(int number)
     ended = 1;
 }
 
-/* Waits for events, at most this long, and handles them; returns false if a listener failed. Only
- * here a signal ends the program. */
+/* Waits for events until this time at most, and handles them; returns false if a listener failed.
+ * Signals are delivered only here. */
 static bool serve(int64_t until, const sigset_t *signals)
 {
     bool good = true;

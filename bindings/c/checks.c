@@ -3,13 +3,12 @@
 #include <string.h>
 #include "rtr.h"
 
-/* The names that are announced, each after its length. For many names use a hash set, which is
- * faster. */
+/* The names of announced payloads, each after its length. A hash set is faster for many names. */
 static uint8_t set[1 << 20];
 static size_t used;
 
 /* Returns the offset of the name, or the end of the set. */
-static size_t place_of(const uint8_t *name, size_t length)
+static size_t offset_of(const uint8_t *name, size_t length)
 {
     for (size_t at = 0, size; at < used; at += sizeof size + size) {
         memcpy(&size, set + at, sizeof size);
@@ -28,13 +27,13 @@ static void put(const uint8_t *name, size_t length)
     }
 }
 
-static void take_out(size_t at, size_t length)
+static void delete(size_t at, size_t length)
 {
     used -= sizeof length + length;
     memmove(set + at, set + at + sizeof length + length, used - at);
 }
 
-static void say(const struct rtr_finding *finding, size_t offset)
+static void print(const struct rtr_finding *finding, size_t offset)
 {
     uint8_t line[RTR_FINDING_ROOM];
     size_t length = rtr_finding_line(finding, offset, line, sizeof line);
@@ -56,18 +55,18 @@ int main(void)
             fprintf(stderr, "offset %zu: %s\n", at, rtr_status_text(status));
             return 1;
         }
-        size_t offset = place_of(name, named.length);
+        size_t offset = offset_of(name, named.length);
         rtr_check_unit(&check, input + at, length - at, offset < used, &checked);
         for (size_t i = 0; i < sizeof checked.findings / sizeof checked.findings[0]; i++)
-            say(&checked.findings[i], at);
+            print(&checked.findings[i], at);
         if (named.begins)
             used = 0;
         if (named.announces && offset == used)
             put(name, named.length);
         else if (!named.announces && offset < used)
-            take_out(offset, named.length);
+            delete(offset, named.length);
     }
     rtr_check_end(&check, &missing);
-    say(&missing, at);
+    print(&missing, at);
     return 0;
 }

@@ -46,8 +46,8 @@ static struct rtr_unit shown_end;
 static struct rtr_group group;
 static bool once, json;
 
-/* The connection of --fd, the only one, until it is used. */
-static int given = NONE;
+/* The descriptor of --fd until it is used; then there is no other connection. */
+static int passed_fd = NONE;
 static bool single;
 
 /* Returns the time in milliseconds. */
@@ -104,14 +104,14 @@ static void close_socket(struct member *m)
     m->all = m->tried = NULL;
 }
 
-/* Tries the next address, for its share of the time that is left for all of them, or reports that
- * none answers, for this reason. */
+/* Tries the next address, for its share of the time that is left for all of them. If none is left,
+ * the connection is lost, for this reason. */
 static void try_next(struct member *m, const char *reason)
 {
     for (; m->tried; m->tried = m->tried->ai_next) {
         int type = SOCK_STREAM | SOCK_CLOEXEC | SOCK_NONBLOCK;
         int64_t count = 0, time = now();
-        for (struct addrinfo *one = m->tried; one; one = one->ai_next)
+        for (struct addrinfo *rest = m->tried; rest; rest = rest->ai_next)
             count++;
         m->tried_until = time + (m->client.wakes - time) / count;
         m->socket = socket(m->tried->ai_family, type, 0);
@@ -140,8 +140,8 @@ static void take(struct member *m)
 {
     int type;
     socklen_t size = sizeof type;
-    m->socket = given;
-    given = NONE;
+    m->socket = passed_fd;
+    passed_fd = NONE;
     if (m->socket == NONE)
         rtr_client_lost(&m->client, "there is no other connection");
     else if (getsockopt(m->socket, SOL_SOCKET, SO_TYPE, &type, &size) < 0)
@@ -150,7 +150,8 @@ static void take(struct member *m)
         rtr_client_connected(&m->client);
 }
 
-/* The address that is being tried has answered, or its time is over. */
+/* The address being tried has answered, or its time is over: uses the connection, or tries the
+ * next address. */
 static void look(struct member *m, bool answered)
 {
     int error = answered ? 0 : ETIMEDOUT;
@@ -186,8 +187,8 @@ static bool send_some(struct member *m)
 static void receive_some(struct member *m)
 {
     size_t length;
-    uint8_t *room = rtr_client_room(&m->client, &length);
-    ssize_t count = recv(m->socket, room, length, MSG_DONTWAIT);
+    uint8_t *input = rtr_client_room(&m->client, &length);
+    ssize_t count = recv(m->socket, input, length, MSG_DONTWAIT);
     if (count > 0)
         rtr_client_received(&m->client, (size_t)count);
     else if (count == 0 || (errno != EAGAIN && errno != EINTR))
@@ -311,8 +312,8 @@ static void obey(const struct rtr_group_answer *answer, size_t number)
         start(answer->start, version);
 }
 
-/* Tells the group what happened to a client, if that is an event of the group; a failure that comes
- * with the loss of data isn't. */
+/* Tells the group what happened to a client, if that is an event of the group; a failure that
+ * comes with the loss of data isn't. */
 static void tell(size_t number, enum rtr_client_event event, struct rtr_group_answer *answer)
 {
     struct member *m = &members[number];
@@ -341,8 +342,8 @@ static bool all_failed(void)
     return true;
 }
 
-/* Carries out an event of a client, and tells the group of it. Returns whether the program is done:
- * with --once all caches were asked, or the only connection was closed. */
+/* Carries out an event of a client, and tells the group of it. Returns whether the program is
+ * done: with --once all caches were asked, or the only connection was closed. */
 static bool act(size_t number, enum rtr_client_event event)
 {
     struct member *m = &members[number];
@@ -406,8 +407,9 @@ static bool split(char *word, char **host, char **port)
 static bool descriptor(const char *word)
 {
     size_t length = strspn(word, "0123456789");
-    given = length > 0 && length < 10 && !word[length] ? (int)strtol(word, NULL, 10) : NONE;
-    return given >= 0;
+    bool valid = length > 0 && length < 10 && !word[length];
+    passed_fd = valid ? (int)strtol(word, NULL, 10) : NONE;
+    return valid;
 }
 
 /* Parses the arguments, and returns how many caches they name, or 0 if they are wrong. */

@@ -2,8 +2,8 @@
  * and 10), until a signal: rtr_client.h over OpenSSL 3.
  *
  * usage: client_tls CA OWN HOST:PORT..
- * CA is a file with the certificates that sign those of caches, which have to name HOST. OWN has
- * the client's own certificate and its key. The lines are those of rtr_diff. */
+ * CA is a file of trusted CA certificates. A cache's certificate has to name HOST. OWN is a file
+ * with the client's own certificate and key. It prints the lines of rtr_diff. */
 #define _POSIX_C_SOURCE 200809L
 #include <errno.h>
 #include <openssl/err.h>
@@ -23,9 +23,9 @@ static struct member {
     struct rtr_client client;
     const char *address;
     BIO *connection; /* null if there is none */
-    bool open;       /* it is made, and TLS hasn't failed */
-    short wants;     /* POLLIN or POLLOUT: what TLS waits for */
-    bool dropped;    /* its data were dropped, and the failure of the same event is to come */
+    bool open;       /* it is established, and TLS hasn't failed */
+    short awaited;   /* POLLIN or POLLOUT: what TLS waits for */
+    bool dropped;    /* its data were dropped, and the failure of the same event is still to come */
 } members[RTR_MOST_MEMBERS];
 
 static SSL_CTX *context;
@@ -45,13 +45,14 @@ static int left(int64_t until)
     return time < 0 ? 0 : time < 60000 ? (int)time : 60000;
 }
 
-/* What is wrong, by the oldest error of OpenSSL, or the last one of the system. */
+/* Returns the text of OpenSSL's oldest error, or else of errno. */
 static const char *reason(void)
 {
     const char *text = ERR_reason_error_string(ERR_peek_error());
     return text ? text : strerror(errno);
 }
 
+/* Exits with an error unless `done`. */
 static void must(bool done, const char *what)
 {
     if (!done) {
@@ -60,12 +61,12 @@ static void must(bool done, const char *what)
     }
 }
 
-/* A call on the connection didn't succeed: it waits, or the connection is lost. */
+/* Handles a failed call on the connection: it waits for the socket, or the connection is lost. */
 static void unfinished(struct member *m)
 {
     SSL *tls = NULL;
     const char *why = reason();
-    m->wants = BIO_should_read(m->connection) ? POLLIN : POLLOUT;
+    m->awaited = BIO_should_read(m->connection) ? POLLIN : POLLOUT;
     if (BIO_should_retry(m->connection))
         return;
     BIO_get_ssl(m->connection, &tls);
@@ -88,7 +89,7 @@ static bool send_some(struct member *m)
     return m->open;
 }
 
-/* Goes on with a connection: tries the cache's addresses, begins TLS, or sends and reads. */
+/* Advances a connection: connects, makes the TLS handshake, or sends and reads. */
 static void go_on(struct member *m)
 {
     size_t length, count;
@@ -98,8 +99,8 @@ static void go_on(struct member *m)
         if (!m->open)
             unfinished(m);
     } else if (send_some(m)) {
-        uint8_t *room = rtr_client_room(&m->client, &length);
-        if (BIO_read_ex(m->connection, room, length, &count))
+        uint8_t *input = rtr_client_room(&m->client, &length);
+        if (BIO_read_ex(m->connection, input, length, &count))
             rtr_client_received(&m->client, count);
         else
             unfinished(m);
@@ -123,7 +124,8 @@ static void close_connection(struct member *m)
     m->open = false;
 }
 
-/* Closes the connection so that a report still arrives, which unread bytes would destroy. */
+/* Closes the connection so that an error report still arrives: unread bytes would reset it, so
+ * they are read for a fifth of a second. */
 static void hang_up(struct member *m)
 {
     uint8_t read[4096];
@@ -140,7 +142,7 @@ static void hang_up(struct member *m)
     close_connection(m);
 }
 
-/* Waits for connections, or until a client wakes, and goes on with them. */
+/* Waits for connections or until a client wakes, and advances the connections that are ready. */
 static void wait_for_all(void)
 {
     struct pollfd ready[RTR_MOST_MEMBERS];
@@ -150,9 +152,9 @@ static void wait_for_all(void)
         struct member *m = &members[i];
         rtr_client_output(&m->client, &length);
         ready[i] = (struct pollfd){m->connection ? (int)BIO_get_fd(m->connection, NULL) : -1,
-                                   !m->open ? m->wants : length ? POLLIN | POLLOUT : POLLIN, 0};
+                                   !m->open ? m->awaited : length ? POLLIN | POLLOUT : POLLIN, 0};
         wakes = m->client.wakes < wakes ? m->client.wakes : wakes;
-        wakes = m->open && BIO_pending(m->connection) ? 0 : wakes; /* TLS has read more already */
+        wakes = m->open && BIO_pending(m->connection) ? 0 : wakes; /* TLS has already read more */
     }
     poll(ready, group.runs, left(wakes));
     for (size_t i = 0; i < group.runs; i++)
@@ -172,7 +174,7 @@ static void print_changes(const struct rtr_client *c)
     must(!fflush(stdout), "standard output");
 }
 
-/* Shows other data in place of those before, and stops clients, as the group says. */
+/* Switches to the data of another client, and stops clients, as the group decided. */
 static void obey(const struct rtr_group_answer *answer)
 {
     struct rtr_client *c = &members[answer->member].client;
@@ -189,7 +191,8 @@ static void obey(const struct rtr_group_answer *answer)
     }
 }
 
-/* Carries out an event of a client. A failure that comes with a loss of data isn't the group's. */
+/* Carries out an event of a client. The group isn't told of a failure that comes with a loss of
+ * data. */
 static void act(size_t number, enum rtr_client_event event)
 {
     struct member *m = &members[number];

@@ -1,10 +1,10 @@
-/* Follows a cache over TCP, and prints what changes (RFC 8210): the calls for a router's end of
- * rtr.h, and what carries their bytes.
+/* Follows a cache over TCP, and prints what changes (RFC 8210): a loop over the calls of rtr.h for
+ * a router's end.
  *
- * usage: link HOST:PORT [0|1|2]   with the version that it asks in first; 2 if left out
+ * usage: link HOST:PORT [0|1|2]   with the version to ask in first (default 2)
  *
- * The lines are those of rtr_diff. On standard error is what data there are at each end of data,
- * and what fails. It goes on until a signal. */
+ * It prints the lines of rtr_diff. On standard error it reports the data at each end of data, and
+ * failures. It runs until a signal. */
 #define _POSIX_C_SOURCE 200809L
 #include <errno.h>
 #include <inttypes.h>
@@ -22,11 +22,11 @@ static struct rtr_link session;
 static struct rtr_link_buffers buffers;
 static char *host, *port;
 static int connection = -1;
-static struct addrinfo *addresses, *address; /* while the one that is tried doesn't answer */
-static uint64_t deadline, tried_until;       /* of all addresses, and of the one that is tried */
-static struct rtr_link_state shown;          /* where the data are that were printed */
+static struct addrinfo *addresses, *address; /* while connecting: all, and the one being tried */
+static uint64_t deadline, tried_until;       /* of all addresses, and of the one being tried */
+static struct rtr_link_state shown;          /* the state when data were last printed */
 
-/* The time in milliseconds. */
+/* Returns the time in milliseconds. */
 static uint64_t now(void)
 {
     struct timespec time;
@@ -34,7 +34,7 @@ static uint64_t now(void)
     return (uint64_t)time.tv_sec * 1000 + (uint64_t)time.tv_nsec / 1000000;
 }
 
-/* The program calls nothing out of turn: a refused call is a fault of its own. */
+/* Aborts if a call was refused: then this program has a bug. */
 static void must(uint8_t status)
 {
     if (status != RTR_LINK_OK) {
@@ -50,7 +50,7 @@ static struct rtr_link_state state(void)
     return held;
 }
 
-/* The milliseconds until then, as poll takes them. */
+/* Returns the milliseconds until a time, as poll takes them. */
 static int left(uint64_t until)
 {
     uint64_t time = now();
@@ -69,8 +69,8 @@ static void hang_up(void)
     addresses = address = NULL;
 }
 
-/* Tries this address and those behind it, each for its share of the time; where none is left, the
- * connection is lost. */
+/* Tries to connect to this address and those after it, each for its share of the time that is
+ * left. If none is left, the connection is lost. */
 static void try_address(struct addrinfo *first)
 {
     for (address = first; address; address = address->ai_next) {
@@ -99,8 +99,8 @@ static void dial(uint64_t until)
     try_address(addresses);
 }
 
-/* The address that is tried answered, or its time is over: there is a connection, or the next one
- * is tried. */
+/* The address being tried has answered, or its time is over: uses the connection, or tries the
+ * next address. */
 static void look(bool answered)
 {
     int error = 0;
@@ -116,7 +116,7 @@ static void look(bool answered)
     must(rtr_link_opened(&session));
 }
 
-/* Sends some of what there is to send; false where the connection broke. */
+/* Sends some of the unsent bytes; returns false if the connection broke. */
 static bool send_some(void)
 {
     size_t length;
@@ -128,19 +128,19 @@ static bool send_some(void)
     return count >= 0 || errno == EAGAIN || errno == EINTR;
 }
 
-/* Reads some of what came; false where the peer closed, or the connection broke. */
+/* Reads some bytes; returns false if the peer closed, or the connection broke. */
 static bool receive_some(void)
 {
     size_t length;
     struct rtr_link_state held = state();
-    uint8_t *room = rtr_link_room(&buffers, &held, &length);
-    ssize_t count = recv(connection, room, length, MSG_DONTWAIT);
+    uint8_t *input = rtr_link_room(&buffers, &held, &length);
+    ssize_t count = recv(connection, input, length, MSG_DONTWAIT);
     if (count > 0)
         must(rtr_link_received(&session, &buffers, (size_t)count));
     return count > 0 || (count < 0 && (errno == EAGAIN || errno == EINTR));
 }
 
-/* Sends and reads what can be, when it can, or waits until then. */
+/* Waits until the socket is ready, and sends and reads; or until the time `wakes`. */
 static void wait_until(uint64_t wakes)
 {
     struct pollfd ready = {.fd = connection, .events = POLLIN};
@@ -156,8 +156,8 @@ static void wait_until(uint64_t wakes)
     }
 }
 
-/* Sends what is still to be sent, for two seconds, and closes the connection so that it arrives:
- * bytes of the peer that weren't read would have it reset. */
+/* Sends the last bytes, for at most two seconds, and closes the connection so that they arrive:
+ * unread bytes of the peer would reset it. */
 static void finish(void)
 {
     uint8_t read[4096];
@@ -172,54 +172,54 @@ static void finish(void)
     hang_up();
 }
 
-/* Makes a buffer longer; where there is no memory, the answer is given up. */
-static void give_room(struct rtr_todo *todo)
+/* Grows the buffer that the link asks for; without memory, gives up the answer. */
+static void grow_buffer(struct rtr_todo *todo)
 {
-    size_t each = todo->kind == RTR_TODO_INDEX_ROOM ? sizeof(size_t) : 1, room = todo->room;
+    size_t size = todo->kind == RTR_TODO_INDEX_ROOM ? sizeof(size_t) : 1, count = todo->room;
     struct {
         void **buffer;
         size_t *length;
-    } rooms[] = {{(void **)&buffers.input, &buffers.input_length},
-                 {(void **)&buffers.first, &buffers.first_length},
-                 {(void **)&buffers.second, &buffers.second_length},
-                 {(void **)&buffers.index, &buffers.index_length},
-                 {(void **)&buffers.output, &buffers.output_length}},
-      *one = &rooms[todo->kind - RTR_TODO_INPUT_ROOM];
-    void *more = room <= SIZE_MAX / each ? realloc(*one->buffer, room * each) : NULL;
+    } all[] = {{(void **)&buffers.input, &buffers.input_length},
+               {(void **)&buffers.first, &buffers.first_length},
+               {(void **)&buffers.second, &buffers.second_length},
+               {(void **)&buffers.index, &buffers.index_length},
+               {(void **)&buffers.output, &buffers.output_length}},
+      *grown = &all[todo->kind - RTR_TODO_INPUT_ROOM];
+    void *longer = count <= SIZE_MAX / size ? realloc(*grown->buffer, count * size) : NULL;
     todo->kind = RTR_TODO_GO;
-    if (more) {
-        *one->buffer = more;
-        *one->length = room;
+    if (longer) {
+        *grown->buffer = longer;
+        *grown->length = count;
     } else
         must(rtr_link_give_up(&session, &buffers, now(), todo));
 }
 
-/* ---- what is printed */
+/* ---- output */
 
 struct bytes {
     uint8_t *at;
     size_t length;
 };
 
-/* Writes data as those of this version and session; of no data, their end of data alone. */
+/* Writes data in the version and session of `end`; if there are none, only `end`. */
 static struct bytes form(const struct rtr_link_state *held, struct rtr_unit *end, uint8_t *at)
 {
-    struct bytes made = {at, 0};
+    struct bytes written = {at, 0};
     struct rtr_answer answer = {.written = 0};
     size_t length, size = end->version ? RTR_LONGEST_END : RTR_SHORTEST_END;
     const uint8_t *data = rtr_link_data(&buffers, held, &length);
     if (data)
         rtr_normalise_for_slice(data, length, at, length + RTR_LONGEST_END, UINT64_MAX,
                                 end->version, &answer);
-    made.length = data ? answer.written : size;
-    rtr_write_unit(end, NULL, 0, at + made.length - size, size, &length);
-    return made;
+    written.length = data ? answer.written : size;
+    rtr_write_unit(end, NULL, 0, at + written.length - size, size, &length);
+    return written;
 }
 
-/* Prints what leads from the data that were printed to these, which have this version. */
+/* Prints the changes from the data printed last to those of `held`, which have this version. */
 static void print_changes(const struct rtr_link_state *held, uint8_t version)
 {
-    static uint8_t text[1 << 18]; /* more than any change has */
+    static uint8_t text[1 << 18]; /* longer than any change's line */
     struct rtr_unit end = {.kind = RTR_END_OF_DATA, .version = version};
     end.refresh = RTR_USUAL_REFRESH;
     end.retry = RTR_USUAL_RETRY;
@@ -227,23 +227,24 @@ static void print_changes(const struct rtr_link_state *held, uint8_t version)
     struct rtr_line line = {.size = 1};
     struct rtr_data_answer answer;
     size_t most = held->shown + shown.shown + 2 * RTR_LONGEST_END;
-    uint8_t *room = malloc(2 * most);
-    if (!room) {
+    uint8_t *output = malloc(2 * most);
+    if (!output) {
         fprintf(stderr, "link: no memory\n");
         exit(1);
     }
-    struct bytes old = form(&shown, &end, room), new = form(held, &end, room + old.length);
-    rtr_delta(old.at, old.length, new.at, new.length, room + most, most, &answer);
+    struct bytes old = form(&shown, &end, output);
+    struct bytes new = form(held, &end, output + old.length);
+    rtr_delta(old.at, old.length, new.at, new.length, output + most, most, &answer);
     for (size_t at = 0; line.size > 0; at += line.size) {
-        rtr_change_line(room + most + at, answer.written - at, text, sizeof text, &line);
+        rtr_change_line(output + most + at, answer.written - at, text, sizeof text, &line);
         if (line.length > 0)
             printf("%.*s\n", (int)line.length, (const char *)text);
     }
-    free(room);
+    free(output);
     fflush(stdout);
 }
 
-/* There are new data. */
+/* Prints the changes to new data. */
 static void show(void)
 {
     static uint8_t version;
@@ -255,7 +256,7 @@ static void show(void)
     shown = held;
 }
 
-/* There are no data any more. */
+/* Prints the withdrawal of all data, which were dropped. */
 static void drop(void)
 {
     struct rtr_link_state none = {.shown = 0};
@@ -263,7 +264,7 @@ static void drop(void)
     shown = none;
 }
 
-/* Says why the connection ends. */
+/* Reports why the connection ends. */
 static void explain(const struct rtr_todo *todo)
 {
     uint8_t text[RTR_TEXT_ROOM];
@@ -275,14 +276,14 @@ static void explain(const struct rtr_todo *todo)
         fprintf(stderr, "%s:%s: %s\n", host, port, rtr_cause_text(todo->cause));
 }
 
-/* Does what is to be done, and goes on. */
+/* Carries out what the link asks for, in a loop. */
 static void follow(void)
 {
     struct rtr_todo todo;
     for (;;) {
         must(rtr_link_next(&session, &buffers, now(), &todo));
         if (todo.kind >= RTR_TODO_INPUT_ROOM)
-            give_room(&todo);
+            grow_buffer(&todo);
         if (todo.kind == RTR_TODO_WAIT)
             wait_until(todo.wakes);
         if (todo.kind == RTR_TODO_CONNECT)
