@@ -1,5 +1,5 @@
-/* Plays scenes of a cache and its router (tests/transcripts) with the cache without sockets and a
- * simulated clock, and prints where it differs from them.
+/* Plays scenes of a cache and its router (tests/transcripts) with rtr_cache.h and a simulated
+ * clock, and prints where the cache differs.
  *
  * usage: cache_scenes < SCENES
  *        cache_scenes --joined as one end of a connection to a router (tests/joined) */
@@ -9,15 +9,15 @@
 static struct rtr_server server;
 static struct rtr_served served;
 static bool connected, broken, closing;
-static uint64_t room;     /* how many bytes the router reads, until a step changes that */
-static uint8_t came[1 << 17];
-static size_t came_length, read_length; /* of what came, and of what was read */
-static bool came_last;                  /* the router has closed */
-static size_t back_count; /* that of the server, to see when it drops some */
+static uint64_t readable; /* how many more bytes the router reads */
+static uint8_t received[1 << 17];
+static size_t received_length, read_length; /* read: by the connection */
+static bool end_received;                   /* the router has closed */
+static size_t back_count; /* the server's, before a step reduced it; 0 if none did */
 static int64_t date;      /* when the scene began, in milliseconds since 1970 */
 
-/* Sends what the connection has to send, as far as the router reads it; drops it if the connection
- * broke. Returns whether there was anything. */
+/* Sends the connection's output, as far as the router reads it; drops it if the connection broke.
+ * Returns whether there was any. */
 static bool sends(void)
 {
     static uint8_t bytes[1 << 17];
@@ -30,28 +30,28 @@ static bool sends(void)
         length += parts[i].length;
     }
     if (!broken) {
-        length = length < room ? length : (size_t)room;
-        room -= length;
+        length = length < readable ? length : (size_t)readable;
+        readable -= length;
         sees_units("cache", bytes, length);
     }
     rtr_served_sent(&served, now, length);
     return length > 0;
 }
 
-/* Lets the connection read some of what came, in as many reads as fit. Returns whether it read. */
+/* Lets the connection read received bytes, as many as fit. Returns whether it read. */
 static bool reads(void)
 {
-    size_t most, left = came_length - read_length;
+    size_t most, left = received_length - read_length;
     uint8_t *to = rtr_served_room(&served, &most);
-    if (most == 0 || closing || (left == 0 && !came_last))
+    if (most == 0 || closing || (left == 0 && !end_received))
         return false;
     most = left < most ? left : most;
-    memcpy(to, came + read_length, most);
+    memcpy(to, received + read_length, most);
     read_length += most;
     if (most > 0) {
         rtr_served_received(&served, now, most);
     } else {
-        came_last = false;
+        end_received = false;
         rtr_served_lost(&served, NULL);
     }
     return true;
@@ -73,7 +73,7 @@ static void settle(void)
     }
 }
 
-/* Returns when the connection acts by itself, if there is one. */
+/* Returns when the connection acts by itself; never without a connection. */
 static int64_t wakes(void)
 {
     return connected ? served.wakes : INT64_MAX;
@@ -96,17 +96,17 @@ static void connects(bool beyond)
     rtr_served_init(&served, &server, now);
     server.most_connections = most;
     connected = true;
-    broken = closing = came_last = false;
-    came_length = read_length = 0;
-    room = UINT64_MAX;
+    broken = closing = end_received = false;
+    received_length = read_length = 0;
+    readable = UINT64_MAX;
 }
 
 /* Receives these bytes. */
 static void comes(const char *hex)
 {
-    if (came_length == read_length)
-        came_length = read_length = 0;
-    came_length += from_hex(came + came_length, sizeof came - came_length, hex);
+    if (received_length == read_length)
+        received_length = read_length = 0;
+    received_length += from_hex(received + received_length, sizeof received - received_length, hex);
 }
 
 /* Gives the server these data. */
@@ -153,7 +153,7 @@ static void forgets(uint32_t serial)
 }
 
 /* Carries out a step of the router or the data. Returns false if it isn't such a step. */
-static bool given(int64_t time, const char *step)
+static bool take_step(int64_t time, const char *step)
 {
     static const char *const starts[] = {"router> ", "data {", "forgets ", "router connects",
                                          "router closes", "router breaks", "saves ", "restores ",
@@ -180,9 +180,9 @@ static bool given(int64_t time, const char *step)
     else if (which == RESTORES)
         restores(rest);
     else if (which == TAKES)
-        room = strtoull(rest, NULL, 10);
+        readable = strtoull(rest, NULL, 10);
     else if (which == CLOSES)
-        came_last = true;
+        end_received = true;
     else if (connected) {
         broken = true;
         rtr_served_lost(&served, "it broke");
@@ -245,10 +245,10 @@ static void line(char *text)
         set(key, value);
     else if (sscanf(text, "at %" SCNd64, &time) == 1)
         pass(time), answers(wakes());
-    else if (sscanf(text, "%" SCNd64 " %n", &time, &at) == 1 && at && given(time, text + at))
+    else if (sscanf(text, "%" SCNd64 " %n", &time, &at) == 1 && at && take_step(time, text + at))
         answers(wakes());
     else if (text[0])
-        wants("cache", text);
+        expects("cache", text);
 }
 
 int main(int count, char **arguments)

@@ -1,10 +1,10 @@
 #!/usr/bin/env python3
-"""Runs the cache in C beside routers on the loopback interface that behave or don't.
+"""Tests the cache in C against well-behaved and faulty routers on the loopback interface.
 
 usage: cache_test.py PROGRAM [TEST..]
 
-The program is `cache.c` with `rtr_cache.c`. Without names all tests are run. Expected values are
-computed here. Prints one line if all is well.
+The program is `cache.c` with `rtr_cache.c`. Without names it runs all tests. Expected values are
+computed here. It prints one line if all is well.
 """
 import contextlib
 import os
@@ -20,7 +20,7 @@ import time
 
 PROGRAM = sys.argv[1] if len(sys.argv) > 1 else sys.exit(__doc__)
 SESSION = 4660
-PATIENCE = 120  # seconds to wait for what has to come
+PATIENCE = 120  # seconds to wait for anything expected
 TIMINGS = (3600, 600, 7200)
 DATE = r"\d{4}-\d\d-\d\dT\d\d:\d\d:\d\dZ "
 
@@ -83,12 +83,12 @@ class Cache:
         assert self.process.wait(PATIENCE) == 0
 
     def lines(self, text):
-        """Returns how many lines match this, with the time before it."""
+        """Counts the log lines that match this after their time."""
         with open(self.log, encoding="utf-8") as log:
             return len(re.findall(f"^{DATE}{text}$", log.read(), re.MULTILINE))
 
     def says(self, text):
-        """Waits for a line that matches this."""
+        """Waits for a log line that matches this."""
         ends = time.monotonic() + PATIENCE
         while time.monotonic() < ends:
             with open(self.log, encoding="utf-8") as log:
@@ -100,14 +100,14 @@ class Cache:
         raise AssertionError(text)
 
     def counts(self, text, count):
-        """Waits until at least this many lines match this."""
+        """Waits until at least this many log lines match this."""
         ends = time.monotonic() + PATIENCE
         while self.lines(text) < count:
             assert time.monotonic() < ends, (text, self.lines(text))
             time.sleep(0.02)
 
     def takes(self, serial, count, session=SESSION):
-        """Waits until it has taken data."""
+        """Waits until it has loaded these data."""
         payloads = "1 payload" if count == 1 else f"{count} payloads"
         self.says(rf"{re.escape(self.path)}: session {session} serial {serial}: {payloads}")
 
@@ -149,19 +149,19 @@ class Router:
     def __exit__(self, *_):
         self.socket.close()
 
-    def asks(self, query, wanted):
+    def asks(self, query, expected):
         """Sends a query, and expects exactly this answer."""
         self.socket.sendall(query)
-        self.gets(wanted)
+        self.gets(expected)
 
-    def gets(self, wanted):
+    def gets(self, expected):
         """Expects exactly this."""
         got = b""
-        while len(got) < len(wanted):
-            piece = self.socket.recv(len(wanted) - len(got))
-            assert piece, (got.hex(), wanted[:100].hex())
+        while len(got) < len(expected):
+            piece = self.socket.recv(len(expected) - len(got))
+            assert piece, (got.hex(), expected[:100].hex())
             got += piece
-        assert got == wanted, (got[:100].hex(), wanted[:100].hex())
+        assert got == expected, (got[:100].hex(), expected[:100].hex())
 
     def gets_report(self, version, code):
         """Expects a report of this code, and then the end."""
@@ -212,8 +212,8 @@ def test_addresses():
             port = int(cache.says(rf"listening on {name}:(\d+)")[1])
             with socket.create_connection((address, port), PATIENCE) as router:
                 router.sendall(RESET_QUERY)
-                wanted = response(data(1, [1]))
-                assert router.recv(len(wanted), socket.MSG_WAITALL) == wanted, address
+                expected = response(data(1, [1]))
+                assert router.recv(len(expected), socket.MSG_WAITALL) == expected, address
     with socket.socket(socket.AF_INET6) as taken:
         taken.setsockopt(socket.IPPROTO_IPV6, socket.IPV6_V6ONLY, 1)
         taken.bind(("::", 0))
@@ -276,27 +276,27 @@ def test_max_clients():
 
 
 def test_many_bytes():
-    """Data that are sent from a file in memory, of more than a huge page; routers that ask get them
-    while newer data come."""
+    """Data of more than a huge page are sent from a file in memory, to routers that ask while newer
+    data come."""
     count = 130_000
-    one, two = data(1, range(count)), data(2, range(1, count + 1))
-    with started(one) as cache, Router(cache, 4096) as slow, Router(cache) as router:
+    old, new = data(1, range(count)), data(2, range(1, count + 1))
+    with started(old) as cache, Router(cache, 4096) as slow, Router(cache) as router:
         cache.takes(1, count)
         slow.socket.sendall(RESET_QUERY)
-        router.asks(RESET_QUERY, response(one))
-        put(cache.path, two)
+        router.asks(RESET_QUERY, response(old))
+        put(cache.path, new)
         cache.takes(2, count)
         router.gets(notify(2))
-        router.asks(RESET_QUERY, response(two))
-        slow.gets(response(one))
+        router.asks(RESET_QUERY, response(new))
+        slow.gets(response(old))
         version_0 = b"".join(prefix(asn, version=0) for asn in range(1, count + 1))
-        with Router(cache) as old:
-            old.asks(unit(0, 2, 0), unit(0, 3, SESSION) + version_0 + end(2, version=0))
+        with Router(cache) as lower:
+            lower.asks(unit(0, 2, 0), unit(0, 3, SESSION) + version_0 + end(2, version=0))
 
 
 def test_file():
-    """A file that is missing, is torn, has no later serial number, or has the same size and time as
-    before."""
+    """A file that is missing or damaged, has no later serial number, or has the same size and time
+    as before."""
     with tempfile.TemporaryDirectory() as folder, Cache(folder) as cache:
         cache.says(".*: No such file or directory")
         with Router(cache) as router:
@@ -324,7 +324,7 @@ def test_file():
 
 
 def test_cut_answer():
-    """Of a recording an answer is left out that the next one cuts off, and a line says so."""
+    """An answer in a recording that the next one cuts off is left out, and the log says so."""
     left_out = ".*: left out: an answer without an end of data"
     with started(response(prefix(1)) + response(data(1, [2]))) as cache:
         cache.takes(1, 1)
@@ -337,7 +337,7 @@ def test_cut_answer():
 
 
 def test_serial_zero():
-    """Data of serial number 0 are served, with a warning; no others have one."""
+    """Only serial number 0 is logged with a warning; its data are served."""
     warning = r".*: serial number 0: a router that lost its first answer may ask with it, and .*"
     with started(data(0, [1, 2])) as cache:
         cache.takes(0, 2)
@@ -348,7 +348,7 @@ def test_serial_zero():
 
 
 def test_timings():
-    """Timings that RFC 8210 section 6 doesn't allow a cache are refused by name."""
+    """Timings that RFC 8210 section 6 doesn't allow a cache are refused; the log names the rule."""
     with started(data(1, [1, 2])) as cache:
         cache.takes(1, 2)
         for timings, text in [((0, 600, 7200), "the refresh time has to be 1 to 86400 seconds"),
@@ -361,7 +361,7 @@ def test_timings():
 
 
 def test_restart():
-    """A restarted cache sends the changes from before, unless its file is torn."""
+    """A restarted cache sends changes since old data, unless its saved file is damaged."""
     with tempfile.TemporaryDirectory() as folder:
         path = os.path.join(folder, "data")
         put(path, data(1, [1]))
@@ -383,8 +383,7 @@ def test_restart():
 
 
 def test_descriptors():
-    """With no descriptor left the file is still read, and routers are accepted once there is
-    one."""
+    """Without free descriptors the file is still read; routers are accepted once there are some."""
     with started(data(1, [1]), files=40) as cache:
         cache.takes(1, 1)
         routers = [Router(cache) for _ in range(60)]
@@ -400,7 +399,7 @@ def test_descriptors():
 
 
 def test_memory():
-    """Routers that don't read keep no data in memory but the latest ones."""
+    """Routers that don't read don't keep old data in memory."""
     count, table = 100_000, 100_000 * 20
     with started(data(1, range(count))) as cache, contextlib.ExitStack() as stack:
         cache.takes(1, count)

@@ -114,7 +114,7 @@ static size_t bytes_of(const char *digits, uint8_t *bytes)
     return length;
 }
 
-/* A cache whose connection was made at time 0 and, if `asked`, got a query of version 1. */
+/* Returns a cache whose connection began at time 0 and, if `asked`, got a query of version 1. */
 static struct rtr_cache new_cache(bool refuses, bool asked, const struct rtr_present *present)
 {
     struct rtr_cache cache;
@@ -133,91 +133,91 @@ static struct rtr_cache new_cache(bool refuses, bool asked, const struct rtr_pre
     return cache;
 }
 
-/* Gives a cache an input that lies between guard pages, as everything does. */
-static struct rtr_serving *read_input(const struct place *place, struct rtr_cache *cache,
+/* Passes an input to a cache; all buffers lie between guard pages. */
+static struct rtr_serving *read_input(const struct arena *arena, struct rtr_cache *cache,
                                       const struct rtr_present *present, const uint8_t *input,
                                       size_t length, bool ended)
 {
-    const uint32_t *kept = (const uint32_t *)(void *)copied(place, place->other,
+    const uint32_t *kept = (const uint32_t *)(void *)copied(arena, arena->other,
                                                             (const uint8_t *)KEPT, sizeof KEPT);
-    struct rtr_serving *serving = FILLED(place->unit, struct rtr_serving);
+    struct rtr_serving *serving = FILLED(arena->unit, struct rtr_serving);
     rtr_cache_read(cache, 2, present, kept, sizeof KEPT / sizeof KEPT[0],
-                   copied(place, place->input, input, length), length, ended, serving);
+                   copied(arena, arena->input, input, length), length, ended, serving);
     return serving;
 }
 
-/* The first unit of an answer has these bytes, and is written only if it fits. */
-static void check_unit(const struct place *place, const struct rtr_serving *serving,
+/* The first unit of an answer has these bytes; it is written only if it fits. */
+static void check_unit(const struct arena *arena, const struct rtr_serving *serving,
                        const char *digits)
 {
     uint8_t unit[LONGEST];
     size_t length = digits ? bytes_of(digits, unit) : 0;
-    for (size_t room = 0; room <= length + 1; room++) {
-        uint8_t *output = memset(lie(place, place->output, room), 0xa5, room);
-        size_t written = rtr_cache_unit(serving, output, room);
-        CHECK(written == (room < length ? 0 : length));
+    for (size_t capacity = 0; capacity <= length + 1; capacity++) {
+        uint8_t *output = memset(lie(arena, arena->output, capacity), 0xa5, capacity);
+        size_t written = rtr_cache_unit(serving, output, capacity);
+        CHECK(written == (capacity < length ? 0 : length));
         CHECK(memcmp(output, unit, written) == 0);
-        for (size_t i = written; i < room; i++)
+        for (size_t i = written; i < capacity; i++)
             CHECK(output[i] == 0xa5);
     }
     CHECK(rtr_cache_unit(serving, NULL, 0) == 0);
 }
 
-/* The answer owes a report of this version and code, about these bytes, with this text (RFC 8210
- * section 5.11); or none, without a text. */
-static void check_report(const struct place *place, const struct rtr_serving *serving,
+/* The answer owes a report of this version and code, which encloses this many bytes, with this
+ * text (RFC 8210 section 5.11); without a text it owes none. */
+static void check_report(const struct arena *arena, const struct rtr_serving *serving,
                          const uint8_t *input, size_t length, uint8_t version, uint16_t code,
                          size_t enclosed, const char *text)
 {
-    uint8_t *output = lie(place, place->output, 512);
-    size_t *written = FILLED(place->told, size_t);
+    uint8_t *output = lie(arena, arena->output, 512);
+    size_t *written = FILLED(arena->answer, size_t);
     CHECK(serving->reports == (text != NULL));
     CHECK(rtr_cache_report(serving, input, length, output, 512, written) == (text != NULL));
     if (!text) {
         CHECK(*written == 0);
         return;
     }
-    size_t said = strlen(text), size = 16 + enclosed + said;
+    size_t text_length = strlen(text), size = 16 + enclosed + text_length;
     const uint8_t head[] = {version, 10, 0, (uint8_t)code, 0, 0, (uint8_t)(size >> 8),
                             (uint8_t)size, 0, 0, 0, (uint8_t)enclosed};
-    const uint8_t middle[] = {0, 0, 0, (uint8_t)said};
+    const uint8_t middle[] = {0, 0, 0, (uint8_t)text_length};
     CHECK(*written == size && memcmp(output, head, 12) == 0);
     CHECK(enclosed == 0 || memcmp(output + 12, input, enclosed) == 0);
     CHECK(memcmp(output + 12 + enclosed, middle, 4) == 0);
-    CHECK(memcmp(output + 16 + enclosed, text, said) == 0);
+    CHECK(memcmp(output + 16 + enclosed, text, text_length) == 0);
     CHECK(!rtr_cache_report(serving, input, length, output, size - 1, written) && *written == 0);
 }
 
 /* Each truncation of a unit: the cache waits for the rest, or the close is a fault. */
-static void check_cuts(const struct place *place, const struct rtr_cache *cache,
+static void check_cuts(const struct arena *arena, const struct rtr_cache *cache,
                        const struct rtr_present *present, const uint8_t *input, size_t length)
 {
     for (size_t cut = 0; cut < length; cut++)
         for (int ended = 0; ended < 2; ended++) {
-            struct rtr_cache told = *cache;
-            struct rtr_serving *serving = read_input(place, &told, present, input, cut, ended);
+            struct rtr_cache changed = *cache;
+            struct rtr_serving *serving = read_input(arena, &changed, present, input, cut, ended);
             CHECK(serving->taken == 0);
             if (!ended || cut == 0) {
                 CHECK(serving->kind == RTR_SERVE_WAIT && !serving->reports);
                 CHECK(serving->wanted == (cut < 8 ? 8 : length));
-                CHECK(told.live && told.asked == cache->asked && told.told == cache->told);
-                CHECK(told.due == cache->due && told.notify_from == cache->notify_from);
+                CHECK(changed.live && changed.asked == cache->asked && changed.told == cache->told);
+                CHECK(changed.due == cache->due && changed.notify_from == cache->notify_from);
                 continue;
             }
-            CHECK(serving->kind == RTR_SERVE_END && serving->wanted == 0 && !told.live);
+            CHECK(serving->kind == RTR_SERVE_END && serving->wanted == 0 && !changed.live);
             CHECK(serving->status == RTR_SHORT);
             if (cut >= 2 && input[1] == RTR_ERROR_REPORT)
                 CHECK(!serving->reports && serving->reason == RTR_REASON_FAULTY);
             else if (cache->asked ? input[0] != 1 : input[0] > 2)
                 CHECK(serving->reports && serving->code == (cache->asked ? 8 : 4));
             else
-                check_report(place, serving, input, cut, input[0], 0, cut,
+                check_report(arena, serving, input, cut, input[0], 0, cut,
                              "unexpected end of input");
         }
 }
 
 /* Each row, with the unit alone and before another one. */
-static void check_rows(const struct place *place, const struct row *row, size_t count,
+static void check_rows(const struct arena *arena, const struct row *row, size_t count,
                        bool refuses, bool asked, const struct rtr_present *present)
 {
     for (const struct row *end = row + count; row < end; row++) {
@@ -226,9 +226,9 @@ static void check_rows(const struct place *place, const struct row *row, size_t 
         size_t all = length + bytes_of(PREFIX, input + length);
         const struct rtr_cache cache = new_cache(refuses, asked, present);
         for (int more = 0; more < 2; more++) {
-            struct rtr_cache told = cache;
+            struct rtr_cache changed = cache;
             struct rtr_serving *serving =
-                read_input(place, &told, present, input, more ? all : length, false);
+                read_input(arena, &changed, present, input, more ? all : length, false);
             CHECK(serving->kind == row->kind && serving->reason == row->reason);
             CHECK(serving->status == row->status && serving->detail == (
                       row->status == RTR_UNIT_TYPE ? input[1] : row->status == RTR_PREFIX));
@@ -236,27 +236,27 @@ static void check_rows(const struct place *place, const struct row *row, size_t 
             CHECK(serving->serial == row->serial);
             CHECK(serving->session == (row->unit && row->kind != RTR_SERVE_RESET ? 7 : 0));
             CHECK(serving->code == row->code);
-            CHECK(told.live == (row->kind != RTR_SERVE_END));
-            check_unit(place, serving, row->unit);
-            check_report(place, serving, input, more ? all : length, row->version, row->code,
+            CHECK(changed.live == (row->kind != RTR_SERVE_END));
+            check_unit(arena, serving, row->unit);
+            check_report(arena, serving, input, more ? all : length, row->version, row->code,
                          row->enclosed, row->text);
         }
         if (!row->status || row->status == RTR_PREFIX)
-            check_cuts(place, &cache, present, input, length);
+            check_cuts(arena, &cache, present, input, length);
     }
 }
 
 /* When a cache acts by itself, in milliseconds (RFC 8210 section 8.2). */
-static void check_times(const struct place *place)
+static void check_times(const struct arena *arena)
 {
     struct rtr_cache cache = new_cache(false, false, &PRESENT);
-    struct rtr_serving *serving = FILLED(place->unit, struct rtr_serving);
+    struct rtr_serving *serving = FILLED(arena->unit, struct rtr_serving);
     CHECK(rtr_cache_wakes(&cache, &PRESENT) == 30000);
     rtr_cache_tick(&cache, 29999, &PRESENT, serving);
     CHECK(serving->kind == RTR_SERVE_WAIT && cache.live);
     rtr_cache_tick(&cache, 30000, &PRESENT, serving);
     CHECK(serving->kind == RTR_SERVE_END && serving->reason == RTR_REASON_SLOW);
-    check_report(place, serving, NULL, 0, 0, 0, 0, NULL);
+    check_report(arena, serving, NULL, 0, 0, 0, 0, NULL);
     CHECK(rtr_cache_wakes(&cache, &PRESENT) == UINT64_MAX);
 
     cache = new_cache(false, true, &PRESENT);
@@ -267,7 +267,7 @@ static void check_times(const struct place *place)
     CHECK(rtr_cache_wakes(&cache, &next) == 0);
     rtr_cache_tick(&cache, 10, &next, serving);
     CHECK(serving->kind == RTR_SERVE_NOTIFY && serving->version == 1);
-    check_unit(place, serving, "010000070000000c00000006");
+    check_unit(arena, serving, "010000070000000c00000006");
     CHECK(rtr_cache_wakes(&cache, &next) == 90000001);
     CHECK(rtr_cache_wakes(&cache, &third) == 60010);
     rtr_cache_tick(&cache, 60009, &third, serving);
@@ -280,34 +280,34 @@ static void check_times(const struct place *place)
     CHECK(!serving->reports);
 }
 
-/* A full cache, a lost connection, and no more after the end. */
-static void check_ends(const struct place *place)
+/* A full cache, and a lost connection; after the end, input is ignored. */
+static void check_ends(const struct arena *arena)
 {
     for (int asked = 0; asked < 2; asked++) {
         struct rtr_cache cache = new_cache(false, asked, &PRESENT);
-        struct rtr_serving *serving = FILLED(place->unit, struct rtr_serving);
+        struct rtr_serving *serving = FILLED(arena->unit, struct rtr_serving);
         const uint8_t query[] = {1, 2, 0, 0, 0, 0, 0, 8};
         rtr_cache_full(&cache, 3, &PRESENT, serving);
         CHECK(serving->kind == RTR_SERVE_END && serving->reason == RTR_REASON_FULL);
-        check_unit(place, serving, NULL);
-        check_report(place, serving, query, sizeof query, asked ? 1 : 2, 1, 0,
+        check_unit(arena, serving, NULL);
+        check_report(arena, serving, query, sizeof query, asked ? 1 : 2, 1, 0,
                      "too many connections");
         rtr_cache_read(&cache, 4, &PRESENT, NULL, 0, query, sizeof query, false, serving);
         CHECK(serving->kind == RTR_SERVE_WAIT && serving->taken == 8 && !serving->reports);
         cache = new_cache(false, asked, &PRESENT);
         rtr_cache_lost(&cache, 3, &PRESENT, serving);
         CHECK(serving->kind == RTR_SERVE_END && serving->reason == RTR_REASON_LOST);
-        check_report(place, serving, query, sizeof query, 0, 0, 0, NULL);
+        check_report(arena, serving, query, sizeof query, 0, 0, 0, NULL);
     }
 }
 
-/* The header's text of each reason is the one that the archive writes into a report. */
-static void check_reasons(const struct place *place)
+/* rtr_reason_text returns the text that the archive writes into a report. */
+static void check_reasons(const struct arena *arena)
 {
     for (uint8_t reason = RTR_REASON_LOST; reason <= RTR_REASON_UNKNOWN; reason++) {
         const struct rtr_serving serving = {.kind = RTR_SERVE_END, .reason = reason, .version = 1,
                                             .reports = true};
-        check_report(place, &serving, (const uint8_t *)"", 0, 1, 0, 0, rtr_reason_text(reason));
+        check_report(arena, &serving, (const uint8_t *)"", 0, 1, 0, 0, rtr_reason_text(reason));
     }
     CHECK(strcmp(rtr_reason_text(RTR_REASON_UNKNOWN + 1), "unknown reason") == 0);
 }
@@ -316,19 +316,19 @@ static void check_reasons(const struct place *place)
 
 int main(void)
 {
-    struct place place = new_place();
+    struct arena arena = new_arena();
     for (int side = 0; side < 2; side++) {
-        place.at_end = side;
-        check_rows(&place, ROWS(first_rows), false, false, &PRESENT);
-        check_rows(&place, ROWS(later_rows), false, true, &PRESENT);
+        arena.at_end = side;
+        check_rows(&arena, ROWS(first_rows), false, false, &PRESENT);
+        check_rows(&arena, ROWS(later_rows), false, true, &PRESENT);
         for (int asked = 0; asked < 2; asked++) {
-            check_rows(&place, ROWS(rows), false, asked, &PRESENT);
-            check_rows(&place, ROWS(refusing_rows), true, asked, &PRESENT);
-            check_rows(&place, ROWS(empty_rows), false, asked, &NOTHING);
+            check_rows(&arena, ROWS(rows), false, asked, &PRESENT);
+            check_rows(&arena, ROWS(refusing_rows), true, asked, &PRESENT);
+            check_rows(&arena, ROWS(empty_rows), false, asked, &NOTHING);
         }
-        check_times(&place);
-        check_ends(&place);
-        check_reasons(&place);
+        check_times(&arena);
+        check_ends(&arena);
+        check_reasons(&arena);
     }
     return 0;
 }

@@ -1,12 +1,12 @@
 #!/usr/bin/env python3
-"""Runs the client in C beside caches on the loopback interface that behave or don't.
+"""Tests the client in C against well-behaved and faulty caches on the loopback interface.
 
 usage: client_test.py PROGRAM [TEST..]
 
 The program is `client.c` with `rtr_client.c`, compiled with -DRTR_CLIENT_MOST_BYTES=100000, and for
 test_hostile and test_stops with -DRTR_CLIENT_RESPONSE_LIMIT=3000, so that endless answers end soon;
-for test_preference_silent with -DPATIENCE=1000, so that the silence isn't a failure first. Without
-names all tests are run. Expected values are computed here. Prints one line if all is well.
+for test_preference_silent with -DPATIENCE=1000, so that the patience ends before the client fails.
+Without names it runs all tests. Expected values are computed here. Prints one line if all is well.
 """
 import ipaddress
 import json
@@ -21,7 +21,7 @@ from concurrent.futures import ThreadPoolExecutor
 
 PROGRAM = sys.argv[1] if len(sys.argv) > 1 else sys.exit(__doc__)
 SESSION = 4660
-PATIENCE = 300  # seconds to wait for what has to come
+PATIENCE = 300  # seconds to wait for anything expected
 CORRUPT, NO_DATA, NO_VERSION, NO_TYPE, UNKNOWN, DUPLICATE, OTHER_VERSION = 0, 2, 4, 5, 6, 7, 8
 
 
@@ -85,15 +85,15 @@ def received(peer):
     return got
 
 
-def expect(peer, wanted):
+def expect(peer, expected):
     got = received(peer)
-    assert got == wanted, (got.hex(), wanted.hex())
+    assert got == expected, (got.hex(), expected.hex())
 
 
 # ---- a simulated cache, and its client
 
 class Run:
-    """Runs a client with a cache that plays this script, or with several, by preference."""
+    """A client that ran with a cache, played by a script, or with several by preference."""
 
     def __init__(self, script, words=("--once", "--version", "2"), host="127.0.0.1", caches=1):
         family = socket.AF_INET6 if ":" in host else socket.AF_INET
@@ -122,10 +122,10 @@ class Run:
         if self.failed:
             raise self.failed
         self.status, self.lines = self.process.returncode, out.decode().splitlines()
-        said = err.decode()
+        log = err.decode()
         for number, address in enumerate(addresses):
-            said = said.replace(address + ": ", f"{number}: " if caches > 1 else "")
-        self.said = said.splitlines()
+            log = log.replace(address + ": ", f"{number}: " if caches > 1 else "")
+        self.log = log.splitlines()
 
     def play(self, script):
         try:
@@ -174,7 +174,7 @@ def sequence(payloads, serial=5):
     return response() + b"".join(payloads) + end(serial)
 
 
-WHOLE = sequence([one for one, _ in PAYLOADS])
+WHOLE = sequence([payload for payload, _ in PAYLOADS])
 
 
 def test_data():
@@ -185,9 +185,9 @@ def test_data():
         except OSError as error:
             print(f"client_test.py: no IPv6 here: {error}")
             continue
-        assert (run.status, run.lines) == (0, plus), (run.lines, run.said)
-        assert run.said == [f"session {SESSION} serial 5 version 2: {len(PAYLOADS)} payloads"]
-    backwards = sequence([one for one, _ in reversed(PAYLOADS)])
+        assert (run.status, run.lines) == (0, plus), (run.lines, run.log)
+        assert run.log == [f"session {SESSION} serial 5 version 2: {len(PAYLOADS)} payloads"]
+    backwards = sequence([payload for payload, _ in reversed(PAYLOADS)])
     assert Run(answers(backwards)).lines == plus
     # A payload that is announced and withdrawn isn't in the data.
     gone = prefix("10.0.0.0/8", 24, 65551, announce=0)
@@ -202,8 +202,8 @@ def test_data():
 def test_json():
     run = Run(answers(WHOLE), ("--json", "--once", "--version", "2"))
     assert run.status == 0
-    got = [json.loads(line) for line in run.lines]
-    assert [one["action"] for one in got] == ["announce"] * len(PAYLOADS)
+    got = [json.loads(text) for text in run.lines]
+    assert [line["action"] for line in got] == ["announce"] * len(PAYLOADS)
     assert list(got[0].items()) == [
         ("kind", "ipv4_prefix"), ("action", "announce"), ("prefix", "10.0.0.0"),
         ("prefix_length", 8), ("max_length", 24), ("asn", 65551)]
@@ -233,18 +233,18 @@ def test_versions():
 
     for lower in (0, 1, 2, None):
         run = Run(falls(lower))
-        assert (run.status, len(run.lines)) == (0, 1), run.said
+        assert (run.status, len(run.lines)) == (0, 1), run.log
 
     def refuses(run):
         for version in (2, 1, 0):
             run.asked(reset_query(version)).sendall(report(version, NO_VERSION))
 
     run = Run(refuses)
-    assert (run.status, run.said) == (1, ["the cache reports code 4: no"])
+    assert (run.status, run.log) == (1, ["the cache reports code 4: no"])
 
 
 def refused(bytes_sent, text, code):
-    """The client names the fault, and sends a report with this code, or none."""
+    """The client logs the fault, and sends a report with this code, or none."""
     got = []
 
     def script(run):
@@ -256,7 +256,7 @@ def refused(bytes_sent, text, code):
             got.append(received(peer))
 
     run = Run(script)
-    assert (run.status, run.lines, run.said) == (1, [], [text]), (bytes_sent.hex(), run.said)
+    assert (run.status, run.lines, run.log) == (1, [], [text]), (bytes_sent.hex(), run.log)
     if code is None:
         assert got == [b""], (text, got[0].hex())
     else:
@@ -265,13 +265,13 @@ def refused(bytes_sent, text, code):
 
 
 def refusals():
-    one, other = prefix("10.0.0.0/8", 24, 1), prefix("10.0.0.0/8", 24, 1, announce=0)
+    added, gone = prefix("10.0.0.0/8", 24, 1), prefix("10.0.0.0/8", 24, 1, announce=0)
     old = prefix("10.0.0.0/8", 24, 1, version=1)
     misplaced = "unit is not allowed here"
     rows = [
-        (sequence([one, one]), "duplicate announcement, at byte 20", DUPLICATE),
-        (sequence([other]), "withdrawal of an unknown record, at byte 0", UNKNOWN),
-        (sequence([other, one]), "withdrawal of an unknown record, at byte 0", UNKNOWN),
+        (sequence([added, added]), "duplicate announcement, at byte 20", DUPLICATE),
+        (sequence([gone]), "withdrawal of an unknown record, at byte 0", UNKNOWN),
+        (sequence([gone, added]), "withdrawal of an unknown record, at byte 0", UNKNOWN),
         (sequence([old]), "unit of another version than the session", OTHER_VERSION),
         (response() + end(1, 3), "unit of another version than the session", OTHER_VERSION),
         (response() + end(1, session=1), "unit of another session", CORRUPT),
@@ -279,7 +279,7 @@ def refusals():
         (unit(3, 3, 1), "answer of a higher version than the query", NO_VERSION),
     ]
     rows += [(sent, misplaced, NO_TYPE) for sent in (
-        one, end(1), unit(2, 8, 0), reset_query(2), response() + response(),
+        added, end(1), unit(2, 8, 0), reset_query(2), response() + response(),
         response() + unit(2, 8, 0))]
     at_8 = [
         ("unit type 5 is not allowed here", NO_TYPE, unit(2, 5, 0)),
@@ -289,7 +289,7 @@ def refusals():
         ("invalid unit length", CORRUPT, b"\2\4\0\0\0\0\0\x15"),
         ("invalid unit length", CORRUPT, b"\2\7\0\0\0\0\0\0"),
         ("ASPA unit has no providers", 9, b"\2\x0b\1\0\0\0\0\x0c"),
-        ("prefix length too large", CORRUPT, one[:9] + b"\x21" + one[10:]),
+        ("prefix length too large", CORRUPT, added[:9] + b"\x21" + added[10:]),
     ]
     rows += [(response() + sent, text + ", at byte 8", code) for text, code, sent in at_8]
     rows += [(report(2, code), f"the cache reports code {code}: no", None) for code in (0, 2, 9)]
@@ -316,10 +316,10 @@ def stops(length, how):
     run = Run(script, ("--once", "--version", "0"))
     if length == len(data):
         if how != "resets":  # what came before a reset may be lost
-            assert (run.status, len(run.lines)) == (0, 1), (length, run.said)
+            assert (run.status, len(run.lines)) == (0, 1), (length, run.log)
         return
-    assert (run.status, run.lines, len(run.said)) == (1, [], 1), (length, run.said)
-    assert how != "stalls" or run.said == ["the cache is too slow"], run.said
+    assert (run.status, run.lines, len(run.log)) == (1, [], 1), (length, run.log)
+    assert how != "stalls" or run.log == ["the cache is too slow"], run.log
     assert run.time < 10
 
 
@@ -330,7 +330,7 @@ def test_stops():
 
 
 def test_hostile():
-    """One byte now and then, and endless units."""
+    """Single bytes with pauses, and endless units."""
     def send(peer, what):
         try:
             for _ in range(20000):
@@ -364,7 +364,7 @@ def test_hostile():
     ]
     for script, text in rows:
         run = Run(script)
-        assert (run.status, run.lines, run.said) == (1, [], [text]), run.said
+        assert (run.status, run.lines, run.log) == (1, [], [text]), run.log
         assert run.time < 10, text
 
 
@@ -383,7 +383,7 @@ def test_following():
         expect(peer, reset_query(2))
         peer.sendall(sequence([first[0], second[0]], 3) + notify(4))
         expect(peer, serial_query(2, 3))
-        peer.sendall(sequence([first[0], gone], 4))  # it is present already
+        peer.sendall(sequence([first[0], gone], 4))  # it was announced before
         assert received(peer)[1:4] == b"\x0a\0\7"
         peer.close()
         peer = run.asked(reset_query(2))
@@ -397,15 +397,16 @@ def test_following():
         peer.close()
 
     run = Run(script, ("--version", "2"))
-    one, two = first[1], second[1]
-    wanted = ["+ " + one, "+ " + two, "- " + one, "+ " + one, "- " + one, "- " + two, "+ " + one]
-    assert run.lines == wanted, (run.lines, run.said)
-    refused_texts = [line for line in run.said if not line.startswith("session ")]
+    one_line, two_line = first[1], second[1]
+    expected = ["+ " + one_line, "+ " + two_line, "- " + one_line, "+ " + one_line,
+                "- " + one_line, "- " + two_line, "+ " + one_line]
+    assert run.lines == expected, (run.lines, run.log)
+    refused_texts = [line for line in run.log if not line.startswith("session ")]
     assert refused_texts == ["duplicate announcement, at byte 0", "unit of another session"]
 
 
-def given(words, play):
-    """Returns what a client with --fd prints, and its status; this simulates the cache."""
+def run_over_fd(words, play):
+    """Runs a client with --fd, whose cache `play` simulates; returns status, output and log."""
     ours, theirs = socket.socketpair()
     with ours, theirs:
         ours.settimeout(PATIENCE)
@@ -423,7 +424,7 @@ def given(words, play):
 def test_descriptor():
     """The connection of --fd is the only one: the client exits when it closes."""
     plus = ["+ " + line for _, line in PAYLOADS]
-    told = f"session {SESSION} serial 5 version 2: {len(PAYLOADS)} payloads"
+    loaded = f"session {SESSION} serial 5 version 2: {len(PAYLOADS)} payloads"
 
     def whole(cache):
         expect(cache, reset_query(2))
@@ -431,26 +432,27 @@ def test_descriptor():
         if words[0] == "--once":
             received(cache)
 
-    for words, status, said in [(("--once", "--version", "2"), 0, [told]),
-                                (("--version", "2"), 1, [told, "the cache closed the connection"])]:
-        assert given(words, whole) == (status, plus, said), words
+    for words, status, log in [(("--once", "--version", "2"), 0, [loaded]),
+                               (("--version", "2"), 1,
+                                [loaded, "the cache closed the connection"])]:
+        assert run_over_fd(words, whole) == (status, plus, log), words
 
     def lower(cache):
         expect(cache, reset_query(2))
         cache.sendall(report(1, NO_VERSION))
         received(cache)
 
-    assert given(("--version", "2"), lower) == (1, [], ["there is no other connection"])
+    assert run_over_fd(("--version", "2"), lower) == (1, [], ["there is no other connection"])
 
     def broken(cache):
         expect(cache, reset_query(2))
         cache.sendall(sequence([PAYLOADS[0][0], PAYLOADS[0][0]]))
         assert received(cache)[1:4] == b"\x0a\0\7"
 
-    said = ["duplicate announcement, at byte 20"]
-    assert given(("--version", "2"), broken) == (1, [], said)
+    log = ["duplicate announcement, at byte 20"]
+    assert run_over_fd(("--version", "2"), broken) == (1, [], log)
 
-    # A descriptor that isn't open, or no socket.
+    # A descriptor that isn't open, and one that isn't a socket.
     for number, text in [("999", b"Bad file descriptor"), ("0", b"non-socket")]:
         done = subprocess.run([PROGRAM, "--fd", number], stdin=subprocess.DEVNULL,
                               capture_output=True, timeout=PATIENCE)
@@ -479,32 +481,32 @@ def test_socat():
 
 
 def test_preference():
-    """The first of two caches that answers: changing the cache is one change of data, and old data
-    of the preferred cache are replaced by the other's as soon as it has a whole answer."""
-    (one, one_line), (two, two_line), (three, three_line) = PAYLOADS[:3]
+    """The first of two caches that answers: a switch of caches is one change of data, and a cache's
+    old data are replaced by the other's as soon as that has a whole answer."""
+    (first, first_line), (second, second_line), (third, third_line) = PAYLOADS[:3]
 
     def script(run):
         best = run.asked(reset_query(2))
         best.sendall(report(2, NO_DATA))
         other = run.asked(reset_query(2), 1)
-        other.sendall(sequence([one, two], 1))
+        other.sendall(sequence([first, second], 1))
         best.sendall(notify(7))
         expect(best, reset_query(2))
-        best.sendall(sequence([two, three], 7))
-        assert received(other) == b""  # it is dropped, since the preferred one has data
+        best.sendall(sequence([second, third], 7))
+        assert received(other) == b""  # its connection closes, since the preferred cache has data
         other.close()
         best.close()
-        other = run.asked(reset_query(2), 1)  # it is asked again, and its data are shown
-        other.sendall(sequence([one], 2) + notify(3))
+        other = run.asked(reset_query(2), 1)  # it is asked again, and its data are used
+        other.sendall(sequence([first], 2) + notify(3))
         expect(other, serial_query(2, 2))
-        other.sendall(sequence([two], 3) + notify(4))
+        other.sendall(sequence([second], 3) + notify(4))
         expect(other, serial_query(2, 3))  # the client has those data
         best = run.asked(serial_query(2, 7))
-        best.sendall(response(session=8))  # so its data go, which changes nothing
+        best.sendall(response(session=8))  # its data are dropped, which changes nothing
         assert received(best)[1:4] == b"\x0a\0\0"
         best.close()
         best = run.asked(reset_query(2))
-        best.sendall(sequence([one], 9))
+        best.sendall(sequence([first], 9))
         assert received(other) == b""
         best.sendall(notify(10))
         expect(best, serial_query(2, 9))
@@ -513,34 +515,34 @@ def test_preference():
             peer.close()
 
     run = Run(script, ("--version", "2"), caches=2)
-    wanted = ["+ " + one_line, "+ " + two_line,  # of the second cache
-              "+ " + three_line, "- " + one_line,  # of the first one, in its place
-              "+ " + one_line, "- " + two_line, "- " + three_line,  # of the second one
-              "+ " + two_line,  # its changes
-              "- " + two_line]  # of the first one
-    assert run.lines == wanted, (run.lines, run.said)
-    failed = [line for line in run.said if not line.startswith("session ")]
+    expected = ["+ " + first_line, "+ " + second_line,  # the data of the second cache
+                "+ " + third_line, "- " + first_line,  # the first cache's replace them
+                "+ " + first_line, "- " + second_line, "- " + third_line,  # the second cache's
+                "+ " + second_line,  # its changes
+                "- " + second_line]  # the first cache's
+    assert run.lines == expected, (run.lines, run.log)
+    failed = [line for line in run.log if not line.startswith("session ")]
     assert failed == ["0: the cache reports code 2: no", "0: the cache closed the connection",
-                      "0: unit of another session"], run.said
+                      "0: unit of another session"], run.log
 
 
 def test_preference_silent():
-    """A silent cache is passed over after the patience, before it fails."""
-    one, line = PAYLOADS[0]
+    """After the patience the next cache is asked, before the silent one fails."""
+    payload, line = PAYLOADS[0]
 
     def script(run):
         with run.asked(reset_query(2)), run.asked(reset_query(2), 1) as other:
-            other.sendall(sequence([one], 1))
+            other.sendall(sequence([payload], 1))
             received(other)
 
     run = Run(script, caches=2)
-    assert (run.status, run.lines) == (0, ["+ " + line]), run.said
-    assert len(run.said) == 1 and run.time >= 1, (run.said, run.time)  # the state of the data
+    assert (run.status, run.lines) == (0, ["+ " + line]), run.log
+    assert len(run.log) == 1 and run.time >= 1, (run.log, run.time)  # the state of the data
 
 
 def test_preference_empty():
     """An empty answer is a failure if there is another cache, and data if there is none."""
-    one, line = PAYLOADS[0]
+    payload, line = PAYLOADS[0]
 
     def empty(run, cache):
         peer = run.asked(reset_query(2), cache)
@@ -549,7 +551,7 @@ def test_preference_empty():
 
     def other_has_some(run):
         with empty(run, 0), run.asked(reset_query(2), 1) as other:
-            other.sendall(sequence([one], 1))
+            other.sendall(sequence([payload], 1))
             received(other)
 
     def none_has(run):
@@ -561,12 +563,12 @@ def test_preference_empty():
             received(peer)
 
     run = Run(other_has_some, caches=2)
-    assert (run.status, run.lines) == (0, ["+ " + line]), run.said
+    assert (run.status, run.lines) == (0, ["+ " + line]), run.log
     run = Run(none_has, caches=2)
-    assert (run.status, run.lines) == (1, []), run.said
-    assert run.said == [f"{cache}: the cache has no payloads" for cache in range(2)], run.said
+    assert (run.status, run.lines) == (1, []), run.log
+    assert run.log == [f"{cache}: the cache has no payloads" for cache in range(2)], run.log
     run = Run(alone)
-    assert (run.status, run.lines) == (0, []), run.said
+    assert (run.status, run.lines) == (0, []), run.log
 
 
 def test_preference_once():
@@ -591,10 +593,10 @@ def test_preference_once():
             none(run, cache)
 
     run = Run(last_has_some, caches=3)
-    assert (run.status, run.lines) == (0, ["+ " + first[1]]), run.said
+    assert (run.status, run.lines) == (0, ["+ " + first[1]]), run.log
     run = Run(none_has, caches=3)
-    assert (run.status, run.lines) == (1, []), run.said
-    assert [line[:2] for line in run.said] == ["0:", "1:", "2:"], run.said
+    assert (run.status, run.lines) == (1, []), run.log
+    assert [line[:2] for line in run.log] == ["0:", "1:", "2:"], run.log
 
 
 def test_arguments():

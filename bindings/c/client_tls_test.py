@@ -1,10 +1,10 @@
 #!/usr/bin/env python3
-"""Runs `client_tls` beside caches over TLS on the loopback interface that behave or don't.
+"""Tests `client_tls` against well-behaved and faulty caches over TLS on the loopback interface.
 
 usage: client_tls_test.py PROGRAM [TEST..]
 
-The certificates are made by `openssl`, without which all tests are skipped with a message. Without
-names all tests are run. Units and lines are those of client_test.py. Prints one line if all is
+It makes certificates by `openssl`, and skips all tests with a message if there is none. Without
+names it runs all tests. Units and lines are those of client_test.py. It prints one line if all is
 well.
 """
 import os
@@ -31,7 +31,7 @@ def answer(payloads, serial, session=4660):
 
 
 class Certificates:
-    """An authority, and what it signed: for 127.0.0.1, for another host, and for the client."""
+    """A CA and its certificates: for 127.0.0.1, for another host, and for the client."""
 
     def __init__(self, folder):
         self.folder = folder
@@ -51,7 +51,8 @@ class Certificates:
     def sign(self, name, names):
         with open(self.path("names"), "w", encoding="ascii") as file:
             file.write(f"subjectAltName={names}\n")
-        key, request, signed = (self.path(f"{name}.{one}") for one in ("key", "request", "signed"))
+        key, request, signed = (self.path(f"{name}.{suffix}")
+                                for suffix in ("key", "request", "signed"))
         self.openssl("req", "-newkey", "ec", "-pkeyopt", "ec_paramgen_curve:P-256", "-nodes",
                      "-subj", f"/CN={name}", "-keyout", key, "-out", request)
         self.openssl("x509", "-req", "-in", request, "-CA", self.path("ca"), "-CAkey",
@@ -63,7 +64,7 @@ class Certificates:
                     both.write(file.read())
 
     def context(self, name):
-        """Of a cache with this certificate, which demands one of the client."""
+        """Returns the context of a cache that requires a client certificate."""
         context = ssl.SSLContext(ssl.PROTOCOL_TLS_SERVER)
         context.load_cert_chain(self.path(name))
         context.load_verify_locations(self.path("ca"))
@@ -72,12 +73,12 @@ class Certificates:
 
 
 class Run:
-    """Runs a client with caches, by preference, that play this script."""
+    """A client that ran with caches by preference, which a script plays."""
 
     def __init__(self, script, caches=1, certificates=("cache", "cache")):
         self.contexts = [CERTIFICATES.context(name) for name in certificates]
         self.listeners = [socket.create_server(("127.0.0.1", 0)) for _ in range(caches)]
-        addresses = [f"127.0.0.1:{one.getsockname()[1]}" for one in self.listeners]
+        addresses = [f"127.0.0.1:{listener.getsockname()[1]}" for listener in self.listeners]
         for listener in self.listeners:
             listener.settimeout(PATIENCE)
         self.failed, self.peers = None, []
@@ -86,15 +87,15 @@ class Run:
             [PROGRAM, CERTIFICATES.path("ca"), CERTIFICATES.path("client"), *addresses],
             stdout=subprocess.PIPE, stderr=subprocess.PIPE, text=True)
         thread.start()
-        out, said = self.process.communicate(timeout=PATIENCE)
+        out, log = self.process.communicate(timeout=PATIENCE)
         thread.join(PATIENCE)
-        for one in (*self.listeners, *self.peers):
-            one.close()
+        for endpoint in (*self.listeners, *self.peers):
+            endpoint.close()
         if self.failed:
-            raise AssertionError(f"{self.failed!r}: {out} {said}")
+            raise AssertionError(f"{self.failed!r}: {out} {log}")
         for number, address in enumerate(addresses):
-            said = said.replace(address, str(number))
-        self.lines, self.said = out.splitlines(), said.splitlines()
+            log = log.replace(address, str(number))
+        self.lines, self.log = out.splitlines(), log.splitlines()
 
     def play(self, script):
         try:
@@ -116,8 +117,8 @@ class Run:
 
 
 def is_taken(peer, serial, session=4660):
-    """Waits until the client has taken what was sent: it answers a notify by a query, to which
-    nothing is new."""
+    """Waits until the client has read everything: it answers a notify by a query, whose answer is
+    empty."""
     peer.sendall(notify(4294967295, 1, session))
     expect(peer, serial_query(1, serial, session))
     peer.sendall(answer([], serial, session))
@@ -138,7 +139,7 @@ def test_following():
             peer.sendall(answer([prefix("10.0.0.0/8", 24, 65551, 0, 1)], 3))
             is_taken(peer, 3)
         with run.asked(serial_query(1, 3)) as peer:
-            peer.sendall(answer([TWO], 4))  # it is there already
+            peer.sendall(answer([TWO], 4))  # it was announced before
             assert received(peer)[1:4] == b"\x0a\0\7"
             assert received(peer) == b""
         peer = run.asked(reset_query(1))
@@ -147,13 +148,13 @@ def test_following():
 
     run = Run(script)
     assert run.lines == ["+ " + ONE_LINE, "+ " + TWO_LINE, "- " + ONE_LINE, "+ " + ONE_LINE,
-                         "- " + TWO_LINE], (run.lines, run.said)
-    assert run.said[0] == "0: the cache closed the connection" and len(run.said) == 3, run.said
-    assert run.said[2] == "0: duplicate announcement, at byte 0", run.said
+                         "- " + TWO_LINE], (run.lines, run.log)
+    assert run.log[0] == "0: the cache closed the connection" and len(run.log) == 3, run.log
+    assert run.log[2] == "0: duplicate announcement, at byte 0", run.log
 
 
 def test_large():
-    """An answer of many records of TLS, that come faster than the client takes them."""
+    """An answer in many TLS records, which come faster than the client reads them."""
     block = [prefix(f"10.1.{i // 256}.{i % 256}/32", 32, i, version=1) for i in range(60000)]
 
     def script(run):
@@ -163,7 +164,7 @@ def test_large():
 
     run = Run(script)
     assert run.lines == [f"+ IPv4 prefix 10.1.{i // 256}.{i % 256}/32-32 AS{i}"
-                         for i in range(60000)], (len(run.lines), run.said)
+                         for i in range(60000)], (len(run.lines), run.log)
 
 
 def test_other_cache():
@@ -181,12 +182,12 @@ def test_other_cache():
         assert received(other) == b""
 
     run = Run(script, 2)
-    assert run.lines == ["+ " + ONE_LINE, "+ " + TWO_LINE, "- " + ONE_LINE], (run.lines, run.said)
-    assert run.said == ["0: the cache reports code 1: no"], run.said
+    assert run.lines == ["+ " + ONE_LINE, "+ " + TWO_LINE, "- " + ONE_LINE], (run.lines, run.log)
+    assert run.log == ["0: the cache reports code 1: no"], run.log
 
 
 def test_refused():
-    """Certificates that name another host, or that nobody signed, and a cache without TLS."""
+    """Certificates for another host or of an unknown CA, and a cache without TLS."""
     def script(run):
         try:
             with run.accept() as best:
@@ -198,8 +199,8 @@ def test_refused():
         is_taken(other, 7)
 
     run = Run(script, 2, ("other", "cache"))
-    assert run.lines == ["+ " + ONE_LINE], (run.lines, run.said)
-    assert run.said == ["0: IP address mismatch"], run.said
+    assert run.lines == ["+ " + ONE_LINE], (run.lines, run.log)
+    assert run.log == ["0: IP address mismatch"], run.log
 
     def plain(run):
         peer, _ = run.listeners[0].accept()
@@ -211,11 +212,11 @@ def test_refused():
         is_taken(other, 7)
 
     run = Run(plain, 2)
-    assert (run.lines, run.said) == (["+ " + ONE_LINE], ["0: wrong version number"]), run.said
+    assert (run.lines, run.log) == (["+ " + ONE_LINE], ["0: wrong version number"]), run.log
 
 
 def test_nobody():
-    """Where nothing listens the next cache is asked; wrong arguments and files are named."""
+    """If nothing listens, the next cache is asked; wrong arguments and files are reported."""
     def script(run):
         run.listeners[0].close()
         other = run.asked(reset_query(1), 1)
@@ -223,11 +224,11 @@ def test_nobody():
         is_taken(other, 7)
 
     run = Run(script, 2)
-    assert run.lines == ["+ " + ONE_LINE], (run.lines, run.said)
-    for words, status, said in [((), 2, "usage: "), (("/none", "/none", "a:1"), 1, "/none: "),
-                                ((CERTIFICATES.path("ca"), "/none", "a:1"), 1, "/none: ")]:
+    assert run.lines == ["+ " + ONE_LINE], (run.lines, run.log)
+    for words, status, error in [((), 2, "usage: "), (("/none", "/none", "a:1"), 1, "/none: "),
+                                 ((CERTIFICATES.path("ca"), "/none", "a:1"), 1, "/none: ")]:
         done = subprocess.run([PROGRAM, *words], capture_output=True, text=True, timeout=PATIENCE)
-        assert done.returncode == status and said in done.stderr, done.stderr
+        assert done.returncode == status and error in done.stderr, done.stderr
 
 
 def main():

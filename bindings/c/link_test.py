@@ -13,7 +13,7 @@ sys.dont_write_bytecode = True
 from client_test import (PAYLOADS, Run, expect, notify, prefix, received, report, reset_query,
                          response, sequence, serial_query, unit, end)
 
-TOLD = "session 4660 serial {} version 2"
+LOADED = "session 4660 serial {} version 2"
 
 
 def end_of(run, peer):
@@ -25,14 +25,14 @@ def end_of(run, peer):
 
 
 def followed(script):
-    """What the program printed, and what it said, beside a cache that plays this script."""
+    """Runs the program with a cache that plays this script; returns its output and log."""
     run = Run(script, ("2",))
-    return run.lines, run.said
+    return run.lines, run.log
 
 
 def test_following():
     """Notifies, changes, a cache reset, a new session, and changes that are refused."""
-    (first, one), (second, two) = PAYLOADS[:2]
+    (first, first_line), (second, second_line) = PAYLOADS[:2]
     gone = prefix("10.0.0.0/8", 24, 65551, announce=0)
 
     def script(run):
@@ -45,7 +45,7 @@ def test_following():
         expect(peer, reset_query(2))
         peer.sendall(sequence([first, second], 3) + notify(4))
         expect(peer, serial_query(2, 3))
-        peer.sendall(sequence([first, gone], 4))  # it is there already
+        peer.sendall(sequence([first, gone], 4))  # it was announced before
         assert received(peer)[1:4] == b"\x0a\0\7"
         peer.close()
         peer = run.asked(reset_query(2))
@@ -58,17 +58,17 @@ def test_following():
         run.process.terminate()
         peer.close()
 
-    lines, said = followed(script)
-    assert lines == [f"+ {one}", f"+ {two}", f"- {one}", f"+ {one}", f"- {one}", f"- {two}",
-                     f"+ {one}"], (lines, said)
-    assert said == [TOLD.format(1), TOLD.format(2), TOLD.format(3), "duplicate announcement",
-                    TOLD.format(5), "unit of another session",
-                    "session 7 serial 1 version 2"], said
+    lines, log = followed(script)
+    assert lines == [f"+ {first_line}", f"+ {second_line}", f"- {first_line}", f"+ {first_line}",
+                     f"- {first_line}", f"- {second_line}", f"+ {first_line}"], (lines, log)
+    assert log == [LOADED.format(1), LOADED.format(2), LOADED.format(3), "duplicate announcement",
+                   LOADED.format(5), "unit of another session",
+                   "session 7 serial 1 version 2"], log
 
 
 def test_lost():
-    """A connection that ends inside an answer, or is reset: the next one asks for all again."""
-    data = sequence([one for one, _ in PAYLOADS])
+    """After a connection that ends inside an answer, or is reset, all data are asked for again."""
+    data = sequence([payload for payload, _ in PAYLOADS])
 
     def script(run):
         for cut in (8, 30):
@@ -80,14 +80,14 @@ def test_lost():
             peer.sendall(bytes([byte]))
         end_of(run, peer)
 
-    lines, said = followed(script)
-    assert lines == [f"+ {line}" for _, line in PAYLOADS], (lines, said)
-    assert said == ["the cache closed the connection", "unexpected end of input",
-                    TOLD.format(5)], said
+    lines, log = followed(script)
+    assert lines == [f"+ {line}" for _, line in PAYLOADS], (lines, log)
+    assert log == ["the cache closed the connection", "unexpected end of input",
+                   LOADED.format(5)], log
 
 
 def test_versions():
-    """A cache of version 1, which says so, and one that closes without a word (section 7)."""
+    """A cache of version 1 that reports its version, and one that only closes (section 7)."""
     old = response(1) + prefix("10.0.0.0/8", 24, 65551, version=1) + end(7, 1)
     for falls in (report(1, 4), b""):
         def script(run, falls=falls):
@@ -99,8 +99,8 @@ def test_versions():
             run.process.terminate()
             peer.close()
 
-        lines, said = followed(script)
-        assert (lines, said) == ([f"+ {PAYLOADS[0][1]}"], ["session 4660 serial 7 version 1"]), said
+        lines, log = followed(script)
+        assert (lines, log) == ([f"+ {PAYLOADS[0][1]}"], ["session 4660 serial 7 version 1"]), log
 
 
 def test_large():
@@ -116,12 +116,12 @@ def test_large():
         peer.sendall(response() + block(1, 0) + block(2) + end(2))
         end_of(run, peer)
 
-    lines, said = followed(script)
+    lines, log = followed(script)
     plus = [f"+ IPv4 prefix 10.1.{i // 256}.{i % 256}/32-32 AS{i}" for i in range(4000)]
-    assert lines[:4000] == plus and len(lines) == 12000, (len(lines), said)
+    assert lines[:4000] == plus and len(lines) == 12000, (len(lines), log)
     assert sorted(lines[4000:]) == sorted(
         [f"-{line[1:]}" for line in plus] + [line.replace(" 10.1.", " 10.2.") for line in plus])
-    assert said == [TOLD.format(1), TOLD.format(2)], said
+    assert log == [LOADED.format(1), LOADED.format(2)], log
 
 
 def test_no_data():
@@ -133,9 +133,9 @@ def test_no_data():
         peer.sendall(sequence([PAYLOADS[0][0]]))
         end_of(run, peer)
 
-    lines, said = followed(script)
-    assert lines == [f"+ {PAYLOADS[0][1]}"], (lines, said)
-    assert said == ["the cache has no data yet", TOLD.format(5)], said
+    lines, log = followed(script)
+    assert lines == [f"+ {PAYLOADS[0][1]}"], (lines, log)
+    assert log == ["the cache has no data yet", LOADED.format(5)], log
 
 
 def main():

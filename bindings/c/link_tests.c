@@ -1,8 +1,8 @@
-/* Tests of the calls for a router's end with its bytes and data: sessions played by hand, whose
- * units are those of RFC 8210 section 5, with each buffer as short as it may be and between
- * inaccessible pages; and calls that can't be, which are refused and change nothing.
+/* Tests of the calls for a router's end: sessions with units of RFC 8210 section 5, where each
+ * buffer is as short as possible and lies between guard pages; and wrong calls, which are refused
+ * and change nothing.
  *
- * usage: link_tests [COUNT]   with the number of random structs; 100,000 if left out */
+ * usage: link_tests [COUNT]   with this number of random structs (default 100,000) */
 #include "testing.h"
 
 /* Units of version 1, in hexadecimal. */
@@ -20,20 +20,20 @@
 /* No data available (section 12), without a unit and with the text "no". */
 #define NO_DATA "010a000200000012" "00000000" "00000002" "6e6f"
 
-/* The length of the longest unit, which an output has room for behind what is to be sent. */
+/* The most bytes that an output needs behind the unsent ones: the longest unit. */
 #define OUTPUT ((size_t)RTR_LONGEST_UNIT)
 
 /* A router's end, and its buffers. */
 struct end {
     struct rtr_link link;
     struct rtr_link_buffers buffers;
-    struct place place;
+    struct arena arena;
     struct rtr_todo todo;
     struct rtr_link_state state;
     uint64_t now;
 };
 
-/* The bytes that hexadecimal digits say, and how many they are. */
+/* Decodes hexadecimal digits, and returns the number of bytes. */
 static size_t bytes_of(const char *digits, uint8_t *bytes)
 {
     size_t length = strlen(digits) / 2;
@@ -45,71 +45,72 @@ static size_t bytes_of(const char *digits, uint8_t *bytes)
     return length;
 }
 
-/* Makes a buffer this long, with the bytes that it holds. */
-static void *longer(const struct place *place, struct fenced fenced, const void *bytes,
-                    size_t length, size_t room)
+/* Resizes a buffer to `size` bytes, and keeps its content. */
+static void *resized(const struct arena *arena, struct fenced fenced, const void *bytes,
+                    size_t length, size_t size)
 {
     static uint8_t held[MOST];
-    size_t same = length < room ? length : room;
+    size_t same = length < size ? length : size;
     if (same)
         memcpy(held, bytes, same);
-    uint8_t *lies = memset(lie(place, fenced, room), 0xa5, room);
-    return memcpy(lies, held, same);
+    uint8_t *buffer = memset(lie(arena, fenced, size), 0xa5, size);
+    return memcpy(buffer, held, same);
 }
 
-static void input_room(struct end *e, size_t room)
+static void input_room(struct end *e, size_t size)
 {
     e->buffers.input =
-        longer(&e->place, e->place.input, e->buffers.input, e->buffers.input_length, room);
-    e->buffers.input_length = room;
+        resized(&e->arena, e->arena.input, e->buffers.input, e->buffers.input_length, size);
+    e->buffers.input_length = size;
 }
 
-static void first_room(struct end *e, size_t room)
+static void first_room(struct end *e, size_t size)
 {
     e->buffers.first =
-        longer(&e->place, e->place.other, e->buffers.first, e->buffers.first_length, room);
-    e->buffers.first_length = room;
+        resized(&e->arena, e->arena.other, e->buffers.first, e->buffers.first_length, size);
+    e->buffers.first_length = size;
 }
 
-static void second_room(struct end *e, size_t room)
+static void second_room(struct end *e, size_t size)
 {
     e->buffers.second =
-        longer(&e->place, e->place.told, e->buffers.second, e->buffers.second_length, room);
-    e->buffers.second_length = room;
+        resized(&e->arena, e->arena.answer, e->buffers.second, e->buffers.second_length, size);
+    e->buffers.second_length = size;
 }
 
-static void index_room(struct end *e, size_t room)
+static void index_room(struct end *e, size_t size)
 {
-    e->buffers.index = lie(&e->place, e->place.index, room * sizeof(size_t));
-    e->buffers.index_length = room;
+    e->buffers.index = lie(&e->arena, e->arena.index, size * sizeof(size_t));
+    e->buffers.index_length = size;
 }
 
-static void output_room(struct end *e, size_t room)
+static void output_room(struct end *e, size_t size)
 {
     e->buffers.output =
-        longer(&e->place, e->place.output, e->buffers.output, e->buffers.output_length, room);
-    e->buffers.output_length = room;
+        resized(&e->arena, e->arena.output, e->buffers.output, e->buffers.output_length, size);
+    e->buffers.output_length = size;
 }
 
-/* A router's end of version 1, with buffers of length 0. */
+/* Initializes a router's end of version 1, with buffers of length 0. */
 static void begin(struct end *e, bool at_end)
 {
-    static struct place place;
+    static struct arena arena;
     struct rtr_settings settings;
-    if (!place.input.front) {
-        place = new_place();
-        place.told = fence(MOST);
+    if (!arena.input.front) {
+        arena = new_arena();
+        arena.answer = fence(MOST);
     }
     memset(e, 0xa5, sizeof *e);
-    e->place = place;
-    e->place.at_end = at_end;
+    e->arena = arena;
+    e->arena.at_end = at_end;
     e->buffers = (struct rtr_link_buffers){NULL, 0, NULL, NULL, 0, 0, NULL, 0, NULL, 0};
     e->now = 0;
     rtr_settings_usual(&settings, 1);
     rtr_link_init(&e->link, &settings);
 }
 
-static void give_room(struct end *e)
+/* Grows the buffer that the link asks for. */
+static void grow_buffer(struct end *e)
 {
     CHECK(e->todo.wakes == e->link.due || e->link.phase != RTR_PHASE_CONNECTING);
     if (e->todo.kind == RTR_TODO_INPUT_ROOM)
@@ -129,7 +130,7 @@ static void look(struct end *e)
     CHECK(rtr_link_state(&e->link, &e->buffers, e->now, &e->state) == RTR_LINK_OK);
 }
 
-/* The next call has this to be done, after some that have nothing; room is given. */
+/* Calls rtr_link_next, and grows buffers, until it returns this kind. */
 static void next_is(struct end *e, uint8_t kind)
 {
     for (int turns = 0; turns < 1000; turns++) {
@@ -137,28 +138,28 @@ static void next_is(struct end *e, uint8_t kind)
         if (e->todo.kind == kind)
             break;
         CHECK(e->todo.kind == RTR_TODO_GO || e->todo.kind >= RTR_TODO_INPUT_ROOM);
-        give_room(e);
+        grow_buffer(e);
     }
     CHECK(e->todo.kind == kind);
     look(e);
     CHECK(e->state.wakes == e->todo.wakes);
 }
 
-/* These bytes come, and are read. */
+/* Receives these bytes one by one. */
 static void comes(struct end *e, const char *digits)
 {
     uint8_t bytes[256];
-    size_t length = bytes_of(digits, bytes), room;
+    size_t length = bytes_of(digits, bytes), size;
     for (size_t i = 0; i < length; i++) {
         next_is(e, RTR_TODO_WAIT);
-        uint8_t *to = rtr_link_room(&e->buffers, &e->state, &room);
-        CHECK(room > 0);
+        uint8_t *to = rtr_link_room(&e->buffers, &e->state, &size);
+        CHECK(size > 0);
         *to = bytes[i];
         CHECK(rtr_link_received(&e->link, &e->buffers, 1) == RTR_LINK_OK);
     }
 }
 
-/* These bytes are to be sent, and are, by and by. */
+/* Checks that exactly these bytes are unsent, and sends them one by one. */
 static void sends(struct end *e, const char *digits)
 {
     uint8_t bytes[256];
@@ -174,7 +175,7 @@ static void sends(struct end *e, const char *digits)
     CHECK(unsent == 0);
 }
 
-/* These are the data; none, if no digits are given. */
+/* Checks that these are the data; null means none. */
 static void shows(struct end *e, const char *digits)
 {
     uint8_t bytes[256];
@@ -185,18 +186,20 @@ static void shows(struct end *e, const char *digits)
     CHECK(length == 0 || memcmp(data, bytes, length) == 0);
 }
 
-/* A report is to be sent, and is: of this code, about this unit, with this text (section 5.11). */
+/* Checks that a report of this code is unsent, which encloses this unit and has this text (section
+ * 5.11), and sends it. */
 static void sends_report(struct end *e, uint16_t code, const char *unit, const char *text)
 {
     uint8_t bytes[256];
-    size_t length = bytes_of(unit, bytes), said = strlen(text), size = 16 + length + said, unsent;
+    size_t length = bytes_of(unit, bytes), text_length = strlen(text), unsent;
+    size_t size = 16 + length + text_length;
     const uint8_t head[] = {1, RTR_ERROR_REPORT, 0, (uint8_t)code, 0, 0, 0, (uint8_t)size,
                             0, 0, 0, (uint8_t)length};
     look(e);
     const uint8_t *output = rtr_link_output(&e->buffers, &e->state, &unsent);
     CHECK(unsent == size && memcmp(output, head, sizeof head) == 0);
-    CHECK(memcmp(output + 12, bytes, length) == 0 && output[15 + length] == said);
-    CHECK(memcmp(output + 16 + length, text, said) == 0);
+    CHECK(memcmp(output + 12, bytes, length) == 0 && output[15 + length] == text_length);
+    CHECK(memcmp(output + 16 + length, text, text_length) == 0);
     CHECK(rtr_link_sent(&e->link, &e->buffers, size) == RTR_LINK_OK);
 }
 
@@ -207,7 +210,7 @@ static void connects(struct end *e)
     CHECK(rtr_link_opened(&e->link) == RTR_LINK_OK);
 }
 
-/* It has the first data, by a query for all. */
+/* Loads the first data by a reset query. */
 static void loads(struct end *e)
 {
     connects(e);
@@ -220,7 +223,7 @@ static void loads(struct end *e)
 
 /* ---- sessions */
 
-/* All data, then what changes, then all data again (RFC 8210 sections 8.1 to 8.3). */
+/* All data, then changes, then all data again (RFC 8210 sections 8.1 to 8.3). */
 static void check_session(struct end *e)
 {
     size_t length;
@@ -258,7 +261,7 @@ static void check_session(struct end *e)
     CHECK(length > 0);
 }
 
-/* A cache without data, whose report can be read at the offset that is told. */
+/* A cache without data, whose report is at `todo.offset` of the input. */
 static void check_no_data(struct end *e)
 {
     struct rtr_unit unit;
@@ -275,7 +278,8 @@ static void check_no_data(struct end *e)
     CHECK(e->todo.wakes == 600000);
 }
 
-/* A prefix of 33 bits in an answer: it is named, and reported as corrupt data (section 12). */
+/* A prefix of 33 bits in an answer: `todo` has its status, and it is reported as corrupt data
+ * (section 12). */
 static void check_refused(struct end *e)
 {
     loads(e);
@@ -295,7 +299,7 @@ static void check_refused(struct end *e)
     CHECK(e->link.phase == RTR_PHASE_OFFLINE);
 }
 
-/* The withdrawal of what isn't there: the change is named where it stands in the input. */
+/* A withdrawal of an unknown record: `todo.offset` is that of the change. */
 static void check_unknown(struct end *e)
 {
     loads(e);
@@ -332,7 +336,7 @@ static void check_lost(struct end *e)
     shows(e, NULL);
 }
 
-/* The time from a lost connection, which was asked for now, to the next one. */
+/* Loses a connection that was asked for now, and returns the time until the next one. */
 static uint64_t wait_after_loss(struct end *e)
 {
     next_is(e, RTR_TODO_CONNECT);
@@ -342,8 +346,8 @@ static uint64_t wait_after_loss(struct end *e)
     return e->todo.wakes - e->now;
 }
 
-/* One that begins again has no data and connects at once, and the wait after its next failure is
- * longer than that of a new one. */
+/* After rtr_link_again it has no data and connects at once, and waits longer after its next
+ * failure than a new one. */
 static void check_again(struct end *e)
 {
     uint64_t first = wait_after_loss(e), second, after;
@@ -362,9 +366,9 @@ static void check_again(struct end *e)
     CHECK(rtr_link_next(&e->link, &e->buffers, e->now - 1, &e->todo) == RTR_LINK_BAD_TIME);
 }
 
-/* ---- want of room */
+/* ---- missing memory */
 
-/* The program has no memory: nothing is asked that it didn't take. */
+/* The program gives up an answer for which it has no memory: the data stay. */
 static void check_give_up(struct end *e)
 {
     CHECK(rtr_link_next(&e->link, &e->buffers, 0, &e->todo) == RTR_LINK_OK);
@@ -388,9 +392,9 @@ static void check_give_up(struct end *e)
     shows(e, PREFIX END("5"));
 }
 
-/* ---- calls that can't be */
+/* ---- wrong calls */
 
-/* The call has this status, and all stays as it was. */
+/* The call returns this status, and the struct is unchanged. */
 #define REFUSES(status, call)                                                                     \
     do {                                                                                          \
         struct rtr_link before = e->link;                                                         \
@@ -424,11 +428,11 @@ static void check_turns(struct end *e)
 
 static void check_lengths(struct end *e)
 {
-    size_t room;
+    size_t size;
     connects(e);
     next_is(e, RTR_TODO_WAIT);
-    rtr_link_room(&e->buffers, &e->state, &room);
-    REFUSES(RTR_LINK_TOO_LONG, rtr_link_received(&e->link, &e->buffers, room + 1));
+    rtr_link_room(&e->buffers, &e->state, &size);
+    REFUSES(RTR_LINK_TOO_LONG, rtr_link_received(&e->link, &e->buffers, size + 1));
     REFUSES(RTR_LINK_TOO_LONG, rtr_link_received(&e->link, &e->buffers, SIZE_MAX));
     REFUSES(RTR_LINK_TOO_LONG, rtr_link_sent(&e->link, &e->buffers, 9));
     REFUSES(RTR_LINK_TOO_LONG, rtr_link_sent(&e->link, &e->buffers, SIZE_MAX));
@@ -468,7 +472,7 @@ static void check_times(struct end *e)
     CHECK(rtr_link_next(&e->link, &e->buffers, late - 1, &e->todo) == RTR_LINK_OK);
 }
 
-/* Each call refuses the struct. */
+/* Each call refuses a struct that wasn't initialized. */
 static void check_not_begun(struct end *e)
 {
     REFUSES(RTR_LINK_NOT_BEGUN, rtr_link_opened(&e->link));
@@ -483,8 +487,7 @@ static void check_not_begun(struct end *e)
     REFUSES(RTR_LINK_NOT_BEGUN, rtr_link_state(&e->link, &e->buffers, e->now, &e->state));
 }
 
-/* Structs of one byte, of another phase, of flags that are none, of offsets that contradict one
- * another. */
+/* Damaged structs: of equal bytes, with an invalid phase or flag, with contradictory offsets. */
 static void check_structs(struct end *e)
 {
     struct rtr_link good;
@@ -525,8 +528,8 @@ static void check_structs(struct end *e)
     next_is(e, RTR_TODO_WAIT);
 }
 
-/* Structs with random numbers, except where any call would refuse them at once: whatever they say,
- * no call touches a byte beside the buffers. */
+/* Structs with random numbers, except in fields that are checked first: no call touches a byte
+ * outside of the buffers. */
 static void check_random(struct end *e, long count)
 {
     uint64_t seed = 88172645463325252;

@@ -8,7 +8,7 @@
 
 enum { MOST_UNITS = 16, ROOM = 1024 };
 
-/* A recording of the file, and what it leaves. */
+/* A recording of the file, and the data or the refusal that it results in. */
 struct row {
     char name[128];
     uint8_t input[ROOM], data[ROOM];
@@ -18,8 +18,8 @@ struct row {
     bool has_cut;
 };
 
-/* How much room the call gets. */
-struct room {
+/* The sizes of the buffers that the call gets. */
+struct capacity {
     size_t index, work, output;
 };
 
@@ -63,22 +63,22 @@ static void take_line(struct row *row, const char *word, const char *rest)
 
 /* ---- calls */
 
-static struct rtr_loaded *loaded_in(const struct place *place, const struct row *row, size_t length,
-                                    struct room room)
+static struct rtr_loaded *loaded_in(const struct arena *arena, const struct row *row, size_t length,
+                                    struct capacity capacity)
 {
-    const uint8_t *input = copied(place, place->input, row->input, length);
-    size_t *index = lie(place, place->index, room.index * sizeof *index);
-    uint8_t *work = lie(place, place->other, room.work);
-    uint8_t *output = memset(lie(place, place->output, room.output), 0xa5, room.output);
-    struct rtr_loaded *loaded = FILLED(place->told, struct rtr_loaded);
-    uint8_t status = rtr_load(input, length, index, room.index, work, room.work, output,
-                              room.output, loaded);
+    const uint8_t *input = copied(arena, arena->input, row->input, length);
+    size_t *index = lie(arena, arena->index, capacity.index * sizeof *index);
+    uint8_t *work = lie(arena, arena->other, capacity.work);
+    uint8_t *output = memset(lie(arena, arena->output, capacity.output), 0xa5, capacity.output);
+    struct rtr_loaded *loaded = FILLED(arena->answer, struct rtr_loaded);
+    uint8_t status = rtr_load(input, length, index, capacity.index, work, capacity.work, output,
+                              capacity.output, loaded);
     CHECK(status == loaded->status);
     CHECK(memcmp(input, row->input, length) == 0);
     return loaded;
 }
 
-/* What describes data is 0. */
+/* Fields that describe data are 0. */
 static void check_no_data(const struct rtr_loaded *loaded)
 {
     CHECK(!loaded->length && !loaded->serial && !loaded->refresh && !loaded->retry);
@@ -86,11 +86,11 @@ static void check_no_data(const struct rtr_loaded *loaded)
 }
 
 /* The data of the row were loaded. */
-static void check_data(const struct place *place, const struct row *row, struct room room,
+static void check_data(const struct arena *arena, const struct row *row, struct capacity capacity,
                        const struct rtr_loaded *loaded)
 {
     struct rtr_unit end;
-    const uint8_t *output = lie(place, place->output, room.output);
+    const uint8_t *output = lie(arena, arena->output, capacity.output);
     size_t before = row->data_length - (row->data[0] ? RTR_LONGEST_END : RTR_SHORTEST_END);
     CHECK(loaded->status == RTR_OK && loaded->length == row->data_length);
     CHECK(!memcmp(output, row->data, row->data_length));
@@ -102,7 +102,7 @@ static void check_data(const struct place *place, const struct row *row, struct 
     CHECK(!loaded->offset && !loaded->wanted && !loaded->detail);
 }
 
-/* The unit is refused there, for a reason with this text. */
+/* The unit at this offset is refused, for a reason with this text. */
 static void check_refused(const struct row *row, size_t length, const struct rtr_loaded *loaded,
                           size_t offset, const char *reason)
 {
@@ -119,16 +119,16 @@ static void check_refused(const struct row *row, size_t length, const struct rtr
     check_no_data(loaded);
 }
 
-static void check_row(const struct place *place, const struct row *row, struct room room)
+static void check_row(const struct arena *arena, const struct row *row, struct capacity capacity)
 {
-    const struct rtr_loaded *loaded = loaded_in(place, row, row->length, room);
+    const struct rtr_loaded *loaded = loaded_in(arena, row, row->length, capacity);
     if (row->text[0])
         check_refused(row, row->length, loaded, row->refused, row->text);
     else
-        check_data(place, row, room, loaded);
+        check_data(arena, row, capacity, loaded);
 }
 
-/* ---- too little room */
+/* ---- buffers that are too short */
 
 /* No unit is at fault. */
 static void check_lack(const struct rtr_loaded *loaded, uint8_t status)
@@ -138,43 +138,44 @@ static void check_lack(const struct rtr_loaded *loaded, uint8_t status)
     check_no_data(loaded);
 }
 
-/* Grows an index at the call's word, from none, until the call has the answer that it had. */
-static void check_index(const struct place *place, const struct row *row, struct room room)
+/* Grows an index from 0 to the lengths that the call asks for, until it succeeds as before. */
+static void check_index(const struct arena *arena, const struct row *row, struct capacity capacity)
 {
-    for (room.index = 0;;) {
-        const struct rtr_loaded *loaded = loaded_in(place, row, row->length, room);
+    for (capacity.index = 0;;) {
+        const struct rtr_loaded *loaded = loaded_in(arena, row, row->length, capacity);
         if (loaded->status != RTR_NO_INDEX)
             break;
         check_lack(loaded, RTR_NO_INDEX);
-        CHECK(loaded->wanted > room.index && loaded->wanted <= row->count);
-        room.index = loaded->wanted;
+        CHECK(loaded->wanted > capacity.index && loaded->wanted <= row->count);
+        capacity.index = loaded->wanted;
     }
-    check_row(place, row, room);
+    check_row(arena, row, capacity);
 }
 
-/* Each length of a buffer from 0 on has the same answer, once it isn't RTR_NO_ROOM. */
-static void check_buffer(const struct place *place, const struct row *row, struct room *room,
+/* Grows a buffer from 0 until the status isn't RTR_NO_ROOM: then the result is as before. */
+static void check_buffer(const struct arena *arena, const struct row *row,
+                         struct capacity *capacity,
                          size_t *buffer)
 {
     size_t enough = *buffer;
     bool lacks = true;
     for (*buffer = 0; *buffer <= enough; *buffer += 1) {
-        const struct rtr_loaded *loaded = loaded_in(place, row, row->length, *room);
+        const struct rtr_loaded *loaded = loaded_in(arena, row, row->length, *capacity);
         if (lacks && loaded->status == RTR_NO_ROOM) {
             check_lack(loaded, RTR_NO_ROOM);
             continue;
         }
         lacks = false;
         CHECK(row->text[0] || *buffer >= row->data_length);
-        check_row(place, row, *room);
+        check_row(arena, row, *capacity);
     }
     CHECK(!lacks);
     *buffer = enough;
 }
 
-/* ---- what is cut off */
+/* ---- truncated recordings */
 
-/* The recording leaves data, and only its last unit is an end of data. */
+/* Reports whether the recording results in data and only its last unit is an end of data. */
 static bool is_one_answer(const struct row *row)
 {
     size_t first = 0;
@@ -183,19 +184,19 @@ static bool is_one_answer(const struct row *row)
     return !row->text[0] && first + 1 == row->count;
 }
 
-/* After any of its bytes the first unit is missing that isn't all there. */
-static void check_cut(const struct place *place, const struct row *row, struct room room)
+/* Truncated after any byte, it is refused at the first unit that isn't complete. */
+static void check_cut(const struct arena *arena, const struct row *row, struct capacity capacity)
 {
     size_t missing = 0;
     for (size_t length = 0; length < row->length; length++) {
         while (missing + 1 < row->count && row->offsets[missing + 1] <= length)
             missing += 1;
-        check_refused(row, length, loaded_in(place, row, length, room), row->offsets[missing],
+        check_refused(row, length, loaded_in(arena, row, length, capacity), row->offsets[missing],
                       "unexpected end of input");
     }
 }
 
-/* Names the recording where a check fails. */
+/* The recording being checked, which a failed check names. */
 static const char *checked;
 
 static void name_checked(void)
@@ -207,18 +208,18 @@ static void name_checked(void)
 static void check_all(const struct row *row)
 {
     checked = row->name;
-    static struct place place;
-    if (!place.input.front)
-        place = new_place();
-    struct room room = {row->length / RTR_SHORTEST_PAYLOAD, row->length, row->length};
+    static struct arena arena;
+    if (!arena.input.front)
+        arena = new_arena();
+    struct capacity capacity = {row->length / RTR_SHORTEST_PAYLOAD, row->length, row->length};
     for (int side = 0; side < 2; side++) {
-        place.at_end = side;
-        check_row(&place, row, room);
-        check_index(&place, row, room);
-        check_buffer(&place, row, &room, &room.work);
-        check_buffer(&place, row, &room, &room.output);
+        arena.at_end = side;
+        check_row(&arena, row, capacity);
+        check_index(&arena, row, capacity);
+        check_buffer(&arena, row, &capacity, &capacity.work);
+        check_buffer(&arena, row, &capacity, &capacity.output);
         if (is_one_answer(row))
-            check_cut(&place, row, room);
+            check_cut(&arena, row, capacity);
     }
     checked = NULL;
 }

@@ -19,48 +19,48 @@ static inline enum rtr_client_event event(void)
     struct rtr_data_answer answer;
     size_t length;
     static uint8_t output[1 << 18];
-    enum rtr_client_event one = rtr_client_next(&c, now);
-    if (one == RTR_CLIENT_WAIT) {
+    enum rtr_client_event next = rtr_client_next(&c, now);
+    if (next == RTR_CLIENT_WAIT) {
         CHECK(c.wakes > now);
         CHECK(rtr_client_room(&c, &length) && length > 0);
     }
-    CHECK(connected == (one == RTR_CLIENT_CLOSE) || one != RTR_CLIENT_CONNECT);
-    connected = one == RTR_CLIENT_CONNECT || (connected && one != RTR_CLIENT_CLOSE);
-    if (one == RTR_CLIENT_DATA)
+    CHECK(connected == (next == RTR_CLIENT_CLOSE) || next != RTR_CLIENT_CONNECT);
+    connected = next == RTR_CLIENT_CONNECT || (connected && next != RTR_CLIENT_CLOSE);
+    if (next == RTR_CLIENT_DATA)
         CHECK(rtr_delta(c.data, c.data_length, c.data, c.data_length, output, sizeof output,
                         &answer) == RTR_OK);
-    CHECK((one == RTR_CLIENT_DROPPED) <= !c.data);
+    CHECK((next == RTR_CLIENT_DROPPED) <= !c.data);
     CHECK(c.data || (c.data_length == 0 && c.payloads == 0));
     CHECK((c.changes == NULL) == (c.changes_length == 0));
-    if (one == RTR_CLIENT_WAIT || one == RTR_CLIENT_CONNECT)
-        CHECK(!c.changes && c.status == RTR_OK); /* those of an earlier event are gone */
+    if (next == RTR_CLIENT_WAIT || next == RTR_CLIENT_CONNECT)
+        CHECK(!c.changes && c.status == RTR_OK); /* those of an earlier event were freed */
     CHECK(strlen(c.text) < sizeof c.text);
-    return one;
+    return next;
 }
 
-#define EXPECT(one) CHECK(event() == RTR_CLIENT_##one)
+#define EXPECT(name) CHECK(event() == RTR_CLIENT_##name)
 
 /* Checks that the client sends exactly these bytes. */
-static inline void sends(const struct text *wanted)
+static inline void sends(const struct text *expected)
 {
     size_t length;
     const uint8_t *output = rtr_client_output(&c, &length);
-    CHECK(length == wanted->length && memcmp(output, wanted->bytes, length) == 0);
+    CHECK(length == expected->length && memcmp(output, expected->bytes, length) == 0);
     rtr_client_sent(&c, length);
 }
 
 static inline void sends_reset_query(uint8_t version)
 {
-    struct text wanted = {.length = 0};
-    add_header(&wanted, version, 2, 0, 8);
-    sends(&wanted);
+    struct text expected = {.length = 0};
+    add_header(&expected, version, 2, 0, 8);
+    sends(&expected);
 }
 
 static inline void sends_serial_query(uint8_t version, uint32_t serial)
 {
-    struct text wanted = {.length = 0};
-    add_serial(&wanted, version, 1, SESSION, serial);
-    sends(&wanted);
+    struct text expected = {.length = 0};
+    add_serial(&expected, version, 1, SESSION, serial);
+    sends(&expected);
 }
 
 /* Checks that the client owes a report of this code, or none; it encloses this many bytes, unless
@@ -76,18 +76,18 @@ static inline void owes(int code, size_t about)
     CHECK(rtr_next(output, length, &unit) == RTR_OK && unit.size == length);
     CHECK(unit.kind == RTR_ERROR_REPORT && unit.code == code);
     CHECK(about == 0 || unit.part_length == about);
-    /* Without the offset. */
+    /* c.text ends with an offset, which the report's text lacks. */
     CHECK(unit.text_length > 0 && unit.text_length <= strlen(c.text));
     CHECK(memcmp(output + unit.text_start, c.text, unit.text_length) == 0);
 }
 
-/* The client receives these bytes, in pieces where there is no room for all. */
+/* The client receives these bytes, in pieces that fit its buffer. */
 static inline void comes(const uint8_t *bytes, size_t length)
 {
     for (size_t most, piece; length > 0; bytes += piece, length -= piece) {
-        uint8_t *room = rtr_client_room(&c, &most);
+        uint8_t *input = rtr_client_room(&c, &most);
         piece = length < most ? length : most;
-        memcpy(room, bytes, piece);
+        memcpy(input, bytes, piece);
         CHECK(rtr_client_received(&c, piece));
         if (piece < length)
             EXPECT(WAIT);

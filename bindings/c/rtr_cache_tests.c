@@ -13,8 +13,8 @@ static struct rtr_server s;
 static struct rtr_served v;
 static int64_t now = 1000000;
 
-/* The bytes that a connection sent and no check has seen yet, and how many bytes a router reads. */
-static struct text said;
+/* The bytes that a connection sent since the last check; the most that a router reads at once. */
+static struct text sent;
 static size_t piece = SIZE_MAX;
 
 /* Runs the connection until it waits or closes; returns its event. */
@@ -22,33 +22,33 @@ static enum rtr_served_event runs(void)
 {
     struct rtr_part parts[2];
     for (;;) {
-        enum rtr_served_event one = rtr_served_next(&v, now);
-        CHECK(one == RTR_SERVED_CLOSE || v.wakes > now);
+        enum rtr_served_event event = rtr_served_next(&v, now);
+        CHECK(event == RTR_SERVED_CLOSE || v.wakes > now);
         CHECK(strlen(v.text) < sizeof v.text);
         int count = rtr_served_output(&v, parts);
         if (count == 0)
-            return one;
+            return event;
         size_t length = parts[0].length < piece ? parts[0].length : piece;
-        add(&said, parts[0].at, length);
+        add(&sent, parts[0].at, length);
         rtr_served_sent(&v, now, length);
     }
 }
 
 static void begins(void)
 {
-    said.length = 0;
+    sent.length = 0;
     rtr_served_init(&v, &s, now);
-    CHECK(runs() == RTR_SERVED_WAIT && said.length == 0);
+    CHECK(runs() == RTR_SERVED_WAIT && sent.length == 0);
 }
 
 /* Receives these bytes. */
 static void comes(const void *bytes, size_t length)
 {
     for (size_t at = 0, most; at < length; at += most) {
-        uint8_t *room = rtr_served_room(&v, &most);
+        uint8_t *input = rtr_served_room(&v, &most);
         most = length - at < most ? length - at : most;
         CHECK(most > 0);
-        memcpy(room, (const uint8_t *)bytes + at, most);
+        memcpy(input, (const uint8_t *)bytes + at, most);
         rtr_served_received(&v, now, most);
         if (runs() == RTR_SERVED_CLOSE)
             return;
@@ -70,22 +70,22 @@ static void asks_changes(uint8_t version, uint16_t session, uint32_t serial)
 }
 
 /* Checks that exactly these bytes were sent. */
-static void says(const struct text *wanted)
+static void says(const struct text *expected)
 {
-    CHECK(said.length == wanted->length && !memcmp(said.bytes, wanted->bytes, said.length));
-    said.length = 0;
+    CHECK(sent.length == expected->length && !memcmp(sent.bytes, expected->bytes, sent.length));
+    sent.length = 0;
 }
 
 static void says_nothing(void)
 {
-    CHECK(runs() == RTR_SERVED_WAIT && said.length == 0);
+    CHECK(runs() == RTR_SERVED_WAIT && sent.length == 0);
 }
 
 static void says_reset(uint8_t version)
 {
-    struct text wanted = {.length = 0};
-    add_header(&wanted, version, 8, 0, 8);
-    says(&wanted);
+    struct text expected = {.length = 0};
+    add_header(&expected, version, 8, 0, 8);
+    says(&expected);
 }
 
 /* A response without changes. */
@@ -98,10 +98,10 @@ static void says_same(uint8_t version, uint32_t serial)
 static void says_report(uint8_t version, uint16_t code, size_t about)
 {
     struct rtr_unit unit;
-    CHECK(rtr_next(said.bytes, said.length, &unit) == RTR_OK && unit.size == said.length);
+    CHECK(rtr_next(sent.bytes, sent.length, &unit) == RTR_OK && unit.size == sent.length);
     CHECK(unit.kind == RTR_ERROR_REPORT && unit.version == version && unit.code == code);
     CHECK(unit.part_length == about && unit.text_length > 0);
-    said.length = 0;
+    sent.length = 0;
 }
 
 /* Checks that the connection closes, for this reason. */
@@ -139,8 +139,8 @@ static void ends(void)
     CHECK(held == 0);
 }
 
-/* Times that RFC 8210 section 6 doesn't allow are refused by their rule, and the data before stay;
- * version 0 has no times. */
+/* Times that RFC 8210 section 6 doesn't allow are refused by the name of the rule, and the old
+ * data stay; version 0 has no times. */
 static void test_times(void)
 {
     static const struct {
@@ -172,7 +172,7 @@ static void test_times(void)
     ends();
 }
 
-/* Whatever the version of the file and of the router, each query gets its answer. */
+/* Each query gets its answer, for all versions of file and router. */
 static void test_answers(void)
 {
     for (uint8_t of = 0; of < 3; of++) {
@@ -193,10 +193,10 @@ static void test_answers(void)
     }
 }
 
-/* Of a file of version 2, routers of versions 0 and 1 get what their version has. */
+/* From a file of version 2, routers of versions 0 and 1 get the payloads that their version has. */
 static void test_versions(void)
 {
-    struct text file = {.length = 0}, wanted;
+    struct text file = {.length = 0}, expected;
     add_prefix(&file, 2, 1, 1);
     add_key(&file, 2, 1, 5);
     add_aspa(&file, 1, 7, 8);
@@ -204,29 +204,29 @@ static void test_versions(void)
     rtr_server_init(&s);
     CHECK(takes(&file) == RTR_UPDATE_TAKEN && s.payloads == 3);
     for (uint8_t version = 0; version < 3; version++) {
-        wanted.length = 0;
-        add_response(&wanted, version, SESSION);
-        add_prefix(&wanted, version, 1, 1);
+        expected.length = 0;
+        add_response(&expected, version, SESSION);
+        add_prefix(&expected, version, 1, 1);
         if (version > 0)
-            add_key(&wanted, version, 1, 5);
+            add_key(&expected, version, 1, 5);
         if (version > 1)
-            add_aspa(&wanted, 1, 7, 8);
-        add_end(&wanted, version, SESSION, 5, usual);
+            add_aspa(&expected, 1, 7, 8);
+        add_end(&expected, version, SESSION, 5, usual);
         begins();
         asks_all(version);
-        says(&wanted);
+        says(&expected);
         leaves();
     }
     ends();
 }
 
-/* However queries are split, and answers are read, the answers are the same. */
+/* Answers don't depend on how queries are split and answers are read. */
 static void test_pieces(void)
 {
-    struct text queries = {.length = 0}, wanted = {.length = 0};
+    struct text queries = {.length = 0}, expected = {.length = 0};
     for (int i = 0; i < 9; i++) {
         add_header(&queries, 1, 2, 0, 8);
-        add(&wanted, whole(1, 5, 1, 3)->bytes, whole(1, 5, 1, 3)->length);
+        add(&expected, whole(1, 5, 1, 3)->bytes, whole(1, 5, 1, 3)->length);
     }
     has_data(1);
     for (size_t length = 1; length <= queries.length; length++) {
@@ -234,14 +234,14 @@ static void test_pieces(void)
         begins();
         for (size_t at = 0; at < queries.length; at += length)
             comes(queries.bytes + at, length < queries.length - at ? length : queries.length - at);
-        says(&wanted);
+        says(&expected);
         leaves();
     }
     piece = SIZE_MAX;
     ends();
 }
 
-/* From each of the last serial numbers on, changes are sent, each payload that differs once. */
+/* Changes since each of the last serial numbers are sent; each changed payload occurs once. */
 static void test_changes(void)
 {
     has_data(1);
@@ -252,19 +252,19 @@ static void test_changes(void)
     begins();
     for (uint32_t round = 0; round < 2; round++) {
         for (uint32_t serial = 5; serial < 35; serial++) {
-            struct text wanted = {.length = 0};
+            struct text expected = {.length = 0};
             uint32_t first = serial - 4 > 29 ? serial - 4 : 29;
-            add_response(&wanted, 1, SESSION);
+            add_response(&expected, 1, SESSION);
             for (uint32_t asn = 31; asn <= 33; asn++)
                 if (asn > serial - 2)
-                    add_prefix(&wanted, 1, 1, asn);
+                    add_prefix(&expected, 1, 1, asn);
             for (uint32_t asn = serial - 4; asn <= serial - 2; asn++)
                 if (asn < 31)
-                    add_prefix(&wanted, 1, 0, asn);
+                    add_prefix(&expected, 1, 0, asn);
             CHECK(first >= 29);
-            add_end(&wanted, 1, SESSION, 35, usual);
+            add_end(&expected, 1, SESSION, 35, usual);
             asks_changes(1, SESSION, serial);
-            says(&wanted);
+            says(&expected);
         }
     }
     asks_changes(1, SESSION, 4);
@@ -273,7 +273,7 @@ static void test_changes(void)
     ends();
 }
 
-/* Changes from data are sent for two hours after newer data came, within a limit of bytes. */
+/* Changes since old data are kept for two hours after newer data came, up to a limit of bytes. */
 static void test_kept(void)
 {
     has_data(1);
@@ -319,10 +319,10 @@ static void test_other_versions(void)
             CHECK(takes(whole(from, 6, 1, 4)) == RTR_UPDATE_TAKEN);
             CHECK(takes(whole(to, 7, 1, 5)) == RTR_UPDATE_TAKEN);
             for (uint8_t version = 0; version < 3; version++) {
-                struct text *wanted = whole(version, 7, 4, 5);
+                struct text *expected = whole(version, 7, 4, 5);
                 begins();
                 asks_changes(version, SESSION, 5);
-                says(wanted);
+                says(expected);
                 leaves();
             }
             ends();
@@ -341,7 +341,7 @@ static void test_updates(void)
     for (uint32_t asn = 3; asn > 0; asn--)
         add_prefix(&text, 1, 1, asn);
     add_end(&text, 1, SESSION, 5, usual);
-    CHECK(takes(&text) == RTR_UPDATE_SAME); /* in another order, without a response */
+    CHECK(takes(&text) == RTR_UPDATE_SAME); /* the same in another order, without a response */
     text.length = 60;
     add_end(&text, 1, SESSION, 5, others);
     CHECK(takes(&text) == RTR_UPDATE_TIMING);
@@ -360,7 +360,7 @@ struct refused {
     size_t offset;
 };
 
-/* What is refused, and where; the data stay. */
+/* Refused inputs, with status and offset; the data stay. */
 static void test_refusals(void)
 {
     static const struct refused all[] = {
@@ -409,7 +409,7 @@ static void test_session(void)
     }
 }
 
-/* The text that a cache has for a router's fault, and the report that the router gets. */
+/* The cache's text for each fault of a router, and the report that the router gets. */
 static void test_closes(void)
 {
     static const char late[] = "\1\2\0\0";
@@ -425,7 +425,7 @@ static void test_closes(void)
     closes("version is not supported");
     begins();
     asks_all(1);
-    said.length = 0;
+    sent.length = 0;
     asks_all(2);
     says_report(1, 8, 8);
     closes("unit of another version than the session");
@@ -436,11 +436,11 @@ static void test_closes(void)
     begins();
     add_report(&report, 1, 5);
     comes(report.bytes, report.length);
-    CHECK(said.length == 0);
+    CHECK(sent.length == 0);
     closes("the router reports code 5: no");
     begins();
     now = v.wakes;
-    CHECK(runs() == RTR_SERVED_CLOSE && said.length == 0);
+    CHECK(runs() == RTR_SERVED_CLOSE && sent.length == 0);
     closes("the router is too slow");
     begins();
     comes(late, 4);
@@ -453,8 +453,8 @@ static void test_closes(void)
     ends();
 }
 
-/* With `refuses`, a query whose changes aren't kept is answered by a report of code 0 and the
- * end. */
+/* With `refuses`, a query for changes that aren't kept is answered by a report of code 0, and the
+ * connection closes. */
 static void test_refuses(void)
 {
     has_data(1);
@@ -466,7 +466,7 @@ static void test_refuses(void)
     ends();
 }
 
-/* A unit that is longer than a connection's first buffer. */
+/* A unit longer than a connection's first buffer. */
 static void test_long_unit(void)
 {
     static struct text report, text;
@@ -485,14 +485,14 @@ static void test_long_unit(void)
     ends();
 }
 
-/* The connection above the limit gets a report, and the others stay open. */
+/* A connection above the limit gets a report, and the others stay open. */
 static void test_connections(void)
 {
     struct rtr_served first;
     has_data(1);
     s.most_connections = 1;
     rtr_served_init(&first, &s, now);
-    said.length = 0;
+    sent.length = 0;
     rtr_served_init(&v, &s, now);
     CHECK(runs() == RTR_SERVED_CLOSE);
     says_report(2, 1, 0);
@@ -509,18 +509,18 @@ static void stalls(void)
 {
     struct rtr_part parts[2];
     struct text query = {.length = 0};
-    size_t room;
+    size_t capacity;
     begins();
     add_header(&query, 1, 2, 0, 8);
-    memcpy(rtr_served_room(&v, &room), query.bytes, query.length);
+    memcpy(rtr_served_room(&v, &capacity), query.bytes, query.length);
     rtr_served_received(&v, now, query.length);
     CHECK(rtr_served_next(&v, now) == RTR_SERVED_WAIT && rtr_served_output(&v, parts) == 2);
     CHECK(v.wakes == now + s.write_limit);
-    rtr_served_room(&v, &room);
-    CHECK(room == 0);
+    rtr_served_room(&v, &capacity);
+    CHECK(capacity == 0);
 }
 
-/* Sending has its time limits, and an answer may be of data that two newer ones followed. */
+/* Sending has time limits, and an answer may be at most two updates old. */
 static void test_stalls(void)
 {
     struct rtr_part parts[2];
@@ -588,13 +588,13 @@ static void test_saved(void)
     asks_changes(1, SESSION, 5);
     says(whole(1, 9, 4, 9));
     leaves();
-    now += s.keep - 60000 - 1000; /* newer data than number 6 came 1000 ms before saving */
+    now += s.keep - 60000 - 1000; /* serial number 6 was replaced 1000 ms before saving */
     CHECK(takes(whole(1, 10, 1, 10)) == RTR_UPDATE_TAKEN && s.back_count == 4);
     CHECK(s.kept[0] == 9 && s.kept[1] == 8 && s.kept[2] == 7 && s.kept[3] == 6);
     ends();
 }
 
-/* If a byte is changed, or the end is missing, nothing is loaded. */
+/* If a byte is changed, or the file is truncated, nothing is loaded. */
 static void test_torn(void)
 {
     static struct text saved, torn;
@@ -620,8 +620,8 @@ static void test_torn(void)
 
 /* ---- memory */
 
-/* One allocation fails: the data are those before or after, and a connection ends with its reason.
- * Returns whether that many are made. */
+/* One allocation fails: the data are the old or the new ones, and a connection ends with a reason.
+ * Returns whether that allocation was reached. */
 static bool denies(uint8_t version, size_t which)
 {
     has_data(version);
@@ -634,11 +634,11 @@ static bool denies(uint8_t version, size_t which)
     CHECK(s.present.serial == (update == RTR_UPDATE_TAKEN ? 7 : 6));
     CHECK(s.payloads == s.present.serial - 2);
     rtr_served_init(&v, &s, now);
-    said.length = 0;
+    sent.length = 0;
     asks_changes(1, SESSION, 5);
-    bool ended = runs() == RTR_SERVED_CLOSE, made = allocations >= which;
+    bool ended = runs() == RTR_SERVED_CLOSE, failed = allocations >= which;
     denied = 0;
-    CHECK(ended == !said.length);
+    CHECK(ended == !sent.length);
     if (ended)
         closes("no memory");
     else
@@ -648,7 +648,7 @@ static bool denies(uint8_t version, size_t which)
     says(whole(1, s.present.serial, 1, s.present.serial - 2));
     leaves();
     ends();
-    return made;
+    return failed;
 }
 
 static void test_memory(void)
@@ -662,36 +662,36 @@ static void test_memory(void)
 static void test_wrong_lengths(void)
 {
     struct rtr_part parts[2];
-    size_t room;
+    size_t capacity;
     has_data(1);
     for (int wrong = 0; wrong < 2; wrong++) {
         begins();
-        rtr_served_room(&v, &room);
-        CHECK(!rtr_served_received(&v, now, wrong ? SIZE_MAX : room + 1));
+        rtr_served_room(&v, &capacity);
+        CHECK(!rtr_served_received(&v, now, wrong ? SIZE_MAX : capacity + 1));
         closes("more bytes were read than there is room for");
         stalls();
         CHECK(rtr_served_output(&v, parts) == 2);
-        room = parts[0].length + parts[1].length;
-        CHECK(!rtr_served_sent(&v, now, wrong ? SIZE_MAX : room + 1));
+        capacity = parts[0].length + parts[1].length;
+        CHECK(!rtr_served_sent(&v, now, wrong ? SIZE_MAX : capacity + 1));
         closes("more bytes were sent than there are");
     }
     stalls();
-    CHECK(rtr_served_sent(&v, now, room) && !rtr_served_sent(&v, now, 1));
+    CHECK(rtr_served_sent(&v, now, capacity) && !rtr_served_sent(&v, now, 1));
     rtr_served_free(&v);
     ends();
 }
 
-/* Data that many routers ask for are held once. */
+/* Routers that ask for the same data share one copy. */
 static void test_held(void)
 {
     static struct rtr_served many[100];
     struct rtr_part parts[2];
-    size_t room;
+    size_t capacity;
     rtr_server_init(&s);
     CHECK(takes(whole(1, 5, 1, 3000)) == RTR_UPDATE_TAKEN);
     for (size_t i = 0; i < 100; i++) {
         rtr_served_init(&many[i], &s, now);
-        memcpy(rtr_served_room(&many[i], &room), "\1\2\0\0\0\0\0\x08", 8);
+        memcpy(rtr_served_room(&many[i], &capacity), "\1\2\0\0\0\0\0\x08", 8);
         rtr_served_received(&many[i], now, 8);
         CHECK(rtr_served_next(&many[i], now) == RTR_SERVED_WAIT);
         CHECK(rtr_served_output(&many[i], parts) == 2);
@@ -702,7 +702,7 @@ static void test_held(void)
     ends();
 }
 
-/* Data of more than a huge page lie in a file in memory, unless file sizes are limited. */
+/* Data of more than a huge page are in a file in memory, unless file sizes are limited. */
 static void test_filed(bool limited)
 {
     enum { COUNT = 170000, LENGTH = COUNT * 20 + 24 };
@@ -766,7 +766,7 @@ static void test_random(int sessions)
         for (int turn = 0; turn < 30; turn++) {
             struct text text = {.length = 0};
             uint32_t serial = s.present.serial + 1;
-            said.length = 0;
+            sent.length = 0;
             if (runs() == RTR_SERVED_CLOSE)
                 break;
             if (some(8) == 0)

@@ -2,17 +2,17 @@
  * -Wl,--wrap=malloc,--wrap=realloc,--wrap=free. */
 #include "played.h"
 
-/* The next event, if this allocation from now on fails. */
+/* Returns the next event, while the allocation with this number fails. */
 static enum rtr_client_event denies(size_t which)
 {
     allocations = 0;
     denied = which;
-    enum rtr_client_event one = event();
+    enum rtr_client_event next = event();
     denied = 0;
-    return one;
+    return next;
 }
 
-/* Each allocation in turn fails: the data are those before or after, the failure is
+/* Each allocation in turn fails: the data are the old or the new ones, the failure is
  * RTR_CLIENT_MEMORY, and the next connection gets the data. */
 static void test_answer(void)
 {
@@ -21,10 +21,10 @@ static void test_answer(void)
         CHECK(which < 100);
         begins(1);
         comes(whole(1, 5, 1, 3)->bytes, whole(1, 5, 1, 3)->length);
-        enum rtr_client_event one = denies(which);
-        succeeded = one == RTR_CLIENT_DATA;
+        enum rtr_client_event next = denies(which);
+        succeeded = next == RTR_CLIENT_DATA;
         if (!succeeded) {
-            CHECK(one == RTR_CLIENT_CLOSE && !c.data);
+            CHECK(next == RTR_CLIENT_CLOSE && !c.data);
             owes(NONE, 0);
             EXPECT(FAILED);
             CHECK(c.failure == RTR_CLIENT_MEMORY && !strcmp(c.text, "no memory"));
@@ -36,8 +36,8 @@ static void test_answer(void)
         CHECK(c.payloads == 3);
         EXPECT(WAIT);
         now += 7200 * 1000;
-        one = denies(which);
-        CHECK(one == RTR_CLIENT_DROPPED && (c.changes_length == 3 * 20 + 24 || which == 1));
+        next = denies(which);
+        CHECK(next == RTR_CLIENT_DROPPED && (c.changes_length == 3 * 20 + 24 || which == 1));
         ends();
     }
 }
@@ -56,10 +56,10 @@ static void test_changes(void)
         add_end(&changes, 1, SESSION, 6, usual);
         has_data(1);
         comes(changes.bytes, changes.length);
-        enum rtr_client_event one = denies(which);
-        succeeded = one == RTR_CLIENT_DATA;
+        enum rtr_client_event next = denies(which);
+        succeeded = next == RTR_CLIENT_DATA;
         if (!succeeded) {
-            CHECK(one == RTR_CLIENT_CLOSE && which <= 3);
+            CHECK(next == RTR_CLIENT_CLOSE && which <= 3);
             EXPECT(FAILED);
             CHECK(c.failure == RTR_CLIENT_MEMORY && !strcmp(c.text, "no memory"));
             CHECK(c.payloads == 3 && c.end.serial == 5 && c.data_length == before.length - 8);
@@ -74,17 +74,17 @@ static void test_changes(void)
     }
 }
 
-/* An answer that its buffer has no memory for: the data before it stay. */
+/* Without memory for an answer's buffer the old data stay. */
 static void test_input(void)
 {
     const struct text before = *whole(1, 5, 1, 3);
-    size_t room, more;
+    size_t capacity, more;
     has_data(1);
-    rtr_client_room(&c, &room);
-    comes(whole(1, 6, 1, 4000)->bytes, room);
+    rtr_client_room(&c, &capacity);
+    comes(whole(1, 6, 1, 4000)->bytes, capacity);
     EXPECT(WAIT);
     rtr_client_room(&c, &more);
-    comes(whole(1, 6, 1, 4000)->bytes + room, more);
+    comes(whole(1, 6, 1, 4000)->bytes + capacity, more);
     CHECK(denies(1) == RTR_CLIENT_CLOSE);
     owes(NONE, 0);
     EXPECT(FAILED);
@@ -98,12 +98,12 @@ static void test_input(void)
     ends();
 }
 
-/* The same for a unit while no answer comes: it isn't taken for a loss of the connection. */
+/* The same for a long unit outside of an answer: the failure isn't a lost connection. */
 static void test_unit(void)
 {
     struct text none = {.length = 0};
     static struct text key;
-    size_t room;
+    size_t capacity;
     key.length = 0;
     add_report(&none, 1, 2);
     add_key(&key, 1, 1, 65535 - 32);
@@ -111,23 +111,23 @@ static void test_unit(void)
     comes(none.bytes, none.length);
     EXPECT(NO_DATA);
     EXPECT(WAIT);
-    rtr_client_room(&c, &room);
-    CHECK(room < key.length);
-    comes(key.bytes, room);
+    rtr_client_room(&c, &capacity);
+    CHECK(capacity < key.length);
+    comes(key.bytes, capacity);
     CHECK(denies(1) == RTR_CLIENT_CLOSE);
     EXPECT(FAILED);
     CHECK(c.failure == RTR_CLIENT_MEMORY && !strcmp(c.text, "no memory"));
     ends();
 }
 
-/* Without memory to connect the client fails at once, and connects a pause later. */
+/* Without memory to connect, the client fails at once, and connects a pause later. */
 static void test_beginning(void)
 {
     for (size_t which = 1; which <= 2; which++) {
-        size_t room;
+        size_t capacity;
         rtr_client_init(&c, 1);
         connected = false;
-        CHECK(!rtr_client_room(&c, &room) && room == 0);
+        CHECK(!rtr_client_room(&c, &capacity) && capacity == 0);
         CHECK(denies(which) == RTR_CLIENT_FAILED);
         CHECK(c.failure == RTR_CLIENT_MEMORY && !strcmp(c.text, "no memory"));
         CHECK(rtr_client_next(&c, now) == RTR_CLIENT_WAIT && c.wakes > now);
@@ -137,7 +137,7 @@ static void test_beginning(void)
     }
 }
 
-/* Between two answers a client holds its data, and 128 KiB besides. */
+/* Between two answers a client allocates its data and 128 KiB. */
 static void test_held(void)
 {
     begins(1);

@@ -1,14 +1,13 @@
-/* Tests of rtr_client.h with a simulated clock and cache, and allocations that are counted: link it
- * with -Wl,--wrap=malloc,--wrap=realloc,--wrap=free. Expected values are written by hand, after RFC
- * 8210 and docs/SESSIONS.md.
+/* Tests of rtr_client.h with a simulated clock and cache, and allocations that are counted: link
+ * it with -Wl,--wrap=malloc,--wrap=realloc,--wrap=free. Expected values are written by hand, after
+ * RFC 8210 and docs/SESSIONS.md.
  *
  * usage: rtr_client_tests [SESSIONS]   with this many sessions of random units; default 3000 */
 #include "played.h"
 
 _Static_assert(sizeof(struct rtr_client) <= 1280, "rtr_client.h says how large it is");
 
-/* However the bytes of an answer are split, the data are the same, and come with the last byte and
- * not before. */
+/* The data don't depend on how an answer is split, and come with its last byte. */
 static void test_pieces(void)
 {
     const struct text *text = whole(2, 5, 1, 3);
@@ -41,8 +40,8 @@ struct failing {
 
 #define PREFIX(version, asn) version "\4\0\0\0\0\0\x14\1\x08\x18\0\x0a\0\0\0\0\0\0" asn
 
-/* The events of a program for what comes in the response to a serial query, after 100 bytes.
- * tests/transcripts has what the cache gets. */
+/* The events for units in the response to a serial query, after 100 bytes. tests/transcripts has
+ * what the cache gets. */
 static const struct failing all_failing[] = {
     {BYTES("\2\5\0\0\0\0\0\x08"), RTR_CLIENT_REFUSED, RTR_UNIT_TYPE,
      "unit type 5 is not allowed here, at byte 100"},
@@ -77,7 +76,7 @@ static void test_failures(void)
         CHECK(c.payloads == 3 && c.end.serial == 5);
         connects_after(1000);
         sends_reset_query(2);
-        comes((const uint8_t *)"\2\5\0\0\0\0\0\x08", 8); /* offsets begin at 0 again */
+        comes((const uint8_t *)"\2\5\0\0\0\0\0\x08", 8); /* offsets restart at 0 */
         EXPECT(CLOSE);
         EXPECT(FAILED);
         CHECK(!strcmp(c.text, "unit type 5 is not allowed here, at byte 0"));
@@ -119,8 +118,8 @@ static void test_texts(void)
     ends();
 }
 
-/* A request of the program: a pending answer comes first, then the client asks a pause after its
- * last query, or at once, and connects before it is due (docs/SESSIONS.md). */
+/* A request of the program: after a pending answer the client asks, but not before a pause after
+ * its last query; without a connection it connects earlier (docs/SESSIONS.md). */
 static void test_wish(void)
 {
     has_data(1);
@@ -161,7 +160,7 @@ static void test_wish(void)
     ends();
 }
 
-/* Data last until they expire, even if the program makes no call. */
+/* Data expire on time, even if the program makes no call. */
 static void test_expiry(void)
 {
     rtr_client_init(&c, 1);
@@ -173,7 +172,7 @@ static void test_expiry(void)
     ends();
 }
 
-/* The changes of an answer, in any order, are given in canonical form. */
+/* The changes of an answer are canonical, whatever their order in it. */
 static void test_changes(void)
 {
     struct text changes = {.length = 0};
@@ -190,29 +189,29 @@ static void test_changes(void)
     ends();
 }
 
-/* The changes from other data, whatever their version and session, to a client's own. */
+/* The changes from other data, of any version and session, to a client's own. */
 static void test_instead(void)
 {
-    static struct text other, wanted;
+    static struct text other, expected;
     for (uint8_t version = 0; version < 3; version++) {
         struct rtr_unit end;
         uint8_t higher = version > 1 ? version : 1;
-        other.length = wanted.length = 0;
-        add_prefix(&wanted, higher, 1, 1);
-        add_prefix(&wanted, higher, 0, 4);
+        other.length = expected.length = 0;
+        add_prefix(&expected, higher, 1, 1);
+        add_prefix(&expected, higher, 0, 4);
         add_prefix(&other, version, 1, 2);
         add_prefix(&other, version, 1, 3);
         add_prefix(&other, version, 1, 4);
         if (version == 2)
-            add_aspa(&other, 1, 7, 8), add_aspa(&wanted, 0, 7, 8);
+            add_aspa(&other, 1, 7, 8), add_aspa(&expected, 0, 7, 8);
         size_t payloads = other.length;
         add_end(&other, version, SESSION + version, 9, usual);
-        add_end(&wanted, higher, SESSION, 5, usual);
+        add_end(&expected, higher, SESSION, 5, usual);
         has_data(1);
         CHECK(rtr_next(other.bytes + payloads, other.length - payloads, &end) == RTR_OK);
         CHECK(rtr_client_instead(&c, other.bytes, other.length, &end));
-        CHECK(c.changes_length == wanted.length);
-        CHECK(memcmp(c.changes, wanted.bytes, wanted.length) == 0);
+        CHECK(c.changes_length == expected.length);
+        CHECK(memcmp(c.changes, expected.bytes, expected.length) == 0);
         CHECK(rtr_client_instead(&c, NULL, 0, &end));
         CHECK(c.changes_length == c.data_length && !memcmp(c.changes, c.data, c.data_length));
         CHECK(!rtr_client_instead(&c, other.bytes, other.length - 1, &end) && !c.changes);
@@ -226,8 +225,8 @@ static void test_instead(void)
     }
 }
 
-/* An answer in a lower version to a serial query: the client asks for all data in that version, and
- * withdraws what it lacks: ASPAs from version 2 to 1, router keys from 1 to 0. */
+/* An answer in a lower version to a serial query: the client asks for all data in that version,
+ * and withdraws what it lacks: ASPAs from version 2 to 1, router keys from 1 to 0. */
 static void test_lower_answer(void)
 {
     for (uint8_t lower = 0; lower < 2; lower++) {
@@ -263,7 +262,7 @@ static void test_lower_answer(void)
     }
 }
 
-/* A cache that answers, and doesn't read the next queries. */
+/* A cache that answers, but doesn't read the next queries. */
 static void test_queries_not_taken(void)
 {
     begins(1);
@@ -283,7 +282,7 @@ static void test_queries_not_taken(void)
     ends();
 }
 
-/* Endless payloads: the memory for them is limited. */
+/* Endless payloads use limited memory. */
 static void test_flood(void)
 {
     rtr_client_init(&c, 1);
@@ -326,8 +325,7 @@ static void test_limit(void)
     }
 }
 
-/* The second unit exactly fills the space that the first left in the buffer, or differs by a
- * byte. */
+/* The second unit fills the rest of the buffer exactly, or is a byte shorter or longer. */
 static void test_room(void)
 {
     for (uint32_t first = 0; first < 3; first++) {
@@ -351,17 +349,17 @@ static void test_room(void)
     }
 }
 
-/* More bytes than fit, or than there are to send, are refused, and end the connection. The last are
- * those of an error of recv or send that is passed on. */
+/* More bytes than fit, or than are unsent, are refused, and end the connection; so is -1, the
+ * result of a failed recv or send. */
 static void test_wrong_lengths(void)
 {
-    size_t room;
+    size_t capacity;
     for (int wrong = 0; wrong < 4; wrong++) {
         size_t more = wrong % 2 ? SIZE_MAX : 1;
         has_data(1);
-        rtr_client_room(&c, &room);
+        rtr_client_room(&c, &capacity);
         if (wrong < 2)
-            CHECK(!rtr_client_received(&c, more == 1 ? room + 1 : more));
+            CHECK(!rtr_client_received(&c, more == 1 ? capacity + 1 : more));
         else
             CHECK(!rtr_client_sent(&c, more)); /* there are none */
         EXPECT(CLOSE);
@@ -372,12 +370,12 @@ static void test_wrong_lengths(void)
         ends();
     }
     begins(1);
-    rtr_client_room(&c, &room);
-    CHECK(rtr_client_received(&c, room) && !rtr_client_received(&c, 1));
+    rtr_client_room(&c, &capacity);
+    CHECK(rtr_client_received(&c, capacity) && !rtr_client_received(&c, 1));
     ends();
 }
 
-/* Bytes that are sent in pieces; what wasn't sent before the connection is closed is forgotten. */
+/* Bytes are sent in pieces; those that are unsent when the connection closes are dropped. */
 static void test_pieces_sent(void)
 {
     static const uint8_t wrong[] = {1, 5, 0, 0, 0, 0, 0, 8};
@@ -422,7 +420,7 @@ static void test_pieces_sent(void)
     ends();
 }
 
-/* Nothing is sent to a connection that broke, the report about a cut unit neither. */
+/* Nothing is sent to a broken connection, not even a report about a truncated unit. */
 static void test_broken(void)
 {
     size_t length;
@@ -439,8 +437,8 @@ static void test_broken(void)
     }
 }
 
-/* Calls for a connection that isn't there, or was lost: they return false and change nothing. A
- * time that goes back is that of the call before. */
+/* Calls without a connection, or after its loss, return false and change nothing. A time before
+ * that of the last call counts as that one. */
 static void test_turns(void)
 {
     rtr_client_init(&c, 1);
@@ -469,7 +467,7 @@ static void test_turns(void)
 }
 
 /* After rtr_client_again a client connects at once, without data; the waits for a failing cache
- * grow on. */
+ * continue to grow. */
 static void test_again(void)
 {
     has_data(1);
@@ -533,8 +531,8 @@ static bool suits(int type, uint32_t length)
     return length == fixed[type];
 }
 
-/* A header of each type, with lengths that it may have and others: nothing is allocated for it, and
- * faults are reported. */
+/* A header of each type, with valid and invalid lengths: nothing is allocated for it, and faults
+ * are reported. */
 static void test_lengths(void)
 {
     static const uint32_t lengths[] = {0,  7,  8,     11,    12,       16,        20, 24,
@@ -547,12 +545,12 @@ static void test_lengths(void)
             add_header(&header, 1, (uint8_t)type, SESSION, lengths[i]);
             most_held = 0;
             comes(header.bytes, header.length);
-            enum rtr_client_event one = event();
+            enum rtr_client_event next = event();
             CHECK(most_held == 0);
             if (good && (lengths[i] > 8 || type == 3)) {
-                CHECK(one == RTR_CLIENT_WAIT);
+                CHECK(next == RTR_CLIENT_WAIT);
             } else {
-                CHECK(one == RTR_CLIENT_CLOSE);
+                CHECK(next == RTR_CLIENT_CLOSE);
                 bool long_one = type >= 9 && lengths[i] > 65535;
                 CHECK(c.status == (!known ? RTR_UNIT_TYPE : good ? RTR_OK
                                    : long_one ? RTR_TOO_LONG : RTR_UNIT_LENGTH));
@@ -563,7 +561,7 @@ static void test_lengths(void)
     }
 }
 
-/* ---- sessions with some bytes changed, split anywhere, at any times */
+/* ---- random sessions: changed bytes, split anywhere, at any times */
 
 static uint32_t some(uint32_t bound)
 {
@@ -604,12 +602,12 @@ static void test_random(int sessions)
         connected = false;
         for (int turn = 0; turn < 60; turn++) {
             size_t length;
-            enum rtr_client_event one = event();
-            if (one == RTR_CLIENT_CONNECT && some(8))
+            enum rtr_client_event next = event();
+            if (next == RTR_CLIENT_CONNECT && some(8))
                 lost = !rtr_client_connected(&c);
-            else if (one == RTR_CLIENT_CONNECT || (connected && some(30) == 0))
+            else if (next == RTR_CLIENT_CONNECT || (connected && some(30) == 0))
                 lost = rtr_client_lost(&c, some(2) ? NULL : "it broke") || lost;
-            if (one != RTR_CLIENT_WAIT)
+            if (next != RTR_CLIENT_WAIT)
                 continue;
             struct text text = {.length = 0};
             add_something(&text);

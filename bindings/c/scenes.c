@@ -1,5 +1,5 @@
-/* Plays scenes of a router and its cache (tests/transcripts) with the client without sockets and a
- * simulated clock, and prints where it differs from them.
+/* Plays scenes of a router and its cache (tests/transcripts) with rtr_client.h and a simulated
+ * clock, and prints where the client differs.
  *
  * usage: scenes < SCENES
  *        scenes --joined as one end of a connection to a cache (tests/joined) */
@@ -62,14 +62,14 @@ static void pass(int64_t time)
     now = time;
 }
 
-/* Receives the bytes of words in hexadecimal, in pieces where there is no room for all. */
+/* Receives bytes, written in hexadecimal, in pieces that fit the client's buffer. */
 static void comes(const char *hex)
 {
     static uint8_t bytes[LONGEST_LINE / 2];
-    size_t length = from_hex(bytes, sizeof bytes, hex), room, piece;
+    size_t length = from_hex(bytes, sizeof bytes, hex), capacity, piece;
     for (size_t at = 0; connected && at < length; at += piece) {
-        uint8_t *to = rtr_client_room(&c, &room);
-        piece = length - at < room ? length - at : room;
+        uint8_t *to = rtr_client_room(&c, &capacity);
+        piece = length - at < capacity ? length - at : capacity;
         memcpy(to, bytes + at, piece);
         rtr_client_received(&c, piece);
         if (at + piece < length)
@@ -96,8 +96,8 @@ static void set(const char *key, uint64_t value)
                                            : &s->most_units) = (uint32_t)value;
 }
 
-/* Carries out a step that is given at this time: of the cache, the caller's request, or none. */
-static void given(int64_t time, const char *step)
+/* Advances the clock and carries out a step of the cache or the caller; null is none. */
+static void take_step(int64_t time, const char *step)
 {
     pass(time);
     if (step)
@@ -115,8 +115,8 @@ static void given(int64_t time, const char *step)
     answers(c.wakes);
 }
 
-/* Reports whether a step is given, not expected. */
-static bool is_given(const char *step)
+/* Reports whether a step is one of the cache or the caller, rather than an expected one. */
+static bool is_input(const char *step)
 {
     return !strncmp(step, "cache", 5) || !strcmp(step, "caller asks");
 }
@@ -139,11 +139,11 @@ static void line(char *text)
     } else if (sscanf(text, "router %63s %" SCNu64, key, &value) == 2) {
         set(key, value);
     } else if (sscanf(text, "at %" SCNd64, &time) == 1) {
-        given(time, NULL);
-    } else if (sscanf(text, "%" SCNd64 " %n", &time, &at) == 1 && is_given(text + at)) {
-        given(time, text + at);
+        take_step(time, NULL);
+    } else if (sscanf(text, "%" SCNd64 " %n", &time, &at) == 1 && is_input(text + at)) {
+        take_step(time, text + at);
     } else if (text[0]) {
-        wants("router", text);
+        expects("router", text);
     }
 }
 

@@ -1,4 +1,4 @@
-/* What the programs that play scenes (tests/transcripts) share: steps expected and seen. */
+/* Shared by the programs that play scenes (tests/transcripts): expected steps and actual ones. */
 #ifndef SCENES_H
 #define SCENES_H
 
@@ -15,10 +15,10 @@ struct steps {
 };
 
 static int64_t now;
-static struct steps wanted, seen;
-static char name[256]; /* of the scene, empty once it differs */
+static struct steps expected, seen;
+static char name[256]; /* of the scene; empty after it has differed */
 static unsigned played, differ;
-static bool joined; /* it is connected to another end, which gets the raw bytes */
+static bool joined; /* connected to another end, which gets the raw bytes */
 
 static inline void add(struct steps *to, const char *format, ...)
 {
@@ -42,7 +42,7 @@ static inline void add_hex(struct steps *to, const uint8_t *bytes, size_t length
     to->text[to->length] = 0;
 }
 
-/* Records units that this end sends, or bytes for another end. */
+/* Records the units that this end sends, or their bytes for another end. */
 static inline void sees_units(const char *end, const uint8_t *units, size_t length)
 {
     struct rtr_unit unit;
@@ -53,48 +53,48 @@ static inline void sees_units(const char *end, const uint8_t *units, size_t leng
         return;
     }
     for (size_t at = 0; at < length; at += unit.size) {
-        const uint8_t *one = units + at;
-        CHECK(rtr_next(one, length - at, &unit) == RTR_OK);
+        const uint8_t *bytes = units + at;
+        CHECK(rtr_next(bytes, length - at, &unit) == RTR_OK);
         add(&seen, "%" PRId64 " %s> ", now, end);
         if (unit.kind == RTR_ERROR_REPORT) {
             add(&seen, "report %u %u %s", unit.version, unit.code, unit.part_length ? "" : "-");
-            add_hex(&seen, one + unit.part_start, unit.part_length);
-            add(&seen, " %.*s", (int)unit.text_length, (const char *)one + unit.text_start);
+            add_hex(&seen, bytes + unit.part_start, unit.part_length);
+            add(&seen, " %.*s", (int)unit.text_length, (const char *)bytes + unit.text_start);
         } else {
-            add_hex(&seen, one, unit.size);
+            add_hex(&seen, bytes, unit.size);
         }
         add(&seen, "\n");
     }
 }
 
-/* Records a step that this end has to take, with one space between words and none in a unit. */
-static inline void wants(const char *end, char *step)
+/* Records an expected step of this end, with one space between words and none in a unit. */
+static inline void expects(const char *end, char *step)
 {
-    unsigned place = 0;
+    unsigned index = 0;
     bool unit = false;
-    for (char *word = strtok(step, " "); word; word = strtok(NULL, " "), place++) {
-        if (place == 1)
+    for (char *word = strtok(step, " "); word; word = strtok(NULL, " "), index++) {
+        if (index == 1)
             unit = !strncmp(word, end, strlen(end)) && !strcmp(word + strlen(end), ">");
-        unit = unit && (place != 2 || strcmp(word, "report") != 0);
-        add(&wanted, "%s%s", place == 0 || (unit && place > 2) ? "" : " ", word);
+        unit = unit && (index != 2 || strcmp(word, "report") != 0);
+        add(&expected, "%s%s", index == 0 || (unit && index > 2) ? "" : " ", word);
     }
-    add(&wanted, "\n");
+    add(&expected, "\n");
 }
 
 static inline void compare(void)
 {
     if (joined)
         return;
-    if (strcmp(wanted.text, seen.text) != 0 && name[0]) {
-        printf("%s: wanted\n%sseen\n%s", name, wanted.text, seen.text);
+    if (strcmp(expected.text, seen.text) != 0 && name[0]) {
+        printf("%s: expected\n%sseen\n%s", name, expected.text, seen.text);
         name[0] = 0;
         differ++;
     }
-    wanted.length = seen.length = 0;
-    wanted.text[0] = seen.text[0] = 0;
+    expected.length = seen.length = 0;
+    expected.text[0] = seen.text[0] = 0;
 }
 
-/* Prints what was seen since the last step of another end, and when this end acts by itself. */
+/* Prints the steps since the last one of the other end, and when this end acts by itself. */
 static inline void answers(int64_t wakes)
 {
     if (!joined)
@@ -105,12 +105,12 @@ static inline void answers(int64_t wakes)
     seen.text[0] = 0;
 }
 
-/* Decodes words in hexadecimal into this buffer, and returns the number of bytes. */
-static inline size_t from_hex(uint8_t *to, size_t room, const char *hex)
+/* Decodes hexadecimal words into a buffer, and returns the number of bytes. */
+static inline size_t from_hex(uint8_t *to, size_t capacity, const char *hex)
 {
     size_t count = 0;
     for (unsigned value; sscanf(hex, " %2x", &value) == 1; count++) {
-        CHECK(count < room);
+        CHECK(count < capacity);
         to[count] = (uint8_t)value;
         hex += strspn(hex, " ") + 2;
     }

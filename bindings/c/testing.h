@@ -1,5 +1,5 @@
-/* What the tests of C share. No sanitizer sees what the archive reads and writes, since it isn't
- * instrumented. So each input and output lies between two guard pages, once right after the first
+/* Shared by the tests of C. The archive isn't instrumented, so sanitizers don't see its reads and
+ * writes. Instead each input and output lies between two guard pages, once right after the first
  * and once right before the second. */
 #ifndef TESTING_H
 #define TESTING_H
@@ -49,37 +49,37 @@ static inline struct fenced fence(size_t most)
     return (struct fenced){all + page, all + page + size};
 }
 
-/* The inputs and outputs of a thread: all at the start of their pages, or at the end. */
-struct place {
+/* A thread's memory for inputs and outputs: all at the start of their pages, or at the end. */
+struct arena {
     bool at_end;
-    struct fenced input, other, output, index, told, unit;
+    struct fenced input, other, output, index, answer, unit;
 };
 
-static inline struct place new_place(void)
+static inline struct arena new_arena(void)
 {
-    return (struct place){false,       fence(MOST), fence(MOST), fence(MOST),
+    return (struct arena){false,       fence(MOST), fence(MOST), fence(MOST),
                           fence(MOST), fence(1),    fence(1)};
 }
 
 /* Returns this many bytes, right after the first guard page or right before the second. */
-static inline void *lie(const struct place *place, struct fenced fenced, size_t length)
+static inline void *lie(const struct arena *arena, struct fenced fenced, size_t length)
 {
     CHECK(length <= (size_t)(fenced.end - fenced.front));
-    return place->at_end ? fenced.end - length : fenced.front;
+    return arena->at_end ? fenced.end - length : fenced.front;
 }
 
-static inline uint8_t *copied(const struct place *place, struct fenced fenced,
+static inline uint8_t *copied(const struct arena *arena, struct fenced fenced,
                               const uint8_t *bytes, size_t length)
 {
-    uint8_t *copy = lie(place, fenced, length);
+    uint8_t *copy = lie(arena, fenced, length);
     memcpy(copy, bytes, length);
     return copy;
 }
 
-/* Memory for the last pointer, filled with bytes that no call returns. */
-#define FILLED(fenced, type) ((type *)memset(lie(place, fenced, sizeof(type)), 0xa5, sizeof(type)))
+/* Memory for a result, filled with bytes that no call returns. */
+#define FILLED(fenced, type) ((type *)memset(lie(arena, fenced, sizeof(type)), 0xa5, sizeof(type)))
 
-/* Reads a file. */
+/* The content of a file. */
 struct cases {
     const uint8_t *bytes;
     size_t length;

@@ -1,7 +1,7 @@
-/* Calls each function with the cases of a file that `tests/libraries/cases.py` wrote, in eight
+/* Tests each function with the cases in a file that `tests/libraries/cases.py` wrote, in eight
  * threads at once, and with a few units by hand, between guard pages (testing.h).
  *
- * usage: tests CASES SESSIONS   the second file is that of `tests/libraries/sessions.py cases` */
+ * usage: tests CASES SESSIONS   SESSIONS is written by `tests/libraries/sessions.py cases` */
 #include "testing.h"
 #include <pthread.h>
 
@@ -41,68 +41,68 @@ static struct test_case next_case(const uint8_t **at)
 }
 
 static uint8_t normalised(const struct test_case *test, const uint8_t *input, uint8_t *output,
-                          size_t room, uint64_t limit, struct rtr_answer *answer)
+                          size_t capacity, uint64_t limit, struct rtr_answer *answer)
 {
     uint8_t status = test->version == 255
-        ? rtr_normalise_slice(input, test->input_length, output, room, limit, answer)
-        : rtr_normalise_for_slice(input, test->input_length, output, room, limit, test->version,
+        ? rtr_normalise_slice(input, test->input_length, output, capacity, limit, answer)
+        : rtr_normalise_for_slice(input, test->input_length, output, capacity, limit, test->version,
                                   answer);
     CHECK(status == answer->status);
     return status;
 }
 
 /* In one call, with an output that always suffices. */
-static void check_whole(const struct place *place, const struct test_case *test,
+static void check_whole(const struct arena *arena, const struct test_case *test,
                         const uint8_t *input)
 {
-    size_t room = test->input_length + (test->version == 255 ? 0 : 12);
-    uint8_t *output = lie(place, place->output, room);
-    struct rtr_answer *answer = FILLED(place->told, struct rtr_answer);
-    memset(output, 0xa5, room);
-    CHECK(normalised(test, input, output, room, UINT32_MAX, answer) == test->status);
+    size_t capacity = test->input_length + (test->version == 255 ? 0 : 12);
+    uint8_t *output = lie(arena, arena->output, capacity);
+    struct rtr_answer *answer = FILLED(arena->answer, struct rtr_answer);
+    memset(output, 0xa5, capacity);
+    CHECK(normalised(test, input, output, capacity, UINT32_MAX, answer) == test->status);
     CHECK(answer->detail == test->detail && answer->units == test->units);
     CHECK(answer->forms == test->forms && answer->taken == test->taken);
     CHECK(answer->written == test->form_length && answer->wanted == test->wanted);
     CHECK(memcmp(output, test->form, test->form_length) == 0);
-    for (size_t i = answer->written; i < room; i++)
+    for (size_t i = answer->written; i < capacity; i++)
         CHECK(output[i] == 0xa5);
 }
 
 /* An output as long as the form suffices, and a shorter one doesn't. */
-static void check_room(const struct place *place, const struct test_case *test,
+static void check_capacity(const struct arena *arena, const struct test_case *test,
                        const uint8_t *input)
 {
     for (size_t lack = 0; lack < 2 && test->status == RTR_OK; lack++) {
-        size_t room = test->form_length - lack;
-        uint8_t *output = lie(place, place->output, room);
-        struct rtr_answer *answer = FILLED(place->told, struct rtr_answer);
-        CHECK(normalised(test, input, output, room, test->units + 1, answer)
+        size_t capacity = test->form_length - lack;
+        uint8_t *output = lie(arena, arena->output, capacity);
+        struct rtr_answer *answer = FILLED(arena->answer, struct rtr_answer);
+        CHECK(normalised(test, input, output, capacity, test->units + 1, answer)
               == (lack ? RTR_NO_ROOM : RTR_OK));
         CHECK(memcmp(output, test->form, answer->written) == 0);
-        CHECK(lack ? answer->taken < test->taken : answer->written == room);
-        CHECK(normalised(test, input, output, room, test->units, answer) == RTR_TOO_MANY);
+        CHECK(lack ? answer->taken < test->taken : answer->written == capacity);
+        CHECK(normalised(test, input, output, capacity, test->units, answer) == RTR_TOO_MANY);
     }
 }
 
-/* In steps, with a small output and few units each time: the result is the same. */
-static void check_in_turns(const struct place *place, const struct test_case *test,
-                           const uint8_t *input, size_t room)
+/* In steps, with a small output and few units at a time: the result is the same. */
+static void check_in_turns(const struct arena *arena, const struct test_case *test,
+                           const uint8_t *input, size_t capacity)
 {
     struct test_case rest = *test;
     size_t taken = 0, written = 0;
     uint64_t units = 0;
     for (;;) {
-        uint8_t *output = lie(place, place->output, room);
-        struct rtr_answer *answer = FILLED(place->told, struct rtr_answer);
-        uint8_t status = normalised(&rest, input + taken, output, room, 3, answer);
-        CHECK(answer->written <= room && written + answer->written <= test->form_length);
+        uint8_t *output = lie(arena, arena->output, capacity);
+        struct rtr_answer *answer = FILLED(arena->answer, struct rtr_answer);
+        uint8_t status = normalised(&rest, input + taken, output, capacity, 3, answer);
+        CHECK(answer->written <= capacity && written + answer->written <= test->form_length);
         CHECK(memcmp(output, test->form + written, answer->written) == 0);
         taken += answer->taken;
         written += answer->written;
         units += answer->units;
         rest.input_length -= answer->taken;
         if (status == RTR_NO_ROOM && answer->taken == 0)
-            room *= 2;
+            capacity *= 2;
         else if (status != RTR_NO_ROOM && status != RTR_TOO_MANY) {
             CHECK(status == test->status && answer->detail == test->detail);
             CHECK(answer->wanted == test->wanted);
@@ -112,35 +112,35 @@ static void check_in_turns(const struct place *place, const struct test_case *te
     CHECK(taken == test->taken && written == test->form_length && units == test->units);
 }
 
-/* Checks that a unit is encoded as this part of the form, and returns its length. */
-static size_t check_unit(const struct place *place, const struct rtr_unit *unit,
+/* Checks that a unit is written as at the start of `form`, and returns its length there. */
+static size_t check_unit(const struct arena *arena, const struct rtr_unit *unit,
                          const uint8_t *bytes, const uint8_t *form, size_t most)
 {
-    const uint8_t *input = copied(place, place->other, bytes, unit->size);
-    size_t *told = FILLED(place->told, size_t);
-    uint8_t *output = lie(place, place->output, unit->size);
-    CHECK(rtr_write_unit(unit, input, unit->size, output, unit->size, told) == RTR_OK);
-    size_t size = *told;
+    const uint8_t *input = copied(arena, arena->other, bytes, unit->size);
+    size_t *length_written = FILLED(arena->answer, size_t);
+    uint8_t *output = lie(arena, arena->output, unit->size);
+    CHECK(rtr_write_unit(unit, input, unit->size, output, unit->size, length_written) == RTR_OK);
+    size_t size = *length_written;
     CHECK(size <= most && memcmp(output, form, size) == 0);
-    output = lie(place, place->output, size - 1);
-    uint8_t status = rtr_write_unit(unit, input, unit->size, output, size - 1, told);
-    CHECK(status == RTR_NO_ROOM && *told == 0);
+    output = lie(arena, arena->output, size - 1);
+    uint8_t status = rtr_write_unit(unit, input, unit->size, output, size - 1, length_written);
+    CHECK(status == RTR_NO_ROOM && *length_written == 0);
     return size;
 }
 
-/* Reports whether a sequence is refused for a unit of this type, which rtr_next accepts. */
+/* Reports whether rtr_next accepts a unit of this type although a sequence can't contain it. */
 static bool is_plain(uint8_t kind)
 {
     return kind <= RTR_CACHE_RESPONSE || kind == RTR_CACHE_RESET || kind == RTR_ERROR_REPORT;
 }
 
-/* Unit by unit, up to where the sequence ends or is refused. */
-static void check_units(const struct place *place, const struct test_case *test,
+/* Unit by unit, until the sequence ends or is refused. */
+static void check_units(const struct arena *arena, const struct test_case *test,
                         const uint8_t *input)
 {
     size_t at = 0, formed = 0;
     uint64_t units = 0;
-    struct rtr_unit *unit = FILLED(place->unit, struct rtr_unit);
+    struct rtr_unit *unit = FILLED(arena->unit, struct rtr_unit);
     uint8_t status;
     for (;;) {
         if (at == test->taken && test->status == RTR_UNIT_TYPE && is_plain(test->detail))
@@ -150,7 +150,7 @@ static void check_units(const struct place *place, const struct test_case *test,
             break;
         CHECK(unit->size <= test->input_length - at && unit->detail == 0);
         CHECK(unit->part_start + unit->part_length <= unit->size);
-        formed += check_unit(place, unit, input + at, test->form + formed,
+        formed += check_unit(arena, unit, input + at, test->form + formed,
                              test->form_length - formed);
         at += unit->size;
         if (unit->kind == RTR_END_OF_DATA)
@@ -172,7 +172,7 @@ static void check_units(const struct place *place, const struct test_case *test,
 
 #define FIELDS (offsetof(struct rtr_unit, detail) + 1)
 
-/* Many units in one call: each element is what rtr_next gives, and later ones are unchanged. */
+/* Many units in one call: each element is as from rtr_next, and later ones are unchanged. */
 static void check_many(const uint8_t *input, size_t length)
 {
     struct rtr_unit units[5], untouched, unit;
@@ -194,13 +194,13 @@ static void check_many(const uint8_t *input, size_t length)
     }
 }
 
-/* Compares the case's input, as the left or the right one, with a sequence that is accepted: the
- * result is its fault, or whether they mean the same. */
-static void check_comparison(const struct place *place, const struct test_case *test,
+/* Compares the case's input, as the left or the right one, with an accepted sequence: the result
+ * is the case's fault, or whether both mean the same. */
+static void check_comparison(const struct arena *arena, const struct test_case *test,
                              const uint8_t *input, enum rtr_side side, const uint8_t *sequence,
                              size_t length, bool same)
 {
-    struct rtr_comparison *answer = FILLED(place->told, struct rtr_comparison), expected;
+    struct rtr_comparison *answer = FILLED(arena->answer, struct rtr_comparison), expected;
     memset(&expected, 0, sizeof expected);
     if (test->status == RTR_OK) {
         expected.same = same;
@@ -211,7 +211,7 @@ static void check_comparison(const struct place *place, const struct test_case *
         expected.side = (uint8_t)side;
         expected.detail = test->detail;
     }
-    const uint8_t *other = copied(place, place->other, sequence, length);
+    const uint8_t *other = copied(arena, arena->other, sequence, length);
     uint8_t status = side == RTR_LEFT
         ? rtr_same_meaning(input, test->input_length, other, length, UINT32_MAX, answer)
         : rtr_same_meaning(other, length, input, test->input_length, UINT32_MAX, answer);
@@ -219,38 +219,38 @@ static void check_comparison(const struct place *place, const struct test_case *
     CHECK(memcmp(answer, &expected, offsetof(struct rtr_comparison, same) + 1) == 0);
 }
 
-/* A sequence means the same as its form, and the same as an end of data if it is test. A fault is
- * found on either side, and of two the left one's. */
-static void check_same(const struct place *place, const struct test_case *test,
+/* A sequence means the same as its form; it means the same as `end` if that is its form. A fault
+ * is found on either side; of two faults, the left one. */
+static void check_same(const struct arena *arena, const struct test_case *test,
                        const uint8_t *input)
 {
     static const uint8_t end[] = {0, 7, 0, 1, 0, 0, 0, 12, 0, 0, 0, 2};
     bool ends = test->form_length == sizeof end && memcmp(test->form, end, sizeof end) == 0;
-    check_comparison(place, test, input, RTR_LEFT, test->form, test->form_length, true);
-    check_comparison(place, test, input, RTR_LEFT, end, sizeof end, ends);
-    check_comparison(place, test, input, RTR_RIGHT, end, sizeof end, ends);
+    check_comparison(arena, test, input, RTR_LEFT, test->form, test->form_length, true);
+    check_comparison(arena, test, input, RTR_LEFT, end, sizeof end, ends);
+    check_comparison(arena, test, input, RTR_RIGHT, end, sizeof end, ends);
     if (test->status == RTR_OK)
-        check_comparison(place, test, input, RTR_RIGHT, test->form, test->form_length, true);
+        check_comparison(arena, test, input, RTR_RIGHT, test->form, test->form_length, true);
 }
 
-/* The limit applies to both sequences, and a comparison that reaches it stops at the unit after
- * that many. */
-static void check_same_limit(const struct place *place)
+/* The limit applies to each sequence: a comparison stops at the first unit beyond it. */
+static void check_same_limit(const struct arena *arena)
 {
     static const uint8_t units[] = {
         1, 4, 0, 0, 0, 0, 0, 20, 1, 8, 8, 0, 10, 0, 0, 0, 0, 1, 0, 15,
         1, 4, 0, 0, 0, 0, 0, 20, 1, 8, 8, 0, 11, 0, 0, 0, 0, 1, 0, 15,
         1, 7, 0, 7, 0, 0, 0, 24, 0, 0, 0, 2, 0, 0, 14, 16, 0, 0, 2, 88, 0, 0, 28, 32};
-    const size_t size = 20, two = sizeof units, one = two - size;
-    struct rtr_comparison *answer = FILLED(place->told, struct rtr_comparison);
-    const uint8_t *longer = copied(place, place->input, units, two);
-    const uint8_t *shorter = copied(place, place->other, units + size, one);
+    const size_t size = 20, long_size = sizeof units, short_size = long_size - size;
+    struct rtr_comparison *answer = FILLED(arena->answer, struct rtr_comparison);
+    const uint8_t *longer = copied(arena, arena->input, units, long_size);
+    const uint8_t *shorter = copied(arena, arena->other, units + size, short_size);
     for (uint64_t limit = 0; limit < 4; limit++) {
-        uint8_t status = rtr_same_meaning(longer, two, shorter, one, limit, answer);
+        uint8_t status = rtr_same_meaning(longer, long_size, shorter, short_size, limit,
+                                          answer);
         CHECK(status == (limit < 3 ? RTR_TOO_MANY : RTR_OK) && answer->status == status);
         CHECK(answer->offset == (limit < 3 ? size * limit : 0) && !answer->same);
         CHECK(answer->side == (limit < 3 ? RTR_LEFT : 0));
-        status = rtr_same_meaning(shorter, one, longer, two, limit, answer);
+        status = rtr_same_meaning(shorter, short_size, longer, long_size, limit, answer);
         CHECK(status == (limit < 3 ? RTR_TOO_MANY : RTR_OK) && answer->status == status);
         CHECK(answer->offset == (limit < 3 ? size * limit : 0) && !answer->same);
         CHECK(answer->side == (limit < 2 ? RTR_LEFT : limit < 3 ? RTR_RIGHT : 0));
@@ -258,17 +258,17 @@ static void check_same_limit(const struct place *place)
     }
 }
 
-static void check_case(const struct place *place, const struct test_case *test)
+static void check_case(const struct arena *arena, const struct test_case *test)
 {
-    const uint8_t *input = copied(place, place->input, test->input, test->input_length);
-    check_whole(place, test, input);
-    check_room(place, test, input);
+    const uint8_t *input = copied(arena, arena->input, test->input, test->input_length);
+    check_whole(arena, test, input);
+    check_capacity(arena, test, input);
     if (test->input_length < 1 << 16)
-        check_in_turns(place, test, input, 16);
+        check_in_turns(arena, test, input, 16);
     if (test->version == 255) {
-        check_units(place, test, input);
+        check_units(arena, test, input);
         check_many(input, test->input_length);
-        check_same(place, test, input);
+        check_same(arena, test, input);
     }
     CHECK(memcmp(input, test->input, test->input_length) == 0);
 }
@@ -277,28 +277,28 @@ static void *check_cases(void *all)
 {
     const struct cases *cases = all;
     const uint8_t *at = cases->bytes;
-    struct place place = new_place();
+    struct arena arena = new_arena();
     while (at < cases->bytes + cases->length) {
         struct test_case test = next_case(&at);
         for (int side = 0; side < 2; side++) {
-            place.at_end = side;
-            check_case(&place, &test);
+            arena.at_end = side;
+            check_case(&arena, &test);
         }
     }
     return NULL;
 }
 
 /* An IPv4 prefix with free bits set, field by field (RFC 8210 section 5.6). */
-static void check_ipv4(const struct place *place)
+static void check_ipv4(const struct arena *arena)
 {
     static const uint8_t stray[] = {1, 4,  0,  7, 0,   0, 0, 20, /* reserved bytes are 7, 3 and 9 */
                                     3, 23, 26, 9, 192, 0, 2, 10, 0, 1, 0, 15};
     static const uint8_t form[] = {1, 4,  0,  0, 0,   0, 0, 20, /* and the address is cleared */
                                    1, 23, 26, 0, 192, 0, 2, 0,  0, 1, 0, 15};
-    const uint8_t *input = copied(place, place->input, stray, sizeof stray);
-    uint8_t *output = lie(place, place->output, sizeof form);
-    struct rtr_unit *unit = FILLED(place->unit, struct rtr_unit), expected;
-    size_t *written = FILLED(place->told, size_t);
+    const uint8_t *input = copied(arena, arena->input, stray, sizeof stray);
+    uint8_t *output = lie(arena, arena->output, sizeof form);
+    struct rtr_unit *unit = FILLED(arena->unit, struct rtr_unit), expected;
+    size_t *written = FILLED(arena->answer, size_t);
     memset(&expected, 0, sizeof expected);
     expected.size = 20;
     expected.asn = 65551;
@@ -311,26 +311,26 @@ static void check_ipv4(const struct place *place)
     memcpy(expected.address, "\xc0\x00\x02\x00", 4);
     CHECK(rtr_next(input, sizeof stray, unit) == RTR_OK);
     CHECK(memcmp(unit, &expected, offsetof(struct rtr_unit, detail) + 1) == 0);
-    input = lie(place, place->input, 0);
+    input = lie(arena, arena->input, 0);
     CHECK(rtr_write_unit(unit, input, 0, output, sizeof form, written) == RTR_OK);
     CHECK(*written == 20 && memcmp(output, form, 20) == 0);
 }
 
 /* An ASPA in the layout of an older draft, with flags, an address family and a count after the
  * length: it announces AS65010 with two providers. It is read as rtr.h says. */
-static void check_older_aspa(const struct place *place)
+static void check_older_aspa(const struct arena *arena)
 {
     static const uint8_t older[] = {2, 11, 0, 0, 0, 0, 0, 24, 1, 0, 0, 2, 0, 0, 0xfd, 0xf2,
                                     0, 0, 0xfd, 0xe9, 0, 0, 0xfd, 0xea};
-    const uint8_t *input = copied(place, place->input, older, sizeof older);
-    struct rtr_unit *unit = FILLED(place->unit, struct rtr_unit);
+    const uint8_t *input = copied(arena, arena->input, older, sizeof older);
+    struct rtr_unit *unit = FILLED(arena->unit, struct rtr_unit);
     CHECK(rtr_next(input, sizeof older, unit) == RTR_OK);
     CHECK(unit->kind == RTR_ASPA && unit->action == 0 && unit->customer == 16777218);
     CHECK(unit->part_start == 12 && unit->part_length == 3 * 4);
 }
 
-/* A unit without a form is refused, and nothing is written. */
-static void check_refused(const struct place *place)
+/* A unit that can't be written is refused, and nothing is written. */
+static void check_refused(const struct arena *arena)
 {
     static const struct {
         uint8_t status, kind, version, action, family, length, max_length;
@@ -365,11 +365,11 @@ static void check_refused(const struct place *place)
         {RTR_UNIT_VERSION, RTR_END_OF_DATA, 3, 0, 0, 0, 0, 0, 0},
     };
     size_t length = 100000;
-    const uint8_t *input = memset(lie(place, place->input, length), 0, length);
-    uint8_t *output = lie(place, place->output, length);
+    const uint8_t *input = memset(lie(arena, arena->input, length), 0, length);
+    uint8_t *output = lie(arena, arena->output, length);
     for (size_t i = 0; i < sizeof rows / sizeof rows[0]; i++) {
-        struct rtr_unit *unit = lie(place, place->unit, sizeof *unit);
-        size_t *written = FILLED(place->told, size_t);
+        struct rtr_unit *unit = lie(arena, arena->unit, sizeof *unit);
+        size_t *written = FILLED(arena->answer, size_t);
         memset(unit, 0, sizeof *unit);
         unit->kind = rows[i].kind;
         unit->version = rows[i].version;
@@ -386,12 +386,12 @@ static void check_refused(const struct place *place)
 }
 
 /* Empty slices, a limit of 0, and versions that don't exist. */
-static void check_bounds(const struct place *place)
+static void check_bounds(const struct arena *arena)
 {
-    const uint8_t *none = lie(place, place->input, 0);
-    uint8_t *no_room = lie(place, place->output, 0);
-    struct rtr_unit *unit = FILLED(place->unit, struct rtr_unit);
-    struct rtr_answer *answer = FILLED(place->told, struct rtr_answer);
+    const uint8_t *none = lie(arena, arena->input, 0);
+    uint8_t *no_room = lie(arena, arena->output, 0);
+    struct rtr_unit *unit = FILLED(arena->unit, struct rtr_unit);
+    struct rtr_answer *answer = FILLED(arena->answer, struct rtr_answer);
     CHECK(rtr_next(none, 0, unit) == RTR_SHORT);
     CHECK(rtr_normalise_slice(none, 0, no_room, 0, 1, answer) == RTR_SHORT);
     CHECK(answer->taken == 0);
@@ -401,12 +401,12 @@ static void check_bounds(const struct place *place)
               == RTR_UNIT_VERSION);
         CHECK(answer->detail == version && answer->units == 0 && answer->written == 0);
     }
-    struct rtr_comparison *both = FILLED(place->told, struct rtr_comparison);
+    struct rtr_comparison *both = FILLED(arena->answer, struct rtr_comparison);
     CHECK(rtr_same_meaning(none, 0, none, 0, 1, both) == RTR_SHORT && both->side == RTR_LEFT);
     CHECK(rtr_same_meaning(none, 0, none, 0, 0, both) == RTR_TOO_MANY && both->wanted == 0);
 }
 
-/* Returns the unit of a session's answer, with its status in *status. */
+/* Reads the next expected unit of a session, with its status. */
 static struct rtr_unit next_answer(const uint8_t **at, uint64_t *status)
 {
     struct rtr_unit unit;
@@ -441,40 +441,40 @@ static struct rtr_unit next_answer(const uint8_t **at, uint64_t *status)
 
 
 /* The length from the header alone agrees with that of the whole unit. */
-static void check_size(const struct place *place, const uint8_t *input, size_t length,
+static void check_size(const struct arena *arena, const uint8_t *input, size_t length,
                        const struct rtr_unit *expected, uint64_t status)
 {
-    size_t *size = FILLED(place->told, size_t);
+    size_t *size = FILLED(arena->answer, size_t);
     uint8_t detail = 0xa5;
-    const uint8_t *front = copied(place, place->other, input, length < 8 ? length : 8);
-    uint8_t said = rtr_unit_size(front, length < 8 ? length : 8, size, &detail);
+    const uint8_t *front = copied(arena, arena->other, input, length < 8 ? length : 8);
+    uint8_t found = rtr_unit_size(front, length < 8 ? length : 8, size, &detail);
     if (length < 8)
-        CHECK(said == RTR_SHORT && *size == 8 && detail == 0);
+        CHECK(found == RTR_SHORT && *size == 8 && detail == 0);
     else if (status == RTR_OK || status == RTR_SHORT || status == RTR_PREFIX)
-        CHECK(said == RTR_OK && *size == expected->size + expected->wanted && detail == 0);
+        CHECK(found == RTR_OK && *size == expected->size + expected->wanted && detail == 0);
     else
-        CHECK(said == status && *size == 0 && detail == expected->detail);
+        CHECK(found == status && *size == 0 && detail == expected->detail);
 }
 
-/* A unit is shown as the answer says, and written as its form. What was written is shown with the
- * same fields, but of an ASPA that is withdrawn without providers. */
-static void check_shown(const struct place *place, const uint8_t *input, size_t length,
+/* A unit is read with the expected fields, and written as its form. The form is read with the same
+ * fields, except for a withdrawn ASPA, whose providers aren't written. */
+static void check_shown(const struct arena *arena, const uint8_t *input, size_t length,
                         const struct rtr_unit *expected, uint64_t status, const uint8_t *form,
                         size_t size)
 {
-    struct rtr_unit *unit = FILLED(place->unit, struct rtr_unit);
+    struct rtr_unit *unit = FILLED(arena->unit, struct rtr_unit);
     CHECK(rtr_next(input, length, unit) == status);
     CHECK(memcmp(unit, expected, FIELDS) == 0);
     if (status != RTR_OK)
         return;
-    const uint8_t *bytes = copied(place, place->other, input, unit->size);
-    uint8_t *output = lie(place, place->output, size);
-    size_t *written = FILLED(place->told, size_t);
+    const uint8_t *bytes = copied(arena, arena->other, input, unit->size);
+    uint8_t *output = lie(arena, arena->output, size);
+    size_t *written = FILLED(arena->answer, size_t);
     CHECK(rtr_write_unit(unit, bytes, unit->size, output, size, written) == RTR_OK);
     CHECK(*written == size && memcmp(output, form, size) == 0);
-    uint8_t *shorter = lie(place, place->output, size - 1);
+    uint8_t *shorter = lie(arena, arena->output, size - 1);
     CHECK(rtr_write_unit(unit, bytes, unit->size, shorter, size - 1, written) == RTR_NO_ROOM);
-    const uint8_t *again = copied(place, place->other, form, size);
+    const uint8_t *again = copied(arena, arena->other, form, size);
     struct rtr_unit same = *expected;
     same.size = size;
     if (unit->kind == RTR_ASPA && !unit->action)
@@ -486,19 +486,19 @@ static void check_shown(const struct place *place, const uint8_t *input, size_t 
     CHECK(rtr_next(again, size, unit) == RTR_OK && memcmp(unit, &same, FIELDS) == 0);
 }
 
-/* Sessions with units of all types: each call after the other, as its caller goes on. */
-static void check_sessions(const struct place *place, const uint8_t *at, const uint8_t *end)
+/* Sessions with units of all types, read one after the other. */
+static void check_sessions(const struct arena *arena, const uint8_t *at, const uint8_t *end)
 {
     while (at < end) {
         size_t length = number(&at), passed = 0;
         uint64_t answers = number(&at), status;
-        const uint8_t *input = copied(place, place->input, at, length);
+        const uint8_t *input = copied(arena, arena->input, at, length);
         at += length;
         for (; answers > 0; answers--) {
             struct rtr_unit expected = next_answer(&at, &status);
             size_t size = number(&at);
-            check_size(place, input + passed, length - passed, &expected, status);
-            check_shown(place, input + passed, length - passed, &expected, status, at, size);
+            check_size(arena, input + passed, length - passed, &expected, status);
+            check_shown(arena, input + passed, length - passed, &expected, status, at, size);
             at += size;
             passed += expected.size;
         }
@@ -506,43 +506,43 @@ static void check_sessions(const struct place *place, const uint8_t *at, const u
 }
 
 /* A null pointer is a slice without bytes, for each call that takes slices. */
-static void check_null(const struct place *place)
+static void check_null(const struct arena *arena)
 {
-    struct rtr_unit *unit = FILLED(place->unit, struct rtr_unit);
-    struct rtr_answer *answer = FILLED(place->told, struct rtr_answer);
+    struct rtr_unit *unit = FILLED(arena->unit, struct rtr_unit);
+    struct rtr_answer *answer = FILLED(arena->answer, struct rtr_answer);
     CHECK(rtr_normalise_slice(NULL, 0, NULL, 0, 1, answer) == RTR_SHORT);
     CHECK(answer->taken == 0 && answer->written == 0 && answer->wanted == 8);
     CHECK(rtr_normalise_for_slice(NULL, 0, NULL, 0, 1, 2, answer) == RTR_SHORT);
     CHECK(answer->taken == 0 && answer->written == 0 && answer->wanted == 8);
     CHECK(rtr_next(NULL, 0, unit) == RTR_SHORT && unit->wanted == 8 && unit->size == 0);
-    size_t *size = FILLED(place->told, size_t);
+    size_t *size = FILLED(arena->answer, size_t);
     uint8_t detail = 1;
     CHECK(rtr_unit_size(NULL, 0, size, &detail) == RTR_SHORT && *size == 8 && detail == 0);
-    struct rtr_comparison *both = FILLED(place->told, struct rtr_comparison);
+    struct rtr_comparison *both = FILLED(arena->answer, struct rtr_comparison);
     CHECK(rtr_same_meaning(NULL, 0, NULL, 0, 1, both) == RTR_SHORT && !both->same);
     CHECK(both->side == RTR_LEFT && both->offset == 0 && both->wanted == 8);
-    uint16_t *code = FILLED(place->told, uint16_t);
+    uint16_t *code = FILLED(arena->answer, uint16_t);
     CHECK(rtr_error_code(RTR_SHORT, NULL, 0, code) && *code == 0);
-    uint32_t *provider = FILLED(place->told, uint32_t);
+    uint32_t *provider = FILLED(arena->answer, uint32_t);
     memset(unit, 0, sizeof *unit);
     unit->kind = RTR_ASPA;
     CHECK(!rtr_provider(unit, NULL, 0, 0, provider) && *provider == 0);
-    size_t *written = FILLED(place->told, size_t);
+    size_t *written = FILLED(arena->answer, size_t);
     CHECK(rtr_write_unit(unit, NULL, 0, NULL, 0, written) == RTR_NO_ROOM && *written == 0);
-    uint8_t *output = lie(place, place->output, 12);
+    uint8_t *output = lie(arena, arena->output, 12);
     CHECK(rtr_write_unit(unit, NULL, 0, output, 12, written) == RTR_OK && *written == 12);
 }
 
-/* Reports up to 65535 bytes are written, longer ones refused; unit and text lie anywhere in the
- * input, and have to lie in it. */
-static void check_reports(const struct place *place)
+/* Reports of up to 65535 bytes are written, longer ones are refused. The enclosed unit and the
+ * text may be anywhere in the input, but not outside of it. */
+static void check_reports(const struct arena *arena)
 {
     size_t length = 65600;
-    uint8_t *input = lie(place, place->input, length), *output = lie(place, place->output, 65535);
+    uint8_t *input = lie(arena, arena->input, length), *output = lie(arena, arena->output, 65535);
     for (size_t i = 0; i < length; i++)
         input[i] = (uint8_t)(i * 7);
-    struct rtr_unit *unit = FILLED(place->unit, struct rtr_unit);
-    size_t *written = FILLED(place->told, size_t);
+    struct rtr_unit *unit = FILLED(arena->unit, struct rtr_unit);
+    size_t *written = FILLED(arena->answer, size_t);
     memset(unit, 0, sizeof *unit);
     unit->kind = RTR_ERROR_REPORT;
     unit->version = 1;
@@ -594,7 +594,7 @@ static void check_serials(void)
         CHECK(rtr_serial_order(rows[i].left, rows[i].right) == rows[i].order);
 }
 
-/* Which versions have which kinds: those of RFC 6810, router keys from 1 on, ASPAs in 2. */
+/* The kinds of each version: those of RFC 6810, router keys from 1 on, ASPAs in 2. */
 static void check_versions(void)
 {
     for (int version = 0; version < 256; version++)
@@ -611,7 +611,7 @@ static void check_versions(void)
 }
 
 /* The error codes of RFC 8210 section 12; none is owed for a report (section 5.11). */
-static void check_codes(const struct place *place)
+static void check_codes(const struct arena *arena)
 {
     static const int codes[] = {-1, 0, 5, 4, 0, 0, 9, 0, -1, -1, -1, -1, -1, -1, 7, 6};
     uint8_t bytes[] = {1, RTR_IPV4_PREFIX, 0, 0, 0, 0, 0, 20};
@@ -619,15 +619,15 @@ static void check_codes(const struct place *place)
         for (size_t length = 0; length <= sizeof bytes; length++)
             for (int report = 0; report < 2; report++) {
                 bytes[1] = report ? RTR_ERROR_REPORT : RTR_IPV4_PREFIX;
-                const uint8_t *input = copied(place, place->input, bytes, length);
-                uint16_t *code = FILLED(place->told, uint16_t);
+                const uint8_t *input = copied(arena, arena->input, bytes, length);
+                uint16_t *code = FILLED(arena->answer, uint16_t);
                 int owed = status < 16 && !(report && length >= 2) ? codes[status] : -1;
                 CHECK(rtr_error_code((uint8_t)status, input, length, code) == (owed >= 0));
                 CHECK(*code == (owed >= 0 ? owed : 0));
             }
 }
 
-/* The header's text of each cause is the one that the archive writes into a report. */
+/* rtr_cause_text returns the text that the archive writes into a report. */
 static void check_causes(void)
 {
     for (uint8_t cause = RTR_CAUSE_LOST; cause <= RTR_CAUSE_HIGHER; cause++) {
@@ -645,14 +645,14 @@ static void check_causes(void)
 
 /* The providers of an ASPA by their index: none past the last, outside the input, or of another
  * kind. */
-static void check_providers(const struct place *place)
+static void check_providers(const struct arena *arena)
 {
     static const uint8_t aspa[] = {2, 11, 1, 0, 0, 0, 0, 20, 0, 0, 0xfd, 0xe8,
                                    0, 0, 0xfd, 0xe9, 0xff, 1, 0, 15};
-    const uint8_t *input = copied(place, place->input, aspa, sizeof aspa);
-    struct rtr_unit *unit = FILLED(place->unit, struct rtr_unit);
+    const uint8_t *input = copied(arena, arena->input, aspa, sizeof aspa);
+    struct rtr_unit *unit = FILLED(arena->unit, struct rtr_unit);
     CHECK(rtr_next(input, sizeof aspa, unit) == RTR_OK);
-    uint32_t *provider = FILLED(place->told, uint32_t);
+    uint32_t *provider = FILLED(arena->answer, uint32_t);
     CHECK(rtr_provider(unit, input, sizeof aspa, 0, provider) && *provider == 65001);
     CHECK(rtr_provider(unit, input, sizeof aspa, 1, provider) && *provider == 0xff01000f);
     CHECK(!rtr_provider(unit, input, sizeof aspa, 2, provider) && *provider == 0);
@@ -669,19 +669,19 @@ int main(int count, char **words)
 {
     CHECK(count == 3);
     struct cases cases = read_file(words[1]), sessions = read_file(words[2]);
-    struct place place = new_place();
+    struct arena arena = new_arena();
     for (int side = 0; side < 2; side++) {
-        place.at_end = side;
-        check_ipv4(&place);
-        check_older_aspa(&place);
-        check_refused(&place);
-        check_bounds(&place);
-        check_same_limit(&place);
-        check_null(&place);
-        check_codes(&place);
-        check_providers(&place);
-        check_reports(&place);
-        check_sessions(&place, sessions.bytes, sessions.bytes + sessions.length);
+        arena.at_end = side;
+        check_ipv4(&arena);
+        check_older_aspa(&arena);
+        check_refused(&arena);
+        check_bounds(&arena);
+        check_same_limit(&arena);
+        check_null(&arena);
+        check_codes(&arena);
+        check_providers(&arena);
+        check_reports(&arena);
+        check_sessions(&arena, sessions.bytes, sessions.bytes + sessions.length);
     }
     check_serials();
     check_causes();

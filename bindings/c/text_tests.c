@@ -1,6 +1,6 @@
-/* Tests the texts of statuses, and names, with the file tests/texts, at every output size and
- * between guard pages (testing.h); and the sample units in the file tests/samples: their lines and
- * JSON, their forms, and why they are refused.
+/* Tests texts of statuses, and names, with the file tests/texts, at every output size and between
+ * guard pages (testing.h); and lines, JSON, forms and refusals of the sample units in the file
+ * tests/samples.
  *
  * usage: text_tests TEXTS SAMPLES */
 #include "testing.h"
@@ -8,7 +8,7 @@
 /* The first words of the rows of names, by rtr_named. */
 static const char *const words[] = {"status", "kind", "cause", "reason", "code", "time_rule"};
 
-/* The functions of rtr.h that need no buffer, by the same. */
+/* The functions of rtr.h that return these names without a buffer. */
 static const char *(*const plain[])(uint8_t) = {
     rtr_status_text, rtr_kind_text, rtr_cause_text, rtr_reason_text, NULL, rtr_time_rule_text,
 };
@@ -17,58 +17,58 @@ static const char *(*const plain[])(uint8_t) = {
 
 /* Calls rtr_text, or rtr_name if `named` isn't NO_TEXT, with each output size: the text is written
  * if it fits, else its start. */
-static void check_text(const struct place *place, uint8_t named, unsigned long number,
+static void check_text(const struct arena *arena, uint8_t named, unsigned long number,
                        uint8_t detail, const char *text)
 {
     size_t length = strlen(text);
     CHECK(length < RTR_TEXT_ROOM);
-    for (size_t room = 0; room <= length + 1; room++) {
-        uint8_t *output = lie(place, place->output, room);
-        size_t *wanted = FILLED(place->told, size_t);
-        memset(output, 0xa5, room);
+    for (size_t capacity = 0; capacity <= length + 1; capacity++) {
+        uint8_t *output = lie(arena, arena->output, capacity);
+        size_t *length_written = FILLED(arena->answer, size_t);
+        memset(output, 0xa5, capacity);
         uint8_t status = named == NO_TEXT
-            ? rtr_text((uint8_t)number, detail, output, room, wanted)
-            : rtr_name(named, (uint16_t)number, output, room, wanted);
-        CHECK(status == (room < length ? RTR_NO_ROOM : RTR_OK) && *wanted == length);
-        CHECK(memcmp(output, text, room < length ? room : length) == 0);
-        CHECK(room <= length || output[length] == 0xa5);
+            ? rtr_text((uint8_t)number, detail, output, capacity, length_written)
+            : rtr_name(named, (uint16_t)number, output, capacity, length_written);
+        CHECK(status == (capacity < length ? RTR_NO_ROOM : RTR_OK) && *length_written == length);
+        CHECK(memcmp(output, text, capacity < length ? capacity : length) == 0);
+        CHECK(capacity <= length || output[length] == 0xa5);
     }
 }
 
-/* The header gives the same text, if it has such a name. */
+/* The function of rtr.h returns the same text, if it knows this name. */
 static void check_plain(uint8_t named, unsigned long number, const char *text)
 {
     if (!plain[named] || number > 255)
         return;
-    const char *said = plain[named]((uint8_t)number);
-    if (strncmp(said, "unknown ", 8) == 0)
-        CHECK(strncmp(said + 8, words[named], strlen(words[named])) == 0
-              || strncmp(said, text, strlen(said)) == 0);
+    const char *plain_text = plain[named]((uint8_t)number);
+    if (strncmp(plain_text, "unknown ", 8) == 0)
+        CHECK(strncmp(plain_text + 8, words[named], strlen(words[named])) == 0
+              || strncmp(plain_text, text, strlen(plain_text)) == 0);
     else
-        CHECK(strcmp(said, text) == 0);
+        CHECK(strcmp(plain_text, text) == 0);
 }
 
 /* A row of the file. */
-static void check_row(const struct place *place, const char *row)
+static void check_row(const struct arena *arena, const char *row)
 {
     char word[16];
     int front = 0;
     unsigned long number, detail;
     if (sscanf(row, "text %lu %lu %n", &number, &detail, &front) == 2 && front) {
-        check_text(place, NO_TEXT, number, (uint8_t)detail, row + front);
+        check_text(arena, NO_TEXT, number, (uint8_t)detail, row + front);
         return;
     }
     CHECK(sscanf(row, "%15s %lu %n", word, &number, &front) == 2);
     for (uint8_t named = 0; named < sizeof words / sizeof *words; named++)
         if (strcmp(word, words[named]) == 0) {
-            check_text(place, named, number, 0, row + front);
+            check_text(arena, named, number, 0, row + front);
             check_plain(named, number, row + front);
             return;
         }
     CHECK(!"a row of no such name");
 }
 
-/* The names that the header has without a buffer are the archive's, and as many. */
+/* The functions of rtr.h know the same names as the archive, and no others. */
 static void check_all(void)
 {
     for (uint8_t named = 0; named < 6; named++)
@@ -78,9 +78,9 @@ static void check_all(void)
             CHECK(rtr_name(named, (uint16_t)number, text, sizeof text, &length) == RTR_OK);
             if (!plain[named])
                 continue;
-            const char *said = plain[named]((uint8_t)number);
-            bool is_named = strncmp(said, "unknown ", 8) != 0;
-            CHECK(length < sizeof text && (strcmp(said, (char *)text) == 0) == is_named);
+            const char *plain_text = plain[named]((uint8_t)number);
+            bool is_named = strncmp(plain_text, "unknown ", 8) != 0;
+            CHECK(length < sizeof text && (strcmp(plain_text, (char *)text) == 0) == is_named);
         }
     for (int named = 6; named < 256; named++) {
         size_t length = 1;
@@ -94,7 +94,7 @@ static void check_all(void)
         }
 }
 
-/* The rows that a sample may have, by their first words; a row that it doesn't have is empty. */
+/* The rows that a sample may have, by their first words; a missing row is empty. */
 enum { UNIT, BYTES, FORM, REFUSED, LINE, OBJECT_LISTED, CHANGE, OBJECT, WORDS };
 static const char *const sample_words[WORDS] = {
     "unit", "bytes", "form", "refused", "line", "json", "change", "object",
@@ -116,121 +116,122 @@ static size_t bytes_of(const char *row, uint8_t *bytes)
 
 typedef uint8_t line_call(const uint8_t *, size_t, uint8_t *, size_t, struct rtr_line *);
 
-static uint8_t unit_line(const uint8_t *input, size_t length, uint8_t *output, size_t room,
+static uint8_t unit_line(const uint8_t *input, size_t length, uint8_t *output, size_t capacity,
                          struct rtr_line *answer)
 {
-    return rtr_line(input, length, 24, output, room, answer);
+    return rtr_line(input, length, 24, output, capacity, answer);
 }
 
-static uint8_t unit_json(const uint8_t *input, size_t length, uint8_t *output, size_t room,
+static uint8_t unit_json(const uint8_t *input, size_t length, uint8_t *output, size_t capacity,
                          struct rtr_line *answer)
 {
-    return rtr_json(input, length, 24, output, room, answer);
+    return rtr_json(input, length, 24, output, capacity, answer);
 }
 
 static line_call *const line_calls[] = {unit_line, rtr_change_line, rtr_change_json, unit_json};
 
-/* Calls one of them with an output of this size. */
-static struct rtr_line line_of(const struct place *place, size_t call, const uint8_t *input,
-                               size_t length, size_t room)
+/* Calls one of these functions with an output of this size. */
+static struct rtr_line line_of(const struct arena *arena, size_t call, const uint8_t *input,
+                               size_t length, size_t capacity)
 {
-    uint8_t *output = lie(place, place->output, room);
-    struct rtr_line *answer = FILLED(place->told, struct rtr_line);
-    memset(output, 0xa5, room);
-    uint8_t status = line_calls[call](input, length, output, room, answer);
+    uint8_t *output = lie(arena, arena->output, capacity);
+    struct rtr_line *answer = FILLED(arena->answer, struct rtr_line);
+    memset(output, 0xa5, capacity);
+    uint8_t status = line_calls[call](input, length, output, capacity, answer);
     CHECK(status == answer->status);
     return *answer;
 }
 
 /* A line is written if it fits, else its start; `length` is that of the whole line. */
-static void check_line(const struct place *place, size_t call, const uint8_t *input, size_t size,
+static void check_line(const struct arena *arena, size_t call, const uint8_t *input, size_t size,
                        const char *line)
 {
     size_t length = strlen(line);
-    for (size_t room = length ? length - 1 : 0; room <= length + 1; room++) {
-        struct rtr_line told = line_of(place, call, input, size, room);
-        const uint8_t *output = lie(place, place->output, room);
-        CHECK(told.status == (room < length ? RTR_NO_ROOM : RTR_OK));
-        CHECK(told.size == size && told.length == length && told.wanted == 0 && told.detail == 0);
-        CHECK(memcmp(output, line, room < length ? room : length) == 0);
-        CHECK(room <= length || output[length] == 0xa5);
+    for (size_t capacity = length ? length - 1 : 0; capacity <= length + 1; capacity++) {
+        struct rtr_line answer = line_of(arena, call, input, size, capacity);
+        const uint8_t *output = lie(arena, arena->output, capacity);
+        CHECK(answer.status == (capacity < length ? RTR_NO_ROOM : RTR_OK));
+        CHECK(answer.size == size && answer.length == length);
+        CHECK(answer.wanted == 0 && answer.detail == 0);
+        CHECK(memcmp(output, line, capacity < length ? capacity : length) == 0);
+        CHECK(capacity <= length || output[length] == 0xa5);
     }
 }
 
-/* Why a unit is refused: the text of its status. */
-static void check_refused(uint8_t status, uint8_t detail, const char *wanted)
+/* The text of a status is this one. */
+static void check_refused(uint8_t status, uint8_t detail, const char *expected)
 {
     uint8_t text[RTR_TEXT_ROOM];
     size_t length;
     CHECK(rtr_text(status, detail, text, sizeof text, &length) == RTR_OK);
-    CHECK(length == strlen(wanted) && memcmp(text, wanted, length) == 0);
+    CHECK(length == strlen(expected) && memcmp(text, expected, length) == 0);
 }
 
-/* A unit is shown and written as its form, or refused. */
-static void check_unit(const struct place *place, const struct sample *s, const uint8_t *input,
+/* A unit is read, and written as its form, or refused. */
+static void check_unit(const struct arena *arena, const struct sample *s, const uint8_t *input,
                        size_t size)
 {
     uint8_t form[64];
     size_t length = bytes_of(s->rows[s->rows[FORM][0] ? FORM : BYTES], form), written;
-    struct rtr_unit *unit = FILLED(place->unit, struct rtr_unit);
+    struct rtr_unit *unit = FILLED(arena->unit, struct rtr_unit);
     uint8_t status = rtr_next(input, size, unit);
     if (s->rows[REFUSED][0]) {
         check_refused(status, unit->detail, s->rows[REFUSED]);
         return;
     }
     CHECK(status == RTR_OK && unit->size == size);
-    uint8_t *output = lie(place, place->output, length);
+    uint8_t *output = lie(arena, arena->output, length);
     CHECK(rtr_write_unit(unit, input, size, output, length, &written) == RTR_OK);
     CHECK(written == length && memcmp(output, form, length) == 0);
 }
 
 /* Lines are written for a unit, and none for a truncated one. */
-static void check_lines(const struct place *place, const struct sample *s, const uint8_t *bytes,
+static void check_lines(const struct arena *arena, const struct sample *s, const uint8_t *bytes,
                         size_t size)
 {
     char line[400], object[400];
     snprintf(line, sizeof line, "24%s", s->rows[LINE] + 1); /* its offset is 24 */
     snprintf(object, sizeof object, "{\"offset\":24%s",
              s->rows[OBJECT_LISTED] + strlen("{\"offset\":0"));
-    const uint8_t *input = copied(place, place->input, bytes, size);
-    check_line(place, 0, input, size, line);
-    check_line(place, 1, input, size, s->rows[CHANGE]);
-    check_line(place, 2, input, size, s->rows[OBJECT]);
-    check_line(place, 3, input, size, object);
+    const uint8_t *input = copied(arena, arena->input, bytes, size);
+    check_line(arena, 0, input, size, line);
+    check_line(arena, 1, input, size, s->rows[CHANGE]);
+    check_line(arena, 2, input, size, s->rows[OBJECT]);
+    check_line(arena, 3, input, size, object);
     for (size_t there = 0; there < size; there++) {
-        input = copied(place, place->input, bytes, there);
-        struct rtr_line told = line_of(place, there % 4, input, there, 9);
-        CHECK(told.status == RTR_SHORT && told.wanted == (there < 8 ? 8 : size));
-        CHECK(told.size == 0 && told.length == 0 && told.detail == 0);
+        input = copied(arena, arena->input, bytes, there);
+        struct rtr_line answer = line_of(arena, there % 4, input, there, 9);
+        CHECK(answer.status == RTR_SHORT && answer.wanted == (there < 8 ? 8 : size));
+        CHECK(answer.size == 0 && answer.length == 0 && answer.detail == 0);
     }
 }
 
-static void check_sample(const struct place *place, const struct sample *s)
+static void check_sample(const struct arena *arena, const struct sample *s)
 {
     uint8_t bytes[64];
     size_t size = bytes_of(s->rows[BYTES], bytes);
     CHECK(size > 0);
-    check_unit(place, s, copied(place, place->input, bytes, size), size);
+    check_unit(arena, s, copied(arena, arena->input, bytes, size), size);
     if (s->rows[LINE][0]) {
-        check_lines(place, s, bytes, size);
+        check_lines(arena, s, bytes, size);
         return;
     }
     for (size_t call = 0; call < 4; call++) {
-        const uint8_t *input = copied(place, place->input, bytes, size);
-        struct rtr_line told = line_of(place, call, input, size, 9);
-        check_refused(told.status, told.detail, s->rows[REFUSED]);
-        CHECK(told.size == 0 && told.length == 0);
-        CHECK(*(uint8_t *)lie(place, place->output, 9) == 0xa5);
+        const uint8_t *input = copied(arena, arena->input, bytes, size);
+        struct rtr_line answer = line_of(arena, call, input, size, 9);
+        check_refused(answer.status, answer.detail, s->rows[REFUSED]);
+        CHECK(answer.size == 0 && answer.length == 0);
+        CHECK(*(uint8_t *)lie(arena, arena->output, 9) == 0xa5);
     }
 }
 
-/* The sample that is checked. */
+/* The sample being checked. */
 static struct sample sample;
 
-/* The row that is being read, or null, for the message of a failed check. */
+/* The row being read, or null; a failed check prints it. */
 static const char *row_read;
 
-static void say_row(void)
+static void print_row(void)
 {
     if (sample.rows[UNIT][0])
         fprintf(stderr, "in the sample: %s\n", sample.rows[UNIT]);
@@ -239,21 +240,21 @@ static void say_row(void)
 }
 
 /* Checks the sample whose rows were read, if there is one, and begins another. */
-static void end_sample(struct place *place)
+static void end_sample(struct arena *arena)
 {
     for (int side = 0; side < 2 && sample.rows[UNIT][0]; side++) {
-        place->at_end = side;
-        check_sample(place, &sample);
+        arena->at_end = side;
+        check_sample(arena, &sample);
     }
     memset(&sample, 0, sizeof sample);
 }
 
 /* Reads a row of the file of samples. */
-static void take_row(struct place *place, const char *row)
+static void take_row(struct arena *arena, const char *row)
 {
     size_t length = strcspn(row, " ");
     if (strncmp(row, "unit ", 5) == 0)
-        end_sample(place);
+        end_sample(arena);
     for (int word = 0; word < WORDS; word++)
         if (strlen(sample_words[word]) == length && memcmp(row, sample_words[word], length) == 0) {
             CHECK(strlen(row + length + 1) < sizeof sample.rows[word]);
@@ -263,17 +264,17 @@ static void take_row(struct place *place, const char *row)
     CHECK(!"a row of no such word");
 }
 
-static void take_text(struct place *place, const char *row)
+static void take_text(struct arena *arena, const char *row)
 {
     for (int side = 0; side < 2; side++) {
-        place->at_end = side;
-        check_row(place, row);
+        arena->at_end = side;
+        check_row(arena, row);
     }
 }
 
 /* Calls a function with each row of a file, without its newline, and returns the number of rows. */
-static int each_row(const char *path, struct place *place,
-                    void (*take)(struct place *place, const char *row))
+static int each_row(const char *path, struct arena *arena,
+                    void (*take)(struct arena *arena, const char *row))
 {
     FILE *file = fopen(path, "r");
     CHECK(file != NULL);
@@ -284,7 +285,7 @@ static int each_row(const char *path, struct place *place,
         if (row[0] == '\0' || row[0] == '#')
             continue;
         row_read = row;
-        take(place, row);
+        take(arena, row);
         rows++;
     }
     row_read = NULL;
@@ -295,11 +296,11 @@ static int each_row(const char *path, struct place *place,
 int main(int count, char **arguments)
 {
     CHECK(count == 3);
-    struct place place = new_place();
-    atexit(say_row);
-    CHECK(each_row(arguments[1], &place, take_text) > 80);
+    struct arena arena = new_arena();
+    atexit(print_row);
+    CHECK(each_row(arguments[1], &arena, take_text) > 80);
     check_all();
-    CHECK(each_row(arguments[2], &place, take_row) > 200);
-    end_sample(&place);
+    CHECK(each_row(arguments[2], &arena, take_row) > 200);
+    end_sample(&arena);
     return 0;
 }

@@ -1,5 +1,5 @@
-/* Looks up the routes of the tables in a file that `tests/libraries/validity.py` wrote, whose data
- * lie between guard pages (testing.h).
+/* Looks up the routes of the tables in a file that `tests/libraries/validity.py` wrote; data lie
+ * between guard pages (testing.h).
  *
  * usage: validity_tests TABLES */
 #include "testing.h"
@@ -16,22 +16,21 @@ static uint32_t number32(const uint8_t **at)
     return value;
 }
 
-/* No VRP is shown, for this reason. */
-static void check_nothing(const struct place *place, const struct rtr_data *data,
+/* No VRP is found, for this reason. */
+static void check_nothing(const struct arena *arena, const struct rtr_data *data,
                           const struct rtr_route *route, size_t from, uint8_t why)
 {
-    struct rtr_covering *vrp = FILLED(place->told, struct rtr_covering);
+    struct rtr_covering *vrp = FILLED(arena->answer, struct rtr_covering);
     CHECK(rtr_covering(data, route, from, vrp) == why);
     CHECK(vrp->place == 0 && vrp->asn == 0 && vrp->prefix_length == 0);
     CHECK(vrp->max_length == 0 && vrp->mismatch == RTR_MATCHES);
 }
 
-/* The VRPs that cover the route are these, in this order, and no others if there are fewer than a
- * row can hold. */
-static void check_covering(const struct place *place, const struct rtr_data *data,
+/* These VRPs cover the route, in this order; if a row isn't full, there are no more. */
+static void check_covering(const struct arena *arena, const struct rtr_data *data,
                            const struct rtr_route *route, uint8_t count, const uint8_t **at)
 {
-    struct rtr_covering *vrp = FILLED(place->told, struct rtr_covering);
+    struct rtr_covering *vrp = FILLED(arena->answer, struct rtr_covering);
     size_t from = 0;
     for (uint8_t i = 0; i < count; i++) {
         CHECK(rtr_covering(data, route, from, vrp) == RTR_COVERS_ONE);
@@ -43,14 +42,14 @@ static void check_covering(const struct place *place, const struct rtr_data *dat
     }
     if (count == UINT8_MAX)
         return;
-    check_nothing(place, data, route, from, RTR_COVERS_NONE);
+    check_nothing(arena, data, route, from, RTR_COVERS_NONE);
 }
 
-/* The call accepts the bytes. */
-static struct rtr_data *checked(const struct place *place, const uint8_t *bytes, size_t length)
+/* Returns the checked data, which have to be valid. */
+static struct rtr_data *checked(const struct arena *arena, const uint8_t *bytes, size_t length)
 {
-    struct rtr_data *data = FILLED(place->other, struct rtr_data);
-    struct rtr_data_answer *answer = FILLED(place->told, struct rtr_data_answer);
+    struct rtr_data *data = FILLED(arena->other, struct rtr_data);
+    struct rtr_data_answer *answer = FILLED(arena->answer, struct rtr_data_answer);
     CHECK(rtr_check_data(bytes, length, data, answer) == RTR_OK);
     CHECK(answer->status == RTR_OK && answer->written == 0 && answer->offset == 0);
     CHECK(answer->side == 0 && answer->detail == 0);
@@ -58,14 +57,14 @@ static struct rtr_data *checked(const struct place *place, const uint8_t *bytes,
 }
 
 /* A table: its data, and each of its routes. */
-static void check_table(const struct place *place, const uint8_t **at, size_t *seen)
+static void check_table(const struct arena *arena, const uint8_t **at, size_t *seen)
 {
     size_t length = number32(at);
     uint32_t routes = number32(at);
-    const struct rtr_data *data = checked(place, copied(place, place->input, *at, length), length);
+    const struct rtr_data *data = checked(arena, copied(arena, arena->input, *at, length), length);
     *at += length;
     for (uint32_t i = 0; i < routes; i++) {
-        struct rtr_route *route = FILLED(place->unit, struct rtr_route);
+        struct rtr_route *route = FILLED(arena->unit, struct rtr_route);
         uint8_t validity = (*at)[2], count = (*at)[3];
         route->family = (*at)[0];
         route->prefix_length = (*at)[1];
@@ -75,28 +74,28 @@ static void check_table(const struct place *place, const uint8_t **at, size_t *s
         *at += sizeof route->address;
         CHECK(rtr_validate(data, route) == validity);
         seen[validity]++;
-        check_covering(place, data, route, count, at);
+        check_covering(arena, data, route, count, at);
     }
 }
 
 /* Invalid routes, over data without payloads. */
-static void check_none(const struct place *place)
+static void check_none(const struct arena *arena)
 {
     static const uint8_t end[] = {0, RTR_END_OF_DATA, 0, 1, 0, 0, 0, 12, 0, 0, 0, 7};
     static const struct rtr_route none[] = {
         {1, 0, 0, {0}}, {1, 5, 0, {0}}, {1, 4, 33, {0}}, {1, 6, 129, {0}},
     };
-    const struct rtr_data *data = checked(place, copied(place, place->input, end, sizeof end),
+    const struct rtr_data *data = checked(arena, copied(arena, arena->input, end, sizeof end),
                                           sizeof end);
     for (size_t i = 0; i < sizeof none / sizeof none[0]; i++) {
         CHECK(rtr_validate(data, none + i) == RTR_NO_ROUTE);
-        check_nothing(place, data, none + i, 0, RTR_COVERS_NO_ROUTE);
+        check_nothing(arena, data, none + i, 0, RTR_COVERS_NO_ROUTE);
     }
     CHECK(rtr_validate(data, &anywhere) == RTR_NOT_FOUND);
-    check_nothing(place, data, &anywhere, 0, RTR_COVERS_NONE);
+    check_nothing(arena, data, &anywhere, 0, RTR_COVERS_NONE);
 }
 
-/* Data that are refused: where the call stops, and why. */
+/* Data that are refused, with offset and status. */
 struct refused {
     const char *what;
     uint8_t bytes[64];
@@ -123,38 +122,38 @@ static const struct refused refusals[] = {
      0, 0, 2, 88, 0, 0, 28, 32}, 44, 20, RTR_NOT_CANONICAL, 0},
 };
 
-/* Lookups over bytes that aren't data are refused, and so are those over a struct that no check
- * filled. */
-static void check_refused(const struct place *place)
+/* Lookups over invalid data are refused, and so are those over a struct that rtr_check_data didn't
+ * fill. */
+static void check_refused(const struct arena *arena)
 {
     for (const struct refused *row = refusals; row < refusals + sizeof refusals / sizeof *refusals;
          row++) {
-        struct rtr_data *data = FILLED(place->other, struct rtr_data);
-        struct rtr_data_answer *answer = FILLED(place->told, struct rtr_data_answer);
-        const uint8_t *bytes = copied(place, place->input, row->bytes, row->length);
+        struct rtr_data *data = FILLED(arena->other, struct rtr_data);
+        struct rtr_data_answer *answer = FILLED(arena->answer, struct rtr_data_answer);
+        const uint8_t *bytes = copied(arena, arena->input, row->bytes, row->length);
         uint8_t status = rtr_check_data(row->length ? bytes : NULL, row->length, data, answer);
         check(status == row->status && answer->status == status, row->what, __FILE__, __LINE__);
         check(answer->offset == row->offset, row->what, __FILE__, __LINE__);
         CHECK(answer->detail == row->detail && answer->side == 1 && answer->written == 0);
         CHECK(rtr_validate(data, &anywhere) == RTR_UNCHECKED);
-        check_nothing(place, data, &anywhere, 0, RTR_COVERS_UNCHECKED);
+        check_nothing(arena, data, &anywhere, 0, RTR_COVERS_UNCHECKED);
     }
     static const struct rtr_data zeros;
     CHECK(rtr_validate(&zeros, &anywhere) == RTR_UNCHECKED);
-    check_nothing(place, &zeros, &anywhere, 0, RTR_COVERS_UNCHECKED);
-    const struct rtr_data *filled = FILLED(place->other, struct rtr_data);
+    check_nothing(arena, &zeros, &anywhere, 0, RTR_COVERS_UNCHECKED);
+    const struct rtr_data *filled = FILLED(arena->other, struct rtr_data);
     CHECK(rtr_validate(filled, &anywhere) == RTR_UNCHECKED);
-    check_nothing(place, filled, &anywhere, 0, RTR_COVERS_UNCHECKED);
+    check_nothing(arena, filled, &anywhere, 0, RTR_COVERS_UNCHECKED);
 }
 
-/* The archive's calls refuse a lookup with bytes of another length. */
-static void check_foreign(const struct place *place)
+/* The archive's calls refuse a lookup in bytes of another length. */
+static void check_foreign(const struct arena *arena)
 {
     static const uint8_t bytes[] = {V4(1, 1), END, 0};
-    const struct rtr_data *data = checked(place, copied(place, place->input, bytes, sizeof bytes),
+    const struct rtr_data *data = checked(arena, copied(arena, arena->input, bytes, sizeof bytes),
                                           sizeof bytes);
     const struct rtr_lookup *lookup = &data->lookup;
-    struct rtr_covering *vrp = FILLED(place->told, struct rtr_covering);
+    struct rtr_covering *vrp = FILLED(arena->answer, struct rtr_covering);
     for (size_t length = 0; length <= sizeof bytes; length++) {
         bool same = length == sizeof bytes;
         CHECK(rtr_validate_nonnull(data->bytes, length, lookup, &anywhere) ==
@@ -168,15 +167,15 @@ int main(int count, char **words)
 {
     CHECK(count == 2);
     struct cases cases = read_file(words[1]);
-    struct place place = new_place();
+    struct arena arena = new_arena();
     size_t seen[RTR_NO_ROUTE + 1] = {0};
     for (int side = 0; side < 2; side++) {
-        place.at_end = side;
-        check_none(&place);
-        check_refused(&place);
-        check_foreign(&place);
+        arena.at_end = side;
+        check_none(&arena);
+        check_refused(&arena);
+        check_foreign(&arena);
         for (const uint8_t *at = cases.bytes; at < cases.bytes + cases.length;)
-            check_table(&place, &at, seen);
+            check_table(&arena, &at, seen);
     }
     CHECK(seen[RTR_VALID] > 100 && seen[RTR_INVALID] > 100 && seen[RTR_NOT_FOUND] > 100);
     free((void *)cases.bytes);
