@@ -1,13 +1,13 @@
 """Units of the RPKI to Router protocol (RFC 6810, RFC 8210), data and their changes, and clients of
 a cache. All rules of the protocol are in a library whose functions are proved to meet their
-contracts; this package, which is tested, calls it by ctypes. It requires Linux on x86-64 or
-aarch64, Python 3.9 or newer, and nothing else.
+contracts; this package calls it by ctypes, and is tested. It requires Linux on x86-64 or aarch64,
+Python 3.9 or newer, and nothing else.
 
 Units
     Each of the eleven kinds is a frozen dataclass: `IPv4Prefix` and `IPv6Prefix`, which are both a
     `Prefix`, `RouterKey`, `Aspa`, `EndOfData`, `ErrorReport`, `SerialNotify`, `SerialQuery`,
     `ResetQuery`, `CacheResponse` and `CacheReset`. `units(source)` reads them from bytes or a
-    binary file, `bytes(unit)` is the written form, and units are equal if they mean the same.
+    binary file, `bytes(unit)` encodes a unit, and units are equal if they mean the same.
 
         for unit in units(open("recording", "rb")):
             print(unit)
@@ -16,25 +16,25 @@ Units
     recording.
 
 Data
-    `Data` is what a cache has, or a router has of it: a collection of payloads that never changes.
-    `load_data` loads what a recording or a list leaves, `Data.from_bytes` takes a sequence,
-    `Data.from_vrps` what a validator has; `apply` makes the changes of an answer, `delta` makes
-    `Changes`, `validate` and `covering` are origin validation (RFC 6811).
+    `Data` are the data of a cache or a router: an immutable collection of payloads. `load_data`
+    loads a recording or a list, `Data.from_bytes` a sequence, and `Data.from_vrps` the VRPs of a
+    validator; `apply` applies the changes of an answer, `delta` returns `Changes`, `validate` and
+    `covering` are origin validation (RFC 6811).
 
         data.validate("192.0.2.0/24", 65551) is Validity.VALID
 
 Clients
     `Client` follows a cache over sockets, `AsyncClient` does so for asyncio, and `Router` is the
-    session of both, without sockets or a clock. `follow` follows several caches by preference, and
-    `follow` of the module `aio` does so for asyncio.
+    session that both use, without sockets or a clock. `follow` follows several caches by
+    preference, and `aio.follow` does so for asyncio.
 
         for update in Client("cache.example", 3323):
             print(update.data, list(update.changes))
 
 Faults
-    A refusal of the library is a `Fault`, a ValueError with a class of its own for each status: it
-    has the offset of the unit, the unit, and the report that is owed to the peer. Any other reason
-    for which a session ends is a `SessionError`.
+    An input that the library refuses raises a `Fault`, a ValueError, with a class for each status.
+    It has the offset and the bytes of the unit, and the error report that the peer is owed. Any
+    other reason for which a session ends is a `SessionError`.
 
 Several threads may use units, data and changes at once, but an iterator or a client only one at a
 time.
@@ -71,7 +71,7 @@ if TYPE_CHECKING:
     from .aio import AsyncClient
 else:
     def __getattr__(name: str) -> Any:
-        """Imports what needs asyncio when it is first used: that takes longer than all else."""
+        """Imports the asyncio client on first use, since importing asyncio is slow."""
         if name != "AsyncClient":
             raise AttributeError(f"module {__name__!r} has no attribute {name!r}")
         from .aio import AsyncClient

@@ -5,16 +5,16 @@ usage: python -m rtr_wire fetch HOST:PORT [--version 0|1|2] [--tls] [--ca FILE] 
        python -m rtr_wire check FILE
        python -m rtr_wire validate FILE PREFIX ASN
 
-fetch asks a cache for all of its data, and writes them as a sequence, in canonical form, on
-standard output or to a file. --tls speaks TLS, and --ca names a file of certificates that are
-trusted in the place of the system's. list prints a line of each unit of a recording, as rtr_list
-does, or of standard input where it is -; with --json each is an object. check prints what the units
-of such a file break of the protocol's rules, as rtr_list does with --check. validate says whether a
-route is valid by the data that such a file leaves (RFC 6811), and which VRPs cover it, each with
-why it doesn't match; of an answer that is cut off it says so, and leaves it out.
+fetch asks a cache for all of its data, and writes them in canonical form to standard output or a
+file. --tls uses TLS, and --ca names a file of CA certificates to trust instead of the system's.
+list prints a line for each unit of a recording, as rtr_list does; with --json, an object. check
+prints the protocol's rules that the units of a recording break, as rtr_list --check does. validate
+reports whether a route is valid by the data of a recording (RFC 6811), and which VRPs cover it,
+each with the reason why it doesn't match; it ignores an answer that is cut off, and reports that.
+For the FILE - it reads standard input.
 
-Exit status: 0 for success, 1 if the data didn't come or aren't data, or a unit is refused or breaks
-a rule, 2 for wrong arguments.
+Exit status: 0 for success; 1 if the data didn't come or are invalid, or a unit is refused or breaks
+a rule; 2 for wrong arguments.
 """
 from __future__ import annotations
 
@@ -65,24 +65,24 @@ def _arguments(words: Optional[List[str]]) -> argparse.Namespace:
     validate.add_argument("file", metavar="FILE")
     validate.add_argument("prefix", metavar="PREFIX")
     validate.add_argument("asn", metavar="ASN", type=_asn)
-    asked = parser.parse_args(words)
-    if asked.command == "fetch":
-        asked.tls = asked.tls or asked.ca is not None
-        if asked.output is None and sys.stdout.isatty():
+    arguments = parser.parse_args(words)
+    if arguments.command == "fetch":
+        arguments.tls = arguments.tls or arguments.ca is not None
+        if arguments.output is None and sys.stdout.isatty():
             fetch.error("data aren't text for a terminal: name a file by --output")
-    return asked
+    return arguments
 
 
-def _fetch(asked: argparse.Namespace) -> None:
+def _fetch(arguments: argparse.Namespace) -> None:
     """Writes the data of a cache."""
-    context = ssl.create_default_context(cafile=asked.ca) if asked.tls else None
-    host, port = asked.address
-    data = Client(host, port, Settings(version=asked.version), ssl=context).fetch()
-    if asked.output is None:
+    context = ssl.create_default_context(cafile=arguments.ca) if arguments.tls else None
+    host, port = arguments.address
+    data = Client(host, port, Settings(version=arguments.version), ssl=context).fetch()
+    if arguments.output is None:
         sys.stdout.buffer.write(bytes(data))
         sys.stdout.buffer.flush()
     else:
-        asked.output.write_bytes(bytes(data))
+        arguments.output.write_bytes(bytes(data))
     payloads = "payload" if len(data) == 1 else "payloads"
     print(f"session {data.session} serial {data.serial} version {data.version}: "
           f"{len(data)} {payloads}", file=sys.stderr)
@@ -93,50 +93,50 @@ def _input(name: str) -> bytes:
     return sys.stdin.buffer.read() if name == "-" else pathlib.Path(name).read_bytes()
 
 
-def _list(asked: argparse.Namespace) -> None:
-    """Prints the line of each unit, or its object."""
-    listing = unit_objects if asked.json else unit_lines
-    for line in listing(_input(asked.file)):
+def _list(arguments: argparse.Namespace) -> None:
+    """Prints the line, or the JSON object, of each unit."""
+    listing = unit_objects if arguments.json else unit_lines
+    for line in listing(_input(arguments.file)):
         print(line)
 
 
-def _check(asked: argparse.Namespace) -> int:
-    """Prints what breaks a rule, and returns the exit status."""
+def _check(arguments: argparse.Namespace) -> int:
+    """Prints the broken rules, and returns the exit status."""
     status = 0
-    for finding in check(_input(asked.file)):
+    for finding in check(_input(arguments.file)):
         status = 1
         print(finding)
     return status
 
 
-def _validate(asked: argparse.Namespace) -> None:
-    """Prints the validity of a route, and what covers it."""
-    data, has_cut = load_data(_input(asked.file))
+def _validate(arguments: argparse.Namespace) -> None:
+    """Prints the validity of a route, and the VRPs that cover it."""
+    data, has_cut = load_data(_input(arguments.file))
     if has_cut:
         print("rtr_wire: left out: an answer without an end of data", file=sys.stderr)
-    said = _words(data.validate(asked.prefix, asked.asn).name)
-    print(f"{asked.prefix} AS{asked.asn} {said}")
-    for vrp, mismatch in data.covering(asked.prefix, asked.asn):
+    validity = _words(data.validate(arguments.prefix, arguments.asn).name)
+    print(f"{arguments.prefix} AS{arguments.asn} {validity}")
+    for vrp, mismatch in data.covering(arguments.prefix, arguments.asn):
         print(f"  {vrp.prefix}-{vrp.max_length} AS{vrp.asn}: {_words(mismatch.name)}")
 
 
 def _words(name: str) -> str:
-    """Returns the name of a member of an enum, as words."""
+    """Returns the name of an enum member as words."""
     return name.lower().replace("_", " ")
 
 
 def main(words: Optional[List[str]] = None) -> int:
-    """Runs the command of these arguments, or of the command line, and returns the exit status."""
-    asked = _arguments(words)
+    """Runs the command in these words, or in the command line, and returns the exit status."""
+    arguments = _arguments(words)
     try:
-        if asked.command == "fetch":
-            _fetch(asked)
-        elif asked.command == "list":
-            _list(asked)
-        elif asked.command == "check":
-            return _check(asked)
+        if arguments.command == "fetch":
+            _fetch(arguments)
+        elif arguments.command == "list":
+            _list(arguments)
+        elif arguments.command == "check":
+            return _check(arguments)
         else:
-            _validate(asked)
+            _validate(arguments)
     except (OSError, Fault, SessionError, ValueError) as error:
         print(f"rtr_wire: {error}", file=sys.stderr)
         return 1

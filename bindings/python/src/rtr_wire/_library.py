@@ -1,4 +1,4 @@
-"""The shared library, and the arguments and results of its calls in Python."""
+"""The shared library, and conversions of the arguments and results of its calls."""
 from __future__ import annotations
 
 import ctypes
@@ -28,25 +28,25 @@ def _load() -> ctypes.CDLL:
             f"RTR_WIRE_LIBRARY names another: {error}") from error
     if version != _rtr.VERSION_NUMBER:
         raise ImportError(f"{path} is of version {version}, not {_rtr.VERSION_NUMBER}")
-    for name, (answer, taken) in _rtr.PROTOTYPES.items():
+    for name, (result, arguments) in _rtr.PROTOTYPES.items():
         function = getattr(library, name)
-        function.restype, function.argtypes = answer, taken
+        function.restype, function.argtypes = result, arguments
     return library
 
 
 CALLS = _load()
 
-# The fields of a struct rtr_unit, as one tuple; and of a struct rtr_route.
+# The layouts of a struct rtr_unit and a struct rtr_route.
 FIELDS = struct.Struct(_rtr.UNIT_LETTERS)
 ROUTE = struct.Struct(_rtr.ROUTE_LETTERS)
 
-# From this many bytes on, memory isn't filled with zeros.
+# Blocks of at least this many bytes aren't zeroed.
 _LARGE = 1 << 16
 
 
 def whole(buffer: Buffer, name: str = "data") -> bytes:
-    """Returns the bytes of a buffer, with its name for errors: the buffer itself if it is
-    immutable, else a copy."""
+    """Returns the bytes of a buffer: the buffer itself if it is immutable, else a copy. Errors
+    name it."""
     if type(buffer) is bytes:
         return buffer
     try:
@@ -57,7 +57,7 @@ def whole(buffer: Buffer, name: str = "data") -> bytes:
 
 
 def integer(name: str, value: Any) -> int:
-    """Returns an integer, with its name for errors."""
+    """Converts a value to an integer. Errors name it."""
     try:
         return operator.index(value)
     except TypeError:
@@ -65,7 +65,7 @@ def integer(name: str, value: Any) -> int:
 
 
 def number(name: str, value: Any, bits: int) -> int:
-    """Returns an integer that this many bits hold, with its name for errors."""
+    """Converts a value to an unsigned integer of this many bits. Errors name it."""
     found = integer(name, value)
     if not 0 <= found < 1 << bits:
         raise ValueError(f"{name} is {found}: it must be from 0 to {(1 << bits) - 1}")
@@ -81,7 +81,7 @@ def address_of(data: Any) -> int:
 
 
 def memory(size: int) -> Any:
-    """Returns this many bytes for the library to write to, which nobody else sees until it has."""
+    """Allocates `size` bytes for the library to write to. Don't share them before it has."""
     if size < _LARGE or platform.python_implementation() != "CPython":
         return ctypes.create_string_buffer(size)
     # A bytes object with unset contents, which the interpreter's C API allows to fill.
@@ -91,8 +91,8 @@ def memory(size: int) -> Any:
 
 
 def lengthen(buffer: bytearray, size: int) -> None:
-    """Makes a buffer this long. The bytes that it didn't have aren't set, if the interpreter allows
-    that. Raises MemoryError, with the buffer as it was."""
+    """Grows a buffer to `size` bytes; the new ones aren't zeroed, if the interpreter allows that.
+    After a MemoryError the buffer is unchanged."""
     if platform.python_implementation() != "CPython":
         buffer.extend(bytes(size - len(buffer)))
         return
@@ -115,7 +115,7 @@ def front(output: Any, length: int) -> bytes:
 
 
 def at_most(limit: Optional[int]) -> int:
-    """Returns a limit as the library takes it."""
+    """Converts a limit for the library; None is no limit."""
     largest = 2**64 - 1
     if limit is None:
         return largest
@@ -125,35 +125,35 @@ def at_most(limit: Optional[int]) -> int:
 
 
 def octet(version: int) -> int:
-    """Returns a version as one byte: 255, which no version has, for a number that no byte holds."""
+    """Returns a version as one byte: 255, which is no version, if it doesn't fit."""
     found = integer("version", version)
     return found if 0 <= found <= 255 else 255
 
 
 def unit_size(data: bytes, at: int = 0) -> Tuple[int, int, int]:
-    """Returns the status, the size and the detail of rtr_unit_size from there on."""
+    """Returns the status, the size and the detail of rtr_unit_size for the unit at this offset."""
     size, detail = ctypes.c_size_t(), ctypes.c_uint8()
     status = CALLS.rtr_unit_size_nonnull(address_of(data) + at, len(data) - at,
                                          ctypes.byref(size), ctypes.byref(detail))
     return status, size.value, detail.value
 
 
-# The bytes that the length of a unit needs: a header.
+# The size of a header, from which the length of a unit is known.
 HEADER = unit_size(b"")[1]
 
 
 def written(fields: Tuple[Any, ...], part: bytes) -> Tuple[int, bytes]:
-    """Returns the status of rtr_write_unit for a unit with these fields, and the form."""
+    """Returns the status of rtr_write_unit for a unit with these fields, and its form."""
     unit, length = _rtr.rtr_unit(), ctypes.c_size_t()
     FIELDS.pack_into(unit, 0, *fields)
-    room = FIELDS.size + len(part)
+    capacity = FIELDS.size + len(part)
     while True:
-        output = ctypes.create_string_buffer(room)
-        status = CALLS.rtr_write_unit_nonnull(unit, part, len(part), output, room,
+        output = ctypes.create_string_buffer(capacity)
+        status = CALLS.rtr_write_unit_nonnull(unit, part, len(part), output, capacity,
                                               ctypes.byref(length))
         if status != _rtr.Status.NO_ROOM:
             return status, output.raw[:length.value]
-        room *= 2
+        capacity *= 2
 
 
 def error_code(status: int, unit: bytes) -> Optional[int]:
@@ -163,7 +163,7 @@ def error_code(status: int, unit: bytes) -> Optional[int]:
     return code.value if owed else None
 
 
-def _said(call: Any, *numbers: int) -> str:
+def _text_of(call: Any, *numbers: int) -> str:
     """Returns the text that a call writes for these numbers."""
     output, length = ctypes.create_string_buffer(_rtr.TEXT_ROOM), ctypes.c_size_t()
     call(*numbers, output, len(output), ctypes.byref(length))
@@ -172,24 +172,24 @@ def _said(call: Any, *numbers: int) -> str:
 
 def status_text(status: int, detail: int) -> str:
     """Returns the text of a status with its detail."""
-    return _said(CALLS.rtr_text_nonnull, status, detail)
+    return _text_of(CALLS.rtr_text_nonnull, status, detail)
 
 
 def name(named: _rtr.Named, number: int) -> str:
     """Returns the name of a number."""
-    return _said(CALLS.rtr_name_nonnull, named, number)
+    return _text_of(CALLS.rtr_name_nonnull, named, number)
 
 
 def report(action: _rtr.rtr_action, about: bytes) -> bytes:
     """Returns the report that an action owes about the unit at the start of these bytes, or
     nothing."""
-    room, length = FIELDS.size + len(about), ctypes.c_size_t()
+    capacity, length = FIELDS.size + len(about), ctypes.c_size_t()
     while action.reports:
-        output = ctypes.create_string_buffer(room)
-        if CALLS.rtr_router_report_nonnull(action, about, len(about), output, room,
+        output = ctypes.create_string_buffer(capacity)
+        if CALLS.rtr_router_report_nonnull(action, about, len(about), output, capacity,
                                            ctypes.byref(length)):
             return output.raw[:length.value]
-        if room > 2 * len(about) + 2**16:
+        if capacity > 2 * len(about) + 2**16:
             break
-        room *= 2
+        capacity *= 2
     return b""

@@ -1,5 +1,5 @@
-"""The client for asyncio, and several of them by preference: loops around a `Router`, with the
-streams of asyncio."""
+"""The client for asyncio, and several of them by preference: loops around a `Router`, over
+asyncio streams."""
 from __future__ import annotations
 
 import asyncio
@@ -11,13 +11,12 @@ from ._library import number
 from ._rtr import Cause
 from .data import Data
 from .group import Decision, Group
-from .loops import CHUNK, LAST_BYTES, LOOK, REPORT_SECONDS, Asking, Clock, Told, new_router
+from .loops import CHUNK, LAST_BYTES, LOOK, REPORT_SECONDS, Asking, Clock, OnFailure, new_router
 from .router import Close, Connect, Failed, Router, SessionError, Settings, Update
 
-# A pair of streams.
 Streams = Tuple[asyncio.StreamReader, asyncio.StreamWriter]
 
-# After how many seconds without an answer the next address of a name is tried too.
+# Seconds without an answer after which the next address of a host name is tried too.
 _NEXT_ADDRESS = 0.25
 
 
@@ -40,7 +39,7 @@ class AsyncClient(Asking):
     """
 
     def __init__(self, host: str = "", port: int = 0, settings: Settings = Settings(), *,
-                 ssl: Optional[tls.SSLContext] = None, failed: Optional[Told] = None,
+                 ssl: Optional[tls.SSLContext] = None, failed: Optional[OnFailure] = None,
                  connect: Optional[Callable[[], Awaitable[Streams]]] = None) -> None:
         super().__init__()
         self.host, self.port, self.settings = host, number("port", port, 16), settings
@@ -67,7 +66,7 @@ class AsyncClient(Asking):
     def __aiter__(self) -> AsyncIterator[Update]:
         return self._updates(self._failed)
 
-    async def _updates(self, failed: Optional[Told]) -> AsyncGenerator[Update, None]:
+    async def _updates(self, failed: Optional[OnFailure]) -> AsyncGenerator[Update, None]:
         steps = self.run(new_router(self.settings), Clock())
         try:
             async for step in steps:
@@ -80,11 +79,11 @@ class AsyncClient(Asking):
 
     async def run(self, router: Router, clock: Clock
                   ) -> AsyncGenerator[Union[Update, Failed], None]:
-        """Yields what happens, until it is closed."""
+        """Yields the router's updates and failures, until the generator is closed."""
         streams, asked = None, self._asked
         try:
             while True:
-                asked = self._told(router, asked)
+                asked = self._pass_requests(router, asked)
                 step = router.step(clock.now())
                 if step is None:
                     await _wait(router, clock, streams)
@@ -132,7 +131,7 @@ async def _wait(router: Router, clock: Clock, streams: Optional[Streams]) -> Non
     except MemoryError as error:
         router.lost(error)
     except (OSError, asyncio.TimeoutError) as error:
-        # Without an error of the stream, the timer ended.
+        # Without an error of the stream, only the timer ended.
         if reader.exception() is not None or reader.at_eof():
             router.lost(error)
 
@@ -158,16 +157,16 @@ async def _last(reader: asyncio.StreamReader, writer: asyncio.StreamWriter, last
         writer.write_eof()
     left = LAST_BYTES
     while left > 0:
-        came = len(await reader.read(CHUNK))
-        left = left - came if came else 0
+        count = len(await reader.read(CHUNK))
+        left = left - count if count else 0
 
 
-# A function that is called with each failure, and the client that has it.
-ToldOf = Callable[[AsyncClient, Exception], Any]
+# A function that is called with the client that failed, and the error.
+OnFailureOf = Callable[[AsyncClient, Exception], Any]
 
 
 def follow(clients: Sequence[AsyncClient], *, patience: Optional[float] = None,
-           empty_is_data: Optional[bool] = None, failed: Optional[ToldOf] = None
+           empty_is_data: Optional[bool] = None, failed: Optional[OnFailureOf] = None
            ) -> AsyncGenerator[Tuple[AsyncClient, Update], None]:
     """`rtr_wire.follow` for asyncio, with the same arguments and errors.
 
@@ -182,7 +181,7 @@ def follow(clients: Sequence[AsyncClient], *, patience: Optional[float] = None,
 
 
 class _Run:
-    """One time that a client runs, in a task."""
+    """One run of a client, in a task."""
 
     def __init__(self) -> None:
         self.task: Optional[asyncio.Task[None]] = None
@@ -190,18 +189,18 @@ class _Run:
 
 
 class _News(NamedTuple):
-    """What happened in a run of a client."""
+    """An event of a client's run."""
 
-    place: int
+    member: int
     run: _Run
     step: Union[Update, Failed, Exception]
 
 
 class _Following:
-    """Clients in tasks, of which a group decides."""
+    """Clients in tasks; a group decides which run, and whose data are used."""
 
     def __init__(self, clients: Sequence[AsyncClient], group: Group,
-                 failed: Optional[ToldOf]) -> None:
+                 failed: Optional[OnFailureOf]) -> None:
         self._clients, self._group, self._failed = list(clients), group, failed
         self._clock = Clock()
         self._routers: List[Optional[Router]] = [None] * len(self._clients)
@@ -215,21 +214,21 @@ class _Following:
             while True:
                 decision = await self._next()
                 if decision.error is not None and self._failed is not None:
-                    self._failed(self._clients[decision.place], decision.error)
-                for place in decision.stop:
-                    self._stop(place)
+                    self._failed(self._clients[decision.member], decision.error)
+                for member in decision.stop:
+                    self._stop(member)
                 if decision.start is not None:
                     self._start(decision.start)
                 if decision.update is not None:
-                    yield self._clients[decision.place], decision.update
+                    yield self._clients[decision.member], decision.update
         finally:
-            for place in range(len(self._clients)):
-                self._stop(place)
+            for member in range(len(self._clients)):
+                self._stop(member)
             tasks = [run.task for run in self._runs if run is not None and run.task is not None]
             await asyncio.gather(*tasks, return_exceptions=True)
 
     async def _next(self) -> Decision:
-        """Waits for news of a client, or the group's next time."""
+        """Waits for an event of a client, or the group's next time."""
         wakes = self._group.wakes
         seconds = None if wakes is None else self._clock.until(wakes)
         try:
@@ -240,40 +239,40 @@ class _Following:
             return Decision()
         if isinstance(news.step, Exception):
             raise news.step
-        return self._group.happens(self._clock.now(), news.place, news.step)
+        return self._group.happens(self._clock.now(), news.member, news.step)
 
-    def _start(self, place: int) -> None:
-        """Starts a client, once its last run has ended."""
-        before, run = self._runs[place], _Run()
-        self._runs[place] = run
-        run.task = asyncio.get_running_loop().create_task(self._run(place, run, before))
+    def _start(self, member: int) -> None:
+        """Starts a client after its last run has ended."""
+        before, run = self._runs[member], _Run()
+        self._runs[member] = run
+        run.task = asyncio.get_running_loop().create_task(self._run(member, run, before))
 
-    def _stop(self, place: int) -> None:
-        run = self._runs[place]
+    def _stop(self, member: int) -> None:
+        run = self._runs[member]
         if run is not None and run.task is not None:
             run.is_stopped = True
             run.task.cancel()
 
-    async def _run(self, place: int, run: _Run, before: Optional[_Run]) -> None:
+    async def _run(self, member: int, run: _Run, before: Optional[_Run]) -> None:
         """Runs a client until its task is cancelled."""
         if before is not None and before.task is not None:
             await asyncio.wait([before.task])
         try:
-            client, router = self._clients[place], self._router(place)
+            client, router = self._clients[member], self._router(member)
             steps = client.run(router, self._clock)
             try:
                 async for step in steps:
-                    await self._news.put(_News(place, run, step))
+                    await self._news.put(_News(member, run, step))
             finally:
                 await steps.aclose()
         except Exception as error:
-            await self._news.put(_News(place, run, error))
+            await self._news.put(_News(member, run, error))
 
-    def _router(self, place: int) -> Router:
-        """Returns the router of a client, which begins again if it ran before."""
-        router = self._routers[place]
+    def _router(self, member: int) -> Router:
+        """Returns the router of a client, restarted if it ran before."""
+        router = self._routers[member]
         if router is None:
-            router = self._routers[place] = new_router(self._clients[place].settings)
+            router = self._routers[member] = new_router(self._clients[member].settings)
         else:
             router.again()
         return router

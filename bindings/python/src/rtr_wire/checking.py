@@ -13,8 +13,8 @@ from .faults import refusal
 
 @dataclass(frozen=True)
 class Finding:
-    """A rule that the unit at an offset breaks, or all units together, with their length as offset.
-    Its text is the line of rtr_list."""
+    """A rule that the unit at an offset breaks, or that all units together break; then the offset
+    is their length. Its text is the line of rtr_list."""
 
     offset: int
     rule: Rule
@@ -25,7 +25,7 @@ class Finding:
 
 
 def check(data: Buffer) -> Iterator[Finding]:
-    """Returns the rules of rtr_list --check that the units in these bytes break, in order.
+    """Yields the rules of rtr_list --check that the units in these bytes break, in order.
 
     Raises, at the next unit, what Units raises, except PrefixError.
     """
@@ -33,7 +33,7 @@ def check(data: Buffer) -> Iterator[Finding]:
 
 
 def _findings(data: bytes) -> Iterator[Finding]:
-    """Yields what `check` finds in these bytes."""
+    """Yields the findings in these bytes."""
     at = 0
     state, checked, named = _rtr.rtr_check(), _rtr.rtr_checked(), _rtr.rtr_naming()
     output = ctypes.create_string_buffer(NAME_ROOM)
@@ -63,7 +63,7 @@ def _findings(data: bytes) -> Iterator[Finding]:
 
 
 def _finding(found: _rtr.rtr_finding, offset: int) -> Finding:
-    """Returns the finding with these numbers."""
+    """Converts a struct to a finding."""
     line = ctypes.create_string_buffer(FINDING_ROOM)
     length = CALLS.rtr_finding_line_nonnull(ctypes.byref(found), offset, line, FINDING_ROOM)
     return Finding(offset, Rule(found.rule), ctypes.string_at(line, length).decode("ascii"))

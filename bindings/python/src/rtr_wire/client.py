@@ -10,14 +10,14 @@ from typing import Callable, Generator, Iterator, Optional, Union
 from ._library import number
 from ._rtr import Cause
 from .data import Data
-from .loops import CHUNK, LAST_BYTES, LOOK, REPORT_SECONDS, Asking, Clock, Told, new_router
+from .loops import CHUNK, LAST_BYTES, LOOK, REPORT_SECONDS, Asking, Clock, OnFailure, new_router
 from .router import Close, Connect, Failed, Router, SessionError, Settings, Update
 
 
 class Client(Asking):
     """A router's end over TCP: it asks a cache for data, and follows their changes (RFC 8210
-    sections 6 to 8). docs/SESSIONS.md says what it does when; the library's proved client decides
-    that.
+    sections 6 to 8). The library's proved client decides what it does when; docs/SESSIONS.md has
+    the rules.
 
         for update in Client("cache.example", 3323):
             for unit in update.changes:
@@ -37,7 +37,7 @@ class Client(Asking):
     """
 
     def __init__(self, host: str = "", port: int = 0, settings: Settings = Settings(), *,
-                 ssl: Optional[tls.SSLContext] = None, failed: Optional[Told] = None,
+                 ssl: Optional[tls.SSLContext] = None, failed: Optional[OnFailure] = None,
                  connect: Optional[Callable[[float], socket.socket]] = None) -> None:
         super().__init__()
         self.host, self.port, self.settings = host, number("port", port, 16), settings
@@ -61,7 +61,7 @@ class Client(Asking):
     def __iter__(self) -> Iterator[Update]:
         return self._updates(self._failed)
 
-    def _updates(self, failed: Optional[Told]) -> Generator[Update, None, None]:
+    def _updates(self, failed: Optional[OnFailure]) -> Generator[Update, None, None]:
         with contextlib.closing(self.run(new_router(self.settings), Clock())) as steps:
             for step in steps:
                 if isinstance(step, Update):
@@ -71,11 +71,12 @@ class Client(Asking):
 
     def run(self, router: Router, clock: Clock, is_stopped: Callable[[], bool] = lambda: False
             ) -> Generator[Union[Update, Failed], None, None]:
-        """Yields what happens, until it is stopped, which it looks for when the router waits."""
+        """Yields the router's updates and failures, until `is_stopped`, which is checked while the
+        router waits."""
         connection, asked = None, self._asked
         try:
             while not is_stopped():
-                asked = self._told(router, asked)
+                asked = self._pass_requests(router, asked)
                 step = router.step(clock.now())
                 if step is None:
                     self._wait(router, clock, connection)
@@ -91,12 +92,12 @@ class Client(Asking):
                 connection.close()
 
     def _over_tcp(self, seconds: float) -> socket.socket:
-        """Connects to the first address that answers, each in its share of the time."""
+        """Connects to the first address that answers; each gets its share of the remaining time."""
         end = time.monotonic() + seconds
         error: Exception = OSError(f"{self.host} has no address")
         addresses = socket.getaddrinfo(self.host, self.port, type=socket.SOCK_STREAM)
-        for place, address in enumerate(addresses):
-            share = (end - time.monotonic()) / (len(addresses) - place)
+        for index, address in enumerate(addresses):
+            share = (end - time.monotonic()) / (len(addresses) - index)
             until = time.monotonic() + share
             connection = socket.socket(address[0], address[1])
             try:
@@ -139,14 +140,14 @@ class Client(Asking):
         except (BlockingIOError, tls.SSLWantReadError, tls.SSLWantWriteError):
             return  # only the time has passed
         except (OSError, MemoryError) as error:
-            # A timeout of the timer has no errno.
+            # The timeout of `settimeout` has no errno, unlike ETIMEDOUT of the connection.
             if not isinstance(error, socket.timeout) or error.errno is not None:
                 router.lost(error)
 
 
 def _close(connection: Optional[socket.socket], last: bytes) -> None:
-    """Sends a last unit, if there is one, lets the cache read it, and closes the connection. If
-    bytes were unread, closing would reset it, and the unit might be lost."""
+    """Sends a last unit, if there is one, lets the cache read it, and closes the connection. Unread
+    bytes of the cache would reset the connection, and the unit might be lost, so they are read."""
     if connection is None:
         return
     end = time.monotonic() + REPORT_SECONDS
@@ -158,8 +159,8 @@ def _close(connection: Optional[socket.socket], last: bytes) -> None:
             left = LAST_BYTES
             while left > 0 and time.monotonic() < end:
                 connection.settimeout(max(end - time.monotonic(), 0.001))
-                came = len(connection.recv(CHUNK))
-                left = left - came if came else 0
+                count = len(connection.recv(CHUNK))
+                left = left - count if count else 0
     except OSError:
         pass  # the connection is closing anyway
     finally:

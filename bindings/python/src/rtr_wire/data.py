@@ -15,10 +15,10 @@ from .reading import Units, count_units, normalise
 from .units import EndOfData, Payload, Unit, Vrp
 
 Network = Union[ipaddress.IPv4Network, ipaddress.IPv6Network]
-_One = TypeVar("_One", bound="_Canonical")
+_Self = TypeVar("_Self", bound="_Canonical")
 
-# How many bytes the data of a recording may have at first; the buffers grow for more.
-_FIRST_ROOM = 1 << 24
+# The first size, at most, of the buffers for the data of a recording; they grow if needed.
+_FIRST_CAPACITY = 1 << 24
 
 
 class Part(NamedTuple):
@@ -30,20 +30,20 @@ class Part(NamedTuple):
 
 
 def _all_of(data: bytes) -> Part:
-    """Returns all of these bytes."""
+    """Returns the part with all of these bytes."""
     return Part(data, len(data))
 
 
 def _piece(part: Part, at: int, most: int) -> bytes:
-    """Returns the bytes of a part from there on, at most so many."""
+    """Returns at most this many bytes of a part, from an offset on."""
     return ctypes.string_at(_library.address_of(part.memory) + at, min(most, part.length - at))
 
 
-def fitted(output: Any, written: int, room: int) -> Part:
-    """Returns the start of an output of this size, as a copy if much of it is unused and there is
-    memory for one."""
+def fitted(output: Any, written: int, capacity: int) -> Part:
+    """Returns the written part of an output of this capacity, as a copy if much of it is unused and
+    memory allows."""
     part = Part(output, written)
-    if 4 * written > 3 * room:
+    if 4 * written > 3 * capacity:
         return part
     try:
         return _all_of(front(*part))
@@ -60,78 +60,78 @@ def _refused(answer: _rtr.rtr_data_answer, *inputs: Part) -> Fault:
 
 
 def _delta(old: Part, new: Part) -> Part:
-    """Returns what rtr_delta writes."""
-    room = old.length + new.length
-    output, answer = memory(room), _rtr.rtr_data_answer()
+    """Calls rtr_delta."""
+    capacity = old.length + new.length
+    output, answer = memory(capacity), _rtr.rtr_data_answer()
     status = CALLS.rtr_delta_nonnull(
-        old.memory, old.length, new.memory, new.length, output, room, answer)
+        old.memory, old.length, new.memory, new.length, output, capacity, answer)
     if status != Status.OK:
         raise _refused(answer, old, new)
-    return fitted(output, answer.written, room)
+    return fitted(output, answer.written, capacity)
 
 
-def _index(places: int) -> Any:
-    """An index of so many places."""
-    return memory(ctypes.sizeof(ctypes.c_size_t) * (places + 1))
+def _index(entries: int) -> Any:
+    """Allocates an index with this many entries."""
+    return memory(ctypes.sizeof(ctypes.c_size_t) * (entries + 1))
 
 
 def _index_for(changes: Part) -> Tuple[Any, int]:
-    """An index for changes, and its places: no unit is shorter than a header."""
-    places = changes.length // HEADER
-    return _index(places), places
+    """Allocates an index for changes, and returns its length: no unit is shorter than a header."""
+    entries = changes.length // HEADER
+    return _index(entries), entries
 
 
 def _ordered(changes: Part) -> Part:
-    """What rtr_order writes."""
-    room, (index, places) = changes.length, _index_for(changes)
-    output, answer = memory(room), _rtr.rtr_data_answer()
+    """Calls rtr_order."""
+    capacity, (index, entries) = changes.length, _index_for(changes)
+    output, answer = memory(capacity), _rtr.rtr_data_answer()
     status = CALLS.rtr_order_nonnull(
-        changes.memory, changes.length, index, places, output, room, answer)
+        changes.memory, changes.length, index, entries, output, capacity, answer)
     if status != Status.OK:
         raise _refused(answer, changes)
-    return fitted(output, answer.written, room)
+    return fitted(output, answer.written, capacity)
 
 
 def _applied(data: Part, changes: Part) -> Part:
-    """What rtr_apply_in_order writes."""
-    room, (index, places) = data.length + changes.length, _index_for(changes)
-    output, answer = memory(room), _rtr.rtr_data_answer()
+    """Calls rtr_apply_in_order."""
+    capacity, (index, entries) = data.length + changes.length, _index_for(changes)
+    output, answer = memory(capacity), _rtr.rtr_data_answer()
     status = CALLS.rtr_apply_in_order_nonnull(
-        data.memory, data.length, changes.memory, changes.length, index, places, output, room,
+        data.memory, data.length, changes.memory, changes.length, index, entries, output, capacity,
         answer)
     if status != Status.OK:
         raise _refused(answer, data, changes)
-    return fitted(output, answer.written, room)
+    return fitted(output, answer.written, capacity)
 
 
 class _Canonical(Collection[Payload]):
     """Payload units in canonical form, and an end of data."""
 
-    _held: Optional[Part]
+    _stored: Optional[Part]
     _length: Optional[int]
     _end: Optional[EndOfData]
     _forms: Optional[FrozenSet[bytes]]
     _lookup: Optional[_rtr.rtr_lookup]
 
     @classmethod
-    def _of(cls: Type[_One], part: Optional[Part]) -> _One:
-        """Wraps this memory, which is in canonical form and doesn't change any more."""
+    def _of(cls: Type[_Self], part: Optional[Part]) -> _Self:
+        """Wraps memory that is in canonical form and no longer changes."""
         instance = object.__new__(cls)
-        instance._held = part
+        instance._stored = part
         instance._length = instance._end = instance._forms = instance._lookup = None
         return instance
 
     @property
     def _part(self) -> Part:
-        """The memory that they are in, with their length."""
-        assert self._held is not None
-        return self._held
+        """The memory that has them, and their length."""
+        assert self._stored is not None
+        return self._stored
 
     @property
     def _bytes(self) -> bytes:
-        """Returns their bytes, which replace the memory from then on."""
+        """Their bytes, which replace the memory."""
         all_bytes = front(*self._part)
-        self._held = _all_of(all_bytes)
+        self._stored = _all_of(all_bytes)
         return all_bytes
 
     def __bytes__(self) -> bytes:
@@ -195,7 +195,7 @@ class _Canonical(Collection[Payload]):
 
 
 def _pieces(data: bytes) -> Iterator[bytes]:
-    """The units of data, each as its bytes."""
+    """Yields the bytes of each unit of data."""
     at = 0
     while at < len(data):
         _, size, _ = _library.unit_size(data, at)
@@ -204,7 +204,7 @@ def _pieces(data: bytes) -> Iterator[bytes]:
 
 
 def _end_in(sequence: bytes) -> bytes:
-    """Returns the end of data of a sequence, whose units may be of several versions."""
+    """Returns the bytes of a sequence's end of data; its units may be of several versions."""
     try:
         normalise(sequence, limit=normalise(sequence).units)
     except TooManyError as stopped:
@@ -220,8 +220,8 @@ class Changes(_Canonical):
     `for unit in changes` iterates over them, `len` counts them, `bytes` encodes them as the
     sequence that a cache sends after its response to a serial query (RFC 8210 section 8.2).
 
-    Those of an `Update` are made when they are first used, and hold the data before until then.
-    That may raise a MemoryError; then they can be used again when there is memory.
+    Those of an `Update` are computed when they are first used, and keep the old data until then.
+    That may raise a MemoryError; a later use tries again.
     """
 
     _sides: Optional[Tuple[Optional[Data], Optional[Data]]] = None
@@ -230,14 +230,14 @@ class Changes(_Canonical):
     def _part(self) -> Part:
         sides = self._sides
         if sides is not None:
-            self._held = _difference(*sides)
-            self._sides = None  # after the part is there, for other threads
+            self._stored = _difference(*sides)
+            self._sides = None  # only now, since another thread may read it
         return super()._part
 
     @classmethod
     def from_bytes(cls, sequence: Buffer) -> Changes:
         """Returns the net effect of the changes in the sequence at the start of these bytes,
-        applied one after the other: payload units in any order up to an end of data, all of one
+        applied one after the other: payload units in any order, and an end of data, all of one
         version.
 
         Raises a Fault with the offset of the unit, in this order: ShortError to PrefixError;
@@ -262,14 +262,14 @@ class Data(_Canonical):
     """The data of a cache or a router: payloads, and the end of data with their version, session,
     serial number and times. Immutable, so threads may share one.
 
-    It is a collection: `len(data)`, `for unit in data`, which iterates over the units that announce
-    its payloads in their order, and `unit in data`. `bytes(data)` is a sequence in canonical form
-    (defined in rtr.h), and equal if and only if data mean the same.
+    It is a collection: `for unit in data` iterates over the units that announce its payloads, in
+    order, and it has `len(data)` and `unit in data`. `bytes(data)` is a sequence in canonical form
+    (defined in rtr.h); it is equal if and only if the data mean the same.
 
     Args:
-        payloads: units that announce, in any order, none twice; of several ASPAs of a customer the
-            last counts
-        end: the end of data, of the version of all units
+        payloads: announcements, in any order, without duplicates; the last ASPA of a customer
+            replaces the earlier ones
+        end: the end of data; all units have its version
 
     Raises:
         NotCanonicalError: a unit isn't of the version of the end of data
@@ -281,22 +281,22 @@ class Data(_Canonical):
 
     @classmethod
     def from_bytes(cls, sequence: Buffer) -> Data:
-        """The data that the sequence at the front of these bytes makes, its changes made one after
-        the other: payload units in any order up to an end of data, all of one version, as a cache
-        sends them after its response to a reset query. What follows doesn't count: `load_data`
-        takes whole recordings.
+        """Returns the data of the sequence at the start of these bytes, as a cache sends it after
+        its response to a reset query: payload units in any order, applied one after the other, and
+        an end of data, all of one version. Later bytes are ignored; `load_data` loads whole
+        recordings.
 
         Raises a Fault with the offset of the unit, in this order: ShortError to PrefixError;
         NotCanonicalError for a unit of another version; DuplicateError, UnknownError for the first
-        that announces a payload which is present then, or withdraws one which isn't.
+        unit that announces a payload which is already present, or withdraws one which isn't.
         """
         changes = whole(sequence, "sequence")
         return cls._of(_applied(_all_of(_end_in(changes)), _all_of(changes)))
 
     @classmethod
     def from_vrps(cls, vrps: Iterable[Vrp], end: EndOfData = EndOfData(0, 0)) -> Data:
-        """Returns the data of VRPs in any order, of the version of this end of data. Duplicates
-        count once, since validators print one VRP for each ROA.
+        """Returns the data of VRPs in any order, in the version of this end of data. Duplicates are
+        ignored, since validators print one VRP for each ROA.
 
         Raises PrefixError for a max length below the prefix length or above the address length.
         """
@@ -306,15 +306,15 @@ class Data(_Canonical):
         return Data.from_bytes, (self._bytes,)
 
     def apply(self, changes: Union[Buffer, Changes]) -> Data:
-        """Applies the changes of an answer to the data as they came, and returns the result, with
-        the end of data of the changes: all of them, or there is a fault. An announced ASPA replaces
-        that of its customer.
+        """Applies the changes of an answer to the data, one after the other, and returns the
+        result, with the end of data of the changes; after a fault nothing is applied. An announced
+        ASPA replaces that of its customer.
 
         Raises a Fault, with the offset in the changes, in this order: ShortError to PrefixError;
         NotCanonicalError for a unit of another version than those before it; UnitVersionError,
         OtherSessionError for changes of another version or session than the data; DuplicateError,
-        UnknownError for the first that announces a payload which is present then, or withdraws one
-        which isn't; the cache is owed a report about it (RFC 8210 section 12).
+        UnknownError for the first unit that announces a payload which is already present, or
+        withdraws one which isn't. Send the cache a report about it (RFC 8210 section 12).
         """
         part = changes._part if isinstance(changes, Changes) else _all_of(whole(changes, "changes"))
         return self._of(_applied(self._part, part))
@@ -330,7 +330,7 @@ class Data(_Canonical):
 
     def for_version(self, version: int) -> Data:
         """Returns the data for clients of a version: in this version, without the payloads that it
-        doesn't have.
+        can't carry.
 
         Raises UnitVersionError for an unknown version.
         """
@@ -345,11 +345,10 @@ class Data(_Canonical):
         """Returns the validity of a route of this prefix from this AS (RFC 6811 section 2). AS 0
         stands for a route without a single origin, which no VRP matches. Host bits are ignored.
 
-        Raises ValueError for a text that is no prefix, or a number that is no AS, and TypeError for
-        other types.
+        Raises ValueError for an invalid prefix or AS, and TypeError for other types.
         """
         route, (memory, length) = _route(prefix, asn), self._part
-        return Validity(CALLS.rtr_validate_nonnull(memory, length, self._looked_up(), route))
+        return Validity(CALLS.rtr_validate_nonnull(memory, length, self._lookup_index(), route))
 
     def covering(self, prefix: Union[Network, str], asn: int) -> Iterator[Covering]:
         """Returns the VRPs that cover such a route, in the order of payloads, and why each doesn't
@@ -362,7 +361,7 @@ class Data(_Canonical):
     def _covering(self, network: Network, route: _rtr.rtr_route) -> Iterator[Covering]:
         found, index = _rtr.rtr_covering(), 0
         family, address = type(network), network.network_address.packed
-        lookup, (memory, length) = self._looked_up(), self._part
+        lookup, (memory, length) = self._lookup_index(), self._part
         while CALLS.rtr_covering_nonnull(memory, length, lookup, route, index,
                                          found) == Covers.ONE:
             index = found.place + 1
@@ -370,8 +369,8 @@ class Data(_Canonical):
             yield Covering(Vrp(covers, asn=found.asn, max_length=found.max_length),
                            Mismatch(found.mismatch))
 
-    def _looked_up(self) -> _rtr.rtr_lookup:
-        """Returns the index of the prefixes, which is made on first use."""
+    def _lookup_index(self) -> _rtr.rtr_lookup:
+        """Returns the index of the prefixes, which is built on first use."""
         if self._lookup is None:
             lookup, answer = _rtr.rtr_lookup(), _rtr.rtr_data_answer()
             status = CALLS.rtr_check_data_nonnull(*self._part, lookup, answer)
@@ -382,11 +381,11 @@ class Data(_Canonical):
 
 
 class Loaded(NamedTuple):
-    """What a recording or a list leaves.
+    """The result of `load_data`.
 
     Attributes:
-        data: the data of its whole answers
-        has_cut: whether an answer was left out, since the next one began before its end of data
+        data: the data after all whole answers
+        has_cut: whether an answer was ignored, since the next one began before its end of data
     """
 
     data: Data
@@ -394,21 +393,21 @@ class Loaded(NamedTuple):
 
 
 def load_data(recording: Buffer) -> Loaded:
-    """Loads the data that a recording or a list of units leaves: its answers one after the other,
-    each with or without a cache response, their payload units in any order. An answer changes the
-    data before it; after a reset query or a cache reset, and in another session, it replaces them
-    (RFC 8210 sections 5.1, 5.4 and 5.9). All of the input counts, also what a router sent.
+    """Loads the data that a recording or a list of units results in. It applies all answers one
+    after the other, each with or without a cache response, with payload units in any order. An
+    answer changes the data before it; after a reset query or a cache reset, and in another session,
+    it replaces them (RFC 8210 sections 5.1, 5.4 and 5.9). The input may have units of the router,
+    too.
 
         data, has_cut = load_data(pathlib.Path("recording").read_bytes())
 
-    It allocates two buffers, as long as the input but at most 16 MiB at first, which grow if the
+    It allocates two buffers as long as the input, but at first at most 16 MiB, which grow if the
     data are longer, and an index of the payload units of an answer.
 
-    Raises a Fault, with the offset of the first unit at which the recording can't go on:
-        ShortError to PrefixError: what isn't a unit; ShortError also at the end of the input, if an
-            answer has no end of data there or none came
-        DuplicateError, UnknownError: the first change of an answer that isn't allowed (RFC 8210
-            section 12)
+    Raises a Fault, with the offset of the first unit that is refused:
+        ShortError to PrefixError: an invalid unit; ShortError also at the end of the input, if an
+            answer lacks its end of data or there is no answer
+        DuplicateError, UnknownError: a change that RFC 8210 section 12 doesn't allow
         OtherVersionError: a payload unit or an end of data of another version than those before it
             in its answer, or than the data that it changes
         OtherSessionError: an end of data of another session than its answer (section 5.8)
@@ -416,22 +415,23 @@ def load_data(recording: Buffer) -> Loaded:
             (RFC 1982)
         ResetInsideError, ReportInsideError: a cache reset or an error report inside an answer
     """
-    given, loaded = whole(recording, "recording"), _rtr.rtr_loaded()
-    room = min(len(given), _FIRST_ROOM)
-    places = room // _rtr.IPV4_SIZE
+    data, loaded = whole(recording, "recording"), _rtr.rtr_loaded()
+    capacity = min(len(data), _FIRST_CAPACITY)
+    entries = capacity // _rtr.IPV4_SIZE
     while True:
-        output = memory(room)
-        status = CALLS.rtr_load_nonnull(given, len(given), _index(places), places, memory(room),
-                                        room, output, room, loaded)
+        output = memory(capacity)
+        status = CALLS.rtr_load_nonnull(
+            data, len(data), _index(entries), entries, memory(capacity), capacity, output, capacity,
+            loaded)
         if status == Status.OK:
-            part = fitted(output, loaded.length, room)
+            part = fitted(output, loaded.length, capacity)
             return Loaded(Data._of(part), loaded.has_cut)
         if status == Status.NO_INDEX:
-            places = max(loaded.wanted, 2 * places)
+            entries = max(loaded.wanted, 2 * entries)
         elif status == Status.NO_ROOM:
-            room = min(2 * room, len(given))
+            capacity = min(2 * capacity, len(data))
         else:
-            raise refusal(status, loaded.detail, given, loaded.offset)
+            raise refusal(status, loaded.detail, data, loaded.offset)
 
 
 def _vrp(vrp: Vrp) -> Vrp:
@@ -458,29 +458,29 @@ def _route(prefix: Union[Network, str], asn: int) -> _rtr.rtr_route:
 
 
 def data_in(part: Part) -> Data:
-    """Returns the data that this memory has in canonical form. It must not change any more."""
+    """Wraps data in canonical form. The memory must not change any more."""
     return Data._of(part)
 
 
 def part_of(data: Data) -> Part:
-    """Returns the memory that data are in now."""
+    """Returns the memory that has the data."""
     return data._part
 
 
 def difference(old: Optional[Data], new: Optional[Data]) -> Changes:
-    """Returns the changes from old data to new, whatever their versions and sessions, in the higher
-    of the versions, so that what the lower one lacks is withdrawn. One of them may be None, for no
-    data. They are made when they are first used."""
+    """Returns the changes from old data to new data of any versions and sessions, in the higher of
+    the versions, so that payloads that the lower one can't carry are withdrawn. One of them may be
+    None, for no data. The changes are computed when they are first used."""
     changes = Changes._of(None)
     changes._sides = (old, new)
     return changes
 
 
 def _difference(old: Optional[Data], new: Optional[Data]) -> Part:
-    """Makes the changes of `difference`."""
-    there = [data for data in (old, new) if data is not None]
-    version = max(data.version for data in there)
-    end = _in_version(there[-1], version).end
+    """Computes the changes of `difference`."""
+    present = [data for data in (old, new) if data is not None]
+    version = max(data.version for data in present)
+    end = _in_version(present[-1], version).end
     return _delta(*(_side(data, version, end) for data in (old, new)))
 
 
@@ -489,7 +489,7 @@ def _in_version(data: Data, version: int) -> Data:
 
 
 def _side(data: Optional[Data], version: int, end: EndOfData) -> Part:
-    """Returns data for a delta in a version and the session of an end of data."""
+    """Returns data in a version and the session of `end`, for a delta."""
     if data is None:
         return _all_of(bytes(end))
     data = _in_version(data, version)

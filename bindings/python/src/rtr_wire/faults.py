@@ -13,13 +13,12 @@ class Fault(ValueError):
 
     Attributes:
         status: the status, a `Status`
-        detail: of a UnitTypeError the type, of a UnitVersionError or an OtherVersionError the
-            version, of a PrefixError the `PrefixRule` that is broken; else 0
-        offset: where the unit at fault begins, in bytes from the front of the input; None where
-            no unit is at fault
-        unit: the bytes of that unit, as far as they are there and its length can be believed
-        side: of a call on data or on two inputs, which one has the unit: 1 or 2; else 0
-        before: of `normalise` what was done before the fault; else None
+        detail: the type for a UnitTypeError, the version for a UnitVersionError or an
+            OtherVersionError, the broken `PrefixRule` for a PrefixError; else 0
+        offset: the offset in the input, in bytes, of the unit at fault; None if no unit is
+        unit: the bytes of that unit, as far as they are available and its length is valid
+        side: the input that has the unit, for a call on data or on two inputs: 1 or 2; else 0
+        before: the result of `normalise` before the fault; else None
     """
 
     status: ClassVar[Status]
@@ -48,7 +47,7 @@ class Fault(ValueError):
 
     def report(self, version: int) -> Optional[bytes]:
         """Returns the error report that the peer is owed (RFC 8210 section 5.11), encoded for a
-        session of this version, or None. It has the unit, and a text that says what is wrong.
+        session of this version, or None. It encloses the unit, and its text is the status.
         """
         code = self.code
         if code is None:
@@ -79,7 +78,7 @@ class UnitVersionError(Fault):
 
 
 class TooLongError(Fault):
-    """A router key, an ASPA or an error report of more bytes than a unit may have."""
+    """A router key, an ASPA or an error report that is longer than a unit may be."""
 
     status = Status.TOO_LONG
 
@@ -127,8 +126,8 @@ class NotCanonicalError(Fault):
 
 
 class OtherSessionError(Fault):
-    """Changes, or data, of another session than the data; an end of data of another session than
-    its answer."""
+    """Changes or data of another session than the data; an end of data of another session than its
+    answer."""
 
     status = Status.OTHER_SESSION
 
@@ -158,15 +157,14 @@ class NoIndexError(Fault):
 
 
 class OtherVersionError(Fault):
-    """A unit of a recording of another version than its answer, or than the data that it
-    changes."""
+    """A unit in a recording, of another version than its answer or the data that it changes."""
 
     status = Status.OTHER_VERSION
 
 
 class OldSerialError(Fault):
-    """An end of data of changes in a recording whose serial number comes before that of the
-    data."""
+    """An end of data in a recording whose serial number comes before that of the data that its
+    answer changes."""
 
     status = Status.OLD_SERIAL
 
@@ -183,18 +181,18 @@ class ReportInsideError(Fault):
     status = Status.REPORT_INSIDE
 
 
-_CLASSES: Dict[int, Type[Fault]] = {one.status: one for one in Fault.__subclasses__()}
+_CLASSES: Dict[int, Type[Fault]] = {kind.status: kind for kind in Fault.__subclasses__()}
 
 
 def fault(status: int, detail: int = 0) -> Fault:
-    """Returns the fault of a call that names no unit."""
+    """Returns the fault of a status without a unit."""
     return _CLASSES[status](detail)
 
 
 def refusal(status: int, detail: int, data: bytes, at: int, *, offset: Optional[int] = None,
             side: int = 0) -> Fault:
-    """Returns the fault of the unit that begins there in these bytes: at this offset of the input,
-    if the bytes are only a part of it.
+    """Returns the fault of the unit at `at` in these bytes. `offset` is its offset in the input, if
+    the bytes are only a part of that.
     """
     known, size, _ = _library.unit_size(data, at)
     if status in (Status.TOO_MANY, Status.NO_ROOM):

@@ -11,31 +11,31 @@ from .group import Decision, Group
 from .loops import LOOK, Clock, new_router
 from .router import Failed, Router, Update
 
-# A function that is called with each failure, and the client that has it.
-ToldOf = Callable[[Client, Exception], Any]
+# A function that is called with the client that failed, and the error.
+OnFailureOf = Callable[[Client, Exception], Any]
 
 
 def follow(clients: Sequence[Client], *, patience: Optional[float] = None,
-           empty_is_data: Optional[bool] = None, failed: Optional[ToldOf] = None
+           empty_is_data: Optional[bool] = None, failed: Optional[OnFailureOf] = None
            ) -> Iterator[Tuple[Client, Update]]:
-    """Follows the data of the most preferred of some caches that answers (RFC 8210 section 10), as
-    docs/SESSIONS.md says: the first client is preferred most. Where it fails, its data stay until
-    the next one has a whole answer, or they expire.
+    """Follows the data of the most preferred cache that answers (RFC 8210 section 10;
+    docs/SESSIONS.md has the rules). The first client is preferred most. If the cache in use fails,
+    its data stay until another one has sent a whole answer, or they expire.
 
         for client, update in follow([Client("first.example", 323), Client("second.example", 323)]):
             print(client.host, update.data)
 
-    The loop yields an `Update` whenever other data are shown, and the client that has them, or that
-    lost the last ones. The changes lead to them from those before, of whatever client. Leave the
-    loop through `contextlib.closing`, so that all connections end; a thread that opens one at that
-    time ends when it is open, or can't be.
+    The loop yields an `Update` whenever the data in use change, with the client that has them, or
+    that lost the last ones. Its changes are those from the data yielded before, even if another
+    client had these. Leave the loop through `contextlib.closing`, so that all connections close; a
+    thread that is connecting at that time ends when it has connected or failed to.
 
     Args:
-        clients: at most 16. They aren't asked to call their own `failed`
+        clients: at most 16. Their own `failed` isn't called
         patience: how long, in seconds, a client may have no whole answer before the next one is
-            started too, while none has data; by default 5
-        empty_is_data: whether a whole answer without payloads counts as data; by default if there
-            is only one client. Otherwise it is a failure (`NoPayloads`)
+            started too, while none has data (default 5)
+        empty_is_data: whether a whole answer without payloads counts as data (default: only if
+            there is one client). Otherwise it is a failure (`NoPayloads`)
         failed: is called with a client and the reason when one of its connections ends, or there is
             no answer yet; may raise
 
@@ -46,24 +46,25 @@ def follow(clients: Sequence[Client], *, patience: Optional[float] = None,
 
 
 class _Run(NamedTuple):
-    """One time that a client runs."""
+    """One run of a client."""
 
     thread: threading.Thread
     stopped: threading.Event
 
 
 class _News(NamedTuple):
-    """What happened in a run."""
+    """An event of a client's run."""
 
-    place: int
+    member: int
     stopped: threading.Event
     step: Union[Update, Failed, BaseException]
 
 
 class _Following:
-    """Clients in threads, of which a group decides."""
+    """Clients in threads; a group decides which run, and whose data are used."""
 
-    def __init__(self, clients: Sequence[Client], group: Group, failed: Optional[ToldOf]) -> None:
+    def __init__(self, clients: Sequence[Client], group: Group,
+                 failed: Optional[OnFailureOf]) -> None:
         self._clients, self._group, self._failed = list(clients), group, failed
         self._clock = Clock()
         self._routers: List[Optional[Router]] = [None] * len(self._clients)
@@ -76,21 +77,21 @@ class _Following:
             while True:
                 decision = self._next()
                 if decision.error is not None and self._failed is not None:
-                    self._failed(self._clients[decision.place], decision.error)
-                for place in decision.stop:
-                    self._stop(place)
+                    self._failed(self._clients[decision.member], decision.error)
+                for member in decision.stop:
+                    self._stop(member)
                 if decision.start is not None:
                     self._start(decision.start)
                 if decision.update is not None:
-                    yield self._clients[decision.place], decision.update
+                    yield self._clients[decision.member], decision.update
         finally:
-            for place in range(len(self._clients)):
-                self._stop(place)
+            for member in range(len(self._clients)):
+                self._stop(member)
             for run in filter(None, self._runs):
                 run.thread.join(4 * LOOK)
 
     def _next(self) -> Decision:
-        """Waits for news of a client, or the group's next time."""
+        """Waits for an event of a client, or the group's next time."""
         wakes = self._group.wakes
         try:
             news = self._news.get(timeout=None if wakes is None else self._clock.until(wakes))
@@ -100,45 +101,45 @@ class _Following:
             return Decision()
         if isinstance(news.step, BaseException):
             raise news.step
-        return self._group.happens(self._clock.now(), news.place, news.step)
+        return self._group.happens(self._clock.now(), news.member, news.step)
 
-    def _start(self, place: int) -> None:
-        """Starts a client, once its last run has ended."""
-        before, stopped = self._runs[place], threading.Event()
-        thread = threading.Thread(target=self._run, args=(place, stopped, before), daemon=True,
-                                  name=f"rtr client {place}")
-        self._runs[place] = _Run(thread, stopped)
+    def _start(self, member: int) -> None:
+        """Starts a client after its last run has ended."""
+        before, stopped = self._runs[member], threading.Event()
+        thread = threading.Thread(target=self._run, args=(member, stopped, before), daemon=True,
+                                  name=f"rtr client {member}")
+        self._runs[member] = _Run(thread, stopped)
         thread.start()
 
-    def _stop(self, place: int) -> None:
-        run = self._runs[place]
+    def _stop(self, member: int) -> None:
+        run = self._runs[member]
         if run is not None:
             run.stopped.set()
 
-    def _run(self, place: int, stopped: threading.Event, before: Optional[_Run]) -> None:
-        """Runs a client, in its thread, until it is stopped."""
+    def _run(self, member: int, stopped: threading.Event, before: Optional[_Run]) -> None:
+        """Runs a client until it is stopped; the target of its thread."""
         if before is not None:
             before.thread.join()
         try:
-            client, router = self._clients[place], self._router(place)
+            client, router = self._clients[member], self._router(member)
             steps = client.run(router, self._clock, stopped.is_set)
             with contextlib.closing(steps):
                 for step in steps:
-                    self._tell(_News(place, stopped, step))
+                    self._publish(_News(member, stopped, step))
         except BaseException as error:
-            self._tell(_News(place, stopped, error))
+            self._publish(_News(member, stopped, error))
 
-    def _router(self, place: int) -> Router:
-        """Returns the router of a client, which begins again if it ran before."""
-        router = self._routers[place]
+    def _router(self, member: int) -> Router:
+        """Returns the router of a client, restarted if it ran before."""
+        router = self._routers[member]
         if router is None:
-            router = self._routers[place] = new_router(self._clients[place].settings)
+            router = self._routers[member] = new_router(self._clients[member].settings)
         else:
             router.again()
         return router
 
-    def _tell(self, news: _News) -> None:
-        """Gives the loop what happened, unless the run is stopped before it takes it."""
+    def _publish(self, news: _News) -> None:
+        """Passes an event to the loop, unless the run is stopped before the loop takes it."""
         while not news.stopped.is_set():
             try:
                 return self._news.put(news, timeout=LOOK)

@@ -1,4 +1,4 @@
-"""Caches by preference (RFC 8210 section 10): whose data are shown, and who is asked."""
+"""Caches by preference (RFC 8210 section 10): whose data are used, and which ones are asked."""
 from __future__ import annotations
 
 from typing import List, NamedTuple, Optional, Sequence, Union
@@ -9,12 +9,12 @@ from ._rtr import GroupShown, Status
 from .data import Data, difference
 from .router import Failed, Update, milliseconds
 
-# When a group is to be told the time, if that is never.
+# The library's time for "never".
 _NEVER = 2**64 - 1
 
 
 class NoPayloads(Exception):
-    """A cache has no payloads, which is no data for `follow` (docs/SESSIONS.md)."""
+    """A cache has no payloads, which `follow` doesn't accept as data (docs/SESSIONS.md)."""
 
     def __str__(self) -> str:
         return "the cache has no payloads"
@@ -24,31 +24,31 @@ class Decision(NamedTuple):
     """What a loop does, in this order.
 
     Attributes:
-        error: a failure to tell
-        place, update: new data to tell of, and the member that they are of; the update is None if
-            what is shown stays
-        stop: the members to stop, if they run
+        error: a failure of `member` to report, or None
+        member, update: new data to yield, and the member that has them; the update is None if the
+            data in use stay
+        stop: the members to stop, if they are running
         start: the member to start, or None
     """
 
     error: Optional[Exception] = None
-    place: int = 0
+    member: int = 0
     update: Optional[Update] = None
     stop: Sequence[int] = ()
     start: Optional[int] = None
 
 
 class Group:
-    """Decides by a struct rtr_group of rtr.h, which is proved, for a loop that follows members by
-    preference: member 0 is preferred most, and is to be started at once. Times are in milliseconds,
-    by a clock that doesn't go back.
+    """Wraps a struct rtr_group of rtr.h, which is proved, and decides for a loop that follows
+    members by preference. Member 0 is preferred most; the loop starts it at once. Times are in
+    milliseconds, by a monotonic clock.
 
     Args:
-        members: how many there are
+        members: the number of members
         patience: how long, in seconds, a member may have no whole answer before the next one is
-            started too, while none is current; None for the default
-        empty_is_data: whether a whole answer without payloads counts as data; None for only if
-            there is one member
+            started too, while none is current (None: the default)
+        empty_is_data: whether a whole answer without payloads counts as data (None: only if there
+            is one member)
 
     Raises ValueError for no member, or too many.
     """
@@ -68,7 +68,7 @@ class Group:
             raise ValueError(_library.status_text(status, 0))
         self._empty_is_data = bool(settings.empty_is_data)
         self._data: List[Optional[Data]] = [None] * members
-        self._dropped = [False] * members  # the failure that comes with that didn't come yet
+        self._dropped = [False] * members  # whether the failure of the same event is still to come
         self._shown: Optional[Data] = None
 
     @property
@@ -78,45 +78,45 @@ class Group:
         return None if when == _NEVER else when
 
     def ticks(self, now: int) -> Decision:
-        """Time passed."""
+        """Reports that time has passed."""
         CALLS.rtr_group_tick(self._group, now, self._answer)
         return self._decided(0, None)
 
-    def happens(self, now: int, place: int, step: Union[Update, Failed]) -> Decision:
-        """A member that runs took this step."""
+    def happens(self, now: int, member: int, step: Union[Update, Failed]) -> Decision:
+        """Reports a step of a running member."""
         group, answer, error = self._group, self._answer, None
-        dropped, self._dropped[place] = self._dropped[place], False
+        dropped, self._dropped[member] = self._dropped[member], False
         if isinstance(step, Failed):
-            if dropped:  # it is no event of its own
+            if dropped:  # part of the event before
                 return Decision(step.error)
             error = step.error
-            CALLS.rtr_group_fails(group, now, place, answer)
+            CALLS.rtr_group_fails(group, now, member, answer)
         elif step.data is None:
-            self._data[place], self._dropped[place] = None, True
-            CALLS.rtr_group_drops(group, now, place, answer)
+            self._data[member], self._dropped[member] = None, True
+            CALLS.rtr_group_drops(group, now, member, answer)
         else:
-            self._data[place], payloads = step.data, len(step.data)
+            self._data[member], payloads = step.data, len(step.data)
             if not payloads and not self._empty_is_data:
                 error = NoPayloads()
-            CALLS.rtr_group_shows(group, now, place, payloads, answer)
-        return self._decided(place, error)
+            CALLS.rtr_group_shows(group, now, member, payloads, answer)
+        return self._decided(member, error)
 
-    def _decided(self, place: int, error: Optional[Exception]) -> Decision:
-        """Returns what the group's answer to news of a member says, and forgets the data of those
+    def _decided(self, member: int, error: Optional[Exception]) -> Decision:
+        """Returns the group's decision on an event of a member, and drops the data of the members
         that stop."""
         answer, update = self._answer, None
         if answer.shown == GroupShown.DATA:
-            place = answer.member
-            update = self._show(self._data[place])
+            member = answer.member
+            update = self._show(self._data[member])
         elif answer.shown == GroupShown.NOTHING:
             update = self._show(None)
         stop = range(answer.stop, len(self._data)) if answer.stops else range(0)
-        for one in stop:
-            self._data[one], self._dropped[one] = None, False
-        return Decision(error, place, update, stop, answer.start if answer.starts else None)
+        for stopped in stop:
+            self._data[stopped], self._dropped[stopped] = None, False
+        return Decision(error, member, update, stop, answer.start if answer.starts else None)
 
     def _show(self, data: Optional[Data]) -> Optional[Update]:
-        """Shows other data than before, or none."""
+        """Replaces the data in use, perhaps by none, and returns the update."""
         before, self._shown = self._shown, data
         if before is None and data is None:
             return None

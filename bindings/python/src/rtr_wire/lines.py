@@ -12,8 +12,8 @@ from .units import Unit
 
 
 def unit_lines(data: Buffer) -> Iterator[str]:
-    """Yields the line of each unit in these bytes, without a newline. Like rtr_list it has a line
-    for a prefix whose lengths break their rule, too.
+    """Yields the line of each unit in these bytes, without a newline; like rtr_list also of a
+    prefix whose lengths break their rule.
 
     Raises, at the next unit, what Units raises, except PrefixError.
     """
@@ -26,7 +26,7 @@ def unit_objects(data: Buffer) -> Iterator[str]:
 
 
 def _each(call: Any, data: bytes) -> Iterator[str]:
-    """Yields what a call writes for each unit."""
+    """Yields the text that a call writes for each unit."""
     at, output, line = 0, ctypes.create_string_buffer(LINE_ROOM), _rtr.rtr_line()
     while at < len(data):
         status = call(address_of(data) + at, len(data) - at, at, output, len(output),
@@ -41,8 +41,8 @@ def _each(call: Any, data: bytes) -> Iterator[str]:
 
 
 def change_line(unit: Unit) -> str:
-    """Returns the line of a payload unit's change, without a newline, as rtr_diff prints it; an
-    empty text for another unit.
+    """Returns the line of a payload unit, without a newline, as rtr_diff prints it; an empty text
+    for other units.
     """
     return _change(CALLS.rtr_change_line_nonnull, unit)
 
@@ -53,11 +53,11 @@ def change_json(unit: Unit) -> str:
 
 
 def _change(call: Any, unit: Unit) -> str:
-    """Returns what a call writes for the change of a unit."""
-    form, line, room = bytes(unit), _rtr.rtr_line(), LINE_ROOM
+    """Returns the text that a call writes for the change of a unit."""
+    form, line, capacity = bytes(unit), _rtr.rtr_line(), LINE_ROOM
     while True:
-        output = ctypes.create_string_buffer(room)
-        status = call(form, len(form), output, room, ctypes.byref(line))
+        output = ctypes.create_string_buffer(capacity)
+        status = call(form, len(form), output, capacity, ctypes.byref(line))
         if status == Status.OK:
             return ctypes.string_at(output, line.length).decode("ascii")
-        room = line.length
+        capacity = line.length

@@ -9,28 +9,28 @@ from ._library import CALLS, memory, start_of
 from ._rtr import LinkStatus, TodoKind
 from .data import Data, Part, data_in, fitted, part_of
 
-# How long the input is while no answer needs more, and the output while little of it is unsent: a
-# struct needs room for the longest unit behind that.
+# The sizes of the input, unless an answer needs more, and of the output, unless much of it is
+# unsent: the library needs space for the longest unit behind the unsent bytes.
 _INPUT = 1 << 16
 _OUTPUT = 2 * _rtr.LONGEST_UNIT
 
-# The bytes of an entry of the index.
+# The size of an entry of the index.
 _ENTRY = ctypes.sizeof(ctypes.c_size_t)
 
 _NOTHING = Part(b"", 0)
 
 
 class Link:
-    """Owns a struct rtr_link of rtr.h, which is proved, and its buffers. `next` says what to do,
-    and makes a buffer longer where the struct needs that. Times are in milliseconds, by a clock
-    that doesn't go back, and below 2**63; else a call raises a ValueError. A call out of turn
-    raises a RuntimeError, and changes nothing.
+    """Owns a struct rtr_link of rtr.h, which is proved, and its buffers. `next` returns what to do,
+    and grows the buffers that the struct asks for. Times are in milliseconds, by a monotonic clock,
+    and below 2**63; else a call raises a ValueError. A call out of turn raises a RuntimeError, and
+    changes nothing.
 
-    The data are never changed: each answer is written to memory of its own.
+    Data are immutable: each answer is written to new memory.
 
     Attributes:
-        data: what the struct has, even if they have expired; None for no data
-        gave_up: whether the last `next` ended the connection, since there was no memory
+        data: the data, even if they have expired; None without data
+        gave_up: whether the last `next` ended the connection for lack of memory
     """
 
     def __init__(self, settings: _rtr.rtr_settings) -> None:
@@ -38,60 +38,59 @@ class Link:
         self._state = _rtr.rtr_link_state()
         self._input, self._output = bytearray(_INPUT), bytearray(_OUTPUT)
         self.data: Optional[Data] = None
-        self._made: Any = b""  # where the next data are written
+        self._next_data: Any = b""  # the buffer for the next data
         self._index: Any = b""
         self._now = 0  # the latest time
-        self._came = 0  # how many bytes came on this connection
-        self._filled = 0  # how many bytes the input had before the last action
+        self._received = 0  # bytes received on this connection
+        self._filled = 0  # bytes in the input before the last action
         self.gave_up = False
         CALLS.rtr_link_init(self._link, settings)
-        self._look(0)
+        self._refresh(0)
 
     def again(self) -> None:
-        """Begins again without data, with the same settings and cache: the waits for a cache that
-        fails continue to grow."""
-        self._must(CALLS.rtr_link_again(self._link))
+        """Restarts without data, with the same settings and cache: the waits for a failing cache
+        continue to grow."""
+        self._check(CALLS.rtr_link_again(self._link))
         self._forget()
-        self._look(self._now)
+        self._refresh(self._now)
 
-    # ---- what happened
+    # ---- events
 
     def opened(self) -> None:
-        """Reports that the connection is open, for which `next` asked."""
-        self._must(CALLS.rtr_link_opened(self._link))
-        self._came = 0
+        """Reports that the connection is open that `next` asked for."""
+        self._check(CALLS.rtr_link_opened(self._link))
+        self._received = 0
 
     def lost(self) -> None:
-        """Reports that no connection could be opened, that the cache closed it, or that it
-        broke."""
-        self._must(CALLS.rtr_link_lost(self._link))
+        """Reports that connecting failed, or that the connection was closed or broke."""
+        self._check(CALLS.rtr_link_lost(self._link))
 
     def received(self, data: bytes) -> int:
-        """Takes bytes that came, as many as there is memory for: some, after `next` returned
-        `TodoKind.WAIT`. Returns how many."""
+        """Reads received bytes, as many as memory allows, and returns their number: at least one
+        after `next` returned `TodoKind.WAIT`."""
         filled, size = self._state.filled, len(data)
         self._lengthen_input(filled + size)
         count = min(size, len(self._input) - filled)
-        with memoryview(self._input) as room:
-            room[filled:filled + count] = data if count == size else data[:count]
-        self._must(CALLS.rtr_link_received_nonnull(
+        with memoryview(self._input) as view:
+            view[filled:filled + count] = data if count == size else data[:count]
+        self._check(CALLS.rtr_link_received_nonnull(
             self._link, start_of(self._input), len(self._input), count))
-        self._came += count
-        self._look(self._now)
+        self._received += count
+        self._refresh(self._now)
         return count
 
     def sent(self, count: int) -> None:
         """Reports that this many bytes of the output were sent."""
-        self._must(CALLS.rtr_link_sent_nonnull(
+        self._check(CALLS.rtr_link_sent_nonnull(
             self._link, start_of(self._output), len(self._output), count))
-        self._look(self._now)
+        self._refresh(self._now)
 
     # ---- what to do
 
     def next(self, now: int, asks: bool = False) -> _rtr.rtr_todo:
-        """Returns what to do at this time; with `asks` the caller wants the present data. The kind
-        is WAIT, CONNECT, CLOSE, DATA, DROPPED or NO_DATA of `TodoKind`, as rtr.h explains them. The
-        struct is the link's own, until the next call."""
+        """Returns what to do at this time; `asks` requests current data. The kind is WAIT, CONNECT,
+        CLOSE, DATA, DROPPED or NO_DATA of `TodoKind`, which rtr.h explains. The struct is valid
+        until the next call."""
         todo, call = self._todo, self._ask_now if asks else self._next
         if todo.kind in (TodoKind.CLOSE, TodoKind.DATA):
             self._shorten()
@@ -101,7 +100,7 @@ class Link:
             if todo.kind == TodoKind.GO:
                 call = self._next
                 call(now)
-            elif self._has_grown(todo.kind, todo.room):
+            elif self._grow(todo.kind, todo.room):
                 call(now)
             else:
                 self._give_up(now)
@@ -114,107 +113,108 @@ class Link:
 
     @property
     def wakes(self) -> int:
-        """When to call `next`, if nothing happens before."""
+        """When to call `next` if nothing happens before."""
         return int(self._state.wakes)
 
     def has_data(self, now: int) -> bool:
-        """Reports whether there are data, which haven't expired at this time."""
-        self._look(now)
+        """Reports whether there are data that haven't expired at this time."""
+        self._refresh(now)
         return bool(self._state.has_data)
 
     def about(self, offset: int) -> bytes:
-        """Returns the unit, and perhaps more, at this offset of the input as the last action found
-        it."""
+        """Returns the unit, and perhaps more, that was at this offset of the input before the last
+        action."""
         return bytes(self._input[offset:min(self._filled, offset + _rtr.LONGEST_UNIT)])
 
     def offset_of(self, offset: int) -> int:
-        """Returns where this offset of the input is in what came on the connection."""
-        return self._came - (self._filled - offset)
+        """Converts an offset of the input to one in all bytes received on the connection."""
+        return self._received - (self._filled - offset)
 
-    # ---- the calls
+    # ---- calls
 
-    def _must(self, status: int) -> None:
-        """Raises an error for a call that is refused."""
+    def _check(self, status: int) -> None:
+        """Raises an error if a call was refused."""
         if status == LinkStatus.BAD_TIME:
             raise ValueError("now must be below 2**63, and no earlier time than before")
         if status != LinkStatus.OK:
             raise RuntimeError(f"a call of the link is refused: {LinkStatus(status).name}")
 
     def _side(self, second: bool) -> Part:
-        """Returns a data buffer: that of the data, or that of the next ones."""
+        """Returns the first or the second data buffer: one has the data, one is for the next
+        data."""
         if second != self._state.second:
-            return Part(self._made, len(self._made))
+            return Part(self._next_data, len(self._next_data))
         return _NOTHING if self.data is None else part_of(self.data)
 
-    def _look(self, now: int) -> None:
-        """Asks what the buffers hold at this time."""
-        self._must(CALLS.rtr_link_state_of(
+    def _refresh(self, now: int) -> None:
+        """Updates the state of the buffers."""
+        self._check(CALLS.rtr_link_state_of(
             self._link, now, len(self._input), self._side(False).length,
             self._side(True).length, len(self._output), self._state))
 
     def _next(self, now: int) -> None:
         self._filled = self._state.filled
-        self._must(CALLS.rtr_link_next_nonnull(
+        self._check(CALLS.rtr_link_next_nonnull(
             self._link, now, start_of(self._input), len(self._input), *self._side(False),
             *self._side(True), self._index, len(self._index) // _ENTRY, start_of(self._output),
             len(self._output), self._todo))
-        self._done(now)
+        self._finish(now)
 
     def _ask_now(self, now: int) -> None:
-        self._tell(CALLS.rtr_link_ask_now_nonnull, now)
+        self._call(CALLS.rtr_link_ask_now_nonnull, now)
 
     def _give_up(self, now: int) -> None:
-        self._tell(CALLS.rtr_link_give_up_nonnull, now)
+        self._call(CALLS.rtr_link_give_up_nonnull, now)
         self.gave_up = True
 
-    def _tell(self, call: Any, now: int) -> None:
+    def _call(self, call: Any, now: int) -> None:
         self._filled = self._state.filled
-        self._must(call(self._link, now, start_of(self._input), len(self._input),
+        self._check(call(self._link, now, start_of(self._input), len(self._input),
                         start_of(self._output), len(self._output), self._todo))
-        self._done(now)
+        self._finish(now)
 
-    def _done(self, now: int) -> None:
-        """Takes what an action made of the data."""
+    def _finish(self, now: int) -> None:
+        """Takes over new data after an action, or drops the data."""
         self._now, todo = now, self._todo
-        self._look(now)
+        self._refresh(now)
         if todo.kind == TodoKind.DATA:
-            self.data = data_in(fitted(self._made, self._state.shown, len(self._made)))
-            self._made = self._index = b""
+            self.data = data_in(fitted(self._next_data, self._state.shown, len(self._next_data)))
+            self._next_data = self._index = b""
         elif todo.kind == TodoKind.DROPPED or todo.drops:
             self._forget()
 
-    # ---- the buffers
+    # ---- buffers
 
     def _forget(self) -> None:
-        """Lets go of the data, and of what isn't data yet."""
+        """Frees the data, and the buffers for the next ones."""
         self.data = None
-        self._made = self._index = b""
+        self._next_data = self._index = b""
 
-    def _has_grown(self, kind: int, room: int) -> bool:
-        """Makes a buffer as long as it has to be, and reports whether there was memory for it."""
+    def _grow(self, kind: int, needed: int) -> bool:
+        """Grows a buffer as the struct asks; returns False without memory."""
         try:
             if kind == TodoKind.INPUT_ROOM:
-                self._lengthen_input(room)
-                return len(self._input) >= room
+                self._lengthen_input(needed)
+                return len(self._input) >= needed
             if kind == TodoKind.OUTPUT_ROOM:
-                _library.lengthen(self._output, room)
+                _library.lengthen(self._output, needed)
             elif kind == TodoKind.INDEX_ROOM:
-                self._index = memory(_ENTRY * room)
-                self._made = memory(self._room_for_data())
+                self._index = memory(_ENTRY * needed)
+                self._next_data = memory(self._size_of_data())
             else:
-                self._made = memory(room)
+                self._next_data = memory(needed)
         except MemoryError:
             return False
         return True
 
-    def _room_for_data(self) -> int:
-        """Returns how much room the answer that is there needs at most. Without it the answer would
-        be sorted, and then once more."""
+    def _size_of_data(self) -> int:
+        """Returns the most bytes that the data after the present answer can have. A shorter buffer
+        might make the link sort the answer twice."""
         held = self._state.shown if self._state.since else _rtr.LONGEST_END
         return int(held + self._state.answer + _rtr.LONGEST_END)
 
     def _lengthen_input(self, needed: int) -> None:
-        """Makes the input this long, or twice as long as it is, if there is memory."""
+        """Grows the input to twice its size or at least the needed one, if memory allows."""
         length = len(self._input)
         for size in (max(2 * length, needed), needed):
             if length < needed:
@@ -225,9 +225,9 @@ class Link:
                     pass
 
     def _shorten(self) -> None:
-        """Gives back what an answer needed."""
+        """Shrinks the buffers after an answer."""
         del self._input[max(self._state.filled, _INPUT):]
         del self._output[max(self._state.unsent, _OUTPUT):]
         self._index = b""
         if self._todo.kind == TodoKind.CLOSE:
-            self._made = b""
+            self._next_data = b""

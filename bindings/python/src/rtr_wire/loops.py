@@ -1,4 +1,4 @@
-"""What the loops around a `Router` share: the clock, the requests of a caller, limits."""
+"""Shared by the loops around a `Router`: the clock, the requests of a caller, limits."""
 from __future__ import annotations
 
 import random
@@ -7,13 +7,13 @@ from typing import Any, Callable
 
 from .router import Router, Settings
 
-# A function that is called with each failure.
-Told = Callable[[Exception], Any]
+# A function that is called with each error.
+OnFailure = Callable[[Exception], Any]
 
-CHUNK = 1 << 16  # how many bytes are read at once
+CHUNK = 1 << 16  # the most bytes of one read
 REPORT_SECONDS = 2.0  # to send a last report, and for the cache to read it
 LAST_BYTES = 1 << 20  # the most bytes that are read from the cache meanwhile
-LOOK = 0.25  # how often a loop checks whether its caller asks, or stops it
+LOOK = 0.25  # seconds between two checks whether the caller requests data, or stops the loop
 _LONGEST_WAIT = 3600.0
 
 
@@ -27,12 +27,12 @@ class Clock:
         return int((time.monotonic() - self._begun) * 1000)
 
     def until(self, when: int) -> float:
-        """Returns the seconds until then, more than 0."""
+        """Returns the seconds until a time: at least a millisecond, and at most an hour."""
         left = self._begun + when / 1000 - time.monotonic()
         return min(max(left, 0.001), _LONGEST_WAIT)
 
     def is_at(self, when: int) -> bool:
-        """Reports whether it is that time, or close enough that a timer for it may have ended."""
+        """Reports whether it is that time, or so close that a timer for it may have ended."""
         return self.now() + 10 >= when
 
 
@@ -52,8 +52,8 @@ class Asking:
         the refresh or the retry time. Any thread may call it."""
         self._asked += 1
 
-    def _told(self, router: Router, before: int) -> int:
-        """Tells the router if the caller has asked since `before`, and returns how often it has."""
+    def _pass_requests(self, router: Router, before: int) -> int:
+        """Tells the router of requests since `before`, and returns the number of all requests."""
         if self._asked != before:
             router.asked()
         return self._asked

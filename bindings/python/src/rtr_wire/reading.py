@@ -9,13 +9,13 @@ from . import _library, _rtr
 from ._library import CALLS, FIELDS, Buffer, address_of, octet, whole
 from ._rtr import Kind, Status
 from .faults import fault, refusal
-from .units import KIND_PLACE, MAKERS, AnyUnit
+from .units import KIND_INDEX, MAKERS, AnyUnit
 
-# The bytes that are read, or copied, at once.
+# The most bytes that are read, or copied, at once.
 _CHUNK = 1 << 16
 
-# Units per call of the library, since a call costs more than a unit.
-_PLACES = 64
+# Units per call of the library: a call costs more than a unit.
+_BATCH = 64
 
 _next_units = CALLS.rtr_next_many_nonnull
 
@@ -38,8 +38,8 @@ class Units(Iterator[AnyUnit]):
         self._data = b""
         self._at = 0
         self._before = 0  # bytes of the input before those in _data
-        self._shown = (_rtr.rtr_unit * _PLACES)()
-        self._going: Iterator[AnyUnit] = iter(())
+        self._shown = (_rtr.rtr_unit * _BATCH)()
+        self._iteration: Iterator[AnyUnit] = iter(())
         if type(source) is bytes:
             self._data = source
         self._more = _reads_of(source)
@@ -56,10 +56,10 @@ class Units(Iterator[AnyUnit]):
         raise StopIteration
 
     def __iter__(self) -> Iterator[AnyUnit]:
-        # The same generator continues after a loop was left, and a new one after a fault.
-        if getattr(self._going, "gi_frame", None) is None:
-            self._going = self._each()
-        return self._going
+        # After a loop was left the same generator continues; after a fault, a new one.
+        if getattr(self._iteration, "gi_frame", None) is None:
+            self._iteration = self._each()
+        return self._iteration
 
     def _each(self) -> Iterator[AnyUnit]:
         shown, fields_of = self._shown, FIELDS.iter_unpack
@@ -68,11 +68,11 @@ class Units(Iterator[AnyUnit]):
         counted, all_taken = ctypes.byref(count), ctypes.byref(taken)
         while True:
             data, at = self._data, self._at
-            status = _next_units(self._address + at, len(data) - at, shown, _PLACES, counted,
+            status = _next_units(self._address + at, len(data) - at, shown, _BATCH, counted,
                                  all_taken)
             for fields in fields_of(view[:size * count.value]):
                 self._at = at + fields[0]
-                yield MAKERS[fields[KIND_PLACE]](fields, data, at)
+                yield MAKERS[fields[KIND_INDEX]](fields, data, at)
                 at = self._at
             if not status or status == Status.SHORT and self._grown():
                 continue
@@ -97,13 +97,13 @@ class Units(Iterator[AnyUnit]):
         data, at = self._data, self._at
         if status == Status.SHORT and at == len(data):
             return True
-        # After a fault the size is that of a prefix, and else 0.
+        # The size is 0, except after a PrefixError, which skips the prefix.
         self._at += refused.size
         raise refusal(status, refused.detail, data, at, offset=self._before + at)
 
 
 def _reads_of(source: Any) -> Callable[[], Optional[bytes]]:
-    """Returns a function that reads the next bytes of a file or of a buffer, and none at its
+    """Returns a function that reads the next bytes of a file or a buffer; it returns none at the
     end."""
     read: Optional[Callable[[int], Optional[bytes]]] = getattr(
         source, "read1", getattr(source, "read", None))
@@ -128,11 +128,11 @@ def _slices(view: memoryview) -> Iterator[bytes]:
 
 
 def count_units(memory: Any, length: int) -> int:
-    """Returns how many units memory of this length has, all of which are accepted."""
-    shown, address = (_rtr.rtr_unit * _PLACES)(), address_of(memory)
+    """Counts the units in memory of this length, which have to be valid."""
+    shown, address = (_rtr.rtr_unit * _BATCH)(), address_of(memory)
     count, taken, at, total = ctypes.c_size_t(), ctypes.c_size_t(), 0, 0
     while at < length:
-        _next_units(address + at, length - at, shown, _PLACES, ctypes.byref(count),
+        _next_units(address + at, length - at, shown, _BATCH, ctypes.byref(count),
                     ctypes.byref(taken))
         assert count.value, "a unit is refused"
         at, total = at + taken.value, total + count.value
@@ -171,8 +171,8 @@ def normalise(sequence: Buffer, *, version: Optional[int] = None,
     data. Two sequences have the same form if and only if they mean the same. Later bytes aren't
     read.
 
-    For a version, only what that version has is written, and in this version. At most `limit` units
-    are read, the end of data included.
+    With a version, it writes the payloads that this version has, in this version. It reads at most
+    `limit` units, including the end of data.
 
     Raises a Fault whose `before` has the whole units before it, in this order: UnitVersionError for
     an unknown version; TooManyError; ShortError to PrefixError.

@@ -17,14 +17,14 @@ from .units import ErrorReport
 
 
 class SessionError(Exception):
-    """Why a connection ended, or why there is no answer yet, if no unit is wrong by itself, which
-    is a `Fault`. docs/SESSIONS.md says when.
+    """Why a connection ended, or why there is no answer yet, if the reason isn't an invalid unit (a
+    `Fault`). docs/SESSIONS.md has the causes.
 
     Attributes:
         cause: the `Cause`
-        unit: the bytes of the unit that it is about, if it is about one
-        code: the error code of the report that the cache got, if it got one
-        reported: the error report of the cache, of a `Cause.REPORTED` and a `NoData`
+        unit: the bytes of the unit that it is about, or none
+        code: the error code that was reported to the cache, or None
+        reported: the cache's error report, of a `Cause.REPORTED` and a `NoData`
     """
 
     def __init__(self, cause: Cause, unit: bytes = b"", code: Optional[int] = None,
@@ -50,12 +50,12 @@ class NoData(SessionError):
 
 @dataclass(frozen=True, init=False)
 class Settings:
-    """The settings of a router. None stands for the default, which rtr.h names. Times are in
-    seconds. All but the version are keyword-only.
+    """The settings of a router. None stands for the default of rtr.h. Times are in seconds. All but
+    the version are keyword-only.
 
     Attributes:
-        version: the highest version that it asks in, 0 to 2. ASPAs are of version 2, for which
-            caches in use have several layouts
+        version: the highest version that it asks in, 0 to 2. ASPAs need version 2, for which caches
+            in use have several layouts
         refresh, retry, expire: used instead of the cache's (RFC 8210 section 6)
         pause: the least time between two queries or connections
         connect_limit: the time limit for connecting
@@ -88,7 +88,7 @@ class Settings:
             most_units=most_units)
 
     def for_library(self, chance: int) -> _rtr.rtr_settings:
-        """Returns the struct, with a random number of 16 bits, which spreads the waits of
+        """Returns the struct. `chance` is a random number of 16 bits, which spreads the waits of
         routers."""
         settings = _rtr.rtr_settings()
         CALLS.rtr_settings_usual(settings, _library.octet(self.version))
@@ -105,8 +105,7 @@ class Settings:
 
 
 def milliseconds(name: str, seconds: float) -> int:
-    """Returns the time in milliseconds, rounded to 0 only if it is 0, or the longest that 32 bits
-    hold."""
+    """Returns the time in milliseconds, at most 2**32 - 1; only 0 seconds are rounded to 0."""
     if not isinstance(seconds, (int, float)):
         raise TypeError(f"{name} must be a number of seconds, not {type(seconds).__name__}")
     if not 0 <= seconds < math.inf:
@@ -115,7 +114,7 @@ def milliseconds(name: str, seconds: float) -> int:
 
 
 def _bounded(name: str, value: int, bits: int) -> int:
-    """Returns the number, or the largest that this many bits hold."""
+    """Returns the number, or if it is larger, the largest of this many bits."""
     if _library.integer(name, value) < 0:
         raise ValueError(f"{name} is {value}: it must be from 0 on")
     return min(value, (1 << bits) - 1)
@@ -137,8 +136,8 @@ class Update:
 
     Attributes:
         data: all data, as the cache had them at one serial number; None if they expired, or the
-            cache has others and hasn't sent them yet
-        changes: the changes to them from the data before, which are made when they are first used
+            cache has other data and hasn't sent them yet
+        changes: the changes from the data before, which are computed when they are first used
     """
 
     data: Optional[Data]
@@ -161,12 +160,12 @@ Step = Union[Connect, Close, Update, Failed]
 
 
 class Router:
-    """A router's end of a session (RFC 8210) without sockets or a clock: it gets bytes and times,
+    """A router's end of a session (RFC 8210) without sockets or a clock: it takes bytes and times,
     and returns what to do. A proved client decides that (`struct rtr_link` of rtr.h;
-    docs/SESSIONS.md has its states); this class has no rule of its own.
+    docs/SESSIONS.md has its states).
 
-    After each event that it reports, a program calls `step` until that returns None, and does what
-    it says. Times are in milliseconds, by a monotonic clock, and below 2**63.
+    After each event that it reports, a program calls `step` until that returns None, and carries
+    out each step. Times are in milliseconds, by a monotonic clock, and below 2**63.
     """
 
     def __init__(self, settings: Settings = Settings(), *, chance: int = 0) -> None:
@@ -176,29 +175,29 @@ class Router:
         self._begin(is_wanted=False)
 
     def _begin(self, is_wanted: bool) -> None:
-        """Sets what is known of a connection that is wanted, or that there is none."""
+        """Resets the state of the connection; `is_wanted` if one is to be opened."""
         self._is_wanted, self._is_open = is_wanted, False
-        self._came = b""  # what came and isn't in the link yet
-        self._ended = False  # whether the cache has closed, of which the link isn't told yet
+        self._received = b""  # received bytes that the link hasn't read yet
+        self._ended = False  # whether the connection ended, which the link doesn't know yet
         self._error: Optional[Exception] = None
 
     def again(self) -> None:
-        """Begins again without data, with the same settings and cache: the waits for a cache that
-        fails continue to grow. If there is a connection, the caller closes it."""
+        """Restarts without data, with the same settings and cache: the waits for a failing cache
+        continue to grow. The caller closes the connection, if there is one."""
         self._link.again()
         self._steps.clear()
         self._asked = False
         self._begin(is_wanted=False)
 
     def data(self, now: int) -> Optional[Data]:
-        """Returns the data at this time; None if there are none, or they have expired, even before
-        a step says so."""
+        """Returns the data at this time; None if there are none, or they have expired, even if no
+        step has reported that yet."""
         time = _library.number("now", now, 64)
         return self._link.data if self._link.has_data(time) else None
 
     @property
     def wakes(self) -> int:
-        """When to call `step`, if nothing happens before."""
+        """When to call `step` if nothing happens before."""
         return self._link.wakes
 
     @property
@@ -225,16 +224,16 @@ class Router:
             self._error, self._ended = error, True
 
     def asked(self) -> None:
-        """Requests current data: the router asks as soon as it may, or connects."""
+        """Requests current data: the router asks as soon as allowed, or connects."""
         self._asked = True
 
     def received(self, data: Buffer) -> None:
-        """Passes bytes that came; none means that the cache has closed. Ignored if there is no
+        """Passes received bytes; none means that the cache has closed. Ignored without a
         connection."""
-        came = _library.whole(data)
+        received = _library.whole(data)
         if self._is_open:
-            self._came += came
-            self._ended = self._ended or not came
+            self._received += received
+            self._ended = self._ended or not received
 
     def step(self, now: int) -> Optional[Step]:
         """Returns what to do at this time; None means to wait."""
@@ -249,10 +248,10 @@ class Router:
         return self._steps.popleft()
 
     def _feed(self) -> bool:
-        """Gives the link what came, or tells it that the cache has closed; reports whether there
+        """Passes received bytes to the link, or that the connection ended; returns whether there
         was either."""
-        if self._came:
-            self._came = self._came[self._link.received(self._came):]
+        if self._received:
+            self._received = self._received[self._link.received(self._received):]
         elif self._ended:
             self._link.lost()
             self._is_wanted = self._is_open = self._ended = False
@@ -261,7 +260,7 @@ class Router:
         return True
 
     def _perform(self, todo: _rtr.rtr_todo, before: Optional[Data]) -> None:
-        """Queues the steps for what the link wants done. It had these data before."""
+        """Queues the steps for what the link asks for. `before` are its data before."""
         kind, link = todo.kind, self._link
         if kind == TodoKind.CONNECT:
             self._begin(is_wanted=True)
@@ -283,13 +282,13 @@ class Router:
         """Queues why the connection ends."""
         try:
             error = self._reason(todo)
-        except MemoryError as none_left:
-            error = none_left
+        except MemoryError as no_memory:
+            error = no_memory
         if error is not None:
             self._steps.append(Failed(error))
 
     def _reason(self, todo: _rtr.rtr_todo) -> Optional[Exception]:
-        """Returns why the connection ends, unless it is for a lower or a higher version."""
+        """Returns why the connection ends; None if it does for a lower or a higher version."""
         if self._link.gave_up:
             return MemoryError("no memory for the answer")
         if isinstance(self._error, MemoryError):
@@ -313,7 +312,7 @@ class Router:
         return SessionError(cause, about[:size], todo.code)
 
     def _report(self, todo: _rtr.rtr_todo) -> Optional[ErrorReport]:
-        """Returns the cache's report that the link names."""
+        """Returns the cache's error report, at the offset in `todo`."""
         unit: Any = next(Units(self._link.about(todo.offset)), None)
         return unit if isinstance(unit, ErrorReport) else None
 

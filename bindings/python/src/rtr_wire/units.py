@@ -12,34 +12,34 @@ from ._rtr import Kind, SerialOrder, Status
 from .faults import fault
 
 # The fields of a struct rtr_unit by their index in a tuple.
-_PLACES = {name: index for index, (name, _) in enumerate(_rtr.rtr_unit._fields_)}
+_INDEXES = {name: index for index, (name, _) in enumerate(_rtr.rtr_unit._fields_)}
 _EMPTY: Tuple[Any, ...] = tuple(
-    b"" if name in ("address", "key_identifier") else 0 for name in _PLACES)
+    b"" if name in ("address", "key_identifier") else 0 for name in _INDEXES)
 (_SIZE, _PART, _PART_LENGTH, _TEXT, _TEXT_LENGTH, _ASN, _CUSTOMER, _SERIAL, _REFRESH, _RETRY,
- _EXPIRE, _SESSION, _CODE, KIND_PLACE, _VERSION, _ACTION, _PREFIX_LENGTH, _MAX_LENGTH, _ADDRESS,
- _KEY_IDENTIFIER) = (_PLACES[name] for name in (
+ _EXPIRE, _SESSION, _CODE, KIND_INDEX, _VERSION, _ACTION, _PREFIX_LENGTH, _MAX_LENGTH, _ADDRESS,
+ _KEY_IDENTIFIER) = (_INDEXES[name] for name in (
      "size", "part_start", "part_length", "text_start", "text_length", "asn", "customer", "serial",
      "refresh", "retry", "expire", "session", "code", "kind", "version", "action",
      "prefix_length", "max_length", "address", "key_identifier"))
 
-# The bits of each number of a struct rtr_unit, and its name for programs.
-_BITS = {name: 8 * getattr(_rtr.rtr_unit, name).size for name in _PLACES}
+# The size in bits of each field of a struct rtr_unit, and the attribute if it has another name.
+_BITS = {name: 8 * getattr(_rtr.rtr_unit, name).size for name in _INDEXES}
 _NAMES = {"action": "announce"}
 
-# A unit as the library decodes it: the fields of a struct rtr_unit.
-_Told = Tuple[Any, ...]
+# The fields of a struct rtr_unit, as the library decodes it.
+_Fields = Tuple[Any, ...]
 
 
 @dataclass(frozen=True)
 class Unit:
     """A unit of any kind. `bytes(unit)` is its form (docs/PROTOCOL.md), in which all bits without a
     meaning are zero. Two units are equal, and have the same hash, if and only if their forms are
-    the same: if they mean the same.
+    the same, so if they mean the same.
 
-    Making a unit without a form raises a `Fault`; a number out of its field's range raises a
-    ValueError, and a value of another type a TypeError, which name the field. Arguments that are
-    easily confused are keyword-only: times, lengths and ASes of prefixes, the parts of a report,
-    `announce` and `version`.
+    The constructors raise a `Fault` for a unit that can't be written, a ValueError for a number out
+    of its field's range, and a TypeError for a value of another type; the last two name the field.
+    Arguments that are easily confused are keyword-only: times, lengths and ASes of prefixes, the
+    parts of a report, `announce` and `version`.
     """
 
     KIND: ClassVar[Kind]
@@ -51,9 +51,9 @@ class Unit:
     def __bytes__(self) -> bytes:
         values = list(_EMPTY)
         fields, part = self._parts()
-        values[KIND_PLACE] = self.KIND
+        values[KIND_INDEX] = self.KIND
         for name, value in fields.items():
-            values[_PLACES[name]] = value
+            values[_INDEXES[name]] = value
         try:
             status, form = _library.written(tuple(values), part)
         except struct.error:
@@ -65,8 +65,8 @@ class Unit:
             raise fault(status)
         return form
 
-    def _has(self, **fields: Any) -> None:
-        """Sets the fields of a unit that is being made."""
+    def _set(self, **fields: Any) -> None:
+        """Sets the attributes of a new unit, and checks them."""
         self.__dict__.update(fields)
         self.__post_init__()
 
@@ -76,13 +76,12 @@ class Unit:
         bytes(self)
 
 
-_One = TypeVar("_One", bound="Unit")
+_Unit = TypeVar("_Unit", bound="Unit")
 
 
-def _made(kind: Type[_One], fields: Dict[str, Any]) -> _One:
-    """Makes a unit of a kind with these fields, which the library decoded and which so have a
-    form."""
-    unit: _One = object.__new__(kind)
+def _new(kind: Type[_Unit], fields: Dict[str, Any]) -> _Unit:
+    """Returns a unit with these attributes, which the library decoded, so they need no check."""
+    unit: _Unit = object.__new__(kind)
     unit.__dict__.update(fields)
     return unit
 
@@ -111,7 +110,7 @@ class Prefix(Unit, Generic[_Network]):
 
     def __init__(self, prefix: _Network, *, max_length: int, asn: int, announce: bool = True,
                  version: int = 1) -> None:
-        self._has(prefix=prefix, max_length=max_length, asn=asn, announce=announce, version=version)
+        self._set(prefix=prefix, max_length=max_length, asn=asn, announce=announce, version=version)
 
     def _parts(self) -> Tuple[Dict[str, Any], bytes]:
         network = self.prefix
@@ -158,7 +157,7 @@ class RouterKey(Unit):
 
     def __init__(self, key_identifier: bytes, asn: int, key_info: bytes, *, announce: bool = True,
                  version: int = 1) -> None:
-        self._has(key_identifier=key_identifier, asn=asn, key_info=key_info, announce=announce,
+        self._set(key_identifier=key_identifier, asn=asn, key_info=key_info, announce=announce,
                   version=version)
 
     def _parts(self) -> Tuple[Dict[str, Any], bytes]:
@@ -173,7 +172,7 @@ class RouterKey(Unit):
 
 
 class _ByForm(Unit):
-    """A kind with fields that may be ignored: its form decides equality."""
+    """A kind with attributes that may be ignored: units are equal if their forms are."""
 
     def __eq__(self, other: object) -> bool:
         return type(other) is type(self) and bytes(self) == bytes(other)  # type: ignore
@@ -201,7 +200,7 @@ class Aspa(_ByForm):
 
     def __init__(self, customer: int, providers: Tuple[int, ...], *, announce: bool = True,
                  version: int = 2) -> None:
-        self._has(customer=customer, providers=providers, announce=announce, version=version)
+        self._set(customer=customer, providers=providers, announce=announce, version=version)
 
     def _parts(self) -> Tuple[Dict[str, Any], bytes]:
         part = _packed(self.providers)
@@ -248,7 +247,7 @@ class EndOfData(_ByForm):
     def __init__(self, session: int, serial: int, *, refresh: int = _rtr.USUAL_REFRESH,
                  retry: int = _rtr.USUAL_RETRY, expire: int = _rtr.USUAL_EXPIRE,
                  version: int = 1) -> None:
-        self._has(session=session, serial=serial, refresh=refresh, retry=retry, expire=expire,
+        self._set(session=session, serial=serial, refresh=refresh, retry=retry, expire=expire,
                   version=version)
 
 
@@ -258,8 +257,8 @@ class ErrorReport(_ByForm):
 
     Attributes:
         code: the error code (section 12)
-        enclosed: the unit that it is about, or its start; empty, as the text, if lengths inside of
-            the report don't fit
+        enclosed: the unit that it is about, or its start. Both this and the text are empty if the
+            lengths inside of the report are wrong
         text: a text, which should be UTF-8
         version: of the protocol
     """
@@ -272,7 +271,7 @@ class ErrorReport(_ByForm):
 
     def __init__(self, code: int, *, enclosed: bytes = b"", text: bytes = b"",
                  version: int = 1) -> None:
-        self._has(code=code, enclosed=enclosed, text=text, version=version)
+        self._set(code=code, enclosed=enclosed, text=text, version=version)
 
     def _parts(self) -> Tuple[Dict[str, Any], bytes]:
         enclosed, text = whole(self.enclosed, "enclosed"), whole(self.text, "text")
@@ -356,9 +355,9 @@ AnyUnit = Union[IPv4Prefix, IPv6Prefix, RouterKey, Aspa, EndOfData, ErrorReport,
                 SerialQuery, ResetQuery, CacheResponse, CacheReset]
 
 
-# ---- units from what the library decodes, and the bytes and offset of the unit
+# ---- decoding: units from the fields of a struct rtr_unit, their bytes and their offset
 
-def _of_ipv4(fields: _Told, data: bytes, at: int) -> IPv4Prefix:
+def _of_ipv4(fields: _Fields, data: bytes, at: int) -> IPv4Prefix:
     unit: IPv4Prefix = object.__new__(IPv4Prefix)
     unit.__dict__.update(
         prefix=ipaddress.IPv4Network((fields[_ADDRESS][:4], fields[_PREFIX_LENGTH])),
@@ -367,7 +366,7 @@ def _of_ipv4(fields: _Told, data: bytes, at: int) -> IPv4Prefix:
     return unit
 
 
-def _of_ipv6(fields: _Told, data: bytes, at: int) -> IPv6Prefix:
+def _of_ipv6(fields: _Fields, data: bytes, at: int) -> IPv6Prefix:
     unit: IPv6Prefix = object.__new__(IPv6Prefix)
     unit.__dict__.update(
         prefix=ipaddress.IPv6Network((fields[_ADDRESS], fields[_PREFIX_LENGTH])),
@@ -376,43 +375,43 @@ def _of_ipv6(fields: _Told, data: bytes, at: int) -> IPv6Prefix:
     return unit
 
 
-def _part(fields: _Told, data: bytes, at: int) -> bytes:
-    """Returns the part of a unit."""
+def _part(fields: _Fields, data: bytes, at: int) -> bytes:
+    """Returns the part of a unit: key info, providers or an enclosed unit."""
     start = at + fields[_PART]
     return data[start:start + fields[_PART_LENGTH]]
 
 
-def _of_key(fields: _Told, data: bytes, at: int) -> RouterKey:
-    return _made(RouterKey, {
+def _of_key(fields: _Fields, data: bytes, at: int) -> RouterKey:
+    return _new(RouterKey, {
         "key_identifier": fields[_KEY_IDENTIFIER], "asn": fields[_ASN],
         "key_info": _part(fields, data, at), "announce": fields[_ACTION] == 1,
         "version": fields[_VERSION]})
 
 
-def _of_aspa(fields: _Told, data: bytes, at: int) -> Aspa:
+def _of_aspa(fields: _Fields, data: bytes, at: int) -> Aspa:
     part = _part(fields, data, at)
-    return _made(Aspa, {
+    return _new(Aspa, {
         "customer": fields[_CUSTOMER], "providers": struct.unpack(f">{len(part) // 4}I", part),
         "announce": fields[_ACTION] == 1, "version": fields[_VERSION]})
 
 
-def _of_report(fields: _Told, data: bytes, at: int) -> ErrorReport:
+def _of_report(fields: _Fields, data: bytes, at: int) -> ErrorReport:
     start = at + fields[_TEXT]
-    return _made(ErrorReport, {
+    return _new(ErrorReport, {
         "code": fields[_CODE], "enclosed": _part(fields, data, at),
         "text": data[start:start + fields[_TEXT_LENGTH]], "version": fields[_VERSION]})
 
 
-def _of_numbers(kind: Type[_One]) -> Callable[[_Told, bytes, int], _One]:
-    """Decodes a kind whose fields have the names of those of a struct rtr_unit."""
+def _of_numbers(kind: Type[_Unit]) -> Callable[[_Fields, bytes, int], _Unit]:
+    """Returns the decoder of a kind whose attributes have the names of fields of rtr_unit."""
     names = [field.name for field in fields_of(kind)]
 
-    def decode(fields: _Told, data: bytes, at: int) -> _One:
-        return _made(kind, {name: fields[_PLACES[name]] for name in names})
+    def decode(fields: _Fields, data: bytes, at: int) -> _Unit:
+        return _new(kind, {name: fields[_INDEXES[name]] for name in names})
     return decode
 
 
-MAKERS: Dict[int, Callable[[_Told, bytes, int], AnyUnit]] = {
+MAKERS: Dict[int, Callable[[_Fields, bytes, int], AnyUnit]] = {
     Kind.IPV4_PREFIX: _of_ipv4, Kind.IPV6_PREFIX: _of_ipv6, Kind.ROUTER_KEY: _of_key,
     Kind.ASPA: _of_aspa, Kind.ERROR_REPORT: _of_report,
     Kind.END_OF_DATA: _of_numbers(EndOfData), Kind.SERIAL_NOTIFY: _of_numbers(SerialNotify),
@@ -431,7 +430,7 @@ class Vrp(_Vrp):
     """A validated ROA payload (RFC 6811 section 2): the AS may announce the prefix, and longer ones
     in it up to the max length. None, for a ROA without a max length, stands for the prefix length.
 
-    A tuple of the three; `Vrp(prefix, asn=65551, max_length=24)` makes it.
+    A tuple of the three: `Vrp(prefix, asn=65551, max_length=24)`.
     """
 
     __slots__ = ()
@@ -444,7 +443,7 @@ class Vrp(_Vrp):
         return Vrp._make, (tuple(self),)
 
     def unit(self, version: int = 1) -> Union[IPv4Prefix, IPv6Prefix]:
-        """Returns the unit of a version that announces it."""
+        """Returns the unit that announces it in a version."""
         if not isinstance(self.prefix, (ipaddress.IPv4Network, ipaddress.IPv6Network)):
             raise TypeError(f"prefix must be a network of ipaddress, not "
                             f"{type(self.prefix).__name__}")
@@ -455,8 +454,8 @@ class Vrp(_Vrp):
 
 
 def version_has(version: int, kind: Kind) -> bool:
-    """Reports whether a protocol version has units of this kind: all but router keys and ASPAs are
-    in version 0, all but ASPAs in 1, all in 2, and none in other versions.
+    """Reports whether a protocol version has units of this kind. Version 0 has all but router keys
+    and ASPAs, version 1 all but ASPAs, version 2 all; other versions have none.
     """
     return bool(_library.CALLS.rtr_version_has(_library.octet(version), number("kind", kind, 8)))
 
