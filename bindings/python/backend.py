@@ -1,5 +1,5 @@
-"""Makes the wheel and the source archive, for pip and build (PEP 517) and where packages are made,
-of Python's standard library alone: the same files give the same bytes."""
+"""Builds the wheel and the source archive, for pip and build (PEP 517) and for releases, with only
+Python's standard library: the same files give the same bytes."""
 import base64
 import gzip
 import hashlib
@@ -26,10 +26,10 @@ LIBRARY = f"lib{NAME}.so"
 # The headers of the C file for other platforms: beside this file, or in the repository.
 HEADERS = ("rtr.h", "rtr_abi.h")
 
-# The pages that comments name: beside this file, or in the repository.
+# The pages that docstrings name: beside this file, or in the repository.
 DOCUMENTS = ("docs/PROTOCOL.md", "docs/SESSIONS.md")
 
-# The symbols that the shared library exports, without a version.
+# A version script that exports symbols without a version.
 SHOWN = "{ global: rtr_*; local: *; };\n"
 
 # The machines that have archives.
@@ -51,7 +51,7 @@ Description-Content-Type: text/markdown
 
 
 def version():
-    """Returns the version that rtr.h names."""
+    """Returns the version of rtr.h."""
     text = (SOURCES / "_rtr.py").read_text()
     return re.search(r'^VERSION = "([^"]+)"$', text, re.MULTILINE)[1]
 
@@ -65,7 +65,7 @@ def first_there(*paths):
 
 
 def archive(machine):
-    """The archive for Linux on a machine, or None."""
+    """Returns the path of the archive for Linux on a machine, or None."""
     paths = [HERE / folder / machine / ARCHIVE for folder in ("lib", "../../prebuilt")]
     found = [path for path in paths if path.exists()]
     return found[0] if found and sys.platform == "linux" else None
@@ -90,10 +90,9 @@ def compile_portable(to):
 
 
 def link(of, to, soname=f"{LIBRARY}.0", compiler=None, more=(), hosted=True, shown=SHOWN):
-    """Links the shared library from an archive, and more of them, with this compiler, $CC or cc,
-    and $LDFLAGS. It binds all symbols where it is loaded, and exports what the version script
-    `shown` says. Unless it is hosted, it needs no C library: the functions on bytes are its
-    process's."""
+    """Links the shared library from archives with this compiler, $CC or cc, and $LDFLAGS. It binds
+    all symbols when it is loaded, and exports those of the version script `shown`. Unless `hosted`,
+    it isn't linked with a C library, and takes functions like memcpy from its process."""
     with tempfile.NamedTemporaryFile("w", suffix=".map") as script:
         script.write(shown)
         script.flush()
@@ -109,39 +108,40 @@ def link(of, to, soname=f"{LIBRARY}.0", compiler=None, more=(), hosted=True, sho
 
 
 def contents():
-    """The files of the package, by their names in a wheel."""
-    made = {f"{NAME}/{path.name}": path.read_bytes()
-            for path in SOURCES.iterdir() if path.suffix == ".py" or path.name == "py.typed"}
+    """Returns the files of the package, by their paths in a wheel."""
+    files = {f"{NAME}/{path.name}": path.read_bytes()
+             for path in SOURCES.iterdir() if path.suffix == ".py" or path.name == "py.typed"}
     for page in DOCUMENTS:
-        made[f"{NAME}/{page}"] = first_there(page, f"../../{page}").read_bytes()
-    return made
+        files[f"{NAME}/{page}"] = first_there(page, f"../../{page}").read_bytes()
+    return files
 
 
 def readme():
-    """Returns the README of the package."""
+    """Returns the README without the comments of .ci/shown."""
     return re.sub(r"(?m)^<!-- shown: .* -->\n", "", (HERE / "README.md").read_text())
 
 
-def said(name):
-    """Returns the value of a name in pyproject.toml, a text or a list of texts."""
+def setting(name):
+    """Returns a value of pyproject.toml: a string, a list or a table."""
     text = (HERE / "pyproject.toml").read_text()
     value = re.search(rf'^{name} = (".*?"|\[.*?\]|\{{.*?\}})$', text, re.MULTILINE | re.DOTALL)[1]
     return json.loads(re.sub(r"(\w+) = ", r'"\1": ', value) if value[0] == "{" else value)
 
 
 def metadata(repository=None):
-    """Returns the metadata of the package, with the address of its repository, or the usual one."""
-    classifiers = "\n".join(f"Classifier: {classifier}" for classifier in said("classifiers"))
+    """Returns the metadata of the package; the repository's URL is by default that of
+    pyproject.toml."""
+    classifiers = "\n".join(f"Classifier: {classifier}" for classifier in setting("classifiers"))
     return METADATA.format(
-        name=NAME, version=version(), description=said("description"),
-        license=said("license")["text"], keywords=",".join(said("keywords")),
-        repository=repository or said("Repository"), python=said("requires-python"),
+        name=NAME, version=version(), description=setting("description"),
+        license=setting("license")["text"], keywords=",".join(setting("keywords")),
+        repository=repository or setting("Repository"), python=setting("requires-python"),
         classifiers=classifiers, readme=readme())
 
 
 def wheel(library, tag, to, repository=None):
-    """Zips the wheel with this shared library for platforms, joined by dots, and returns its
-    name. Its metadata have this address of the repository, or the usual one."""
+    """Writes the wheel with this shared library to a folder, and returns its name. The tag is one
+    or more platforms, joined by dots."""
     folder, files = f"{NAME}-{version()}.dist-info", contents()
     files[f"{NAME}/{LIBRARY}"] = pathlib.Path(library).read_bytes()
     files[f"{folder}/METADATA"] = metadata(repository).encode()
@@ -163,14 +163,14 @@ def wheel(library, tag, to, repository=None):
 
 
 def sum_of(data):
-    """Returns the hash of a file as RECORD has it."""
+    """Returns the hash of a file in the notation of RECORD."""
     return "sha256=" + base64.urlsafe_b64encode(hashlib.sha256(data).digest()).decode().rstrip("=")
 
 
 def tar(folder, to):
-    """Packs a folder, with no owner and no time."""
-    made = io.BytesIO()
-    with tarfile.open(fileobj=made, mode="w", format=tarfile.PAX_FORMAT) as packed:
+    """Packs a folder without owners and times, so that the bytes don't depend on them."""
+    packed_bytes = io.BytesIO()
+    with tarfile.open(fileobj=packed_bytes, mode="w", format=tarfile.PAX_FORMAT) as packed:
         for path in sorted(path for path in folder.rglob("*") if path.is_file()):
             entry = packed.gettarinfo(path, path.relative_to(folder.parent))
             entry.mtime = entry.uid = entry.gid = 0
@@ -178,13 +178,13 @@ def tar(folder, to):
             entry.mode = 0o644
             with path.open("rb") as data:
                 packed.addfile(entry, data)
-    to.write_bytes(gzip.compress(made.getvalue(), mtime=0))
+    to.write_bytes(gzip.compress(packed_bytes.getvalue(), mtime=0))
 
 
 def source_archive(archives, portable, pages, to, repository=None):
-    """Makes the source archive: this folder with headers, archives by their machine, the C file
-    for other platforms unless that is None, pages by their names, and the address of the
-    repository, if not the usual one. Returns its name."""
+    """Writes the source archive to a folder, and returns its name: this folder with headers,
+    archives by machine, the C file for other platforms unless that is None, pages by name, and the
+    repository's URL if it isn't that of pyproject.toml."""
     with tempfile.TemporaryDirectory() as top:
         folder = pathlib.Path(top, f"{NAME}-{version()}")
         left_out = shutil.ignore_patterns("tests", "generate", "*.so", "__pycache__", ".*_cache",
@@ -199,7 +199,7 @@ def source_archive(archives, portable, pages, to, repository=None):
         (folder / "README.md").write_text(readme())
         (folder / "PKG-INFO").write_text(metadata(repository))
         settings = (folder / "pyproject.toml").read_text()
-        usual = said("Repository")
+        usual = setting("Repository")
         (folder / "pyproject.toml").write_text(settings.replace(usual, repository or usual))
         tar(folder, pathlib.Path(to, f"{folder.name}.tar.gz"))
         return f"{folder.name}.tar.gz"
@@ -208,7 +208,7 @@ def source_archive(archives, portable, pages, to, repository=None):
 # ---- the hooks of PEP 517
 
 def build_sdist(sdist_directory, config_settings=None):
-    """Makes the source archive."""
+    """Builds the source archive."""
     archives = {machine: first_there(f"lib/{machine}/{ARCHIVE}",
                                      f"../../prebuilt/{machine}/{ARCHIVE}")
                 for machine in MACHINES}
@@ -218,7 +218,7 @@ def build_sdist(sdist_directory, config_settings=None):
 
 
 def build_wheel(wheel_directory, config_settings=None, metadata_directory=None):
-    """Links the library for this machine, or compiles it where there is no archive, and makes its
+    """Links the library for this machine, or compiles it if there is no archive, and builds the
     wheel."""
     found = archive(platform.machine())
     tag = re.sub(r"\W", "_", sysconfig.get_platform())

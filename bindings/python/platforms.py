@@ -1,23 +1,23 @@
-"""What a shared library needs of the system that loads it, read from its file, and the tags of
-wheels that say so (PEP 600, PEP 656)."""
+"""The requirements of a shared library, read from its file, and the platform tags of its wheel (PEP
+600, PEP 656)."""
 import pathlib
 import re
 import struct
 
-# The machines that have tags, by their number in a file.
+# The machines that have tags, by their ELF number.
 MACHINES = {62: "x86_64", 183: "aarch64"}
 
-# The library and the symbol versions of glibc, the glibc of manylinux2014, and the names of that
+# The library and the symbol versions of glibc, the glibc of manylinux2014, and the names of its
 # tag: the second is for versions of pip that don't know the first.
 GLIBC = "libc.so.6"
 VERSION = re.compile(r"GLIBC_(\d+)\.(\d+)(?:\.\d+)?")
 OLDEST = (2, 17)
 OLDEST_NAMES = ("manylinux_2_17", "manylinux2014")
 
-# The musl that a wheel without a C library of its own is tested with.
+# The version of musl with which wheels that need no C library are tested.
 MUSL = "musllinux_1_2"
 
-# The functions that each C library has: a wheel's library may take them from its process.
+# The functions that every C library has: a wheel's library may use those of its process.
 EVERYWHERE = {"memcpy", "memmove", "memset"}
 
 # Kinds of sections, tags, and a binding of symbols (System V ABI, Linux Standard Base).
@@ -26,7 +26,7 @@ NEEDED, WEAK = 1, 2
 
 
 class Unfit(Exception):
-    """A shared library that no tag fits."""
+    """No tag fits a shared library."""
 
 
 class Needs:
@@ -41,9 +41,9 @@ class Needs:
         if self.machine is None:
             raise Unfit(f"{library} is for another machine than {' and '.join(MACHINES.values())}")
         start, (size, count) = self.number(40, "Q"), struct.unpack_from("<2H", self.file, 58)
-        # Of each section its kind, offset, size, and the section that it is linked to.
-        self.sections = [struct.unpack_from("<4xI16xQQI", self.file, start + size * place)
-                         for place in range(count)]
+        # The kind, offset, size and linked section of each section.
+        self.sections = [struct.unpack_from("<4xI16xQQI", self.file, start + size * index)
+                         for index in range(count)]
         self.libraries = sorted(self.libraries_needed())
         self.versions = sorted(self.versions_needed())
         self.symbols = sorted(self.symbols_needed())
@@ -52,13 +52,13 @@ class Needs:
         return struct.unpack_from(f"<{kind}", self.file, at)[0]
 
     def text(self, names, at):
-        """The text at an offset of a table of names, which is a section's number."""
+        """Returns the text at an offset of a table of names, a section given by its index."""
         begins = self.sections[names][1] + at
         return self.file[begins:self.file.index(b"\0", begins)].decode()
 
-    def of_kind(self, wanted):
-        """The offset, size, and table of names of each section of a kind."""
-        return [rest for kind, *rest in self.sections if kind == wanted]
+    def of_kind(self, kind):
+        """Returns the offset, the size and the table of names of each section of a kind."""
+        return [rest for other, *rest in self.sections if other == kind]
 
     def libraries_needed(self):
         for start, size, names in self.of_kind(DYNAMIC):
@@ -86,10 +86,10 @@ class Needs:
 
 
 def tag(library):
-    """Returns the platforms of a wheel with this shared library, as in the wheel's name, joined by
-    dots: those of manylinux with the glibc that its symbol versions name, or manylinux2014; and
-    that of musllinux if it needs no C library but functions that each has. Raises `Unfit` if it
-    needs another library, or a function of none."""
+    """Returns the platforms of a wheel with this shared library, joined by dots as in the wheel's
+    name: manylinux with the newest glibc of its symbol versions, or manylinux2014; and musllinux if
+    it only needs functions that every C library has. Raises `Unfit` if it needs another library, or
+    a function that none has."""
     needs = Needs(library)
     others = set(needs.libraries) - {GLIBC}
     if others:
