@@ -1,5 +1,5 @@
-"""A client for tests/joined: the steps of scenes come on standard input, and what the client does
-at each goes to standard output."""
+"""A client for tests/joined: reads the steps of scenes from standard input, and prints the client's
+steps after each."""
 import sys
 
 from rtr_wire import units

@@ -1,5 +1,5 @@
-"""Prints what a router tells that gets 300,000 payloads, and then others, and then none until its
-data expire, while the process may have only this much more memory: limited.py MIB"""
+"""Prints the events of a router that gets 300,000 payloads, then others, then none until its data
+expire, while the process may allocate only this much more memory: limited.py MIB"""
 import pathlib
 import resource
 import struct
@@ -21,7 +21,7 @@ def answer(first, serial):
 
 
 def settle(router, now):
-    """Says what happens."""
+    """Runs the router until it waits, and prints events."""
     while (step := router.step(now)) is not None:
         if isinstance(step, Connect):
             router.connected()
@@ -32,9 +32,9 @@ def settle(router, now):
     router.sent(len(router.output))
 
 
-def comes(router, now, came):
-    for at in range(0, len(came), 1 << 16):
-        router.received(came[at:at + (1 << 16)])
+def comes(router, now, data):
+    for at in range(0, len(data), 1 << 16):
+        router.received(data[at:at + (1 << 16)])
         settle(router, now)
 
 

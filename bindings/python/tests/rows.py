@@ -1,5 +1,5 @@
-"""The rows that all languages test: from the file that a variable names, or else fewer, from the
-scripts in tests/libraries."""
+"""The rows that all languages test: from the file that an environment variable names, or else fewer
+rows from the scripts in tests/libraries."""
 from __future__ import annotations
 
 import ipaddress
@@ -65,7 +65,7 @@ def cases() -> Iterator[Case]:
 
 
 class Answer(NamedTuple):
-    """What tests/libraries/sessions.py expects of one unit."""
+    """A unit, or its fault, as tests/libraries/sessions.py expects it."""
 
     numbers: Tuple[int, ...]
     address: bytes
@@ -129,7 +129,7 @@ def tables() -> Iterator[Tuple[bytes, List[Route]]]:
 
 
 class Load:
-    """A recording of tests/loads, which says what it has."""
+    """A recording of tests/loads, and its expected result."""
 
     def __init__(self, name: str) -> None:
         self.name = name
@@ -144,12 +144,12 @@ class Load:
 
     @property
     def is_one_answer(self) -> bool:
-        """Whether nothing but the whole recording leaves data."""
+        """Whether only the whole recording results in data."""
         return self.refused is None and sum(unit[1] == 7 for unit in self.units) == 1
 
     @property
     def offsets(self) -> List[int]:
-        """The offset of each unit, and of the end."""
+        """The offsets of the units, and of the end."""
         return list(itertools.accumulate(map(len, self.units), initial=0))
 
 

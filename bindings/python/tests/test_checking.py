@@ -42,8 +42,8 @@ class Checks(unittest.TestCase):
     def test_names_of_long_keys(self):
         """Keys that differ only in their last byte are two."""
         head = bytes([1, 9, 1, 0]) + (65535).to_bytes(4, "big") + bytes(24)
-        one, other = head + bytes(65503), head + bytes(65502) + b"\1"
-        self.assertEqual([found.rule for found in check(one + other + one)],
+        key, other = head + bytes(65503), head + bytes(65502) + b"\1"
+        self.assertEqual([found.rule for found in check(key + other + key)],
                          [Rule.TWICE, Rule.CUT_OFF])
 
 

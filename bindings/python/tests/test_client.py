@@ -53,7 +53,7 @@ class Cache:
                     with connection, connection.makefile("rb") as file:
                         script(connection, units(file))
             except (ConnectionError, ssl.SSLError):
-                pass  # the client needn't wait for what is said to it
+                pass  # the client may have closed already
             except Exception as error:
                 self.errors.append(error)
         self.listener.close()
@@ -68,12 +68,12 @@ class Cache:
             raise self.errors[0]
 
 
-def says(wanted, *sent):
-    """A script: this query is read, and these bytes are sent."""
+def says(query, *sent):
+    """A script: expects this query, and sends these bytes."""
     def script(connection, queries):
-        assert next(queries) == wanted
-        for one in sent:
-            connection.sendall(one)
+        assert next(queries) == query
+        for part in sent:
+            connection.sendall(part)
     return script
 
 
@@ -93,26 +93,26 @@ def certified(folder, name="IP:127.0.0.1"):
 
 
 def resolved(port, *addresses):
-    """Resolves every name to these addresses."""
+    """Resolves every host name to these addresses."""
     found = [(socket.AF_INET, socket.SOCK_STREAM, 6, "", (address, port)) for address in addresses]
     return mock.patch("socket.getaddrinfo", return_value=found)
 
 
 @contextlib.contextmanager
 def closes_all(test):
-    """Each socket is closed by who opened it."""
-    with warnings.catch_warnings(record=True) as told:
+    """Checks that no open socket is garbage-collected."""
+    with warnings.catch_warnings(record=True) as caught:
         warnings.simplefilter("always", ResourceWarning)
         yield
         gc.collect()
-    test.assertEqual([str(one.message) for one in told], [])
+    test.assertEqual([str(warning.message) for warning in caught], [])
 
 
 def both(*scripts):
-    """A script of several scripts."""
+    """A script that runs several scripts, one after the other."""
     def script(connection, queries):
-        for one in scripts:
-            one(connection, queries)
+        for script in scripts:
+            script(connection, queries)
     return script
 
 
@@ -121,21 +121,21 @@ def waits(connection, queries):
     assert next(queries, None) is None
 
 
-def patient(told=None):
-    """Records failures, and ends a client that has too many."""
+def patient(callback=None):
+    """Returns a callback that counts failures, and ends a client that has too many."""
     count = [0]
 
     def failed(error):
         count[0] += 1
         if count[0] > 20:
             raise error
-        if told is not None:
-            told(error)
+        if callback is not None:
+            callback(error)
     return failed
 
 
 def is_silent(connection, queries):
-    """A script: answers no query."""
+    """A script: ignores all queries."""
     for _ in queries:
         pass
 
@@ -148,7 +148,7 @@ ASKED = both(says(RESET, answer(FIRST)),
 
 
 class Following:
-    """Tests of both clients: `updates` takes this many updates of a client, `fetch` asks once."""
+    """Tests of both clients: `updates` collects this many updates, `fetch` asks once."""
 
     def test_fetch(self):
         with Cache(says(RESET, answer(FIRST)), says(RESET, answer(SECOND))) as cache:
@@ -156,7 +156,7 @@ class Following:
             self.assertEqual(self.fetch(cache), SECOND)
 
     def test_following(self):
-        """A notify makes it ask for the changes."""
+        """After a notify it asks for the changes."""
         with Cache(FOLLOWS) as cache:
             first, second = self.updates(cache, 2)
         self.assertEqual((first.data, set(first.changes)), (FIRST, {ONE, KEY}))
@@ -164,28 +164,28 @@ class Following:
                          (SECOND, {TWO, replace(KEY, announce=False)}))
 
     def test_versions(self):
-        """It falls back to the cache's version, and drops what that version lacks."""
+        """It falls back to the cache's version, and withdraws what that version can't carry."""
         old = Data([replace(ONE, version=0)], EndOfData(7, 5, version=0))
         report = bytes(ErrorReport(4, enclosed=bytes(RESET), text=b"0 only", version=0))
         with Cache(says(RESET, report), says(ResetQuery(0), answer(old))) as cache:
             self.assertEqual(self.fetch(cache), old)
 
     def test_cut(self):
-        """An incomplete answer shows nothing; the next connection gets a whole one."""
+        """An incomplete answer yields no update; the next connection gets a whole one."""
         data = Data([replace(ONE, version=0)], EndOfData(7, 5, version=0))
         whole, query = answer(data), ResetQuery(0)
         for end in (0, 7, 8, 9, 27, 28, len(whole) - 1):
-            told = []
+            failures = []
             with Cache(says(query, whole[:end]), says(query, whole)) as cache:
-                (update,) = self.updates(cache, 1, told.append, replace(SOON, version=0))
+                (update,) = self.updates(cache, 1, failures.append, replace(SOON, version=0))
             self.assertEqual(update.data, data)
-            self.assertEqual(len(told), 1, told)
+            self.assertEqual(len(failures), 1, failures)
 
     @mock.patch("rtr_wire.aio.REPORT_SECONDS", 3600)
     @mock.patch("rtr_wire.client.REPORT_SECONDS", 3600)
     def test_reports(self):
-        """A refusal sends the report that is owed, and raises its own error. Nothing follows the
-        report, so that the cache closes."""
+        """After a refused unit it sends the report that is owed, and nothing after it, and raises
+        the fault."""
         twice = bytes(CacheResponse(7)) + bytes(ONE) * 2 + bytes(FIRST.end)
         broken = bytes(ONE)[:10] + b"\7" + bytes(ONE)[11:]
         for sent, refused, code, about in (
@@ -201,7 +201,8 @@ class Following:
 
             with Cache(script) as cache, self.assertRaises(refused) as caught:
                 self.fetch(cache)
-            self.assertEqual([(one.code, one.enclosed) for one in reports], [(code, about)])
+            self.assertEqual([(report.code, report.enclosed) for report in reports],
+                             [(code, about)])
             self.assertEqual((caught.exception.code, caught.exception.unit), (code, about))
             self.assertGreater(len(str(caught.exception)), 5)
 
@@ -218,10 +219,10 @@ class Following:
         failures, none = [], bytes(ErrorReport(2))
         with Cache(both(says(RESET, none), says(RESET, answer(FIRST)))) as cache:
             (update,) = self.updates(cache, 1, failures.append)
-        self.assertEqual(([type(one) for one in failures], update.data), ([NoData], FIRST))
+        self.assertEqual(([type(error) for error in failures], update.data), ([NoData], FIRST))
 
     def test_slow(self):
-        """A silent cache costs no more than the limit."""
+        """A silent cache takes no longer than the time limit."""
         quick = replace(SOON, response_limit=0.05)
         with Cache(both(says(RESET), waits)) as cache, self.assertRaises(SessionError) as caught:
             self.fetch(cache, quick)
@@ -247,7 +248,7 @@ class Following:
 
     def test_refused(self):
         """A refused connection is reported."""
-        with socket.socket() as bound:  # it doesn't listen, and holds the port
+        with socket.socket() as bound:  # it reserves the port, and doesn't listen
             bound.bind(("127.0.0.1", 0))
             with self.assertRaises(ConnectionRefusedError):
                 self.fetch(mock.Mock(port=bound.getsockname()[1]))
@@ -277,8 +278,8 @@ class Blocking(Following, unittest.TestCase):
     """Client."""
 
     def test_second_address(self):
-        """Of a name with two addresses the one with a cache is used, in either order, and no socket
-        of the other stays open."""
+        """If only one of two addresses of a host name has a cache, that is used, in either order,
+        and no socket of the other stays open."""
         here, nobody = "127.0.0.1", "127.0.0.9"
         for order in ((nobody, here), (here, nobody), (nobody, nobody, here)):
             with Cache(says(RESET, answer(FIRST))) as cache, closes_all(self), \
@@ -325,26 +326,26 @@ class Blocking(Following, unittest.TestCase):
 
 
     def test_faults(self):
-        """A socket that takes a byte at a time, and isn't always ready, gets the whole query and
+        """A socket that sends a byte at a time, and isn't always ready, sends the whole query and
         the whole report."""
         class Slow:
-            def __init__(self, one):
-                self.one, self.calls = one, 0
+            def __init__(self, connection):
+                self.connection, self.calls = connection, 0
 
             def send(self, data):
                 self.calls += 1
                 if self.calls % 2:
                     raise BlockingIOError
-                return self.one.send(data[:1])
+                return self.connection.send(data[:1])
 
             def recv(self, most):
                 self.calls += 1
                 if self.calls % 3:
                     raise BlockingIOError
-                return self.one.recv(min(most, 5))
+                return self.connection.recv(min(most, 5))
 
             def __getattr__(self, name):
-                return getattr(self.one, name)
+                return getattr(self.connection, name)
 
         ours, theirs = socket.socketpair()
         broken = bytes(ONE)[:10] + b"\7" + bytes(ONE)[11:]
@@ -357,7 +358,7 @@ class Blocking(Following, unittest.TestCase):
         self.assertEqual((query, report.code, report.enclosed), (RESET, 0, broken))
 
     def test_no_memory(self):
-        """If there is no memory to read, that is told, and it goes on with another connection."""
+        """Without memory to read, it reports that, and reconnects."""
         class Failing(socket.socket):
             def recv(self, most):
                 raise MemoryError
@@ -368,11 +369,11 @@ class Blocking(Following, unittest.TestCase):
             ends.append(theirs)
             return Failing(fileno=ours.detach()) if len(ends) < 3 else ours
 
-        ends, told = [], []
-        client = Client(settings=SOON, connect=connect, failed=told.append)
+        ends, failures = [], []
+        client = Client(settings=SOON, connect=connect, failed=failures.append)
         with closes_all(self), contextlib.closing(iter(client)) as updates:
             self.assertEqual(next(updates).data, FIRST)
-        self.assertEqual([type(one) for one in told], [MemoryError, MemoryError])
+        self.assertEqual([type(error) for error in failures], [MemoryError, MemoryError])
         for end in ends:
             end.close()
 
@@ -396,7 +397,7 @@ class ForAsyncio(Following, unittest.TestCase):
         return asyncio.run(taken())
 
     def test_cancelled(self):
-        """A task that is cancelled closes its connection."""
+        """A cancelled task closes its connection."""
         async def follows(port):
             async for _ in AsyncClient("127.0.0.1", port, SOON):
                 pass

@@ -18,11 +18,11 @@ from . import rows
 
 
 def applied(first, second):
-    """Returns what rtr_apply writes, which only takes changes in canonical form."""
-    room, answer = len(first) + len(second), _rtr.rtr_data_answer()
-    output = ctypes.create_string_buffer(room)
+    """Calls rtr_apply, which requires changes in canonical form."""
+    capacity, answer = len(first) + len(second), _rtr.rtr_data_answer()
+    output = ctypes.create_string_buffer(capacity)
     status = _library.CALLS.rtr_apply_nonnull(
-        first, len(first), second, len(second), output, room, answer)
+        first, len(first), second, len(second), output, capacity, answer)
     if status != Status.OK:
         raise calls._refused(answer, calls._all_of(first), calls._all_of(second))
     return output.raw[:answer.written]
@@ -38,27 +38,27 @@ CALLED = {0: called(calls._delta), 1: applied, 2: lambda first, _: bytes(Changes
 
 
 class Rows(unittest.TestCase):
-    """Rows that are computed without the library."""
+    """Rows computed without the library."""
 
     def test_rows(self):
         count = 0
-        for one in rows.changes():
-            if one.status == Status.NO_INDEX:
+        for row in rows.changes():
+            if row.status == Status.NO_INDEX:
                 continue
             count += 1
             try:
-                answer = 0, 0, 0, None, CALLED[one.call](one.first, one.second)
+                answer = 0, 0, 0, None, CALLED[row.call](row.first, row.second)
             except Fault as fault:
                 answer = fault.status, fault.side, fault.detail, fault.offset, b""
-                source = (b"", one.first, one.second)[fault.side][fault.offset or 0:]
+                source = (b"", row.first, row.second)[fault.side][fault.offset or 0:]
                 self.assertTrue(source.startswith(fault.unit))
-            offset = one.offset if one.side else None
-            self.assertEqual(answer, (one.status, one.side, one.detail, offset, one.output), count)
+            offset = row.offset if row.side else None
+            self.assertEqual(answer, (row.status, row.side, row.detail, offset, row.output), count)
         self.assertGreater(count, 3000)
 
 
 def any_payload(rng, version):
-    """Makes one of few payloads, so that data have some in common."""
+    """Returns one of few payloads, so that data have some in common."""
     asn = rng.choice([0, 1, 2**32 - 1])
     network = ipaddress.IPv4Network(rng.choice(["10.0.0.0/8", "10.0.0.0/9", "0.0.0.0/0"]))
     return rng.choice([
@@ -73,17 +73,17 @@ def any_payload(rng, version):
 
 
 def name(unit):
-    """Returns the key of a payload: of an ASPA its customer."""
+    """Returns the key of a payload: for an ASPA, its customer."""
     return unit.customer if isinstance(unit, Aspa) else unit
 
 
 def any_set(rng, version, most):
-    """Makes payloads, one for each key."""
+    """Returns random payloads by their keys."""
     return {name(unit): unit for unit in (any_payload(rng, version) for _ in range(most))}
 
 
 class Sets(unittest.TestCase):
-    """Data as sets."""
+    """Data compared with sets."""
 
     def test_random(self):
         rng = random.Random(2)
@@ -94,42 +94,42 @@ class Sets(unittest.TestCase):
                     for serial in (7, 8)]
             old, new = (Data(rng.sample(list(side.values()), len(side)), end)
                         for side, end in zip(sides, ends))
-            for side, end, made in zip(sides, ends, (old, new)):
-                self.check_set(side, end, made)
+            for side, end, data in zip(sides, ends, (old, new)):
+                self.check_set(side, end, data)
             self.check_changes(sides, old, new)
 
-    def check_set(self, side, end, made):
+    def check_set(self, side, end, data):
         """Checks that data have these payloads and this end of data."""
-        self.assertEqual((set(made), len(made)), (set(side.values()), len(side)))
-        self.assertEqual((made.end, made.version), (end, end.version))
-        self.assertEqual((made.session, made.serial), (end.session, end.serial))
+        self.assertEqual((set(data), len(data)), (set(side.values()), len(side)))
+        self.assertEqual((data.end, data.version), (end, end.version))
+        self.assertEqual((data.session, data.serial), (end.session, end.serial))
         for unit in side.values():
-            self.assertIn(unit, made)
-            self.assertNotIn(replace(unit, version=(unit.version + 1) % 3), made)
-            self.assertNotIn(replace(unit, announce=False), made)
-        self.assertNotIn(end, made)
-        for again in (Data.from_bytes(bytes(made)), Data.from_bytes(bytearray(bytes(made)) + b"x"),
-                      Data(made, end), pickle.loads(pickle.dumps(made))):
-            self.assertEqual((again, hash(again)), (made, hash(made)))
+            self.assertIn(unit, data)
+            self.assertNotIn(replace(unit, version=(unit.version + 1) % 3), data)
+            self.assertNotIn(replace(unit, announce=False), data)
+        self.assertNotIn(end, data)
+        for again in (Data.from_bytes(bytes(data)), Data.from_bytes(bytearray(bytes(data)) + b"x"),
+                      Data(data, end), pickle.loads(pickle.dumps(data))):
+            self.assertEqual((again, hash(again)), (data, hash(data)))
 
     def check_changes(self, sides, old, new):
-        """The delta has what differs, and turns one into the other."""
+        """The delta has the differences, and changes one to the other."""
         delta = old.delta(new)
-        wanted = {unit for unit in sides[1].values() if unit not in set(sides[0].values())}
-        wanted |= {replace(unit, announce=False) for key, unit in sides[0].items()
+        expected = {unit for unit in sides[1].values() if unit not in set(sides[0].values())}
+        expected |= {replace(unit, announce=False) for key, unit in sides[0].items()
                    if key not in sides[1]}
-        self.assertEqual((set(delta), len(delta), delta.end), (wanted, len(wanted), new.end))
+        self.assertEqual((set(delta), len(delta), delta.end), (expected, len(expected), new.end))
         for changes in (delta, bytes(delta), memoryview(bytes(delta) + b"more")):
             self.assertEqual(old.apply(changes), new)
         self.assertEqual(Changes.from_bytes(bytes(delta)), delta)
         self.assertEqual(pickle.loads(pickle.dumps(delta)), delta)
 
     def test_in_order(self):
-        """Changes are applied as they came."""
-        one = IPv4Prefix(ipaddress.IPv4Network("10.0.0.0/8"), max_length=8, asn=1)
-        gone, end = replace(one, announce=False), EndOfData(1, 2)
-        data = Data([one], EndOfData(1, 1))
-        for changes, refused, place in (([gone, one], None, 0), ([one], DuplicateError, 0),
+        """Changes are applied in the order of the answer."""
+        payload = IPv4Prefix(ipaddress.IPv4Network("10.0.0.0/8"), max_length=8, asn=1)
+        gone, end = replace(payload, announce=False), EndOfData(1, 2)
+        data = Data([payload], EndOfData(1, 1))
+        for changes, refused, index in (([gone, payload], None, 0), ([payload], DuplicateError, 0),
                                         ([gone, gone], UnknownError, 1), ([gone], None, 0)):
             sent = b"".join(map(bytes, [*changes, end]))
             if refused is None:
@@ -138,18 +138,18 @@ class Sets(unittest.TestCase):
             with self.assertRaises(refused) as caught:
                 data.apply(sent)
             fault = caught.exception
-            self.assertEqual((fault.offset, fault.unit), (20 * place, bytes(changes[place])))
+            self.assertEqual((fault.offset, fault.unit), (20 * index, bytes(changes[index])))
             self.assertEqual(fault.code, {DuplicateError: 7, UnknownError: 6}[refused])
-        self.assertEqual(list(data), [one])
+        self.assertEqual(list(data), [payload])
 
     def test_refused(self):
         network, end = ipaddress.IPv4Network("10.0.0.0/8"), EndOfData(1, 1)
-        one, data = IPv4Prefix(network, max_length=8, asn=1), Data((), end)
+        payload, data = IPv4Prefix(network, max_length=8, asn=1), Data((), end)
         for refused, make in (
-                (DuplicateError, lambda: Data([one, one], end)),
-                (UnknownError, lambda: Data([replace(one, announce=False)], end)),
-                (NotCanonicalError, lambda: Data([replace(one, version=0)], end)),
-                (ShortError, lambda: Data.from_bytes(bytes(one))),
+                (DuplicateError, lambda: Data([payload, payload], end)),
+                (UnknownError, lambda: Data([replace(payload, announce=False)], end)),
+                (NotCanonicalError, lambda: Data([replace(payload, version=0)], end)),
+                (ShortError, lambda: Data.from_bytes(bytes(payload))),
                 (ShortError, lambda: data.apply(b"")),
                 (PrefixError, lambda: Data.from_vrps([Vrp(network, asn=1, max_length=7)])),
                 (OtherSessionError, lambda: data.apply(bytes(EndOfData(2, 1)))),
@@ -164,18 +164,18 @@ class Sets(unittest.TestCase):
             self.assertIs(type(caught.exception), refused)
 
     def test_vrps(self):
-        """Data of VRPs, two of them the same."""
+        """Data from VRPs with a duplicate."""
         vrps = [Vrp(ipaddress.ip_network(prefix), asn=1, max_length=most) for prefix, most in (
             ("2001:db8::/32", None), ("10.0.0.0/8", 8), ("10.0.0.0/8", None), ("10.0.0.0/8", 9))]
         data = Data.from_vrps(vrps, EndOfData(5, 6))
         self.assertEqual([(str(unit.prefix), unit.max_length) for unit in data],
                          [("10.0.0.0/8", 8), ("10.0.0.0/8", 9), ("2001:db8::/32", 32)])
         self.assertEqual(repr(data), "<Data of 3 payloads, session 5, serial 6, version 1>")
-        one = Data.from_vrps(vrps[:1], EndOfData(5, 6))
-        self.assertEqual(repr(one), "<Data of 1 payload, session 5, serial 6, version 1>")
+        single = Data.from_vrps(vrps[:1], EndOfData(5, 6))
+        self.assertEqual(repr(single), "<Data of 1 payload, session 5, serial 6, version 1>")
 
     def test_versions(self):
-        """Data of a version lack what it doesn't have; a change of version withdraws that."""
+        """Data for a version lack what it can't carry; a change of version withdraws that."""
         end = EndOfData(1, 2, version=2)
         data = Data([Aspa(1, (2,)), RouterKey(bytes(20), 1, b"", version=2),
                      IPv4Prefix(ipaddress.IPv4Network("10.0.0.0/8"), max_length=8, asn=1,
@@ -212,7 +212,7 @@ class Sets(unittest.TestCase):
         self.assertEqual(failed, [])
 
     def test_large(self):
-        """Data for which memory is mapped."""
+        """Data so large that their memory is mapped."""
         vrps = [Vrp(ipaddress.IPv4Network((i << 8, 24)), asn=64496) for i in range(20000)]
         old = Data.from_vrps(vrps[:-1], EndOfData(1, 1))
         new = Data.from_vrps(vrps[1:], EndOfData(1, 2))
@@ -235,12 +235,12 @@ class Routes(unittest.TestCase):
                 seen[got] += 1
                 if number % 8:
                     continue  # each of these rows makes a list of networks
-                wanted = [(vrps[place], mismatch)
-                          for place, _, _, _, mismatch in route.covering]
+                expected = [(vrps[index], mismatch)
+                            for index, _, _, _, mismatch in route.covering]
                 network = ipaddress.ip_network(route.prefix, strict=False)
                 covering = list(data.covering(network, route.asn))[:255]
-                self.assertEqual([(tuple(vrp), mismatch) for vrp, mismatch in covering], wanted)
-        self.assertGreater(min(seen[one] for one in list(seen)[:3]), 100)
+                self.assertEqual([(tuple(vrp), mismatch) for vrp, mismatch in covering], expected)
+        self.assertGreater(min(seen[validity] for validity in list(seen)[:3]), 100)
 
 
 if __name__ == "__main__":

@@ -18,30 +18,30 @@ THIRD = Data([ONE, TWO], EndOfData(9, 1))
 
 
 def stays(connection, queries):
-    """A script: waits until the client closes, whatever it asks until then: it asks again soon."""
+    """A script: ignores all queries until the client closes; it asks again soon."""
     for _ in queries:
         pass
 
 
 class Scripted(Cache):
-    """A cache for a test that doesn't end before it is told to."""
+    """A cache that keeps connections open until the test lets it continue."""
 
     def __init__(self, *scripts):
         super().__init__(*scripts)
         self.goes_on = threading.Event()
 
     def then(self, connection, queries):
-        """A script: waits until the test goes on."""
+        """A script: waits until the test continues."""
         self.goes_on.wait(60)
 
     def answers_and_closes(self, data):
-        """A script: gives data, waits until the test goes on, and closes."""
+        """A script: sends data, waits until the test continues, and closes."""
         return both(says(RESET, answer(data)), self.then)
 
 
 class Preferring:
-    """Tests of both loops: `follow` takes updates with the number of their client, and calls a
-    function after each."""
+    """Tests of both loops: `follow` collects this many updates, with the index of their client, and
+    calls `after` after each."""
 
     def test_first(self):
         """The preferred cache is followed, and no other is asked."""
@@ -54,19 +54,19 @@ class Preferring:
                 other.accept()
 
     def test_next(self):
-        """If the first can't be reached, the next one's data are shown; and those of the first as
-        soon as it has some. The changes lead from one to the other."""
+        """If the first cache can't be reached, the data of the next one are used, and those of the
+        first as soon as it has some. The changes are those from one to the other."""
         with Cache() as closed:
             pass
-        told = []
+        failures = []
         with Cache(both(says(RESET, answer(FIRST)), stays)) as cache:
-            taken = self.follow([closed.port, cache.port], 1, told=told)
+            taken = self.follow([closed.port, cache.port], 1, failures=failures)
         self.assertEqual(taken, [(1, FIRST, {*FIRST})])
-        self.assertEqual((told[0][0], type(told[0][1])), (0, ConnectionRefusedError))
+        self.assertEqual((failures[0][0], type(failures[0][1])), (0, ConnectionRefusedError))
 
     def test_back(self):
-        """Data of a cache that fails stay until the next one has some, and that is left as soon as
-        the first one has data again. It is started again, without its data, if the first fails."""
+        """Data of a failing cache stay until the next one has some; the client returns as soon as
+        the first has data again. If the first fails again, the next one restarts without data."""
         first, other, ends = Scripted(), Scripted(), threading.Event()
         changes = bytes(CacheResponse(7)) + bytes(FIRST.delta(SECOND))
         first.scripts = (first.answers_and_closes(FIRST),
@@ -80,36 +80,36 @@ class Preferring:
 
         with first, other:
             taken = self.follow([first.port, other.port], 4, after=after)
-        self.assertEqual([(place, data) for place, data, _ in taken],
+        self.assertEqual([(member, data) for member, data, _ in taken],
                          [(0, FIRST), (1, THIRD), (0, SECOND), (1, FIRST)])
         self.assertEqual(taken[2][2], set())
         self.assertEqual(taken[3][2], {*SECOND.delta(FIRST)})
 
     def test_silent(self):
-        """A silent cache costs the patience."""
+        """The next cache is asked after the patience if the first is silent."""
         with Cache(both(says(RESET), stays)) as silent, \
                 Cache(both(says(RESET, answer(FIRST)), stays)) as cache:
             taken = self.follow([silent.port, cache.port], 1, patience=0.2)
         self.assertEqual(taken, [(1, FIRST, {*FIRST})])
 
     def test_empty(self):
-        """An answer without payloads is a failure, unless there is only one cache, or it is to be
-        data."""
+        """An answer without payloads is a failure, unless there is only one cache, or
+        `empty_is_data` is set."""
         empty = both(says(RESET, answer(EMPTY)), stays)
         with Cache(empty) as cache:
             self.assertEqual(self.follow([cache.port], 1), [(0, EMPTY, set())])
-        told = []
+        failures = []
         with Cache(empty) as cache, Cache(both(says(RESET, answer(FIRST)), stays)) as other:
-            taken = self.follow([cache.port, other.port], 1, told=told)
-        self.assertEqual([(place, data) for place, data, _ in taken], [(1, FIRST)])
-        self.assertEqual((told[0][0], type(told[0][1]), str(told[0][1])),
+            taken = self.follow([cache.port, other.port], 1, failures=failures)
+        self.assertEqual([(member, data) for member, data, _ in taken], [(1, FIRST)])
+        self.assertEqual((failures[0][0], type(failures[0][1]), str(failures[0][1])),
                          (0, NoPayloads, "the cache has no payloads"))
         with Cache(empty) as cache:
             taken = self.follow([cache.port, 9], 1, empty_is_data=True)
         self.assertEqual(taken, [(0, EMPTY, set())])
 
     def test_expired(self):
-        """If no cache has data any more, that is told, with what is withdrawn."""
+        """If no cache has data any more, an update without data withdraws all."""
         with Cache() as closed:
             pass
         cache = Scripted()
@@ -130,7 +130,7 @@ class Preferring:
             self.follow([cache.port], 1, failed=raises)
 
     def test_not_a_failure(self):
-        """An error of a program's own that `connect` raises ends the loop."""
+        """An error of the program in `connect` ends the loop."""
         with self.assertRaises(ZeroDivisionError):
             self.follow([1], 1, connect=lambda *_: 1 // 0)
 
@@ -144,14 +144,15 @@ class Preferring:
 class InThreads(Preferring, unittest.TestCase):
     """follow."""
 
-    def follow(self, ports, count, told=None, after=None, expire=None, failed=None, connect=None,
-               **settings):
+    def follow(self, ports, count, failures=None, after=None, expire=None, failed=None,
+               connect=None, **settings):
         def tells(client, error):
-            if told is not None:
-                told.append((clients.index(client), error))
+            if failures is not None:
+                failures.append((clients.index(client), error))
 
-        wanted = SOON if expire is None else type(SOON)(**{**vars(SOON), "expire": expire})
-        clients = [Client("127.0.0.1", port, wanted, connect=connect) for port in ports]
+        client_settings = SOON if expire is None else type(SOON)(**{**vars(SOON), "expire": expire})
+        clients = [Client("127.0.0.1", port, client_settings, connect=connect)
+                   for port in ports]
         taken = []
         with closes_all(self):
             updates = follow_in_threads(clients, failed=failed or tells, **settings)
@@ -162,7 +163,8 @@ class InThreads(Preferring, unittest.TestCase):
                         after(len(taken))
                     if len(taken) == count:
                         break
-        left = [one.name for one in threading.enumerate() if one.name.startswith("rtr client")]
+        left = [thread.name for thread in threading.enumerate()
+                if thread.name.startswith("rtr client")]
         self.assertEqual(left, [])
         return taken
 
@@ -170,7 +172,7 @@ class InThreads(Preferring, unittest.TestCase):
         follow_in_threads([Client("127.0.0.1", 9)] * count)
 
     def test_ask_now(self):
-        """A client that is followed asks when it is told to."""
+        """A followed client asks when its caller requests it."""
         with Cache(ASKED) as cache:
             client = Client("127.0.0.1", cache.port, SOON)
             with contextlib.closing(follow_in_threads([client])) as updates:
@@ -182,11 +184,11 @@ class InThreads(Preferring, unittest.TestCase):
 class ForAsyncio(Preferring, unittest.TestCase):
     """aio.follow."""
 
-    def follow(self, ports, count, told=None, after=None, expire=None, failed=None, connect=None,
-               **settings):
+    def follow(self, ports, count, failures=None, after=None, expire=None, failed=None,
+               connect=None, **settings):
         def tells(client, error):
-            if told is not None:
-                told.append((clients.index(client), error))
+            if failures is not None:
+                failures.append((clients.index(client), error))
 
         async def taken():
             found = []
@@ -202,8 +204,9 @@ class ForAsyncio(Preferring, unittest.TestCase):
                 await updates.aclose()
                 self.assertEqual(len(asyncio.all_tasks()), 1)
 
-        wanted = SOON if expire is None else type(SOON)(**{**vars(SOON), "expire": expire})
-        clients = [aio.AsyncClient("127.0.0.1", port, wanted, connect=connect) for port in ports]
+        client_settings = SOON if expire is None else type(SOON)(**{**vars(SOON), "expire": expire})
+        clients = [aio.AsyncClient("127.0.0.1", port, client_settings, connect=connect)
+                   for port in ports]
         with closes_all(self):
             return asyncio.run(taken())
 
@@ -211,7 +214,7 @@ class ForAsyncio(Preferring, unittest.TestCase):
         aio.follow([aio.AsyncClient("127.0.0.1", 9)] * count)
 
     def test_cancelled(self):
-        """A task that is cancelled leaves no task and no connection."""
+        """A cancelled task leaves no task and no connection."""
         async def follows(port):
             async for _ in aio.follow([aio.AsyncClient("127.0.0.1", port, SOON)]):
                 answered.set()

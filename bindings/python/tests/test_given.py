@@ -1,4 +1,4 @@
-"""Arguments: which are keyword-only, and the errors that name a wrong one."""
+"""Arguments: which are keyword-only, and the errors for wrong ones."""
 import copy
 import ctypes
 import inspect
@@ -27,7 +27,7 @@ END, KEY = EndOfData(1, 2), bytes(20)
 DATA = Data([IPv4Prefix(V4, max_length=24, asn=65551)], END)
 BYTE, SHORT, WORD, LONG = 8, 16, 32, 64
 
-# The calls that take a number, with its name and bits.
+# The calls that take a number, with its name and its size in bits.
 NUMBERS = [
     ("max_length", BYTE, lambda it: IPv4Prefix(V4, max_length=it, asn=1)),
     ("max_length", BYTE, lambda it: IPv6Prefix(V6, max_length=it, asn=1)),
@@ -67,7 +67,7 @@ NUMBERS = [
     ("port", SHORT, lambda it: AsyncClient("cache.example", it)),
 ]
 
-# Those without a highest number: larger ones mean the same as it.
+# Numbers without a maximum: too large ones are reduced to the largest.
 UNBOUNDED = [
     ("limit", lambda it: normalise(bytes(DATA), limit=it)),
     ("limit", lambda it: same_meaning(bytes(DATA), bytes(DATA), limit=it)),
@@ -109,10 +109,10 @@ PLACES = {
 
 
 class Given(unittest.TestCase):
-    """Errors by name."""
+    """Errors that name the argument."""
 
     def refused(self, kind, text, call, value):
-        """The call raises an error of this type and text, without a cause."""
+        """The call raises an error with this type and text, and without a cause."""
         with self.assertRaises(kind) as caught:
             call(value)
         error = caught.exception
@@ -123,15 +123,15 @@ class Given(unittest.TestCase):
     def test_numbers(self):
         for name, bits, call in NUMBERS:
             for value in (-1, 2**bits, 2**70):
-                wanted = f"{name} is {value}: it must be from 0 to {2**bits - 1}"
-                with self.subTest(wanted):
-                    self.refused(ValueError, wanted, call, value)
+                message = f"{name} is {value}: it must be from 0 to {2**bits - 1}"
+                with self.subTest(message):
+                    self.refused(ValueError, message, call, value)
             for value, kind in (("1", "str"), (1.0, "float"), (None, "NoneType"), (b"1", "bytes")):
                 if value is None and call is NUMBERS[2][2]:
                     continue  # a VRP without a max length
                 with self.subTest(name, value=value):
-                    wanted = f"{name} must be an integer, not {kind}"
-                    self.refused(TypeError, wanted, call, value)
+                    message = f"{name} must be an integer, not {kind}"
+                    self.refused(TypeError, message, call, value)
 
     def test_unbounded(self):
         for name, call in UNBOUNDED:
@@ -147,17 +147,16 @@ class Given(unittest.TestCase):
         for name, call in TIMES:
             with self.subTest(name):
                 for value in (-1, -0.001, float("nan"), float("inf")):
-                    wanted = f"{name} is {value}: it must be from 0 on"
-                    self.refused(ValueError, wanted, call, value)
+                    message = f"{name} is {value}: it must be from 0 on"
+                    self.refused(ValueError, message, call, value)
                 self.refused(TypeError, f"{name} must be a number of seconds, not str", call, "1")
 
     def test_milliseconds(self):
-        """The library has milliseconds: a time above 0 doesn't become 0, and one that 32 bits don't
-        hold becomes the longest."""
+        """Times are rounded to milliseconds, but not from above 0 to 0, and limited to 32 bits."""
         for name, _ in TIMES:
-            for seconds, wanted in ((0.0004, 1), (0.0016, 2), (1.5, 1500), (1e9, 2**32 - 1)):
-                made = Settings(**{name: seconds}).for_library(0)
-                self.assertEqual(getattr(made, name), wanted, (name, seconds))
+            for seconds, milliseconds in ((0.0004, 1), (0.0016, 2), (1.5, 1500), (1e9, 2**32 - 1)):
+                settings = Settings(**{name: seconds}).for_library(0)
+                self.assertEqual(getattr(settings, name), milliseconds, (name, seconds))
 
     def test_bytes(self):
         for name, call in BYTES:
@@ -191,16 +190,17 @@ class Given(unittest.TestCase):
             with self.subTest(text):
                 self.refused(TypeError, text, call, value)
         for count in (-1, 1):
-            wanted = f"count is {count}: it must be from 0 to 0"
-            self.refused(ValueError, wanted, Router().sent, count)
+            message = f"count is {count}: it must be from 0 to 0"
+            self.refused(ValueError, message, Router().sent, count)
 
     def test_names(self):
         """Arguments that are easily confused aren't positional."""
-        for kind, wanted in PLACES.items():
+        for kind, expected in PLACES.items():
             call = kind.__new__ if kind is Vrp else kind.__init__
             taken = list(inspect.signature(call).parameters.values())[1:]
-            placed = [one.name for one in taken if one.kind is one.POSITIONAL_OR_KEYWORD]
-            self.assertEqual(placed, wanted, kind)
+            positional = [parameter.name for parameter in taken
+                          if parameter.kind is parameter.POSITIONAL_OR_KEYWORD]
+            self.assertEqual(positional, expected, kind)
         for call in (lambda: Vrp(V4, 24, 65551), lambda: IPv4Prefix(V4, 65551, 24),
                      lambda: EndOfData(1, 2, 3600, 600, 7200), lambda: Aspa(1, (2,), False),
                      lambda: ErrorReport(0, b"", b"text"), lambda: Settings(1, 3600, 600)):
@@ -239,7 +239,7 @@ class Given(unittest.TestCase):
                 self.assertIn(text, done.stderr.decode())
 
     def test_faults(self):
-        """A refusal of the library stays a Fault."""
+        """Refusals of the library are still Faults."""
         with self.assertRaises(PrefixError):
             IPv4Prefix(V4, max_length=23, asn=1)
         with self.assertRaises(Fault):

@@ -25,8 +25,8 @@ LISTINGS = _listings()
 
 
 def _written(unit):
-    """Returns the unit as it is encoded: no bits of an address after the prefix length, and no
-    providers of a withdrawn ASPA."""
+    """Returns the unit as it is encoded: without host bits of an address, and without providers of
+    a withdrawn ASPA."""
     kind, length = unit[1], unit[9] if len(unit) > 9 else 0
     if kind in (4, 6):
         address, width = unit[12:-4], 8 * len(unit[12:-4])
@@ -39,12 +39,12 @@ def _written(unit):
 
 
 def _change_of(unit):
-    """Returns the change of a unit as an object: what rtr_diff(1) prints."""
-    said = LISTINGS.object_of(0, _written(unit))
-    if "action" not in said:
+    """Returns the change of a unit as an object, as rtr_diff(1) prints it."""
+    listed = LISTINGS.object_of(0, _written(unit))
+    if "action" not in listed:
         return ""
-    parts = list(said.items())[list(said).index("zero") + 1:]
-    change = {"kind": said["kind"], "action": said["action"], **dict(parts)}
+    parts = list(listed.items())[list(listed).index("zero") + 1:]
+    change = {"kind": listed["kind"], "action": listed["action"], **dict(parts)}
     return json.dumps(change, separators=(",", ":"))
 
 
@@ -56,7 +56,7 @@ NAMES = {"session": "session_id", "serial": "serial_number", "refresh": "refresh
          "text": "error_text_bytes", "providers": "provider_asns", "version": "version"}
 
 
-def _shown(unit):
+def _fields_of_unit(unit):
     """Returns the fields of a unit as rtr_list --json has them."""
     shown = {"kind": unit.KIND.name.lower()}
     for name, value in vars(unit).items():
@@ -70,15 +70,14 @@ def _shown(unit):
     return shown
 
 
-def _told(sample):
-    """Returns the same of a sample, without fields that are ignored or that no attribute holds as
-    they are."""
+def _fields_of_sample(sample):
+    """Returns the same fields of a sample, without those that are ignored or have no attribute."""
     other = ("offset", "length", "flags", "zero", "prefix", "subject_public_key_info", "error_text")
     return {name: value for name, value in json.loads(sample.json).items() if name not in other}
 
 
 class Listings(unittest.TestCase):
-    """The output of the programs, from the calls of the library."""
+    """The calls for the output of the programs."""
 
     def test_lines(self):
         data = b"".join(sample.bytes for sample in LISTINGS.LISTED)
@@ -89,7 +88,7 @@ class Listings(unittest.TestCase):
         self.assertEqual(list(unit_lines(data)), lines)
 
     def test_samples(self):
-        """Each sample is shown and encoded as the file says, or refused."""
+        """Each sample is listed and encoded as in the file, or refused."""
         for sample in samples.SAMPLES:
             with self.subTest(sample.unit):
                 for call in (units, unit_lines, unit_objects) if not sample.line else \
@@ -110,7 +109,7 @@ class Listings(unittest.TestCase):
                 if not sample.form:
                     self.assertEqual(change_line(unit), sample.change or "")
                     self.assertEqual(change_json(unit), sample.object or "")
-                    self.assertEqual(_shown(unit), _told(sample))
+                    self.assertEqual(_fields_of_unit(unit), _fields_of_sample(sample))
 
     def test_objects(self):
         random_units = random.Random(9)
@@ -119,8 +118,8 @@ class Listings(unittest.TestCase):
         objects, offset = list(unit_objects(b"".join(forms))), 0
         self.assertEqual(len(objects), len(forms))
         for text, form in zip(objects, forms):
-            wanted = LISTINGS.object_of(offset, form)
-            self.assertEqual(list(json.loads(text).items()), list(wanted.items()), form.hex())
+            expected = LISTINGS.object_of(offset, form)
+            self.assertEqual(list(json.loads(text).items()), list(expected.items()), form.hex())
             self.assertFalse(any("\x7f" <= char <= "\x9f" for char in text), form.hex())
             offset += len(form)
 

@@ -1,4 +1,4 @@
-"""Recordings and lists, and the data that each leaves: those of tests/loads, and larger ones."""
+"""Recordings and lists, and the data that they result in: those of tests/loads, and larger ones."""
 import pathlib
 import struct
 import subprocess
@@ -15,20 +15,20 @@ EXAMPLE = pathlib.Path(__file__).resolve().parent.parent / "examples" / "routes.
 
 
 def outcome(recording):
-    """The bytes of the data that are left, and whether an answer was left out; or the offset of the
-    unit at fault, and the text of the fault."""
+    """Returns the bytes of the data, and whether an answer was ignored; or the offset of the unit
+    at fault, and the text of the fault."""
     try:
         data, has_cut = load_data(recording)
     except Fault as fault:
         assert fault.unit == recording[fault.offset:][:len(fault.unit)] and fault.side == 0
-        text, _, place = str(fault).rpartition(", at byte ")
-        assert int(place) == fault.offset
+        text, _, offset = str(fault).rpartition(", at byte ")
+        assert int(offset) == fault.offset
         return fault.offset, text
     return bytes(data), has_cut
 
 
 class Loads(unittest.TestCase):
-    """What recordings leave."""
+    """The results of recordings."""
 
     def setUp(self):
         self.rows = rows.loads()
@@ -40,14 +40,13 @@ class Loads(unittest.TestCase):
             self.assertEqual(outcome(row.recording), expected, row.name)
 
     def test_data_again(self):
-        """Data are a list, which leaves them."""
+        """The bytes of data are a list that results in them."""
         for row in self.rows:
             if row.refused is None:
                 self.assertEqual(outcome(row.data), (row.data, False), row.name)
 
     def test_cut_off(self):
-        """What is cut off after any of its bytes leaves no data: the offset is that of the unit
-        that is missing there."""
+        """A recording truncated after any byte is refused at the offset of the incomplete unit."""
         for row in filter(lambda row: row.is_one_answer, self.rows):
             for length in range(len(row.recording)):
                 missing = max(offset for offset in row.offsets if offset <= length)
@@ -55,8 +54,8 @@ class Loads(unittest.TestCase):
                                  (missing, "unexpected end of input"), row.name)
 
     def test_large_data(self):
-        """More data than the buffers have room for at first: IPv4 prefixes of 32 bits and an end of
-        data (RFC 8210 sections 5.6 and 5.8)."""
+        """More data than the first buffers hold: IPv4 prefixes of 32 bits and an end of data (RFC
+        8210 sections 5.6 and 5.8)."""
         head = bytes([1, 4, 0, 0, 0, 0, 0, 20, 1, 32, 32, 0])
         prefixes = [struct.pack(">12s2I", head, at, 64496) for at in range(1 << 20)]
         end = bytes([1, 7, 0, 7, 0, 0, 0, 24, 0, 0, 0, 1]) + struct.pack(">3I", 3600, 600, 7200)
@@ -66,12 +65,12 @@ class Loads(unittest.TestCase):
     def test_buffers(self):
         """Any bytes-like object is a recording."""
         row = self.rows[0]
-        for given in (bytearray(row.recording), memoryview(row.recording)):
-            self.assertEqual(bytes(load_data(given).data), row.data)
+        for recording in (bytearray(row.recording), memoryview(row.recording)):
+            self.assertEqual(bytes(load_data(recording).data), row.data)
 
 
 def _recordings():
-    """The script, which has changed recordings and a reader of them."""
+    """Returns the script that makes changed recordings, and reads them."""
     loader = SourceFileLoader("recordings", str(rows.TESTS / "programs" / "recordings"))
     module = module_from_spec(spec_from_loader("recordings", loader))
     loader.exec_module(module)
@@ -102,10 +101,10 @@ class Changed(unittest.TestCase):
 
 
 class Example(unittest.TestCase):
-    """The example over the recording that docs/OPERATORS.md makes, and over what it refuses."""
+    """The example with the recording of docs/OPERATORS.md, and with refused inputs."""
 
-    def runs(self, given):
-        done = subprocess.run([sys.executable, EXAMPLE], input=given, stdout=subprocess.PIPE,
+    def runs(self, recording):
+        done = subprocess.run([sys.executable, EXAMPLE], input=recording, stdout=subprocess.PIPE,
                               stderr=subprocess.PIPE, timeout=300)
         return done.returncode, done.stdout.decode(), done.stderr.decode()
 
@@ -118,8 +117,8 @@ class Example(unittest.TestCase):
                "  192.0.2.0/24 up to 24, AS64496: OTHER_AS\n"
                "203.0.113.0/24 AS65551 INVALID\n"
                "  203.0.113.0/24 up to 24, AS64500: OTHER_AS\n", ""))
-        status, _, said = self.runs(recordings["an answer that the next cache response cuts off"])
-        self.assertEqual((status, said),
+        status, _, error = self.runs(recordings["an answer that the next cache response cuts off"])
+        self.assertEqual((status, error),
                          (0, "routes: left out: an answer without an end of data\n"))
         self.assertEqual(self.runs(recordings["nothing"]),
                          (1, "", "routes: unexpected end of input, at byte 0\n"))

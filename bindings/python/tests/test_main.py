@@ -15,15 +15,15 @@ DATA = Data.from_vrps([Vrp(ipaddress.IPv4Network("192.0.2.0/23"), asn=65551, max
                        Vrp(ipaddress.IPv6Network("2001:db8::/32"), asn=0)], EndOfData(1, 2))
 
 
-def runs(*words, given=b""):
+def runs(*words, stdin=b""):
     """Runs a command, and returns its status, standard output and standard error."""
-    done = subprocess.run([sys.executable, "-m", "rtr_wire", *words], input=given,
+    done = subprocess.run([sys.executable, "-m", "rtr_wire", *words], input=stdin,
                           stdout=subprocess.PIPE, stderr=subprocess.PIPE, timeout=300)
     return done.returncode, done.stdout, done.stderr.decode()
 
 
 class Commands(unittest.TestCase):
-    """What each command does."""
+    """The commands."""
 
     def test_fetch(self):
         line = "session 7 serial 1 version 1: 2 payloads\n"
@@ -34,12 +34,12 @@ class Commands(unittest.TestCase):
                 path = pathlib.Path(folder, "data")
                 self.assertEqual(runs("fetch", address, "--output", path), (0, b"", line))
                 self.assertEqual(path.read_bytes(), bytes(FIRST))
-        status, printed, said = runs("fetch", address)
+        status, printed, error = runs("fetch", address)
         self.assertEqual((status, printed), (1, b""))
-        self.assertIn("Connection refused", said)
+        self.assertIn("Connection refused", error)
 
     def test_fetch_over_tls(self):
-        """--tls verifies the cache, its authority and its name; --ca names the authority."""
+        """--tls verifies the CA and the name of the cache's certificate; --ca names the CA."""
         with tempfile.TemporaryDirectory() as folder, tempfile.TemporaryDirectory() as others:
             context, trusted = certified(folder)
             other, named = certified(others, "DNS:cache.example")
@@ -52,9 +52,9 @@ class Commands(unittest.TestCase):
                 with self.subTest(words=words, text=text):
                     script = waits if status else says(RESET, answer(FIRST))
                     with Cache(script, context=server) as cache:
-                        ended, printed, said = runs("fetch", f"127.0.0.1:{cache.port}", *words)
+                        ended, printed, error = runs("fetch", f"127.0.0.1:{cache.port}", *words)
                     self.assertEqual((ended, printed), (status, b"" if status else bytes(FIRST)))
-                    self.assertIn(text, said)
+                    self.assertIn(text, error)
 
     def test_validate(self):
         for route, printed in (
@@ -67,7 +67,7 @@ class Commands(unittest.TestCase):
                 (("2001:db8::/48", "0"), "2001:db8::/48 AS0 invalid\n"
                                          "  2001:db8::/32-32 AS0: as zero\n"),
                 (("203.0.113.0/24", "1"), "203.0.113.0/24 AS1 not found\n")):
-            self.assertEqual(runs("validate", "-", *route, given=bytes(DATA)),
+            self.assertEqual(runs("validate", "-", *route, stdin=bytes(DATA)),
                              (0, printed.encode(), ""))
         with tempfile.NamedTemporaryFile() as file:
             file.write(bytes(DATA))
@@ -75,20 +75,20 @@ class Commands(unittest.TestCase):
             self.assertEqual(runs("validate", file.name, "0.0.0.0/0", "1")[0], 0)
 
     def test_recordings(self):
-        """A route by what a recording leaves: that of docs/OPERATORS.md, and of one with an answer
+        """A route by the data of a recording: that of docs/OPERATORS.md, and one with an answer
         that is cut off."""
-        given = {row.name: row.recording for row in rows.loads()}
-        recording = given["the recording of docs/OPERATORS.md"]
-        self.assertEqual(runs("validate", "-", "198.51.100.0/26", "AS64497", given=recording),
+        recordings = {row.name: row.recording for row in rows.loads()}
+        recording = recordings["the recording of docs/OPERATORS.md"]
+        self.assertEqual(runs("validate", "-", "198.51.100.0/26", "AS64497", stdin=recording),
                          (0, b"198.51.100.0/26 AS64497 valid\n"
                              b"  198.51.100.0/24-26 AS64497: matches\n", ""))
-        recording = given["an answer that the next cache response cuts off"]
-        self.assertEqual(runs("validate", "-", "192.0.2.0/24", "AS64496", given=recording),
+        recording = recordings["an answer that the next cache response cuts off"]
+        self.assertEqual(runs("validate", "-", "192.0.2.0/24", "AS64496", stdin=recording),
                          (0, b"192.0.2.0/24 AS64496 not found\n",
                           "rtr_wire: left out: an answer without an end of data\n"))
 
     def test_list(self):
-        """As rtr_list(1) says."""
+        """The output is that of rtr_list(1)."""
         units = (bytes([1, 3, 0, 7, 0, 0, 0, 8])
                  + bytes([1, 4, 0, 0, 0, 0, 0, 20, 1, 33, 26, 0, 192, 0, 2, 10, 0, 1, 0, 15])
                  + bytes([1, 10, 0, 2, 0, 0, 4, 16, 0, 0, 0, 0, 0, 0, 4, 0]) + b"\n" * 1024)
@@ -96,21 +96,21 @@ class Commands(unittest.TestCase):
                  "8 v1 IPv4 prefix announce 192.0.2.10/33-26 AS65551\n"
                  "28 v1 error report code 2 (No Data Available) pdu \"\" text \""
                  + "\\n" * 1024 + "\"\n")
-        self.assertEqual(runs("list", "-", given=units), (0, lines.encode(), ""))
+        self.assertEqual(runs("list", "-", stdin=units), (0, lines.encode(), ""))
         self.assertEqual(runs("list", "-"), (0, b"", ""))
-        status, printed, said = runs("list", "-", given=units[:29])
-        self.assertEqual((status, printed.count(b"\n"), said[:10]), (1, 2, "rtr_wire: "))
+        status, printed, error = runs("list", "-", stdin=units[:29])
+        self.assertEqual((status, printed.count(b"\n"), error[:10]), (1, 2, "rtr_wire: "))
         with tempfile.NamedTemporaryFile() as file:
             file.write(units)
             file.flush()
             self.assertEqual(runs("list", file.name)[:2], (0, lines.encode()))
 
     def test_no_data(self):
-        for given, prefix, asn in ((b"", "192.0.2.0/24", "1"), (b"text", "192.0.2.0/24", "1"),
+        for data, prefix, asn in ((b"", "192.0.2.0/24", "1"), (b"text", "192.0.2.0/24", "1"),
                                    (bytes(DATA), "192.0.2.0/33", "1"),
                                    (bytes(DATA), "192.0.2.0/24", str(2**32))):
-            status, printed, said = runs("validate", "-", prefix, asn, given=given)
-            self.assertEqual((status, printed, said[:10]), (1, b"", "rtr_wire: "))
+            status, printed, error = runs("validate", "-", prefix, asn, stdin=data)
+            self.assertEqual((status, printed, error[:10]), (1, b"", "rtr_wire: "))
         self.assertEqual(runs("validate", "/nowhere", "::/0", "1")[0], 1)
 
     def test_arguments(self):

@@ -44,13 +44,13 @@ RESET = bytes(ResetQuery(1))
 
 
 class Routed(unittest.TestCase):
-    """Plays a cache beside a router."""
+    """Plays a cache against a router."""
 
     def setUp(self):
         self.router, self.now = Router(SOON), 0
 
     def steps(self):
-        """Returns the steps until the router waits. Connections are made at once."""
+        """Returns the steps until the router waits; connections succeed at once."""
         taken = []
         while (step := self.router.step(self.now)) is not None:
             taken.append(step)
@@ -61,14 +61,14 @@ class Routed(unittest.TestCase):
         return taken
 
     def comes(self, *parts):
-        """Returns the steps at these bytes."""
+        """Receives these bytes, and returns the steps."""
         self.router.received(b"".join(parts))
         return self.steps()
 
-    def sends(self, wanted):
-        """The router sends this, and it is taken."""
-        self.assertEqual(self.router.output, wanted)
-        self.router.sent(len(wanted))
+    def sends(self, expected):
+        """The output is exactly this; sends it."""
+        self.assertEqual(self.router.output, expected)
+        self.router.sent(len(expected))
 
     def loads(self, first=FIRST):
         """The router loads the first data, and returns the update."""
@@ -79,13 +79,13 @@ class Routed(unittest.TestCase):
         return update
 
     def reconnects(self):
-        """Some time after the end of a connection the router has another, and asks for all data."""
+        """After the end of a connection the router reconnects, and asks for all data."""
         self.now += 10_000
         self.assertEqual(self.steps(), [Connect()])
         self.sends(RESET)
 
     def asks(self, serial):
-        """The router asks for what changed since this serial number."""
+        """The router asks for the changes since this serial number."""
         self.now += 1000
         self.router.asked()
         self.assertEqual(self.steps(), [])
@@ -93,10 +93,10 @@ class Routed(unittest.TestCase):
 
 
 class Values(Routed):
-    """Data are values: those of an earlier update stay as they were."""
+    """Data are immutable: those of an earlier update don't change."""
 
     def test_kept(self):
-        """Data that the caller keeps, and data that it reads only later, aren't written over."""
+        """Data that the caller keeps, even unread, aren't overwritten."""
         size, updates = 3000, [self.loads(data(1, *prefixes(0, 3000)))]
         for serial in range(2, 8):
             self.asks(serial - 1)
@@ -104,8 +104,8 @@ class Values(Routed):
             updates += self.comes(changes(updates[-1].data, new))
         for serial, update in enumerate(updates, 1):
             payloads = prefixes(serial * size, size) if serial > 1 else []
-            wanted = data(serial, *payloads, *prefixes(0, serial if payloads else size))
-            self.assertEqual(bytes(update.data), bytes(wanted))
+            expected = data(serial, *payloads, *prefixes(0, serial if payloads else size))
+            self.assertEqual(bytes(update.data), bytes(expected))
 
     def test_after_others(self):
         """The same after expiry, and after data of another session."""
@@ -119,7 +119,7 @@ class Values(Routed):
         self.assertEqual(list(other.data), [TWO])
 
     def test_changes(self):
-        """The changes of an update may be read after the next ones came."""
+        """The changes of an update may be read after the next update."""
         first = self.loads()
         self.asks(1)
         (second,) = self.comes(changes(FIRST, SECOND))
@@ -161,10 +161,10 @@ class Values(Routed):
 
 
 class Memory(Routed):
-    """What a router does without memory."""
+    """A router without memory."""
 
     def without(self, nth):
-        """Refuses memory for an index or data once: the nth time."""
+        """Makes the nth allocation of an index or data fail."""
         calls = []
 
         def refuses(size):
@@ -174,10 +174,10 @@ class Memory(Routed):
             return _library.memory(size)
         return mock.patch("rtr_wire.link.memory", refuses)
 
-    def fails(self, came):
-        """An answer ends the connection, since there is no memory for it, and the data stay. The
-        next one comes."""
-        steps = self.comes(*came)
+    def fails(self, received):
+        """An answer for which there is no memory ends the connection, and the data stay; the next
+        answer is loaded."""
+        steps = self.comes(*received)
         self.assertEqual(steps[0], Close())
         self.assertIsInstance(steps[1].error, MemoryError)
         self.assertEqual(self.router.data(self.now), FIRST)
@@ -185,7 +185,7 @@ class Memory(Routed):
         self.assertEqual(self.comes(answer(SECOND))[0].data, SECOND)
 
     def test_data(self):
-        """For what the changes make, or for the index."""
+        """No memory for the new data, or for the index."""
         for nth in (1, 2):
             self.setUp()
             self.loads()
@@ -194,7 +194,7 @@ class Memory(Routed):
                 self.fails([changes(FIRST, SECOND)])
 
     def test_input(self):
-        """For an answer, while it comes."""
+        """No memory for an answer, while it is received."""
         self.loads()
         self.asks(1)
         more = data(2, *prefixes(0, 8000))
@@ -207,7 +207,7 @@ class Memory(Routed):
         self.assertEqual(self.comes(answer(more))[0].data, more)
 
     def test_twice_as_long(self):
-        """Without memory to make the input twice as long it gets what is needed."""
+        """Without memory to double the input, it grows only as needed."""
         lengthen, refused = _library.lengthen, []
 
         def refuses(buffer, size):
@@ -217,15 +217,15 @@ class Memory(Routed):
             lengthen(buffer, size)
 
         many = data(1, *prefixes(0, 8000))
-        came, steps = answer(many), self.steps()
+        received, steps = answer(many), self.steps()
         with mock.patch("rtr_wire._library.lengthen", refuses):
-            for at in range(0, len(came), 5000):
-                steps += self.comes(came[at:at + 5000])
+            for at in range(0, len(received), 5000):
+                steps += self.comes(received[at:at + 5000])
         self.assertTrue(refused)
         self.assertEqual(steps[-1].data, many)
 
     def test_output(self):
-        """If nothing is sent, and there is no memory for more, the connection ends."""
+        """If nothing is sent, and there is no memory for more output, the connection ends."""
         with mock.patch("rtr_wire.link._OUTPUT", LONGEST_UNIT):
             self.setUp()
             self.loads()
@@ -238,8 +238,8 @@ class Memory(Routed):
         self.assertEqual(self.router.data(self.now), FIRST)
 
     def test_changes(self):
-        """New data, and their loss, are told even if there is no memory for the changes, which can
-        be read once there is."""
+        """New data, and their loss, are reported even without memory for the changes, which can be
+        read later."""
         with mock.patch("rtr_wire.data.memory", side_effect=MemoryError):
             first = self.loads()
             self.now += 601_000
@@ -248,13 +248,13 @@ class Memory(Routed):
                 with self.assertRaises(MemoryError):
                     len(update.changes)
         self.assertEqual((first.data, expired.data), (FIRST, None))
-        self.assertEqual([list(one.changes) for one in (first, expired)],
+        self.assertEqual([list(update.changes) for update in (first, expired)],
                          [[ONE], list(FIRST.delta(data(1)))])
 
     @unittest.skipUnless(platform.system() == "Linux", "the limit is that of Linux")
     def test_limited(self):
-        """A process with a limit of memory is told of new data or why there are none, and in any
-        case that its data expire."""
+        """A process with a memory limit gets new data or a MemoryError, and in any case the expiry
+        of its data."""
         script = pathlib.Path(__file__).with_name("limited.py")
         for left in (0, 8, 32, 96):
             done = subprocess.run([sys.executable, script, str(left)], env=os.environ,
@@ -265,7 +265,7 @@ class Memory(Routed):
 
 
 class Sending(Routed):
-    """What a router sends, and how much of it was sent."""
+    """The output of a router, and how much of it was sent."""
 
     def test_a_byte_at_a_time(self):
         self.steps()
@@ -276,7 +276,7 @@ class Sending(Routed):
         self.assertEqual(self.router.output, b"")
 
     def test_a_part(self):
-        """A report comes after a query of which a part was sent."""
+        """A report is sent after the rest of a partly sent query."""
         self.steps()
         self.router.sent(3)
         close, failed = self.comes(b"\1\5\0\0\0\0\0\10")
@@ -294,12 +294,12 @@ class Sending(Routed):
         self.assertEqual(self.router.output, RESET)
 
 
-class Told(Routed):
-    """What a router says of the end of a connection."""
+class Failures(Routed):
+    """The reasons for the end of a connection."""
 
     def test_offsets(self):
-        """A refused unit has its offset in what came on the connection, a refused change that in
-        the changes; both have the unit."""
+        """The offset of a refused unit is that in all bytes of the connection, the offset of a
+        refused change that in the changes; both have the unit."""
         broken = bytes(ONE)[:10] + b"\7" + bytes(ONE)[11:]
         notify = bytes(SerialNotify(7, 1))
         self.loads()
@@ -316,15 +316,15 @@ class Told(Routed):
                          (40, bytes(ONE), 2))
 
     def test_a_byte_at_a_time(self):
-        """However the bytes are cut, it comes to the same."""
+        """The result doesn't depend on how the bytes are split."""
         self.steps()
-        came = answer(SECOND) + bytes(SerialNotify(7, 2)) + b"\1\4\0\0\0\0\0\7"
+        received = answer(SECOND) + bytes(SerialNotify(7, 2)) + b"\1\4\0\0\0\0\0\7"
         steps = []
-        for at in range(len(came)):
-            steps += self.comes(came[at:at + 1])
+        for at in range(len(received)):
+            steps += self.comes(received[at:at + 1])
         update, close, failed = steps
         self.assertEqual((update.data, close), (SECOND, Close()))
-        self.assertEqual(failed.error.offset, len(came) - 8)
+        self.assertEqual(failed.error.offset, len(received) - 8)
 
     def test_cut(self):
         self.steps()
@@ -335,7 +335,7 @@ class Told(Routed):
         self.assertEqual((failed.error.offset, failed.error.unit), (8, bytes(ONE)[:12]))
 
     def test_lost(self):
-        """The error of the system is told, after what came before it."""
+        """The system's error is reported after the bytes before it were processed."""
         self.steps()
         error = OSError("lost")
         self.router.received(answer(FIRST))
@@ -364,7 +364,7 @@ class Told(Routed):
 
 
 class Turns(Routed):
-    """Calls out of turn, wrong times and settings, and a router that begins again."""
+    """Calls out of turn, wrong times and settings, and a restarted router."""
 
     def test_out_of_turn(self):
         with self.assertRaises(RuntimeError):
@@ -390,7 +390,7 @@ class Turns(Routed):
         self.assertIsNone(self.router.step(10))
 
     def test_again(self):
-        """A router that begins again has no data, connects, and asks for all of them."""
+        """A restarted router has no data, connects, and asks for all of them."""
         update = self.loads()
         self.router.again()
         self.assertIsNone(self.router.data(self.now))
@@ -399,7 +399,7 @@ class Turns(Routed):
         self.assertEqual((update.data, second.data, len(second.changes)), (FIRST, SECOND, 2))
 
     def test_waits_grow(self):
-        """If its cache failed before, it waits longer after that than a new one."""
+        """If its cache failed before, it waits longer after the next failure than a new router."""
         waits = []
         self.router = Router(Settings(pause=1, retry=1000))
         for _ in range(4):

@@ -9,19 +9,19 @@ from rtr_wire import EndOfData, Fault, Normalised, TooManyError, normalise, same
 from . import rows
 
 
-def told(one):
-    """Returns the result of `normalise` for a case: the status, the detail, what was done."""
-    version = None if one.version == 255 else one.version
+def result_of(case):
+    """Returns the status and the detail of `normalise` for a case, and its result."""
+    version = None if case.version == 255 else case.version
     try:
-        return 0, 0, normalise(one.input, version=version)
+        return 0, 0, normalise(case.input, version=version)
     except Fault as fault:
         return int(fault.status), fault.detail, fault.before
 
 
-def read(one):
-    """Returns the form of the units up to an end of data or a fault, and the status and detail of
-    that."""
-    form, source = b"", units(io.BytesIO(one.input))
+def read(case):
+    """Reads units up to an end of data or a fault; returns the status, the detail, the form of the
+    units, and the offset."""
+    form, source = b"", units(io.BytesIO(case.input))
     try:
         for unit in source:
             form += bytes(unit)
@@ -40,9 +40,9 @@ class Sequences(unittest.TestCase):
         cls.cases = list(rows.cases())
 
     def play(self, cases):
-        for one in cases:
-            done = Normalised(one.form, one.units, one.forms, one.taken)
-            self.assertEqual(told(one), (one.status, one.detail, done), one.input.hex())
+        for case in cases:
+            done = Normalised(case.form, case.units, case.forms, case.taken)
+            self.assertEqual(result_of(case), (case.status, case.detail, done), case.input.hex())
 
     def test_normalise(self):
         self.assertGreater(len(self.cases), 600)
@@ -65,37 +65,37 @@ class Sequences(unittest.TestCase):
         self.assertEqual(failed, [])
 
     def test_reading(self):
-        """Unit by unit, unless a unit comes that no sequence has, which isn't a fault of the
-        unit."""
-        for one in self.cases:
-            if one.version == 255 and one.status != rtr_wire.Status.UNIT_TYPE:
-                self.assertEqual(read(one), (one.status, one.detail, one.form, one.taken),
-                                 one.input.hex())
+        """Unit by unit, except for units that are valid but not allowed in a sequence."""
+        for case in self.cases:
+            if case.version == 255 and case.status != rtr_wire.Status.UNIT_TYPE:
+                self.assertEqual(read(case), (case.status, case.detail, case.form, case.taken),
+                                 case.input.hex())
 
     def test_limit(self):
-        for one in self.cases:
-            if one.status == 0 and one.version == 255:
-                self.assertEqual(normalise(one.input, limit=one.units + 1).form, one.form)
+        for case in self.cases:
+            if case.status == 0 and case.version == 255:
+                self.assertEqual(normalise(case.input, limit=case.units + 1).form, case.form)
                 with self.assertRaises(TooManyError) as caught:
-                    normalise(one.input, limit=one.units)
-                self.assertEqual(caught.exception.before.units, one.units)
+                    normalise(case.input, limit=case.units)
+                self.assertEqual(caught.exception.before.units, case.units)
                 self.assertEqual(caught.exception.unit, b"")
                 self.assertIsNone(caught.exception.code)
 
     def test_meanings(self):
-        """A sequence means the same as its form, and not the same as an end of data alone."""
+        """A sequence means the same as its form, and as a mere end of data only if that is its
+        form."""
         end = bytes.fromhex("00070001 0000000c 00000002")
-        for one in self.cases:
-            if one.version != 255:
+        for case in self.cases:
+            if case.version != 255:
                 continue
-            for side, left, right, same in ((1, one.input, one.form, True),
-                                            (2, end, bytearray(one.input), end == one.form)):
+            for side, left, right, same in ((1, case.input, case.form, True),
+                                            (2, end, bytearray(case.input), end == case.form)):
                 try:
                     answer = 0, 0, same_meaning(left, right)
-                    self.assertEqual(answer, (one.status, one.detail, same), one.input.hex())
+                    self.assertEqual(answer, (case.status, case.detail, same), case.input.hex())
                 except Fault as fault:
                     answer = fault.status, fault.detail, fault.offset, fault.side
-                    self.assertEqual(answer, (one.status, one.detail, one.taken, side))
+                    self.assertEqual(answer, (case.status, case.detail, case.taken, side))
 
     def test_versions(self):
         """An unknown version is refused before any other fault, and no unit is at fault."""

@@ -55,7 +55,7 @@ class Dripping(io.RawIOBase):
 
 
 def following(source):
-    """Returns the next unit, or its fault, or None at the end, whatever the file raises before."""
+    """Returns the next unit, or its fault, or None at the end; ignores errors of the file."""
     while True:
         try:
             return next(source, None)
@@ -72,31 +72,32 @@ class Sessions(unittest.TestCase):
     def setUpClass(cls):
         cls.sessions = list(rows.sessions())
 
-    def check(self, got, one, data, at):
-        """A unit or a fault is the one expected for the bytes from this offset on."""
+    def check(self, got, expected, data, at):
+        """The unit or the fault at this offset is the expected one."""
         if isinstance(got, Fault):
             self.assertEqual((got.status, got.detail, got.offset),
-                             (one.numbers[STATUS], one.numbers[DETAIL], at))
+                             (expected.numbers[STATUS], expected.numbers[DETAIL], at))
             self.assertTrue(data[at:].startswith(got.unit))
             return
-        self.assertEqual(one.numbers[STATUS], 0)
-        part = data[at + one.numbers[PART]:][:one.numbers[PART_LENGTH]]
-        text = data[at + one.numbers[TEXT]:][:one.numbers[TEXT_LENGTH]]
+        self.assertEqual(expected.numbers[STATUS], 0)
+        part = data[at + expected.numbers[PART]:][:expected.numbers[PART_LENGTH]]
+        text = data[at + expected.numbers[TEXT]:][:expected.numbers[TEXT_LENGTH]]
         self.assertEqual(
-            shown(got), (list(one.numbers[ASN:DETAIL]), one.address, one.identifier, part, text))
-        self.assertEqual(bytes(got), one.form)
+            shown(got), (list(expected.numbers[ASN:DETAIL]), expected.address,
+                         expected.identifier, part, text))
+        self.assertEqual(bytes(got), expected.form)
 
     def walk(self, data, answers, source):
         """Iterates over a session, and skips prefixes that are refused."""
         at = 0
-        for one in answers:
+        for expected in answers:
             if at == len(data):
                 self.assertIsNone(following(source))
                 return
             self.assertEqual(source.offset, at)
             got = following(source)
-            self.check(got, one, data, at)
-            at += one.numbers[SIZE]
+            self.check(got, expected, data, at)
+            at += expected.numbers[SIZE]
         self.assertIsInstance(got, Fault)
         self.assertEqual(source.offset, at)
         again = following(source)
@@ -153,7 +154,7 @@ class Lengths(unittest.TestCase):
     """A length is checked before it is trusted."""
 
     def test_long(self):
-        """After a length that no unit has, nothing more is read."""
+        """After an impossible length nothing more is read."""
         for kind in range(256):
             file = io.BytesIO(bytes([1, kind, 0, 0, 255, 255, 255, 255]) + bytes(1 << 20))
             with self.assertRaises(Fault) as caught:
@@ -166,12 +167,12 @@ class Lengths(unittest.TestCase):
             self.assertEqual(list(units(source)), [])
 
     def test_not_now(self):
-        """A file without data for now raises that, and then continues."""
+        """A file without data for now raises a BlockingIOError, and can be read later."""
         class File:
-            given = [b"\1\2\0\0", None, b"\0\0\0\10", b""]
+            pieces = [b"\1\2\0\0", None, b"\0\0\0\10", b""]
 
             def read1(self, most):
-                return self.given.pop(0)
+                return self.pieces.pop(0)
 
         source = units(File())
         with self.assertRaises(BlockingIOError):

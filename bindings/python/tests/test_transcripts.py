@@ -19,9 +19,10 @@ def scenes():
     """All scenes: from the file that RTR_SCENES names, or the stored and generated ones."""
     if path := os.environ.get("RTR_SCENES"):
         return pathlib.Path(path).read_text()
-    with tempfile.TemporaryDirectory() as made:
-        subprocess.run([sys.executable, TRANSCRIPTS / "make", made], check=True)
-        return "".join(path.read_text() for folder in (TRANSCRIPTS / "scenes", pathlib.Path(made))
+    with tempfile.TemporaryDirectory() as generated:
+        subprocess.run([sys.executable, TRANSCRIPTS / "make", generated], check=True)
+        return "".join(path.read_text()
+                       for folder in (TRANSCRIPTS / "scenes", pathlib.Path(generated))
                        for path in sorted(folder.glob("*.scene")))
 
 
@@ -30,14 +31,14 @@ class Played:
 
     def __init__(self, name):
         self.name, self.settings, self.chance = name, {}, 0
-        self.made, self.now, self.connected, self.broken = None, 0, False, False
-        self.wanted, self.seen = [], []
+        self._router, self.now, self.connected, self.broken = None, 0, False, False
+        self.expected, self.seen = [], []
 
     @property
     def router(self):
-        if self.made is None:
-            self.made = Router(Settings(**self.settings), chance=self.chance)
-        return self.made
+        if self._router is None:
+            self._router = Router(Settings(**self.settings), chance=self.chance)
+        return self._router
 
     def sees(self, what):
         self.seen.append(f"{self.now} {what}")
@@ -88,7 +89,7 @@ class Played:
             self.settle()
         self.now = time
 
-    def given(self, time, step, words=()):
+    def take_step(self, time, step, words=()):
         """Carries out a step of the cache, the caller, or the clock."""
         self.passes(time)
         if step == ">" and self.connected:
@@ -114,19 +115,19 @@ class Played:
             else:
                 self.settings[name] = value / 1000 if name in TIMES else value
         elif words[0] == "at":
-            self.given(int(words[1]), "at")
+            self.take_step(int(words[1]), "at")
         elif words[1] == "cache>":
-            self.given(int(words[0]), ">", words[2:])
+            self.take_step(int(words[0]), ">", words[2:])
         elif words[1] in ("cache", "caller"):
-            self.given(int(words[0]), words[2])
+            self.take_step(int(words[0]), words[2])
         elif words[1] == "router>" and words[2] != "report":
-            self.wanted.append(f"{words[0]} router> {''.join(words[2:])}")
+            self.expected.append(f"{words[0]} router> {''.join(words[2:])}")
         else:
-            self.wanted.append(" ".join(words))
+            self.expected.append(" ".join(words))
 
 
 class Transcripts(unittest.TestCase):
-    """A router does what the scenes say."""
+    """The router takes the steps of the scenes."""
 
     def test_scenes(self):
         played = []
@@ -137,8 +138,8 @@ class Transcripts(unittest.TestCase):
             elif words:
                 played[-1].line(words)
         self.assertGreater(len(played), 300)
-        for one in played:
-            self.assertEqual(one.seen, one.wanted, one.name)
+        for scene in played:
+            self.assertEqual(scene.seen, scene.expected, scene.name)
 
 
 if __name__ == "__main__":

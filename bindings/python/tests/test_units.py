@@ -1,4 +1,4 @@
-"""Units that are made in Python, and faults."""
+"""Units that are constructed in Python, and faults."""
 import copy
 import ctypes
 import dataclasses
@@ -25,7 +25,7 @@ from .rows import samples
 
 V4, V6 = ipaddress.IPv4Network("192.0.2.0/24"), ipaddress.IPv6Network("2001:db8::/32")
 
-# Units, and the samples that are their forms.
+# Units, and the names of the samples that are their forms.
 FORMS = [(unit, samples.unit(name)) for unit, name in (
     (SerialNotify(4660, 0xdeadbeef), "serial notify"),
     (SerialQuery(4660, 0xdeadbeef, version=0), "serial query"),
@@ -46,7 +46,7 @@ FORMS = [(unit, samples.unit(name)) for unit, name in (
 
 
 def any_unit(rng):
-    """A unit of any kind, with random fields of few values, so that some are equal."""
+    """Returns a unit of any kind, with fields of few random values, so that some are equal."""
     def number(bits):
         return rng.choice([0, 1, 2**bits - 1, rng.getrandbits(bits)])
 
@@ -74,7 +74,7 @@ def any_unit(rng):
 
 
 class Made(unittest.TestCase):
-    """Units from their fields."""
+    """Units constructed from attributes."""
 
     def test_forms(self):
         self.assertEqual({unit.KIND for unit, _ in FORMS}, set(Kind))
@@ -83,42 +83,42 @@ class Made(unittest.TestCase):
             self.assertEqual(next(units(form)), unit)
 
     def test_left_loops(self):
-        """A loop continues where the one before was left, also after a fault."""
+        """A loop continues where the last one was left, also after a fault."""
         longer = bytes.fromhex("01040000 00000014 01181000 c0000200 0000fbf0")
         each = [bytes(unit) for unit, _ in FORMS]
         for count in (1, 20, 64, 65):
-            told = units(longer.join([b"".join(each)] * count))
+            reader = units(longer.join([b"".join(each)] * count))
             for _ in range(count):
-                for first in told:
+                for first in reader:
                     break
                 self.assertEqual(first, FORMS[0][0])
-                self.assertEqual(next(told), FORMS[1][0])
-                self.assertEqual(told.offset % (len(b"".join(each)) + len(longer)),
+                self.assertEqual(next(reader), FORMS[1][0])
+                self.assertEqual(reader.offset % (len(b"".join(each)) + len(longer)),
                                  len(each[0] + each[1]))
-                for _, unit in zip(FORMS[2:], told):
+                for _, unit in zip(FORMS[2:], reader):
                     last = unit
                 self.assertEqual(last, FORMS[-1][0])
-                if told.offset < len(longer.join([b"".join(each)] * count)):
-                    self.assertRaises(PrefixError, next, told)
-            self.assertRaises(StopIteration, next, told)
+                if reader.offset < len(longer.join([b"".join(each)] * count)):
+                    self.assertRaises(PrefixError, next, reader)
+            self.assertRaises(StopIteration, next, reader)
 
     def test_random(self):
-        """Equal, with the same hash, if and only if the forms are; and unchanged when read
-        again."""
+        """Units are equal, with the same hash, if and only if their forms are; decoding a form
+        returns the unit."""
         rng = random.Random(1)
-        made = [any_unit(rng) for _ in range(3000)]
+        all_units = [any_unit(rng) for _ in range(3000)]
         by_form = {}
-        for unit in made:
+        for unit in all_units:
             form = bytes(unit)
             self.assertEqual(next(units(form)), unit)
             first = by_form.setdefault(form, unit)
             self.assertEqual((first, hash(first)), (unit, hash(unit)))
-        self.assertEqual(len(set(made)), len(by_form))
-        self.assertLess(len(by_form), len(made))
-        self.assertEqual(list(units(io.BytesIO(b"".join(map(bytes, made))))), made)
+        self.assertEqual(len(set(all_units)), len(by_form))
+        self.assertLess(len(by_form), len(all_units))
+        self.assertEqual(list(units(io.BytesIO(b"".join(map(bytes, all_units))))), all_units)
 
     def test_meanings(self):
-        """Ignored fields don't matter."""
+        """Ignored attributes don't affect equality."""
         self.assertEqual(Aspa(9, (1, 2), announce=False), Aspa(9, (), announce=False))
         self.assertNotEqual(Aspa(9, (1, 2)), Aspa(9, (2, 1)))
         times = {"refresh": 3, "retry": 4, "expire": 5}
@@ -148,7 +148,7 @@ class Made(unittest.TestCase):
             self.assertEqual(dataclasses.replace(read, version=0).version, 0)
 
     def test_refused(self):
-        """Each unit without a form, by the fault of rtr_write_unit."""
+        """Units that can't be written, and the fault of rtr_write_unit."""
         key, ends = bytes(20), EndOfData(1, 2)
         for refused, make in [
                 (PrefixError, lambda: IPv4Prefix(V4, max_length=23, asn=1)),
@@ -200,7 +200,7 @@ class Made(unittest.TestCase):
 
 
 class Faults(unittest.TestCase):
-    """Faults, and the reports that they owe."""
+    """Faults, and the error reports for them."""
 
     # RFC 8210 section 12, and docs/PROTOCOL.md.
     CODES = {Status.SHORT: 0, Status.UNIT_TYPE: 5, Status.UNIT_VERSION: 4, Status.TOO_LONG: 0,
@@ -210,29 +210,30 @@ class Faults(unittest.TestCase):
 
     def test_codes(self):
         names = set()
-        for one in Fault.__subclasses__():
-            fault = one(1, 40, self.PREFIX)
-            self.assertEqual(fault.code, self.CODES.get(one.status), one)
-            self.assertIsNone(one(1, None, self.PREFIX).code)
-            self.assertIsNone(one(1, 40, samples.unit("error report")).code)
-            self.assertIs(getattr(rtr_wire, one.__name__), one)
-            names.add(one.status)
+        for fault_class in Fault.__subclasses__():
+            fault = fault_class(1, 40, self.PREFIX)
+            self.assertEqual(fault.code, self.CODES.get(fault_class.status), fault_class)
+            self.assertIsNone(fault_class(1, None, self.PREFIX).code)
+            self.assertIsNone(fault_class(1, 40, samples.unit("error report")).code)
+            self.assertIs(getattr(rtr_wire, fault_class.__name__), fault_class)
+            names.add(fault_class.status)
             self.assertIn("at byte 40", str(fault))
             again = pickle.loads(pickle.dumps(fault))
-            self.assertEqual((type(again), str(again), again.unit), (one, str(fault), fault.unit))
+            self.assertEqual((type(again), str(again), again.unit),
+                             (fault_class, str(fault), fault.unit))
         # Only groups refuse too many members, and Python has none.
         self.assertEqual(names, set(Status) - {Status.OK, Status.TOO_MANY_MEMBERS})
 
     def test_reports(self):
-        """A report has the version of the session, the code, the unit and a text."""
-        for one in Fault.__subclasses__():
-            fault = one(1, 40, self.PREFIX)
+        """An error report has the session's version, the code, the unit and a text."""
+        for fault_class in Fault.__subclasses__():
+            fault = fault_class(1, 40, self.PREFIX)
             report = fault.report(2)
-            if one.status not in self.CODES:
+            if fault_class.status not in self.CODES:
                 self.assertIsNone(report)
                 continue
             read = next(units(report))
-            self.assertEqual((read.version, read.code), (2, self.CODES[one.status]))
+            self.assertEqual((read.version, read.code), (2, self.CODES[fault_class.status]))
             self.assertTrue(self.PREFIX.startswith(read.enclosed) and read.enclosed)
             self.assertGreater(len(read.text), 5)
             self.assertTrue(str(fault).startswith(read.text.decode()), fault)
@@ -257,13 +258,13 @@ class Faults(unittest.TestCase):
             word, number, text = row.split(" ", 2)
             if word == "text":
                 detail, text = text.split(" ", 1)
-                said = _library.status_text(int(number), int(detail))
+                actual = _library.status_text(int(number), int(detail))
             else:
-                said = _library.name(_rtr.Named[word.upper()], int(number))
-            self.assertEqual(said, text, row)
+                actual = _library.name(_rtr.Named[word.upper()], int(number))
+            self.assertEqual(actual, text, row)
 
     def test_long_reports(self):
-        """A report has as much of a long or incomplete unit as fits."""
+        """A report encloses as much of a long or incomplete unit as fits."""
         key = bytes(RouterKey(bytes(20), 1, bytes(65503)))
         read = next(units(rtr_wire.DuplicateError(0, 0, key).report(1)))
         self.assertTrue(key.startswith(read.enclosed))
@@ -291,7 +292,7 @@ class Faults(unittest.TestCase):
 
 
 class Header(unittest.TestCase):
-    """The module that is generated from rtr.h."""
+    """The module generated from rtr.h."""
 
     def test_texts(self):
         header = pathlib.Path(__file__).resolve().parent.parent.parent / "c" / "rtr.h"
@@ -300,8 +301,8 @@ class Header(unittest.TestCase):
         text = header.read_text()
         numbers = dict(re.findall(r"^    RTR_(\w+) = (\d+)", text, re.MULTILINE))
         for enum in (Status, Kind, PrefixRule, rtr_wire.Side):
-            for one in enum:
-                self.assertEqual(numbers[one.name], str(int(one)))
+            for member in enum:
+                self.assertEqual(numbers[member.name], str(int(member)))
         self.assertIn(f'"{rtr_wire.__version__}"', text)
 
     def test_layout(self):
@@ -312,10 +313,10 @@ class Header(unittest.TestCase):
         import header
 
         for name, fields, size in header.structs(header.HEADER.read_text()):
-            made = getattr(_rtr, name)
-            self.assertEqual(ctypes.sizeof(made), size, name)
-            places = {field: getattr(made, field).offset for field, _ in made._fields_}
-            self.assertEqual(places, {field: place for field, _, _, place in fields}, name)
+            structure = getattr(_rtr, name)
+            self.assertEqual(ctypes.sizeof(structure), size, name)
+            offsets = {field: getattr(structure, field).offset for field, _ in structure._fields_}
+            self.assertEqual(offsets, {field: offset for field, _, _, offset in fields}, name)
 
 
 if __name__ == "__main__":
