@@ -24,7 +24,7 @@ function groupsOf(bytes) {
     return Array.from({ length: 8 }, (_, index) => bytes[2 * index] * 256 + bytes[2 * index + 1]);
 }
 
-/** Returns the start and length of the longest run of zero groups, the first of several. */
+/** Returns the start and the length of the longest run of zero groups; of several, the first. */
 function longestZeros(groups) {
     let best = [0, 0];
     for (let start = 0, index = 0; index < 8; index += 1) {
@@ -37,7 +37,7 @@ function longestZeros(groups) {
     return best;
 }
 
-/** Returns the 4 or 16 bytes of an address, or null if the text is none. */
+/** Returns the 4 or 16 bytes of an address, or null if the text is invalid. */
 export function addressOf(text) {
     return textOf(text, "text").includes(":") ? ipv6Of(text) : ipv4Of(text);
 }
@@ -64,8 +64,8 @@ function ipv6Of(text) {
     return Uint8Array.from(groups.flatMap((group) => [group >> 8, group & 255]));
 }
 
-/** Returns the groups between colons, of which the last of an address may be an IPv4 address; null
- * if a group is invalid. */
+/** Returns the groups between colons; at the end of an address the last may be an IPv4 address.
+ * Null if a group is invalid. */
 function groupsOfText(text, isEnd) {
     const parts = text === "" ? [] : text.split(":");
     const groups = [];
@@ -84,7 +84,7 @@ function groupsOfText(text, isEnd) {
 }
 
 /** Returns the address and the length of a prefix such as 192.0.2.0/24; without a length, the
- * length of the address. Null if the text is no prefix. Doesn't check whether the length fits the
+ * length of the address. Null if the text is invalid. Doesn't check whether the length fits the
  * family. */
 export function prefixOf(text) {
     const [, front, , length] = /^([^/]+)(\/(\d{1,3}))?$/.exec(textOf(text, "text").trim()) ?? [];

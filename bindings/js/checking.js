@@ -1,14 +1,14 @@
-// Finds the protocol's rules that units break, as the program rtr_list --check does.
+// Finds the protocol's rules that units break, as rtr_list --check does.
 
 import { FINDING_ROOM, LONGEST_UNIT, NAME_ROOM, STRUCTS, Status } from "./rtr_table.js";
 import { Fault } from "./fault.js";
-import { placesOf } from "./memory.js";
+import { offsetsOf } from "./memory.js";
 
-const CHECKED = placesOf("checked");
-const FINDING = placesOf("finding");
+const CHECKED = offsetsOf("checked");
+const FINDING = offsetsOf("finding");
 const FINDINGS = STRUCTS.checked.fields.find(([field]) => field === "findings")[3];
 
-// Each byte of a name is one character.
+// Names as text, with a character per byte.
 const latin = new TextDecoder("latin1");
 const text = new TextDecoder();
 
@@ -62,7 +62,7 @@ export class Checker {
         }
     }
 
-    /** Returns what is missing at the end of the input. */
+    /** Returns the finding for all units together, if there is one. */
     finish(offset) {
         const finding = this.#rtr.frame("finding");
         this.#rtr.call("rtr_check_end", this.#state, finding);

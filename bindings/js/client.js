@@ -3,7 +3,7 @@
 //     const client = new Client({ host: "cache.example", port: 3323 });
 //     for await (const update of client) ..
 //
-// The proved module decides each step; docs/SESSIONS.md says what a client does when.
+// The proved module decides each step; docs/SESSIONS.md has the rules.
 
 import { randomInt } from "node:crypto";
 import { EventEmitter } from "node:events";
@@ -16,16 +16,16 @@ import { Run } from "./running.js";
 
 export { follow } from "./following.js";
 
-// The version of RFC 8210. ASPAs are of version 2, for which caches in use have several layouts.
+// The version of RFC 8210. ASPAs need version 2, for which caches in use have several layouts.
 const VERSION = 1;
 
-// The milliseconds that a cache has to read a last report.
+// The milliseconds that a cache gets to read a last report.
 const REPORT_LIMIT = 2000;
 
-// How many random numbers there are that spread the waits of clients.
+// The number of random values that spread the waits of clients.
 const CHANCES = 1 << 16;
 
-/** How each option is checked. */
+/** The check of each option. */
 const OPTIONS = {
     host: textOf,
     port: (value, name) => numberOf(value, name, 0xffff),
@@ -58,9 +58,9 @@ function sessionOf(value, name) {
     return value;
 }
 
-/** Returns the options that were given, with the defaults of others. */
-function optionsOf(given) {
-    const named = Object.entries(objectOf(given, "options"))
+/** Checks options, and returns them with defaults for missing ones. */
+function optionsOf(value) {
+    const named = Object.entries(objectOf(value, "options"))
         .filter(([, value]) => value !== undefined);
     for (const [name, value] of named) {
         if (!Object.hasOwn(OPTIONS, name)) {
@@ -89,15 +89,15 @@ export class Client extends EventEmitter {
     }
 
     /** Iterates over the updates: one for each answer, and one when the data are lost. The loop
-     * connects, and connects again when a connection ends. Leaving it closes the connection. */
+     * connects, and reconnects when a connection ends. Leaving it closes the connection. */
     [Symbol.asyncIterator]() {
         return iterated((stop) => this.#updates(stop));
     }
 
-    /** Follows the cache until the signal aborts, for those who listen to events. */
+    /** Follows the cache until the signal aborts, for listeners of events. */
     async run() {
         const updates = this[Symbol.asyncIterator]();
-        while (!(await updates.next()).done) { /* the events have told it */ }
+        while (!(await updates.next()).done) { /* listeners have got the events */ }
     }
 
     /** Loads all data once, in the cache's version. Throws the first failure. */
@@ -113,8 +113,8 @@ export class Client extends EventEmitter {
         throw new SessionError({ reason: Cause.LOST });
     }
 
-    /** Asks the cache as soon as the pause allows it, or connects, without waiting for the refresh
-     * or retry time. If the client doesn't run, nothing happens. */
+    /** Asks the cache as soon as the pause allows, or connects, without waiting for the refresh or
+     * retry time. No-op if the client doesn't run. */
     askNow() {
         this.#run?.askNow();
     }
@@ -128,14 +128,14 @@ export class Client extends EventEmitter {
         }
     }
 
-    /** Returns the session in whose memory the client is. */
+    /** Returns the session whose memory the client uses. */
     async [SESSION]() {
         this.#options.rtr ??= await load();
         return this.#options.rtr;
     }
 
-    /** Iterates over what happens until `stop` aborts, with the link of an earlier run, if `kept`
-     * has one, or a new one. */
+    /** Iterates over the events until `stop` aborts, with the link in `kept` from an earlier run,
+     * or a new one. */
     async * [EVENTS](stop, kept = { link: null }) {
         if (this.#isRunning) {
             throw new Error("the client follows its cache already: make another one");
@@ -153,7 +153,7 @@ export class Client extends EventEmitter {
     }
 }
 
-/** Returns a link that begins, or begins again. */
+/** Returns a new link, or restarts the one before. */
 function linkOf(rtr, settings, before) {
     if (before === null) {
         return rtr.link({ highest: VERSION, chance: randomInt(CHANCES), ...settings });

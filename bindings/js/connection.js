@@ -5,20 +5,20 @@ import { once } from "node:events";
 import { connect as connectTcp, isIP } from "node:net";
 import { connect as connectTls } from "node:tls";
 
-// How many bytes of the cache are read while a last report is on its way to it.
+// The most bytes of the cache that are read while it gets a last report.
 const LAST_BYTES = 1 << 20;
 
 /** Opens a connection to the first address of a host that answers, by TCP or, with options of
- * tls.connect, TLS. Each address but the last has its share of these milliseconds; the signal ends
- * the last one.
+ * tls.connect, TLS. Each address but the last gets its share of the remaining milliseconds; the
+ * signal ends the last attempt.
  *
- * Errors: of the lookup, or else of the last address; the signal's reason, once it aborts. */
+ * Throws the error of the lookup or of the last address, or the signal's reason after it aborts. */
 export async function opened({ host, port, tls }, { signal, milliseconds }) {
     const end = performance.now() + milliseconds;
     const addresses = await unlessAborted(signal, lookup(host, { all: true }));
     let last = null;
-    for (const [place, { address }] of addresses.entries()) {
-        const left = addresses.length - place;
+    for (const [index, { address }] of addresses.entries()) {
+        const left = addresses.length - index;
         const share = left > 1 ? (end - performance.now()) / left : null;
         try {
             return await tried({ address, host, port, tls }, signal, share);
@@ -30,7 +30,7 @@ export async function opened({ host, port, tls }, { signal, milliseconds }) {
     throw last;
 }
 
-/** Waits for a promise, or rejects once the signal aborts. */
+/** Waits for a promise, or rejects when the signal aborts. */
 function unlessAborted(signal, promise) {
     return new Promise((resolve, reject) => {
         const aborted = () => reject(signal.reason);
@@ -40,7 +40,7 @@ function unlessAborted(signal, promise) {
     });
 }
 
-/** Connects to one address, for at most this many milliseconds, if that isn't null. */
+/** Connects to an address, within this many milliseconds unless they are null. */
 async function tried({ address, host, port, tls }, signal, milliseconds) {
     const attempt = new AbortController();
     const aborted = () => attempt.abort(signal.reason);
@@ -64,29 +64,29 @@ async function tried({ address, host, port, tls }, signal, milliseconds) {
     }
 }
 
-/** Keeps an error of a stream that nobody listens to from ending the process. */
+/** Prevents an error of a stream without listeners from ending the process. */
 function guarded(stream) {
     return stream.on("error", () => {});
 }
 
-/** The options of TLS by which a cache has to prove that it has this name or address. */
+/** Returns the options of TLS for a cache whose certificate has to name this host. */
 function nameOf(host) {
     return isIP(host) ? { host } : { host, servername: host };
 }
 
-/** The error of an address that doesn't answer in its time, as the system's is. */
+/** Returns the error for an address that doesn't answer in time, like the system's. */
 function tooSlow(address, port) {
     const error = new Error(`connect ETIMEDOUT ${address}:${port}`);
     return Object.assign(error, { code: "ETIMEDOUT", syscall: "connect", address, port });
 }
 
-/** A stream of Node to and from a cache, which is read only as `read` asks for bytes. */
+/** A stream of Node to a cache, which is read only on demand. */
 export class Connection {
     #stream;
     #changed;
     #isOver;
 
-    /** `changed` is called when bytes came, and when the connection is over. */
+    /** `changed` is called when bytes were received, and when the connection is over. */
     constructor(stream, changed) {
         this.#stream = guarded(stream);
         this.#changed = changed;
@@ -100,38 +100,39 @@ export class Connection {
         }
     }
 
-    /** Whether nothing more comes. */
+    /** Whether no more bytes come. */
     get isOver() {
         return this.#isOver;
     }
 
-    /** Why it broke, or null. */
+    /** The error that broke it, or null. */
     get error() {
         return this.#stream.errored ?? null;
     }
 
-    /** Returns bytes that came, or null. */
+    /** Returns received bytes, or null. */
     read() {
         return this.#stream.read();
     }
 
-    /** Sends bytes; the stream keeps those that the cache doesn't take yet. */
+    /** Sends bytes; the stream buffers those that can't be sent yet. */
     write(bytes) {
         if (bytes.length > 0 && this.#stream.writable) {
             this.#stream.write(bytes);
         }
     }
 
-    /** Closes the connection; if there are last bytes, after the cache had this many milliseconds
-     * to take and read them: bytes of the cache that weren't read would reset the connection. */
+    /** Closes the connection. If there are last bytes, the cache gets at most this many
+     * milliseconds to read them; meanwhile its own bytes are read, since unread bytes would reset
+     * the connection. */
     async finish(last, milliseconds) {
         if (last.length > 0 && this.#stream.writable) {
-            await this.#sends(last, milliseconds);
+            await this.#sendLast(last, milliseconds);
         }
         this.destroy();
     }
 
-    #sends(last, milliseconds) {
+    #sendLast(last, milliseconds) {
         const stream = this.#stream;
         let left = LAST_BYTES;
         return new Promise((resolve) => {

@@ -5,14 +5,14 @@ import { byteOf, bytesOf, objectOf, textOf, wordOf } from "./given.js";
 import { readStruct, writeStruct } from "./memory.js";
 import { prefixOf } from "./addresses.js";
 
-/** Frees a part of a session's memory once the Data that used it is collected. */
-const unused = new FinalizationRegistry(({ session, places }) => release(session, places));
+/** Frees memory of a session when the Data that used it is garbage-collected. */
+const unused = new FinalizationRegistry(({ session, addresses }) => release(session, addresses));
 
-function release(session, places) {
+function release(session, addresses) {
     try {
-        places.forEach((place) => session.heap.release(place));
+        addresses.forEach((address) => session.heap.release(address));
     } catch {
-        // the session was dropped, and its memory with it
+        // the session and its memory were dropped before
     }
 }
 
@@ -21,17 +21,17 @@ export class Data {
     #session;
     #bytes;
     #end;
-    #places = null; // of the bytes and the index in the session's memory, once they are there
+    #addresses = null; // of the bytes and the index in the session's memory, after the first lookup
 
-    /** `session.data` and a link make instances. `bytes` are the data's own, in canonical form and
-     * with all free bits zero; `end` is their end of data, as a unit. */
+    /** `session.data` and a link make instances. `bytes` are in canonical form, with all free bits
+     * zero, and aren't changed any more; `end` is their end of data, as a unit. */
     constructor(session, bytes, end) {
         this.#session = session;
         this.#bytes = bytes;
         this.#end = end;
     }
 
-    /** Returns their bytes, with all free bits zero. */
+    /** A copy of their bytes, with all free bits zero. */
     get bytes() {
         return this.#bytes.slice();
     }
@@ -54,7 +54,7 @@ export class Data {
         return this.#bytes.length === this.#end.size;
     }
 
-    /** Counts the payloads, each time. */
+    /** The number of payloads, counted at each call. */
     get count() {
         return this.#session.normalise(this.#bytes).units;
     }
@@ -74,7 +74,7 @@ export class Data {
         return this.#session.delta(this.#bytes, next);
     }
 
-    /** Returns these data with changes applied in the order in which they came. */
+    /** Returns these data with changes applied in the order of the answer. */
     applyInOrder(changes) {
         return this.#session.data(this.#session.applyInOrder(this.#bytes, changes));
     }
@@ -84,8 +84,8 @@ export class Data {
         return this.#session.data(this.#session.apply(this.#bytes, changes));
     }
 
-    /** Returns the validity of a route, a Validity: { prefix: "192.0.2.0/24", asn }, or with
-     * `address`, bytes, and `prefixLength` instead of the text. */
+    /** Returns the Validity of a route: { prefix: "192.0.2.0/24", asn }, or instead of the text
+     * `prefix` the bytes `address` and `prefixLength`. */
     validate(route) {
         const fields = routeOf(route);
         const [data, lookup] = this.#lookup();
@@ -93,8 +93,8 @@ export class Data {
             this.#route(fields));
     }
 
-    /** Returns the VRPs that cover a route, in the order of payloads: each with its index among the
-     * payloads, its AS, prefix length and max length, and why it doesn't match, a Mismatch. */
+    /** Iterates over the VRPs that cover a route, in the order of payloads: each has its index
+     * among the payloads, its AS, prefix length and max length, and the Mismatch. */
     covering(route) {
         return this.#coveringFrom(routeOf(route));
     }
@@ -115,14 +115,14 @@ export class Data {
 
     /** Frees the memory of lookups; the next lookup allocates it again. */
     drop() {
-        if (this.#places) {
+        if (this.#addresses) {
             unused.unregister(this);
-            release(this.#session, this.#places);
-            this.#places = null;
+            release(this.#session, this.#addresses);
+            this.#addresses = null;
         }
     }
 
-    /** Writes a route where the calls read it. */
+    /** Writes a route into the memory, and returns its address. */
     #route(fields) {
         const at = this.#session.frame("route");
         writeStruct(this.#session.heap.view, "route", at, fields);
@@ -132,22 +132,22 @@ export class Data {
     /** Returns the addresses of the bytes and the index in the session's memory. */
     #lookup() {
         const { heap } = this.#session;
-        if (!this.#places) {
+        if (!this.#addresses) {
             const data = heap.take(this.#bytes.length);
             const lookup = heap.take(STRUCTS.lookup.size);
             heap.bytes(data, this.#bytes.length).set(this.#bytes);
             this.#session.call("rtr_check_data_nonnull", data, this.#bytes.length, lookup,
                 this.#session.frame("dataAnswer"));
-            this.#places = [data, lookup];
-            unused.register(this, { session: this.#session, places: this.#places }, this);
+            this.#addresses = [data, lookup];
+            unused.register(this, { session: this.#session, addresses: this.#addresses }, this);
         }
-        return this.#places;
+        return this.#addresses;
     }
 }
 
-/** Returns the changes that lead from old data to new, in canonical form, whatever their versions
- * and sessions: in the higher of the versions, so that what the lower one lacks is withdrawn. One
- * of them may be null, for no data. */
+/** Returns the changes from old data to new data of any versions and sessions, in canonical form
+ * and in the higher of the versions, so that payloads that the lower one can't carry are withdrawn.
+ * One of them may be null, for no data. */
 export function changesBetween(session, old, next) {
     const version = Math.max(old?.version ?? 0, next?.version ?? 0);
     const forms = [old, next].map((data) => data && formOf(session, data, version));
@@ -156,17 +156,17 @@ export function changesBetween(session, old, next) {
         form === null ? session.writeUnit(end) : inSession(session, form, end))));
 }
 
-/** Returns the bytes of data as those of a version. */
+/** Returns the bytes of data in a version. */
 function formOf(session, data, version) {
     return data.version === version ? data.bytes : session.normalise(data.bytes, { version }).form;
 }
 
-/** Returns the end of data that bytes of this version end with. */
+/** Returns the end of data at the end of bytes of a version. */
 function endOf(session, bytes, version) {
     return session.next(bytes, bytes.length - (version === 0 ? SHORTEST_END : LONGEST_END));
 }
 
-/** Puts the bytes of data into the session of an end of data of their version. */
+/** Changes the session of data's bytes to that of an end of data of the same version. */
 function inSession(session, bytes, { version, session: number }) {
     const own = endOf(session, bytes, version);
     if (own.session !== number) {
@@ -175,8 +175,8 @@ function inSession(session, bytes, { version, session: number }) {
     return bytes;
 }
 
-/** Returns the struct rtr_route of a route; its family is 0 if the text is no prefix, or the
- * address has another length than 4 or 16. */
+/** Returns the fields of a struct rtr_route; the family is 0 if the text is no prefix, or the
+ * address has neither 4 nor 16 bytes. */
 function routeOf(route) {
     const asn = wordOf(objectOf(route, "route").asn, "asn");
     const { address, length } = route.prefix === undefined

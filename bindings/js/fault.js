@@ -2,10 +2,11 @@
 
 import { causeText, statusText } from "./rtr_table.js";
 
-/** A refusal of a call: of a unit, of an input, or of a unit's position in a sequence. */
+/** A call was refused, because of a unit, its position in a sequence, or an input. */
 export class Fault extends Error {
-    /** @param fields the result of the call: at least its `status`, and the `text` of that and of
-     *      the `detail`; without it the text is that of the status */
+    /** @param fields the result of the call: at least its `status`. `text` is by default the text
+     * of
+     *      the status without its detail */
     constructor(fields) {
         const { status, text = statusText(status), offset = 0, side = 0 } = fields;
         const where = side === 0 ? "" : side === 1 ? " of the first input" : " of the second input";
@@ -23,16 +24,15 @@ export class Fault extends Error {
     }
 }
 
-/** Returns what a message says of a cache's report: its code, and up to 200 characters of its
- * text. */
+/** Describes a cache's report for a message: its code, and up to 200 characters of its text. */
 function reportText({ code, text }) {
     return text ? `: code ${code}, ${JSON.stringify(text.slice(0, 200))}` : `: code ${code}`;
 }
 
-/** Why a connection to a cache ended, if no unit is wrong by itself, which is a Fault. */
+/** Why a connection to a cache ended, if the reason isn't an invalid unit (a Fault). */
 export class SessionError extends Error {
     /** @param fields the `reason`, a Cause; `unit`, the bytes of the unit that it is about; `code`,
-     *      that of the report that the cache got; `reported`, the cache's own report */
+     *      the error code that was reported to the cache; `reported`, the cache's own report */
     constructor({ reason, unit = null, code = null, reported = null }) {
         super(causeText(reason) + (reported === null ? "" : reportText(reported)));
         this.name = "SessionError";
@@ -51,7 +51,7 @@ export class NoData extends SessionError {
     }
 }
 
-/** The answer has no payloads, which are no data for a client of several caches. */
+/** The answer has no payloads, which a client of several caches doesn't accept as data. */
 export class Empty extends Error {
     constructor() {
         super("the cache has no payloads");

@@ -7,8 +7,8 @@ import { EVENTS, SESSION, iterated } from "./iterated.js";
 import { Bell, now } from "./running.js";
 import { Update } from "./update.js";
 
-/** Follows the most preferred of some clients' caches that answers: iterates over the updates, each
- * with its `client`. Leaving the loop stops all clients. */
+/** Follows the most preferred cache that answers, each by a client: iterates over the updates of
+ * the data in use, each with its `client`. Leaving the loop stops all clients. */
 export function follow(clients, options = {}) {
     const { signal, settings = {}, ...others } = objectOf(options, "options");
     for (const name of Object.keys(others)) {
@@ -25,19 +25,19 @@ export function follow(clients, options = {}) {
     return iterated((stop) => chooser.updates(stop, signal));
 }
 
-/** A client among others. */
+/** A client in a group. */
 class Member {
-    link = null; // as its last run left it
+    link = null; // the link of its last run
     stop = null; // the controller of the present run
     running = null; // settles when the last run has ended
     data = null;
-    taken = null; // continues the run, once its last event was taken
+    taken = null; // continues the run after its last event was processed
 
     constructor(client) {
         this.client = client;
     }
 
-    /** Ends the present run, and forgets its data. */
+    /** Ends the present run, and drops its data. */
     ends() {
         this.stop?.abort();
         this.taken?.();
@@ -45,14 +45,14 @@ class Member {
     }
 }
 
-/** Runs clients as a group decides. */
+/** Runs clients; a group decides which, and whose data are used. */
 class Chooser {
     #members;
     #settings;
     #rtr;
     #group;
     #bell = new Bell();
-    #news = []; // what happened to members that run, in order
+    #news = []; // events of running members, in order
     #shown = null;
 
     constructor(clients, settings) {
@@ -62,9 +62,9 @@ class Chooser {
 
     /** Iterates over the updates until `stop` aborts, or throws the reason of the signal. */
     async * updates(stop, signal) {
-        const signals = [stop, signal].filter((one) => one !== undefined);
+        const signals = [stop, signal].filter((each) => each !== undefined);
         const aborted = () => this.#endsAll();
-        signals.forEach((one) => one.addEventListener("abort", aborted));
+        signals.forEach((each) => each.addEventListener("abort", aborted));
         try {
             this.#rtr = await this.#members[0].client[SESSION]();
             this.#group = this.#rtr.group(this.#members.length, now(), this.#settings);
@@ -77,7 +77,7 @@ class Chooser {
                 }
             }
         } finally {
-            signals.forEach((one) => one.removeEventListener("abort", aborted));
+            signals.forEach((each) => each.removeEventListener("abort", aborted));
             this.#endsAll();
             await Promise.all(this.#members.map(({ running }) => running));
         }
@@ -88,8 +88,8 @@ class Chooser {
         this.#bell.ring();
     }
 
-    /** Takes the next event of a member, or waits for one, or for the patience to be over. Returns
-     * an update, or null. */
+    /** Processes the next event of a member or of the group's clock, or waits for one. Returns an
+     * update, or null. */
     async #next() {
         const news = this.#news.shift();
         if (news !== undefined) {
@@ -112,40 +112,40 @@ class Chooser {
         return this.#happens(this.#members.indexOf(member), member, event);
     }
 
-    /** Tells the group what happened to a member, and does what it decides. */
-    #happens(place, member, { name, value, isPartOfLoss }) {
+    /** Reports an event of a member to the group, and carries out its decision. */
+    #happens(index, member, { name, value, isPartOfLoss }) {
         switch (name) {
             case "data":
-                return this.#has(place, member, value.data);
+                return this.#has(index, member, value.data);
             case "dropped":
                 member.data = null;
-                return this.#obeys(place, this.#group.drops(now(), place));
+                return this.#obeys(index, this.#group.drops(now(), index));
             case "noData":
-                return this.#obeys(place, this.#group.fails(now(), place));
+                return this.#obeys(index, this.#group.fails(now(), index));
             case "failed":
                 return isPartOfLoss ? null
-                    : this.#obeys(place, this.#group.fails(now(), place));
+                    : this.#obeys(index, this.#group.fails(now(), index));
             default:
                 return null;
         }
     }
 
-    #has(place, member, data) {
+    #has(index, member, data) {
         member.data = data;
         if (data.isEmpty && !this.#settings.emptyIsData) {
             member.client.emit("failed", new Empty());
         }
-        // It only matters whether there are some.
-        return this.#obeys(place, this.#group.shows(now(), place, data.isEmpty ? 0 : 1));
+        // The group only checks whether there are any.
+        return this.#obeys(index, this.#group.shows(now(), index, data.isEmpty ? 0 : 1));
     }
 
-    /** Does what the group decides after an event of a member. */
-    #obeys(place, { shown, member, stop, start }) {
-        const source = this.#members[member ?? place];
+    /** Carries out the group's decision after an event of a member. */
+    #obeys(index, { shown, member, stop, start }) {
+        const source = this.#members[member ?? index];
         const update = shown === GroupShown.SAME ? null
             : this.#shows(source, shown === GroupShown.DATA);
         if (stop !== null) {
-            this.#members.slice(stop).forEach((one) => one.ends());
+            this.#members.slice(stop).forEach((stopped) => stopped.ends());
         }
         if (start !== null) {
             this.#starts(start);
@@ -159,9 +159,9 @@ class Chooser {
         return update;
     }
 
-    /** Starts a member, once its last run has ended. */
-    #starts(place) {
-        const member = this.#members[place];
+    /** Starts a member after its last run has ended. */
+    #starts(index) {
+        const member = this.#members[index];
         member.stop = new AbortController();
         member.running = this.#runs(member, member.stop, member.running);
     }
@@ -177,7 +177,7 @@ class Chooser {
         }
     }
 
-    /** Waits until the news of a member are taken, or the member is stopped. */
+    /** Queues an event, and waits until it is processed or the member is stopped. */
     async #gives(news) {
         if (!news.stop.signal.aborted) {
             await new Promise((resolve) => {

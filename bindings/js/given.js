@@ -1,9 +1,9 @@
-// Checks arguments: a TypeError or a RangeError names the argument or field that is wrong.
+// Checks arguments: a TypeError or a RangeError names the wrong argument or field.
 
 const [BYTE, SHORT, WORD] = [0xff, 0xffff, 0xffffffff];
 const LONG = Number.MAX_SAFE_INTEGER;
 
-/** The highest number of each type of rtr.h that a caller may pass. */
+/** The highest number of each type of rtr.h; of 64-bit types, the highest exact one. */
 const HIGHEST = { uint8: BYTE, uint16: SHORT, uint32: WORD, uint64: LONG, size: LONG };
 
 /** Describes a value, for messages. */
@@ -23,7 +23,7 @@ function mustBe(name, expected, value) {
 
 /** Returns the bytes of a Uint8Array or an ArrayBuffer, of any realm, without a copy. */
 export function bytesOf(value, name = "bytes") {
-    // The tag of a typed array is an inherited getter, which realms share.
+    // instanceof fails for arrays of another realm; the tag doesn't.
     if (ArrayBuffer.isView(value) && value[Symbol.toStringTag] === "Uint8Array") {
         return value;
     }
@@ -95,19 +95,19 @@ export function objectOf(value, name) {
     return value;
 }
 
-/** Returns the fields that an object has of a struct, each of its type; refuses an object with
- * other fields. `fields` are those of a row of STRUCTS. */
+/** Checks that an object has only fields of a struct, of the right types, and returns it. `fields`
+ * are those of a row of STRUCTS. */
 export function fieldsOf(value, name, fields) {
     const types = new Map(fields.map(([field, , type]) => [field, type]));
-    for (const [field, given] of Object.entries(objectOf(value, name))) {
+    for (const [field, fieldValue] of Object.entries(objectOf(value, name))) {
         const type = types.get(field);
         if (type === undefined) {
             throw new TypeError(`${name} has no field ${field}`);
         }
         if (type === "bool") {
-            flagOf(given, `${name}.${field}`);
+            flagOf(fieldValue, `${name}.${field}`);
         } else {
-            numberOfType(given, `${name}.${field}`, type);
+            numberOfType(fieldValue, `${name}.${field}`, type);
         }
     }
     return value;

@@ -1,11 +1,11 @@
-// Caches by preference: which cache's data are shown, and which are asked.
+// Caches by preference: which cache's data are used, and which caches are asked.
 
 import { GroupShown, MOST_MEMBERS, STRUCTS } from "./rtr_table.js";
 import { fieldsOf, numberOf } from "./given.js";
 import { readStruct, writeStruct } from "./memory.js";
 
-/** A struct rtr_group: it gets events of its members, and returns what to do, as an object. It is
- * kept outside of the module's memory: nothing has to be freed. */
+/** A struct rtr_group: it takes events of its members, and returns what to do, as an object. The
+ * struct is kept outside of the module's memory, so it needn't be freed. */
 export class Group {
     #session;
     #state;
@@ -23,18 +23,18 @@ export class Group {
         this.#state = session.copy(at, STRUCTS.group.size);
     }
 
-    /** The settings that it has. */
+    /** The settings of the group. */
     get settings() {
         return readStruct(new DataView(this.#state.buffer), "group", 0).settings;
     }
 
-    /** When to call `tick`, if nothing happens before; Infinity for never. */
+    /** When to call `tick` if nothing happens before; Infinity for never. */
     get wakes() {
         const wakes = this.#session.call("rtr_group_wakes", this.#put());
         return wakes > Number.MAX_SAFE_INTEGER ? Infinity : wakes;
     }
 
-    /** The member whose data are shown, or null. */
+    /** The member whose data are used, or null. */
     get best() {
         const member = this.#session.frame("number");
         const has = this.#session.call("rtr_group_best", this.#put(), member);
@@ -43,23 +43,23 @@ export class Group {
 
     /** Reports that time has passed. */
     tick(now) {
-        return this.#told("rtr_group_tick", now);
+        return this.#call("rtr_group_tick", now);
     }
 
     /** Reports that a member has the data of a whole answer, with this number of payloads. */
     shows(now, member, payloads) {
-        return this.#told("rtr_group_shows", now, memberOf(member),
+        return this.#call("rtr_group_shows", now, memberOf(member),
             numberOf(payloads, "payloads"));
     }
 
-    /** Reports that a member lost its data, which is a failure too. */
+    /** Reports that a member lost its data; this is also a failure. */
     drops(now, member) {
-        return this.#told("rtr_group_drops", now, memberOf(member));
+        return this.#call("rtr_group_drops", now, memberOf(member));
     }
 
     /** Reports that a member failed, or that its cache has no data. */
     fails(now, member) {
-        return this.#told("rtr_group_fails", now, memberOf(member));
+        return this.#call("rtr_group_fails", now, memberOf(member));
     }
 
     /** Writes the struct into the memory, and returns its address. */
@@ -69,7 +69,7 @@ export class Group {
         return at;
     }
 
-    #told(name, now, ...values) {
+    #call(name, now, ...values) {
         const [at, answer] = [this.#put(), this.#session.frame("groupAnswer")];
         this.#session.call(name, at, numberOf(now, "now"), ...values, answer);
         this.#state = this.#session.copy(at, STRUCTS.group.size);

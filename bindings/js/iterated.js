@@ -1,11 +1,11 @@
-// How runs of clients are iterated over.
+// Iteration over runs of clients.
 
-/** The names of methods that clients have for this package alone. */
+/** The names of clients' methods that are private to this package. */
 export const EVENTS = Symbol("events");
 export const SESSION = Symbol("session");
 
-/** Returns the iterator of an async generator that ends when its signal aborts. Unlike a
- * generator's own, it also ends at once while a value is awaited. */
+/** Returns the iterator of an async generator that ends when its signal aborts. Unlike the
+ * generator's own iterator, it can be closed while a value is awaited. */
 export function iterated(generate) {
     const stop = new AbortController();
     const values = generate(stop.signal);

@@ -1,4 +1,4 @@
-// A router's end of the protocol with its bytes and its data, without sockets or a clock.
+// A router's end of the protocol with buffers and data, without sockets or a clock.
 
 import { Cause, HEADER_SIZE, LONGEST_END, LONGEST_UNIT, LinkStatus, SHORTEST_END, STRUCTS, Status,
     TodoKind } from "./rtr_table.js";
@@ -8,17 +8,17 @@ import { OutOfMemory } from "./memory.js";
 import { unitOf } from "./units.js";
 import { Data } from "./data.js";
 
-// The bytes of an input while no long answer comes: more than the longest unit.
-const INPUT_ROOM = 1 << 17;
+// The size of an input unless a long answer comes: more than the longest unit.
+const INPUT_SIZE = 1 << 17;
 
-// The bytes of an output: the longest report, after queries that aren't sent yet.
-const OUTPUT_ROOM = 2 * LONGEST_UNIT;
+// The size of an output: the longest report, after unsent queries.
+const OUTPUT_SIZE = 2 * LONGEST_UNIT;
 
-// The bytes of an entry of the index.
+// The size of an entry of the index.
 const ENTRY = 8;
 
-/** The buffer for which each todo asks room. */
-const ROOMS = {
+/** The buffer that each kind of todo asks to grow. */
+const BUFFERS = {
     [TodoKind.INPUT_ROOM]: "input",
     [TodoKind.FIRST_ROOM]: "first",
     [TodoKind.SECOND_ROOM]: "second",
@@ -26,26 +26,26 @@ const ROOMS = {
     [TodoKind.OUTPUT_ROOM]: "output",
 };
 
-/** A call of a link that can't be: out of turn, or with a time that goes back. */
+/** A wrong call of a link: out of turn, or with a time before that of an earlier call. */
 export class LinkError extends Error {
     constructor(name, status) {
-        const [said] = Object.entries(LinkStatus).find(([, number]) => number === status);
-        super(`${name}: ${said}`);
+        const [text] = Object.entries(LinkStatus).find(([, number]) => number === status);
+        super(`${name}: ${text}`);
         this.name = "LinkError";
         this.status = status;
     }
 }
 
-/** A buffer in a session's memory, with entries of this many bytes. */
-class Room {
+/** A buffer in a session's memory, with entries of `entrySize` bytes. */
+class GrowingBuffer {
     #session;
-    #each;
+    #entrySize;
     #start = null;
     length = 0; // in entries
 
-    constructor(session, each = 1) {
+    constructor(session, entrySize = 1) {
         this.#session = session;
-        this.#each = each;
+        this.#entrySize = entrySize;
     }
 
     /** Its address. */
@@ -53,20 +53,20 @@ class Room {
         return this.#start ?? this.#session.frame("number");
     }
 
-    /** Makes it this long, and keeps as much of what it holds as fits. Returns null; or, if there
-     * is no memory for it and nothing happened, the error that says so. */
+    /** Resizes it to `length` entries, and keeps as much of the content as fits. Returns null, or
+     * without memory an OutOfMemory, and the buffer is unchanged. */
     resize(length) {
         const { heap } = this.#session;
         let start = null;
         try {
-            start = heap.take(length * this.#each);
+            start = heap.take(length * this.#entrySize);
         } catch (error) {
             if (!(error instanceof OutOfMemory)) {
                 throw error;
             }
             return error;
         }
-        const kept = Math.min(length, this.length) * this.#each;
+        const kept = Math.min(length, this.length) * this.#entrySize;
         heap.bytes(start, kept).set(heap.bytes(this.start, kept));
         this.release();
         this.#start = start;
@@ -83,17 +83,17 @@ class Room {
     }
 }
 
-/** A struct rtr_link and its buffers, which lie in the session's memory until `drop`. The struct
- * itself is kept outside of it. */
+/** A struct rtr_link and its buffers, which are in the session's memory until `drop`. The struct
+ * itself is kept outside of that memory. */
 export class Link {
     #session;
     #state;
-    #rooms;
+    #buffers;
     #now = 0; // the latest time that was passed
-    #received = 0; // bytes of the connection
-    #filled = 0; // bytes of the input before the last todo, about which that may be
+    #received = 0; // bytes received on the connection
+    #filled = 0; // bytes in the input before the last todo, whose offset counts in them
     #data = null;
-    #lost = null; // why the connection broke, or no memory was there
+    #lost = null; // why the connection broke, or an OutOfMemory
 
     /** `session.link` makes instances. Missing settings have their defaults. */
     constructor(session, settings) {
@@ -101,42 +101,42 @@ export class Link {
         const [at, from] = [session.frame("link"), session.putSettings(settings)];
         session.call("rtr_link_init", at, from);
         this.#keep();
-        this.#takeRooms();
+        this.#allocate();
     }
 
-    /** Begins again without data, after `drop` too: waits for a failing cache go on growing. */
+    /** Restarts without data, also after `drop`: the waits for a failing cache continue to grow. */
     again() {
         this.#call("rtr_link_again");
         this.#data = this.#lost = null;
         this.drop();
-        this.#takeRooms();
+        this.#allocate();
     }
 
     /** Frees the memory of the buffers. Only `again` may follow. */
     drop() {
-        for (const room of Object.values(this.#rooms)) {
-            room.release();
+        for (const buffer of Object.values(this.#buffers)) {
+            buffer.release();
         }
     }
 
-    /** When to call `next`, if nothing happens before. */
+    /** When to call `next` if nothing happens before. */
     get wakes() {
         return this.#held().wakes;
     }
 
-    /** Returns the data at this time, or null: they last until they expire. */
+    /** Returns the data at this time; null if there are none or they have expired. */
     data(now) {
         return this.#held(numberOf(now, "now")).hasData ? this.#data : null;
     }
 
     /** A copy of the bytes to send. */
     get output() {
-        return this.#session.copy(this.#rooms.output.start, this.#held().unsent);
+        return this.#session.copy(this.#buffers.output.start, this.#held().unsent);
     }
 
     /** Reports that this many bytes of the output were sent. */
     sent(count) {
-        const { output } = this.#rooms;
+        const { output } = this.#buffers;
         this.#call("rtr_link_sent_nonnull", output.start, output.length, numberOf(count, "count"));
     }
 
@@ -145,57 +145,57 @@ export class Link {
         this.#call("rtr_link_opened");
     }
 
-    /** Reports that no connection could be opened, the peer closed it, or it broke, for this
-     * reason. */
+    /** Reports that connecting failed, or that the connection closed or broke, for this reason. */
     lost(reason = null) {
         this.#call("rtr_link_lost");
         this.#lost = reason;
     }
 
-    /** Takes bytes that came, as many as there is room for, and returns how many. */
+    /** Reads received bytes, as many as the input has space for, and returns their number. */
     received(bytes) {
-        const given = bytesOf(bytes);
-        const { input } = this.#rooms;
+        const received = bytesOf(bytes);
+        const { input } = this.#buffers;
         const { filled } = this.#held();
-        const count = Math.min(given.length, input.length - filled);
-        this.#session.heap.bytes(input.start + filled, count).set(given.subarray(0, count));
+        const count = Math.min(received.length, input.length - filled);
+        this.#session.heap.bytes(input.start + filled, count).set(received.subarray(0, count));
         this.#call("rtr_link_received_nonnull", input.start, input.length, count);
         this.#received += count;
         return count;
     }
 
-    /** Asks for the present data: the cache is asked as soon as the pause allows it. Returns what
-     * to do, as `next`. */
+    /** Requests current data: the link asks the cache as soon as the pause allows. Returns what to
+     * do, as `next`. */
     askNow(now) {
         return this.#does(now, "rtr_link_ask_now_nonnull", "input", "output");
     }
 
-    /** Returns what to do next: rtr.h describes each field. Of the kinds CLOSE, DROPPED and NO_DATA
-     * it has an `error`, null if the connection ends for another version. */
+    /** Returns what to do next: rtr.h describes each field. The kinds CLOSE, DROPPED and NO_DATA
+     * have an `error`, which is null if the connection ends for another version. */
     next(now) {
-        return this.#does(now, "rtr_link_next_nonnull", ...Object.keys(this.#rooms));
+        return this.#does(now, "rtr_link_next_nonnull", ...Object.keys(this.#buffers));
     }
 
-    /** Does what a call returns until that is for the program. */
-    #does(now, name, ...rooms) {
+    /** Calls a function with these buffers, and grows buffers, until there is something to do for
+     * the program. */
+    #does(now, name, ...names) {
         const time = numberOf(now, "now");
-        let todo = this.#todo(name, time, ...rooms);
-        while (todo.kind === TodoKind.GO || todo.kind in ROOMS) {
+        let todo = this.#todo(name, time, ...names);
+        while (todo.kind === TodoKind.GO || todo.kind in BUFFERS) {
             if (todo.kind === TodoKind.GO) {
-                todo = this.#todo("rtr_link_next_nonnull", time, ...Object.keys(this.#rooms));
-            } else if (this.#makesRoom(todo)) {
-                todo = this.#todo(name, time, ...rooms);
+                todo = this.#todo("rtr_link_next_nonnull", time, ...Object.keys(this.#buffers));
+            } else if (this.#grow(todo)) {
+                todo = this.#todo(name, time, ...names);
             } else {
                 todo = this.#todo("rtr_link_give_up_nonnull", time, "input", "output");
             }
         }
-        return { ...todo, error: this.#happens(todo) };
+        return { ...todo, error: this.#record(todo) };
     }
 
-    /** Makes a buffer as long as it has to be, the input twice as long as it was if that is more;
-     * reports whether there was memory. */
-    #makesRoom({ kind, room }) {
-        const buffer = this.#rooms[ROOMS[kind]];
+    /** Grows a buffer to the size that the link asks for, or the input at least to twice its size;
+     * returns false without memory. */
+    #grow({ kind, room }) {
+        const buffer = this.#buffers[BUFFERS[kind]];
         const twice = Math.max(room, 2 * buffer.length);
         let refused = null;
         for (const length of kind === TodoKind.INPUT_ROOM ? [twice, room] : [room]) {
@@ -208,8 +208,8 @@ export class Link {
         return false;
     }
 
-    /** Notes what a todo says of the data, and returns why data or the connection are lost. */
-    #happens(todo) {
+    /** Updates the data after a todo, and returns why they or the connection were lost. */
+    #record(todo) {
         const { kind, drops, offset } = todo;
         if (kind === TodoKind.DATA) {
             this.#keepsData();
@@ -232,10 +232,10 @@ export class Link {
         }
     }
 
-    /** Copies the data out of the memory, so that they stay as they are, and frees what only their
-     * answer needed. */
+    /** Copies the data out of the memory, so that they are immutable, and frees the buffers that
+     * only their answer needed. */
     #keepsData() {
-        const { first, second, index, input } = this.#rooms;
+        const { first, second, index, input } = this.#buffers;
         const { second: isSecond, shown, filled } = this.#held();
         const { start } = isSecond ? second : first;
         const bytes = this.#session.copy(start, shown);
@@ -244,12 +244,12 @@ export class Link {
         this.#data = new Data(this.#session, bytes, end);
         index.release();
         (isSecond ? first : second).release();
-        if (filled < INPUT_ROOM && input.length > INPUT_ROOM) {
-            input.resize(INPUT_ROOM); // without memory for that it stays long
+        if (filled < INPUT_SIZE && input.length > INPUT_SIZE) {
+            input.resize(INPUT_SIZE); // without memory for that it keeps its size
         }
     }
 
-    /** Returns why a connection ends; null if it begins again in another version. */
+    /** Returns why a connection ends; null if the link reconnects in another version. */
     #ending({ cause, status, detail, offset, code, reports }) {
         if (this.#lost instanceof OutOfMemory) {
             return this.#lost;
@@ -269,10 +269,10 @@ export class Link {
         return new SessionError({ reason: cause, reported, ...about });
     }
 
-    /** Returns the Fault of the unit at an offset of the input. Its own offset counts from the
-     * connection's first byte, or where only the changes are wrong, from the answer's. */
+    /** Returns the Fault of the unit at an offset of the input. The Fault's offset is that in all
+     * bytes of the connection, or for a change that doesn't apply, that in the answer. */
     #fault(fields, offset, ofConnection) {
-        const [at, length] = [this.#rooms.input.start + offset, this.#filled - offset];
+        const [at, length] = [this.#buffers.input.start + offset, this.#filled - offset];
         const isSame = this.#session.step(at, length) === fields.status;
         const { size, wanted } = isSame ? this.#session.answer("unit") : { size: 0, wanted: 0 };
         return new Fault({
@@ -285,10 +285,10 @@ export class Link {
         });
     }
 
-    /** Returns the unit at an offset of the input, as far as it is there; only its header, if its
-     * length isn't one that a unit may have. */
+    /** Returns the bytes of the unit at an offset of the input, as far as they came; only the
+     * header if its length is invalid. */
     #unitAt(offset) {
-        const at = this.#rooms.input.start + offset;
+        const at = this.#buffers.input.start + offset;
         const length = Math.min(this.#filled - offset, LONGEST_UNIT);
         const [number, detail] = [this.#session.frame("number"), this.#session.frame("unit")];
         const status = this.#session.call("rtr_unit_size_nonnull", at, length, number, detail);
@@ -300,37 +300,37 @@ export class Link {
 
     /** Returns the cache's report at an offset of the input. */
     #reportAt(offset) {
-        return this.#unit(this.#rooms.input.start + offset, this.#filled - offset);
+        return this.#unit(this.#buffers.input.start + offset, this.#filled - offset);
     }
 
-    /** Returns the unit at an address of the memory, and takes none for it. */
+    /** Decodes the unit at an address of the memory. */
     #unit(at, length) {
         this.#session.step(at, length);
         return unitOf(this.#session.heap.view, this.#session.frame("unit"), at, 0);
     }
 
-    #takeRooms() {
+    #allocate() {
         const session = this.#session;
-        const [input, first, second] = [0, 1, 2].map(() => new Room(session));
-        const [index, output] = [new Room(session, ENTRY), new Room(session)];
-        this.#rooms = { input, first, second, index, output };
-        const refused = input.resize(INPUT_ROOM) ?? output.resize(OUTPUT_ROOM);
+        const [input, first, second] = [0, 1, 2].map(() => new GrowingBuffer(session));
+        const [index, output] = [new GrowingBuffer(session, ENTRY), new GrowingBuffer(session)];
+        this.#buffers = { input, first, second, index, output };
+        const refused = input.resize(INPUT_SIZE) ?? output.resize(OUTPUT_SIZE);
         if (refused !== null) {
             this.drop();
             throw refused;
         }
     }
 
-    /** What the buffers hold at this time. */
+    /** Returns the state of the buffers at this time. */
     #held(now = this.#now) {
-        const { input, first, second, output } = this.#rooms;
+        const { input, first, second, output } = this.#buffers;
         const lengths = [input, first, second, output].map(({ length }) => length);
         this.#call("rtr_link_state_of", now, ...lengths, this.#session.frame("linkState"));
         return this.#session.answer("linkState");
     }
 
-    #todo(name, now, ...rooms) {
-        const buffers = rooms.map((room) => this.#rooms[room])
+    #todo(name, now, ...names) {
+        const buffers = names.map((buffer) => this.#buffers[buffer])
             .flatMap(({ start, length }) => [start, length]);
         this.#filled = this.#held().filled;
         this.#call(name, now, ...buffers, this.#session.frame("todo"));
@@ -338,7 +338,7 @@ export class Link {
         return this.#session.answer("todo");
     }
 
-    /** Calls a function on the struct; throws a LinkError if it refuses. */
+    /** Calls a function on the struct; throws a LinkError if the call is refused. */
     #call(name, ...values) {
         const at = this.#session.frame("link");
         this.#session.heap.bytes(at, this.#state.length).set(this.#state);

@@ -1,10 +1,10 @@
-// The memory of a module: an allocator, and its structs as plain objects.
+// The memory of a module: an allocator, and conversions of structs to plain objects.
 
 import { STRUCTS } from "./rtr_table.js";
 
 const PAGE = 65536;
 
-/** The memory would have to grow, and can't. */
+/** The memory can't grow as needed. */
 export class OutOfMemory extends Error {
     constructor(wanted, reason) {
         super(`the module's memory can't grow to ${wanted} bytes: ${reason}`);
@@ -13,12 +13,12 @@ export class OutOfMemory extends Error {
     }
 }
 
-/** A memory in which callers allocate and free parts, and which grows by whole pages. */
+/** An allocator in a memory that grows by whole pages. */
 export class Heap {
     #memory;
     #most;
-    #pages; // the type of number that memory.grow takes, which differs by engine
-    #taken = []; // [start, end], in order
+    #pages; // Number or BigInt: the argument of memory.grow, which differs by engine
+    #allocated = []; // [start, end], in order
     #base;
     #view;
 
@@ -47,25 +47,25 @@ export class Heap {
         return new Uint8Array(this.#memory.buffer, start, length);
     }
 
-    /** Allocates a part of this length, and returns its address, a multiple of 16. */
+    /** Allocates `length` bytes, and returns their address, a multiple of 16. */
     take(length) {
         const needed = Math.max(rounded(length), 16);
         let start = this.#base;
         let index = 0;
-        while (index < this.#taken.length && this.#taken[index][0] - start < needed) {
-            start = this.#taken[index][1];
+        while (index < this.#allocated.length && this.#allocated[index][0] - start < needed) {
+            start = this.#allocated[index][1];
             index += 1;
         }
         this.#reach(start + needed);
-        this.#taken.splice(index, 0, [start, start + needed]);
+        this.#allocated.splice(index, 0, [start, start + needed]);
         return start;
     }
 
-    /** Frees the part that starts there. */
+    /** Frees the part at an address. */
     release(start) {
-        const index = this.#taken.findIndex((part) => part[0] === start);
+        const index = this.#allocated.findIndex((part) => part[0] === start);
         if (index >= 0) {
-            this.#taken.splice(index, 1);
+            this.#allocated.splice(index, 1);
         }
     }
 
@@ -78,8 +78,8 @@ export class Heap {
         if (end > this.#most) {
             throw new OutOfMemory(end, `the session may have ${this.#most}`);
         }
-        // Grows by more than needed, so that it rarely grows; if that fails, by as much as is
-        // needed.
+        // Grows by a quarter more than needed, so that it rarely grows; if that fails, only by what
+        // is needed.
         for (const pages of [missing + (this.size / PAGE >> 2), missing]) {
             if (this.size + pages * PAGE <= this.#most && this.#grows(pages)) {
                 return;
@@ -103,7 +103,8 @@ function rounded(length) {
     return Math.ceil(length / 16) * 16;
 }
 
-/** Returns whether memory.grow takes a BigInt, as the standard says, or a number, as before. */
+/** Returns the type of the argument of memory.grow: BigInt in the standard, Number in older
+ * engines. */
 function pageNumbers(memory) {
     try {
         memory.grow(0n);
@@ -131,36 +132,36 @@ const WRITE = {
     size: (view, at, value) => view.setBigUint64(at, BigInt(value), true),
 };
 
-/** Returns the struct of this name at an address, as an object of its fields. */
+/** Reads the struct of this name at an address into an object. */
 export function readStruct(view, name, at) {
-    const made = {};
-    for (const [field, place, kind, many] of STRUCTS[name].fields) {
+    const object = {};
+    for (const [field, offset, kind, many] of STRUCTS[name].fields) {
         if (many) {
-            made[field] = new Uint8Array(view.buffer.slice(at + place, at + place + many));
+            object[field] = new Uint8Array(view.buffer.slice(at + offset, at + offset + many));
         } else if (READ[kind]) {
-            made[field] = READ[kind](view, at + place);
+            object[field] = READ[kind](view, at + offset);
         } else {
-            made[field] = readStruct(view, kind, at + place);
+            object[field] = readStruct(view, kind, at + offset);
         }
     }
-    return made;
+    return object;
 }
 
-/** Writes an object's fields into the struct of this name at an address; other fields are zero. */
+/** Writes an object into the struct of this name at an address; missing fields are zero. */
 export function writeStruct(view, name, at, values) {
-    for (const [field, place, kind, many] of STRUCTS[name].fields) {
+    for (const [field, offset, kind, many] of STRUCTS[name].fields) {
         if (many) {
-            const bytes = new Uint8Array(view.buffer, at + place, many);
+            const bytes = new Uint8Array(view.buffer, at + offset, many);
             bytes.fill(0).set((values[field] ?? []).slice(0, many));
         } else if (WRITE[kind]) {
-            WRITE[kind](view, at + place, values[field] ?? 0);
+            WRITE[kind](view, at + offset, values[field] ?? 0);
         } else {
-            writeStruct(view, kind, at + place, values[field] ?? {});
+            writeStruct(view, kind, at + offset, values[field] ?? {});
         }
     }
 }
 
 /** Returns the offset of each field of a struct. */
-export function placesOf(name) {
-    return Object.fromEntries(STRUCTS[name].fields.map(([field, place]) => [field, place]));
+export function offsetsOf(name) {
+    return Object.fromEntries(STRUCTS[name].fields.map(([field, offset]) => [field, offset]));
 }

@@ -1,12 +1,12 @@
-// The path of the module with 32-bit memory, and how modules are compiled.
+// Loads and compiles modules.
 
-// In the repository it is in prebuilt/.
+// The module with 32-bit memory; in the repository it is in prebuilt/.
 const MODULE = new URL("../../prebuilt/wasm32/rtr_wire.wasm", import.meta.url);
 
-/** Reads the module: a file in Node, else from the page's server. */
+/** Reads the module: from a file in Node, else from the page's server. */
 export async function moduleBytes() {
     if (MODULE.protocol === "file:") {
-        const name = "node:fs/promises"; // a variable, so that no bundler looks for it
+        const name = "node:fs/promises"; // a variable hides the import from bundlers
         const { readFile } = await import(/* webpackIgnore: true */ /* @vite-ignore */ name);
         return readFile(MODULE);
     }
@@ -50,7 +50,7 @@ export async function compiled(source) {
 const MEMORY_SECTION = 5;
 const IS_64_BIT = 4;
 
-/** Reports whether the memory section of a module's bytes has the flag of a 64-bit memory. */
+/** Reports whether the memory section of a module declares a 64-bit memory. */
 function declares64BitMemory(source) {
     const bytes = ArrayBuffer.isView(source)
         ? new Uint8Array(source.buffer, source.byteOffset, source.byteLength)

@@ -4,8 +4,8 @@ import { LONGEST_UNIT, STRUCTS } from "./rtr_table.js";
 import { byteOf, bytesOf, fieldsOf, flagOf, numberOf } from "./given.js";
 import { readStruct, writeStruct } from "./memory.js";
 
-/** A struct rtr_router: it gets events, and returns what to do, an action of rtr.h as an object. It
- * is kept outside of the module's memory: nothing has to be freed. */
+/** A struct rtr_router: it takes events, and returns what to do, an action of rtr.h as an object.
+ * The struct is kept outside of the module's memory, so it needn't be freed. */
 export class Router {
     #session;
     #state;
@@ -22,54 +22,54 @@ export class Router {
         return readStruct(new DataView(this.#state.buffer), "router", 0);
     }
 
-    /** When to call `tick`, if nothing happens before. */
+    /** When to call `tick` if nothing happens before. */
     get wakes() {
         return this.#session.call("rtr_router_wakes", this.#put());
     }
 
     /** Reports that time has passed. */
     tick(now) {
-        return this.#told("rtr_router_tick", now);
+        return this.#call("rtr_router_tick", now);
     }
 
-    /** Reports whether there are data at this time: they last until they expire. */
+    /** Reports whether there are data that haven't expired at this time. */
     hasData(now) {
         return this.#session.call("rtr_router_has_data", this.#put(), numberOf(now, "now"));
     }
 
-    /** Requests current data: the router asks as soon as it may, or connects. */
+    /** Requests current data: the router asks as soon as allowed, or connects. */
     asked(now) {
-        return this.#told("rtr_router_asked", now);
+        return this.#call("rtr_router_asked", now);
     }
 
     /** Reports that the connection is established. */
     connected(now) {
-        return this.#told("rtr_router_connected", now);
+        return this.#call("rtr_router_connected", now);
     }
 
-    /** Reports that the connection failed or was lost, and `read` has no input left. */
+    /** Reports that the connection failed or was lost, after `read` has processed all input. */
     lost(now) {
-        return this.#told("rtr_router_lost", now);
+        return this.#call("rtr_router_lost", now);
     }
 
     /** Reports that all changes of the answer were applied. */
     applied(now) {
-        return this.#told("rtr_router_applied", now);
+        return this.#call("rtr_router_applied", now);
     }
 
     /** Reports that no change was applied, since `applyInOrder` returned this status and detail. */
     notApplied(now, status, detail = 0) {
         byteOf(status, "status");
         byteOf(detail, "detail");
-        return { ...this.#told("rtr_router_not_applied", now, status), detail };
+        return { ...this.#call("rtr_router_not_applied", now, status), detail };
     }
 
-    /** Passes the bytes that came; `ended` if the peer has closed. */
+    /** Passes received bytes; `ended` if the peer has closed. */
     read(now, bytes, ended = false) {
         const input = bytesOf(bytes);
         flagOf(ended, "ended");
         return this.#session.within([input], (at) => (
-            this.#told("rtr_router_read_nonnull", now, at, input.length, ended)));
+            this.#call("rtr_router_read_nonnull", now, at, input.length, ended)));
     }
 
     /** Returns the query that an action asks for. */
@@ -107,7 +107,7 @@ export class Router {
         this.#state = this.#session.copy(this.#session.frame("router"), STRUCTS.router.size);
     }
 
-    #told(name, now, ...values) {
+    #call(name, now, ...values) {
         numberOf(now, "now");
         this.#session.call(name, this.#put(), now, ...values, this.#session.frame("action"));
         this.#keep();

@@ -68,7 +68,7 @@ export interface RouterKey extends AnyUnit {
     keyInfo: Uint8Array;
 }
 
-/** If the lengths inside of it don't fit, the last three fields are null. */
+/** If the lengths inside of it are wrong, the last three fields are null. */
 export interface ErrorReport extends AnyUnit {
     kind: typeof Kind.ERROR_REPORT;
     code: number;
@@ -91,33 +91,33 @@ export type Unit = SerialNotify | SerialQuery | ResetQuery | CacheResponse | Pre
 export type Written = Unit extends infer One ? One extends Unit
     ? Omit<One, "offset" | "size"> & Partial<Pick<One, "offset" | "size">> : never : never;
 
-/** A refusal of a call. */
+/** A call was refused. */
 export class Fault extends Error {
     readonly name: "Fault";
     readonly status: Status;
     /** The text of the status and the detail, as in rtr_text. */
     readonly text: string;
-    /** The offset of the unit at fault, in the input of `side`. Of a Link: from the first byte of
-     * the connection; of a change that can't be applied, in the answer's payload units. */
+    /** The offset of the unit at fault, in the input of `side`. From a Link: in all bytes of the
+     * connection, or for a change that doesn't apply, in the answer's payload units. */
     readonly offset: number;
     /** 1 or 2 if one of two inputs is at fault, else 0. */
     readonly side: number;
-    /** The type or the version that isn't allowed, or a PrefixRule that is broken; of
+    /** The type or the version that isn't allowed, or the PrefixRule that is broken; for
      * OTHER_VERSION the version of the unit; else 0. */
     readonly detail: number;
-    /** The size of a prefix that is refused, so that a reader can skip it; else 0. */
+    /** The size of a refused prefix, so that a reader can skip it; else 0. */
     readonly size: number;
-    /** After SHORT the least number of bytes needed from the offset on. */
+    /** After SHORT, the least number of bytes needed from the offset on. */
     readonly wanted: number;
     /** The error code of the report that is owed (RFC 8210 section 12), or null. */
     readonly code: number | null;
-    /** Of a Link a copy of the unit, as far as it came, and only its header if it can't have its
-     * length; else null. */
+    /** From a Link: a copy of the unit, as far as it came, or only the header if its length is
+     * invalid; else null. */
     readonly unit: Uint8Array | null;
 }
 
-/** Why a connection to a cache ended, if no unit is wrong by itself, which is a Fault; and with
- * Cause.EXPIRED why there are no data any more. docs/SESSIONS.md says when. */
+/** Why a connection to a cache ended, if the reason isn't an invalid unit (a Fault); with
+ * Cause.EXPIRED, why the data were dropped. docs/SESSIONS.md has the causes. */
 export class SessionError extends Error {
     readonly name: "SessionError" | "NoData";
     readonly reason: Cause;
@@ -125,27 +125,27 @@ export class SessionError extends Error {
     readonly unit: Uint8Array | null;
     /** The error code of that report, or null. */
     readonly code: number | null;
-    /** The cache's own report, of Cause.REPORTED; else null. */
+    /** The cache's own report, for Cause.REPORTED; else null. */
     readonly reported: ErrorReport | null;
 }
 
 /** The cache has no data yet (RFC 8210 section 8.4); it is asked again. */
 export class NoData extends SessionError { readonly name: "NoData" }
 
-/** An answer without payloads, which counts as a failure where another cache may have some. */
+/** An answer without payloads, which is a failure if there are other caches to ask. */
 export class Empty extends Error { readonly name: "Empty" }
 
-/** A call of a Link that can't be: out of turn, with a time before that of an earlier call, or with
- * more bytes than there are. Nothing has happened. */
+/** A wrong call of a Link: out of turn, with a time before that of an earlier call, or with more
+ * bytes than there are. It has no effect. */
 export class LinkError extends Error {
     readonly name: "LinkError";
     readonly status: LinkStatus;
 }
 
-/** The module's memory would have to grow, and can't. */
+/** The module's memory can't grow as needed. */
 export class OutOfMemory extends Error {
     readonly name: "OutOfMemory";
-    /** The size that it would need, in bytes. */
+    /** The size in bytes that it would need. */
     readonly wanted: number;
 }
 
@@ -197,24 +197,24 @@ export class Data {
     drop(): void;
 }
 
-/** What a recording or a list leaves. */
+/** The result of loading a recording or a list. */
 export interface Loaded {
-    /** The data of its whole answers. */
+    /** The data after all whole answers. */
     data: Data;
-    /** Whether an answer was left out, since the next one began before its end of data. */
+    /** Whether an answer was ignored, since the next one began before its end of data. */
     hasCut: boolean;
 }
 
-/** A router's end of the protocol, without sockets and clock: rtr.h says what is to be done for
- * each action. Times are in milliseconds. */
+/** A router's end of the protocol, without sockets or a clock: rtr.h describes what to do for each
+ * action. Times are in milliseconds. */
 export class Router {
     private constructor();
     readonly state: RouterState;
     readonly wakes: number;
-    /** Reports whether there are data at this time: they last until they expire. */
+    /** Reports whether there are data that haven't expired at this time. */
     hasData(now: number): boolean;
     tick(now: number): Action;
-    /** Requests current data: the router asks as soon as it may, or connects. */
+    /** Requests current data: the router asks as soon as allowed, or connects. */
     asked(now: number): Action;
     connected(now: number): Action;
     lost(now: number): Action;
@@ -225,71 +225,72 @@ export class Router {
     report(action: Action, bytes: Bytes): Uint8Array | null;
 }
 
-/** What the program of a Link has to do, as rtr.h describes it; GO and the kinds that ask for
- * room are done already. */
+/** What the program of a Link has to do, as rtr.h describes it; the Link itself carries out GO and
+ * the kinds that ask for longer buffers. */
 export interface Todo extends TodoFields {
-    /** Of CLOSE, DROPPED and NO_DATA, why: a Fault, a SessionError, OutOfMemory, or what `lost` was
-     * given. Null if the connection ends for another version, and of other kinds. */
+    /** The reason of CLOSE, DROPPED and NO_DATA: a Fault, a SessionError, an OutOfMemory, or the
+     * argument of `lost`. Null if the connection ends for another version, and for other kinds. */
     error: unknown;
 }
 
-/** A router's end of the protocol with its bytes and its data, without sockets and clock. Call
- * `next` again and again, and do what it returns, until that is to wait. Times are in milliseconds,
- * and don't go back. Wrong calls throw a LinkError. Its buffers are in the session's memory, and
- * grow as an answer needs it, within the limits of the settings; without memory for an answer the
+/** A router's end of the protocol with buffers and data, without sockets or a clock. Call `next`
+ * in a loop, and do what it returns, until that is to wait. Times are in milliseconds, by a
+ * monotonic clock. Wrong calls throw a LinkError. The buffers are in the session's memory, and grow
+ * as an answer needs, within the limits of the settings; without memory for an answer the
  * connection ends, and the data stay. */
 export class Link {
     private constructor();
-    /** When to call `next`, if nothing happens before. */
+    /** When to call `next` if nothing happens before. */
     readonly wakes: number;
     /** A copy of the bytes to send. */
     readonly output: Uint8Array;
     next(now: number): Todo;
-    /** Requests current data: the router asks as soon as it may, or connects. Returns what to
+    /** Requests current data: the router asks as soon as allowed, or connects. Returns what to
      * do. */
     askNow(now: number): Todo;
     opened(): void;
     /** Reports that connecting failed, the cache closed, or the connection broke, for this reason;
-     * bytes that came before still count. */
+     * bytes that were received before are still processed. */
     lost(reason?: unknown): void;
-    /** Takes bytes that came, as many as there is room for, and returns how many. */
+    /** Reads received bytes, as many as the input has space for, and returns their number. */
     received(bytes: Bytes): number;
     /** Reports that this many bytes of the output were sent. */
     sent(count: number): void;
-    /** Returns the data at this time, until they expire, or null. They stay as they are, also when
-     * the next answer comes, and after `drop`. */
+    /** Returns the data at this time; null if there are none or they have expired. They are
+     * immutable, and stay valid after the next answer and after `drop`. */
     data(now: number): Data | null;
     /** Frees the memory of the buffers. Only `again` may follow. */
     drop(): void;
-    /** Begins again without data and with its settings; waits for a failing cache go on growing. */
+    /** Restarts without data and with its settings; the waits for a failing cache continue to
+     * grow. */
     again(): void;
 }
 
 /** What the program of a Group has to do, in this order. */
 export interface Decision {
-    /** What becomes of the data that are shown. */
+    /** Whether the data in use stay, are replaced or are dropped. */
     shown: GroupShown;
-    /** With GroupShown.DATA the member whose data to show, else null. */
+    /** With GroupShown.DATA, the member whose data to use; else null. */
     member: number | null;
-    /** The first of the members that stop, if they run, and whose data are dropped; or null. */
+    /** The first of the members to stop, if they run; their data are dropped. Or null. */
     stop: number | null;
-    /** The member that starts, without data; or null. */
+    /** The member to start, without data; or null. */
     start: number | null;
 }
 
-/** Caches by preference (RFC 8210 section 10), without data, sockets and clock: rtr.h has its
- * rules. Member 0 is the most preferred, and runs first. Times are in milliseconds. */
+/** Caches by preference (RFC 8210 section 10), without data, sockets or a clock: rtr.h has the
+ * rules. Member 0 is preferred most, and runs first. Times are in milliseconds. */
 export class Group {
     private constructor();
     readonly settings: GroupSettings;
-    /** When to call `tick`, if nothing happens before; Infinity for never. */
+    /** When to call `tick` if nothing happens before; Infinity for never. */
     readonly wakes: number;
-    /** The member whose data are shown, or null. */
+    /** The member whose data are used, or null. */
     readonly best: number | null;
     tick(now: number): Decision;
     /** Reports that a member has the data of a whole answer, with this number of payloads. */
     shows(now: number, member: number, payloads: number): Decision;
-    /** Reports that a member lost its data, which is a failure too. */
+    /** Reports that a member lost its data; this is also a failure. */
     drops(now: number, member: number): Decision;
     /** Reports that a member failed, or that its cache has no data. */
     fails(now: number, member: number): Decision;
@@ -311,8 +312,8 @@ export interface Shown {
     row(field: string, length: number): Uint8Array;
 }
 
-/** A rule that the unit at an offset breaks, or all units together, with their length as offset;
- * and the line of rtr_list. */
+/** A rule that the unit at an offset breaks, or that all units together break (the offset is their
+ * length); and the line of rtr_list. */
 export interface Finding {
     offset: number;
     rule: Rule;
@@ -337,13 +338,13 @@ export class Held {
     };
 }
 
-/** The library in a memory of its own. Calls throw a Fault if rtr.h refuses the input, OutOfMemory
- * if the memory can't grow, and Dropped after `drop`. */
+/** The library in its own memory. Calls throw a Fault if the input is refused, OutOfMemory if the
+ * memory can't grow, and Dropped after `drop`. */
 export class Session {
     private constructor();
     /** The size of the module's memory in bytes. */
     readonly memory: number;
-    /** Makes a session of the same module, with a memory of its own. */
+    /** Returns a new session of the same module, with its own memory. */
     another(): Session;
     drop(): void;
 
@@ -356,7 +357,7 @@ export class Session {
     writeUnit(unit: Written): Uint8Array;
     errorCode(status: Status, bytes: Bytes): number | null;
 
-    /** Its Fault has the four fields of the result, too. */
+    /** Its Fault also has the four fields of the result. */
     normalise(bytes: Bytes, options?: { limit?: number | bigint; version?: number | null }):
         Normalised;
     sameMeaning(left: Bytes, right: Bytes, limit?: number | bigint): boolean;
@@ -365,21 +366,22 @@ export class Session {
     apply(data: Bytes | Data, changes: Bytes): Uint8Array;
     applyInOrder(data: Bytes | Data, changes: Bytes, places?: number): Uint8Array;
     order(changes: Bytes, places?: number): Uint8Array;
-    /** Data of bytes in canonical form. */
+    /** Returns the Data of bytes in canonical form. */
     data(bytes: Bytes): Data;
-    /** Loads the data that a recording or a list of units leaves: its answers one after the other,
-     * each with or without a cache response, their payload units in any order. An answer changes
-     * the data before it; after a reset query or a cache reset, and in another session, it replaces
-     * them (RFC 8210 sections 5.1, 5.4 and 5.9). All of the input counts, also what a router sent.
+    /** Loads the data that a recording or a list of units results in. It applies all answers one
+     * after the other, each with or without a cache response, with payload units in any order. An
+     * answer changes the data before it; after a reset query or a cache reset, and in another
+     * session, it replaces them (RFC 8210 sections 5.1, 5.4 and 5.9). The input may have units of
+     * the router, too.
      *
-     * A Fault has the offset of the first unit at which the recording can't go on, and its status:
-     * SHORT to PREFIX for what isn't a unit, SHORT also at the end of the input, if an answer has
-     * no end of data there or none came; DUPLICATE or UNKNOWN for the first change of an answer
-     * that isn't allowed (section 12); OTHER_VERSION for a payload unit or an end of data of
-     * another version than those before it in its answer, or than the data that it changes;
-     * OTHER_SESSION for an end of data of another session than its answer (section 5.8);
-     * OLD_SERIAL for one of changes whose serial number comes before that of the data (RFC 1982);
-     * RESET_INSIDE or REPORT_INSIDE for a cache reset or an error report inside an answer. */
+     * A Fault has the offset of the first unit that is refused, and its status: SHORT to PREFIX for
+     * an invalid unit, SHORT also at the end of the input, if an answer lacks its end of data or
+     * there is no answer; DUPLICATE or UNKNOWN for a change that section 12 doesn't allow;
+     * OTHER_VERSION for a payload unit or an end of data of another version than those before it in
+     * its answer, or than the data that it changes; OTHER_SESSION for an end of data of another
+     * session than its answer (section 5.8); OLD_SERIAL for an end of data whose serial number
+     * comes before that of the data that its answer changes (RFC 1982); RESET_INSIDE or
+     * REPORT_INSIDE for a cache reset or an error report inside an answer. */
     loadData(recording: Bytes): Loaded;
     validate(data: Data, route: Route): Validity;
     covering(data: Data, route: Route): Generator<Covering, void, undefined>;
@@ -389,19 +391,20 @@ export class Session {
     unitLine(bytes: Bytes, offset?: number | bigint): string;
     /** Returns the unit as a JSON object, as rtr_list --json prints it. */
     unitJson(bytes: Bytes, offset?: number | bigint): string;
-    /** Returns the line of a payload unit's change, as rtr_diff prints it; "" for another unit. */
+    /** Returns the line of a payload unit, as rtr_diff prints it; "" for other units. */
     changeLine(unit: Written): string;
     /** Returns the change as a JSON object, as rtr_diff --json prints it. */
     changeJson(unit: Written): string;
 
     /** Returns the text of a status with its detail: "unit type 5 is not allowed here". */
     statusText(status: number, detail?: number): string;
-    /** Returns the name of a number, as `named` selects: "IPv4 prefix" for Named.KIND and 4. */
+    /** Returns the name of a number; `named` selects of what: "IPv4 prefix" for Named.KIND and
+     * 4. */
     name(named: Named, number: number): string;
 
     router(settings?: Partial<Settings>): Router;
     link(settings?: Partial<Settings>): Link;
-    /** Makes a group of up to 16 members. */
+    /** Returns a group of up to 16 members. */
     group(members: number, now: number, settings?: Partial<GroupSettings>): Group;
     usualSettings(highest: number): Settings;
     serialOrder(left: number, right: number): SerialOrder;
@@ -412,17 +415,17 @@ export class Session {
  * default of `load`, runs on every engine with WebAssembly. */
 export function has64BitMemory(): boolean;
 
-/** Makes a session of the library. Without a source it reads the module with 32-bit memory beside
- * these files; else the source is the bytes of a module, or the module compiled from them. `most`
- * limits the bytes of its memory. */
+/** Returns a new session of the library. The source is the bytes of a module, or the module
+ * compiled from them; by default it reads the module with 32-bit memory beside these files. `most`
+ * limits the size of the memory in bytes. */
 export function load(source?: BufferSource | WebAssembly.Module | null,
     options?: { most?: number }): Promise<Session>;
 
 /** Returns the text of an address of 4 or 16 bytes. */
 export function addressText(bytes: Bytes): string;
 
-/** Returns the bytes of an address, or null if the text is none. */
+/** Returns the bytes of an address, or null if the text is invalid. */
 export function addressOf(text: string): Uint8Array | null;
 
-/** Returns the address and the length of a prefix, or null if the text is none. */
+/** Returns the address and the length of a prefix, or null if the text is invalid. */
 export function prefixOf(text: string): { address: Uint8Array; length: number } | null;

@@ -3,7 +3,7 @@
 //     const rtr = await load();
 //     for (const unit of rtr.units(recording)) ..
 //
-// Every rule of the protocol, number and text is the module's or rtr.h's.
+// All rules, numbers and texts of the protocol are those of the module or rtr.h.
 
 import { Session } from "./session.js";
 import { numberOf, objectOf } from "./given.js";
@@ -32,11 +32,11 @@ export class OtherVersion extends Error {
     }
 }
 
-/** Makes a session of the library. `source` is the bytes of rtr_wire.wasm or the module compiled
- * from them; without it, the module with 32-bit memory beside this file is read. The option `most`
- * limits the bytes of the memory.
+/** Returns a new session of the library. `source` is the bytes of rtr_wire.wasm, or the module
+ * compiled from them; by default the module with 32-bit memory beside this file is read. The option
+ * `most` limits the size of the memory in bytes.
  *
- * It throws Unsupported if the module has a 64-bit memory and the engine doesn't support that, and
+ * Throws Unsupported if the module has a 64-bit memory and the engine doesn't support that, and
  * OtherVersion if the module is of another version. */
 export async function load(source, options = {}) {
     const { most } = objectOf(options, "options");

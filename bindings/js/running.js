@@ -1,4 +1,4 @@
-// The loop of a client: what a link wants done, over connections and timers of Node.
+// The loop of a client: carries out what a link asks for, with connections and timers of Node.
 
 import { TodoKind } from "./rtr_table.js";
 import { Connection } from "./connection.js";
@@ -7,12 +7,12 @@ import { Update } from "./update.js";
 // The longest wait of a timer in milliseconds; the loop then waits again.
 const LONGEST_WAIT = 3_600_000;
 
-/** The time in milliseconds, by a clock that doesn't go back. */
+/** Returns the time in milliseconds, by a monotonic clock. */
 export function now() {
     return Math.floor(performance.now());
 }
 
-/** Returns what a caller's function connected, which has to be a stream. */
+/** Checks that a caller's `connect` returned a stream, and returns it. */
 function streamOf(value) {
     if (typeof value?.read !== "function" || typeof value.destroy !== "function") {
         throw new TypeError("connect must return a stream");
@@ -20,7 +20,7 @@ function streamOf(value) {
     return value;
 }
 
-/** A wait that ends when someone rings, or at a time. */
+/** A wait that ends at a time, or earlier by `ring`. */
 export class Bell {
     #isRung = false;
     #end = null;
@@ -31,7 +31,7 @@ export class Bell {
         this.#end?.();
     }
 
-    /** Waits until a time of the clock, at most. */
+    /** Waits until a time of the clock, or until `ring`. */
     async wait(until) {
         if (!this.#isRung) {
             const left = Math.min(Math.max(until - performance.now(), 1), LONGEST_WAIT);
@@ -58,13 +58,13 @@ export class Run {
     #dialing = null; // the controller of the connection that is being opened
     #connection = null;
     #closing = null; // the connection to which a last report is sent
-    #came = null; // bytes that came, and that the link has no room for yet
-    #told = false; // the link knows that the connection is over
-    #isConnected = false; // and the client's caller wasn't told
+    #unread = null; // received bytes for which the link's input had no space
+    #isLossReported = false; // whether the link knows that the connection is over
+    #isConnected = false; // whether a `connect` event is due
     #isAsked = false;
     #data = null;
 
-    /** `options` are those of a client, which the updates name; `stop` is a signal. */
+    /** `options` are those of the client; `stop` is a signal. */
     constructor(link, client, options, stop) {
         this.#link = link;
         this.#client = client;
@@ -78,8 +78,8 @@ export class Run {
         this.#bell.ring();
     }
 
-    /** Iterates over what happens: the name of each event, its value, and whether it is part of the
-     * loss of data that was told before it. */
+    /** Iterates over the events: each has a name, a value, and `isPartOfLoss` if it belongs to the
+     * loss of data in the event before it. */
     async * events() {
         const signals = [this.#stop, this.#options.signal].filter((signal) => signal !== undefined);
         const aborted = () => this.#abort();
@@ -95,7 +95,7 @@ export class Run {
         }
     }
 
-    /** Closes what is open, and ends the wait. */
+    /** Closes all connections, and ends the wait. */
     #abort() {
         this.#dialing?.abort();
         this.#dialing = null;
@@ -104,7 +104,7 @@ export class Run {
         this.#bell.ring();
     }
 
-    /** Does what the link wants done next. */
+    /** Carries out the link's next request. */
     async * #turn() {
         if (this.#isConnected) {
             this.#isConnected = false;
@@ -150,7 +150,7 @@ export class Run {
         return update;
     }
 
-    /** Sends and reads what can be, or waits until it can. */
+    /** Sends and reads, or waits if nothing can be read. */
     async #wait(wakes) {
         if (this.#connection !== null) {
             this.#connection.write(this.#unsent());
@@ -168,23 +168,24 @@ export class Run {
         return bytes;
     }
 
-    /** Gives the link bytes that came, or tells it that no more come; reports whether it did. */
+    /** Passes received bytes, or the end of the connection, to the link; returns whether there was
+     * either. */
     #reads() {
-        this.#came ??= this.#connection.read();
-        if (this.#came !== null) {
-            const rest = this.#came.subarray(this.#link.received(this.#came));
-            this.#came = rest.length > 0 ? rest : null;
+        this.#unread ??= this.#connection.read();
+        if (this.#unread !== null) {
+            const rest = this.#unread.subarray(this.#link.received(this.#unread));
+            this.#unread = rest.length > 0 ? rest : null;
             return true;
         }
-        if (!this.#connection.isOver || this.#told) {
+        if (!this.#connection.isOver || this.#isLossReported) {
             return false;
         }
-        this.#told = true;
+        this.#isLossReported = true;
         this.#link.lost(this.#connection.error);
         return true;
     }
 
-    /** Opens a connection, until this time, unless it isn't wanted any more then. */
+    /** Opens a connection, until this time; closes it again if it was given up meanwhile. */
     async #dial(wakes) {
         const dialing = new AbortController();
         this.#dialing = dialing;
@@ -204,18 +205,18 @@ export class Run {
             this.#link.lost(error);
         } else {
             this.#connection = new Connection(stream, () => this.#bell.ring());
-            this.#told = false;
+            this.#isLossReported = false;
             this.#link.opened();
             this.#isConnected = true;
         }
         this.#bell.ring();
     }
 
-    /** Closes the connection, or stops opening it, after the bytes that are still to be sent. */
+    /** Sends the last bytes and closes the connection, or stops connecting. */
     async #closes() {
         const [last, connection] = [this.#unsent(), this.#connection];
         this.#dialing?.abort();
-        this.#dialing = this.#connection = this.#came = null;
+        this.#dialing = this.#connection = this.#unread = null;
         if (connection !== null && !this.#stop.aborted) {
             this.#closing = connection;
             await connection.finish(last, this.#options.reportLimit);

@@ -1,8 +1,8 @@
-// The library in a memory of its own.
+// The library in its own memory.
 
 import { FUNCTIONS, IPV4_SIZE, LINE_ROOM, LONGEST_UNIT, STRUCTS, Status, TEXT_ROOM }
     from "./rtr_table.js";
-import { Heap, placesOf, readStruct, writeStruct } from "./memory.js";
+import { Heap, offsetsOf, readStruct, writeStruct } from "./memory.js";
 import { Fault } from "./fault.js";
 import { byteOf, bytesOf, fieldsOf, longOf, numberOf, objectOf, shortOf, wordOf }
     from "./given.js";
@@ -13,18 +13,18 @@ import { Group } from "./group.js";
 import { Link } from "./link.js";
 import { Router } from "./router.js";
 
-// The bytes of an input that are read at a time: more than the longest unit.
+// The most bytes of an input that are read at a time: more than the longest unit.
 const PIECE = 1 << 17;
 
-// How many bytes the data of a recording may have at first; the buffers grow for more.
-const FIRST_ROOM = 1 << 24;
+// The first size, at most, of the buffers for the data of a recording; they grow if needed.
+const FIRST_CAPACITY = 1 << 24;
 
 const ALL = (1n << 64n) - 1n;
 
-// A version that is higher than any: rtr_settings_usual then takes the highest known one.
+// Higher than any version: rtr_settings_usual reduces it to the highest known one.
 const HIGHEST = 255;
 
-const NEXT = placesOf("unit");
+const UNIT_OFFSETS = offsetsOf("unit");
 const NOTHING = new Uint8Array(0);
 
 /** A call of a session, or of bytes in its memory, that was dropped. */
@@ -52,8 +52,8 @@ export class Session {
     #options;
     #exports;
     #heap;
-    #frame; // space for one struct of each kind
-    #unit; // the address of the unit's struct, as calls take it
+    #frame; // the addresses of one struct of each kind
+    #unit; // the address of the unit's struct as a BigInt
 
     /** `load` and `another` make instances. */
     constructor(module, options = {}) {
@@ -69,12 +69,12 @@ export class Session {
         this.#unit = BigInt(this.#frame.unit);
     }
 
-    /** Makes a session of the same module, with a memory of its own. */
+    /** Returns a new session of the same module, with its own memory. */
     another() {
         return new Session(this.#module, this.#options);
     }
 
-    /** Releases the memory to the engine. Every later call throws `Dropped`. */
+    /** Frees the memory. Every later call throws `Dropped`. */
     drop() {
         this.#exports = null;
         this.#heap = null;
@@ -104,25 +104,26 @@ export class Session {
             throw new Dropped();
         }
         const [answer, ...kinds] = FUNCTIONS[name];
-        const made = values.map((value, place) => (LONG.has(kinds[place]) ? BigInt(value) : value));
-        return ANSWERS[answer](this.#exports[name](...made));
+        const numbers = values.map((value, index) => (
+            LONG.has(kinds[index]) ? BigInt(value) : value));
+        return ANSWERS[answer](this.#exports[name](...numbers));
     }
 
-    /** Copies slices into the memory while a function runs, which gets their addresses. A number
-     * stands for that many uninitialized bytes. */
+    /** Copies slices into the memory, and calls `run` with their addresses. A number stands for
+     * that many uninitialized bytes. */
     within(slices, run) {
-        const places = [];
+        const addresses = [];
         try {
             for (const slice of slices) {
                 const isOpen = typeof slice === "number";
-                places.push(this.heap.take(isOpen ? slice : slice.length));
+                addresses.push(this.heap.take(isOpen ? slice : slice.length));
                 if (!isOpen) {
-                    this.heap.bytes(places.at(-1), slice.length).set(slice);
+                    this.heap.bytes(addresses.at(-1), slice.length).set(slice);
                 }
             }
-            return run(...places);
+            return run(...addresses);
         } finally {
-            places.forEach((place) => this.#heap?.release(place));
+            addresses.forEach((address) => this.#heap?.release(address));
         }
     }
 
@@ -151,7 +152,7 @@ export class Session {
         });
     }
 
-    /** Iterates over the units from an offset to the end of the bytes; the Fault of a unit comes
+    /** Iterates over the units from an offset to the end of the bytes; throws the Fault of a unit
      * after the units before it. */
     units(bytes, offset = 0) {
         const all = bytesOf(bytes);
@@ -169,7 +170,8 @@ export class Session {
         }
     }
 
-    /** Iterates over the whole units in a piece of the bytes. */
+    /** Returns the whole units in a piece of the bytes, the Fault after them or null, and the
+     * offset of the next unit. */
     #piece(bytes, from) {
         const piece = bytes.subarray(from, from + PIECE);
         const units = [];
@@ -201,8 +203,8 @@ export class Session {
         return new Held(this, bytesOf(bytes));
     }
 
-    /** Iterates over the rules of rtr_list --check that the units break, in order; the Fault of a
-     * unit comes after the findings before it. */
+    /** Iterates over the rules of rtr_list --check that the units break, in order; throws the Fault
+     * of a unit after the findings before it. */
     check(bytes) {
         return this.#findings(bytesOf(bytes));
     }
@@ -219,13 +221,14 @@ export class Session {
     /** Returns the Fault of rtr_next with this status, about the bytes at an address. */
     refused(status, at, length, offset) {
         const view = this.heap.view;
-        const field = (name) => Number(view.getBigUint64(this.#frame.unit + NEXT[name], true));
+        const unit = this.#frame.unit;
+        const field = (name) => Number(view.getBigUint64(unit + UNIT_OFFSETS[name], true));
         return this.#fault({
             status,
             offset,
             size: field("size"),
             wanted: field("wanted"),
-            detail: view.getUint8(this.#frame.unit + NEXT.detail),
+            detail: view.getUint8(unit + UNIT_OFFSETS.detail),
             code: this.#code(status, at, length),
         });
     }
@@ -279,7 +282,8 @@ export class Session {
 
     // ---- sequences
 
-    /** Normalises the sequence at the start of the bytes; with a version, for its clients. */
+    /** Normalises the sequence at the start of the bytes; with `version`, for clients of that
+     * version. */
     normalise(sequence, options = {}) {
         const { limit = ALL, version = null } = objectOf(options, "options");
         const bytes = bytesOf(sequence);
@@ -287,12 +291,12 @@ export class Session {
         if (version !== null) {
             byteOf(version, "version");
         }
-        const room = bytes.length + (version === null ? 0 : LONGEST_UNIT);
-        return this.within([bytes, room], (at, output) => {
+        const capacity = bytes.length + (version === null ? 0 : LONGEST_UNIT);
+        return this.within([bytes, capacity], (at, output) => {
             const name = version === null
                 ? "rtr_normalise_slice_nonnull" : "rtr_normalise_for_slice_nonnull";
             const more = version === null ? [] : [version];
-            const status = this.call(name, at, bytes.length, output, room, limit, ...more,
+            const status = this.call(name, at, bytes.length, output, capacity, limit, ...more,
                 this.#frame.answer);
             const { units, forms, taken, written, wanted, detail } = this.answer("answer");
             const form = this.copy(output, written);
@@ -309,12 +313,12 @@ export class Session {
     sameMeaning(first, second, limit = ALL) {
         const [left, right] = [bytesOf(first, "left"), bytesOf(second, "right")];
         longOf(limit, "limit");
-        return this.within([left, right], (one, other) => {
-            this.call("rtr_same_meaning_nonnull", one, left.length, other, right.length, limit,
-                this.#frame.comparison);
+        return this.within([left, right], (firstAt, secondAt) => {
+            this.call("rtr_same_meaning_nonnull", firstAt, left.length, secondAt, right.length,
+                limit, this.#frame.comparison);
             const answer = this.answer("comparison");
             if (answer.status !== Status.OK) {
-                throw this.#sided(answer, [one, left.length], [other, right.length]);
+                throw this.#sided(answer, [firstAt, left.length], [secondAt, right.length]);
             }
             return answer.same;
         });
@@ -330,17 +334,19 @@ export class Session {
 
     // ---- data and changes
 
-    /** Calls a function on two inputs that writes an output, and an index if it takes one. */
-    #made(name, first, second, places = null) {
-        const room = first.length + (second?.length ?? 0);
-        const slices = [first, second ?? NOTHING, room, 8 * (places ?? 0)];
-        return this.within(slices, (one, other, output, index) => {
-            const inputs = [one, first.length, ...(second ? [other, second.length] : [])];
-            const more = places === null ? [] : [index, places];
-            this.call(name, ...inputs, ...more, output, room, this.#frame.dataAnswer);
+    /** Calls a function on one or two inputs, with an index if it takes one, and returns its
+     * output. */
+    #writtenBy(name, first, second, entries = null) {
+        const capacity = first.length + (second?.length ?? 0);
+        const slices = [first, second ?? NOTHING, capacity, 8 * (entries ?? 0)];
+        return this.within(slices, (firstAt, secondAt, output, index) => {
+            const inputs = [firstAt, first.length, ...(second ? [secondAt, second.length] : [])];
+            const more = entries === null ? [] : [index, entries];
+            this.call(name, ...inputs, ...more, output, capacity, this.#frame.dataAnswer);
             const answer = this.answer("dataAnswer");
             if (answer.status !== Status.OK) {
-                throw this.#sided(answer, [one, first.length], [other, second?.length ?? 0]);
+                throw this.#sided(answer, [firstAt, first.length],
+                    [secondAt, second?.length ?? 0]);
             }
             return this.copy(output, answer.written);
         });
@@ -348,62 +354,63 @@ export class Session {
 
     /** Returns the delta from old data to new: bytes in canonical form, or Data. */
     delta(old, next) {
-        return this.#made("rtr_delta_nonnull", bytesIn(old, "old"), bytesIn(next, "next"));
+        return this.#writtenBy("rtr_delta_nonnull", bytesIn(old, "old"), bytesIn(next, "next"));
     }
 
     /** Applies changes in canonical form to data. */
     apply(data, changes) {
-        return this.#made("rtr_apply_nonnull", bytesIn(data, "data"), bytesOf(changes, "changes"));
+        return this.#writtenBy("rtr_apply_nonnull", bytesIn(data, "data"),
+            bytesOf(changes, "changes"));
     }
 
-    /** Applies changes to data, in the order in which they came. */
+    /** Applies changes to data, in the order of the answer. */
     applyInOrder(data, changes, places = null) {
         const bytes = bytesOf(changes, "changes");
-        return this.#made("rtr_apply_in_order_nonnull", bytesIn(data, "data"), bytes,
-            placesFor(bytes, places));
+        return this.#writtenBy("rtr_apply_in_order_nonnull", bytesIn(data, "data"), bytes,
+            entriesFor(bytes, places));
     }
 
     /** Returns the changes of a sequence in canonical form. */
     order(changes, places = null) {
         const bytes = bytesOf(changes, "changes");
-        return this.#made("rtr_order_nonnull", bytes, null, placesFor(bytes, places));
+        return this.#writtenBy("rtr_order_nonnull", bytes, null, entriesFor(bytes, places));
     }
 
-    /** Makes Data of bytes in canonical form; throws a Fault if they aren't. */
+    /** Returns the Data of bytes in canonical form; throws a Fault if they aren't. */
     data(bytes) {
-        const given = bytesOf(bytes);
-        const nothing = this.delta(given, given);
-        return new Data(this, this.apply(given, nothing), this.next(nothing));
+        const canonical = bytesOf(bytes);
+        const nothing = this.delta(canonical, canonical);
+        return new Data(this, this.apply(canonical, nothing), this.next(nothing));
     }
 
-    /** The data that a recording or a list leaves, and whether an answer was left out; a Fault has
-     * the first unit at which it can't go on. */
+    /** Loads the data that a recording or a list results in, and returns whether an answer was
+     * ignored; throws the Fault of the first unit that is refused. */
     loadData(recording) {
         const bytes = bytesOf(recording, "recording");
-        let room = Math.min(bytes.length, FIRST_ROOM);
-        let places = Math.floor(room / IPV4_SIZE);
+        let capacity = Math.min(bytes.length, FIRST_CAPACITY);
+        let entries = Math.floor(capacity / IPV4_SIZE);
         for (;;) {
-            const loaded = this.#loaded(bytes, places, room);
+            const loaded = this.#loaded(bytes, entries, capacity);
             const { status, wanted, form, hasCut } = loaded;
             if (status === Status.OK) {
                 return { data: this.data(form), hasCut };
             }
             if (status === Status.NO_INDEX) {
-                places = Math.max(wanted, 2 * places);
+                entries = Math.max(wanted, 2 * entries);
             } else if (status === Status.NO_ROOM) {
-                room = Math.min(2 * room, bytes.length);
+                capacity = Math.min(2 * capacity, bytes.length);
             } else {
                 throw this.#fault(loaded);
             }
         }
     }
 
-    /** What rtr_load answers with an index of so many places and buffers of so much room: with the
-     * form of the data, or the error code that is owed for a unit at fault. */
-    #loaded(bytes, places, room) {
-        return this.within([bytes, 8 * places, room, room], (at, index, work, output) => {
-            this.call("rtr_load_nonnull", at, bytes.length, index, places, work, room, output, room,
-                this.#frame.loaded);
+    /** Calls rtr_load with an index and buffers of these sizes; returns its answer, with the form
+     * of the data, or the error code that is owed for the unit at fault. */
+    #loaded(bytes, entries, capacity) {
+        return this.within([bytes, 8 * entries, capacity, capacity], (at, index, work, output) => {
+            this.call("rtr_load_nonnull", at, bytes.length, index, entries, work, capacity, output,
+                capacity, this.#frame.loaded);
             const answer = this.answer("loaded");
             const { status, offset, length } = answer;
             return status === Status.OK ? { ...answer, form: this.copy(output, length) }
@@ -411,23 +418,23 @@ export class Session {
         });
     }
 
-    /** A router's end of the protocol, without its bytes and data. */
+    /** Returns a router's end of the protocol, without buffers and data. */
     router(settings = {}) {
         return new Router(this, settings);
     }
 
-    /** A router's end of the protocol with its bytes and data. */
+    /** Returns a router's end of the protocol, with buffers and data. */
     link(settings = {}) {
         return new Link(this, settings);
     }
 
-    /** A group of this many caches by preference; `now` is the time in milliseconds. */
+    /** Returns a group of this many caches by preference; `now` is the time in milliseconds. */
     group(members, now, settings = {}) {
         return new Group(this, members, now, settings);
     }
 
-    /** Writes settings where rtr_router_init and rtr_link_init read them, the defaults for those
-     * that are missing, and returns their address. */
+    /** Writes settings, with defaults for missing ones, for rtr_router_init and rtr_link_init, and
+     * returns their address. */
     putSettings(settings) {
         fieldsOf(settings, "settings", STRUCTS.settings.fields);
         const usual = this.usualSettings(settings.highest ?? HIGHEST);
@@ -455,7 +462,7 @@ export class Session {
         return this.#line("rtr_json_nonnull", bytes, longOf(offset, "offset"));
     }
 
-    /** Returns the line of a payload unit's change, as rtr_diff prints it; "" for another unit. */
+    /** Returns the line of a payload unit, as rtr_diff prints it; "" for other units. */
     changeLine(unit) {
         return this.#line("rtr_change_line_nonnull", this.writeUnit(unit));
     }
@@ -465,13 +472,13 @@ export class Session {
         return this.#line("rtr_change_json_nonnull", this.writeUnit(unit));
     }
 
-    /** Returns what a call writes for the unit at the start of the bytes. */
+    /** Returns the text that a call writes for the unit at the start of the bytes. */
     #line(name, bytes, ...more) {
         const piece = bytesOf(bytes).subarray(0, LONGEST_UNIT);
-        let room = LINE_ROOM;
+        let capacity = LINE_ROOM;
         for (;;) {
-            const said = this.within([piece, room], (at, output) => {
-                this.call(name, at, piece.length, ...more, output, room, this.#frame.line);
+            const line = this.within([piece, capacity], (at, output) => {
+                this.call(name, at, piece.length, ...more, output, capacity, this.#frame.line);
                 const { status, detail, length, wanted } = this.answer("line");
                 if (status === Status.OK) {
                     return new TextDecoder().decode(this.copy(output, length));
@@ -480,27 +487,27 @@ export class Session {
                     const code = this.#code(status, at, piece.length);
                     throw this.#fault({ status, detail, wanted, code });
                 }
-                room = length;
+                capacity = length;
                 return null;
             });
-            if (said !== null) {
-                return said;
+            if (line !== null) {
+                return line;
             }
         }
     }
 
     /** Returns the text of a status with its detail. */
     statusText(status, detail = 0) {
-        return this.#said("rtr_text_nonnull", byteOf(status, "status"), byteOf(detail, "detail"));
+        return this.#text("rtr_text_nonnull", byteOf(status, "status"), byteOf(detail, "detail"));
     }
 
-    /** Returns the name of a number, as `named` selects: of a status, a kind, a cause, a reason or
-     * an error code. */
+    /** Returns the name of a status, a kind, a cause, a reason or an error code; `named` selects
+     * which. */
     name(named, number) {
-        return this.#said("rtr_name_nonnull", byteOf(named, "named"), shortOf(number, "number"));
+        return this.#text("rtr_name_nonnull", byteOf(named, "named"), shortOf(number, "number"));
     }
 
-    #said(name, first, second) {
+    #text(name, first, second) {
         const { text, number } = this.#frame;
         this.call(name, first, second, text, TEXT_ROOM, number);
         const length = Number(this.heap.view.getBigUint64(number, true));
@@ -533,21 +540,21 @@ export class Session {
 /** Bytes in the memory of a session. */
 export class Held {
     #session;
-    #place;
+    #address;
 
     constructor(session, bytes) {
         this.#session = session;
-        this.#place = session.heap.take(bytes.length);
+        this.#address = session.heap.take(bytes.length);
         this.length = bytes.length;
-        session.heap.bytes(this.#place, bytes.length).set(bytes);
+        session.heap.bytes(this.#address, bytes.length).set(bytes);
     }
 
     /** Their address in the memory. */
     get #start() {
-        if (this.#place === null) {
+        if (this.#address === null) {
             throw new Dropped("the bytes were dropped");
         }
-        return this.#place;
+        return this.#address;
     }
 
     /** Returns a copy of some of the bytes. */
@@ -559,14 +566,14 @@ export class Held {
 
     /** Frees the memory. Every later call throws `Dropped`. */
     drop() {
-        if (this.#place !== null) {
-            this.#session.heap.release(this.#place);
-            this.#place = null;
+        if (this.#address !== null) {
+            this.#session.heap.release(this.#address);
+            this.#address = null;
         }
     }
 
-    /** Makes a check of its units in order: call `take` at the offset of each, then `finish`, then
-     * `drop`. */
+    /** Returns a check of its units in order: call `take` with the offset of each, then `finish`,
+     * then `drop`. */
     checker() {
         const checker = new Checker(this.#session);
         return {
@@ -577,7 +584,7 @@ export class Held {
         };
     }
 
-    /** What the units break of the rules that rtr_list looks for with --check, in order. */
+    /** Iterates over the rules of rtr_list --check that the units break, in order. */
     * findings() {
         const checker = this.checker();
         try {
@@ -592,7 +599,8 @@ export class Held {
         }
     }
 
-    /** Returns the status of the unit at an offset; `shown` has its fields until the next call. */
+    /** Returns the status of the unit at an offset; `shown` returns its fields until the next
+     * call. */
     status(offset) {
         return this.#session.step(this.#start + offsetIn(this, offset), this.length - offset);
     }
@@ -616,7 +624,7 @@ export class Held {
     }
 }
 
-/** Returns the bytes of Data, or bytes as they are. */
+/** Returns the bytes of Data, or of an argument that has bytes. */
 function bytesIn(data, name) {
     return data instanceof Data ? data.bytes : bytesOf(data, name);
 }
@@ -628,13 +636,13 @@ function dataOf(data) {
     return data;
 }
 
-/** Returns an offset in bytes, at most their end. */
+/** Checks an offset in bytes; their length is allowed. */
 function offsetIn(bytes, offset) {
     return numberOf(offset, "offset", bytes.length);
 }
 
-/** Returns the number of entries of an index of changes: by default more than the bytes can have
- * units, since each has at least a header. */
-function placesFor(bytes, places) {
+/** Returns the number of entries of an index of changes: by default at least as many as the bytes
+ * can have units, since each unit has a header of 8 bytes. */
+function entriesFor(bytes, places) {
     return places === null ? bytes.length >> 3 : numberOf(places, "places");
 }

@@ -3,12 +3,12 @@
 import { Kind, STRUCTS } from "./rtr_table.js";
 import { bytesOf, bytesOfLength, flagOf, numberOfType, objectOf, textOf, wordOf }
     from "./given.js";
-import { placesOf } from "./memory.js";
+import { offsetsOf } from "./memory.js";
 
-const AT = placesOf("unit");
+const OFFSETS = offsetsOf("unit");
 const text = new TextDecoder();
 
-/** A struct rtr_unit at an address, field by field; `input` is the address of its unit. */
+/** A reader of the struct rtr_unit at an address; `input` is the address of the unit's bytes. */
 export class Shown {
     constructor(view, at, input) {
         this.view = view;
@@ -17,97 +17,101 @@ export class Shown {
     }
 
     byte(field) {
-        return this.view.getUint8(this.at + AT[field]);
+        return this.view.getUint8(this.at + OFFSETS[field]);
     }
 
     short(field) {
-        return this.view.getUint16(this.at + AT[field], true);
+        return this.view.getUint16(this.at + OFFSETS[field], true);
     }
 
     word(field) {
-        return this.view.getUint32(this.at + AT[field], true);
+        return this.view.getUint32(this.at + OFFSETS[field], true);
     }
 
     long(field) {
-        return Number(this.view.getBigUint64(this.at + AT[field], true));
+        return Number(this.view.getBigUint64(this.at + OFFSETS[field], true));
     }
 
-    /** Returns a copy of bytes of the struct. */
+    /** Returns a copy of an array of the struct. */
     row(field, length) {
-        const from = this.at + AT[field];
+        const from = this.at + OFFSETS[field];
         return new Uint8Array(this.view.buffer.slice(from, from + length));
     }
 
-    /** Returns a copy of bytes of the unit. */
+    /** Returns a copy of a part of the unit's bytes. */
     part(start, length) {
         const from = this.input + this.long(start);
         return new Uint8Array(this.view.buffer.slice(from, from + this.long(length)));
     }
 }
 
-/** The fields of each kind besides its offset, size, version and kind. */
+/** The fields of each kind, except for its offset, size, version and kind. */
 const SHAPES = {
-    [Kind.SERIAL_NOTIFY]: (one) => ({ session: one.short("session"), serial: one.word("serial") }),
-    [Kind.SERIAL_QUERY]: (one) => ({ session: one.short("session"), serial: one.word("serial") }),
+    [Kind.SERIAL_NOTIFY]: serialShape,
+    [Kind.SERIAL_QUERY]: serialShape,
     [Kind.RESET_QUERY]: () => ({}),
-    [Kind.CACHE_RESPONSE]: (one) => ({ session: one.short("session") }),
+    [Kind.CACHE_RESPONSE]: (struct) => ({ session: struct.short("session") }),
     [Kind.IPV4_PREFIX]: prefixShape,
     [Kind.IPV6_PREFIX]: prefixShape,
-    [Kind.END_OF_DATA]: (one) => ({
-        session: one.short("session"),
-        serial: one.word("serial"),
-        refresh: one.word("refresh"),
-        retry: one.word("retry"),
-        expire: one.word("expire"),
+    [Kind.END_OF_DATA]: (struct) => ({
+        session: struct.short("session"),
+        serial: struct.word("serial"),
+        refresh: struct.word("refresh"),
+        retry: struct.word("retry"),
+        expire: struct.word("expire"),
     }),
     [Kind.CACHE_RESET]: () => ({}),
-    [Kind.ROUTER_KEY]: (one) => ({
-        announce: one.byte("action") === 1,
-        keyIdentifier: one.row("keyIdentifier", 20),
-        asn: one.word("asn"),
-        keyInfo: one.part("partStart", "partLength"),
+    [Kind.ROUTER_KEY]: (struct) => ({
+        announce: struct.byte("action") === 1,
+        keyIdentifier: struct.row("keyIdentifier", 20),
+        asn: struct.word("asn"),
+        keyInfo: struct.part("partStart", "partLength"),
     }),
     [Kind.ERROR_REPORT]: reportShape,
-    [Kind.ASPA]: (one) => ({
-        announce: one.byte("action") === 1,
-        customer: one.word("customer"),
-        providers: providersOf(one.part("partStart", "partLength")),
+    [Kind.ASPA]: (struct) => ({
+        announce: struct.byte("action") === 1,
+        customer: struct.word("customer"),
+        providers: providersOf(struct.part("partStart", "partLength")),
     }),
 };
 
-function prefixShape(one) {
+function serialShape(struct) {
+    return { session: struct.short("session"), serial: struct.word("serial") };
+}
+
+function prefixShape(struct) {
     return {
-        announce: one.byte("action") === 1,
-        address: one.row("address", one.byte("family") === 4 ? 4 : 16),
-        prefixLength: one.byte("prefixLength"),
-        maxLength: one.byte("maxLength"),
-        asn: one.word("asn"),
+        announce: struct.byte("action") === 1,
+        address: struct.row("address", struct.byte("family") === 4 ? 4 : 16),
+        prefixLength: struct.byte("prefixLength"),
+        maxLength: struct.byte("maxLength"),
+        asn: struct.word("asn"),
     };
 }
 
-/** A report whose inner lengths don't fit has neither an enclosed unit nor a text. */
-function reportShape(one) {
-    const fits = one.long("textStart") > 0;
-    const said = fits ? one.part("textStart", "textLength") : null;
+/** A report whose inner lengths are wrong has neither an enclosed unit nor a text. */
+function reportShape(struct) {
+    const fits = struct.long("textStart") > 0;
+    const textBytes = fits ? struct.part("textStart", "textLength") : null;
     return {
-        code: one.short("code"),
-        about: fits ? one.part("partStart", "partLength") : null,
-        text: said && text.decode(said),
-        textBytes: said,
+        code: struct.short("code"),
+        about: fits ? struct.part("partStart", "partLength") : null,
+        text: textBytes && text.decode(textBytes),
+        textBytes,
     };
 }
 
 function providersOf(bytes) {
     const view = new DataView(bytes.buffer);
-    return Array.from({ length: bytes.length / 4 }, (_, place) => view.getUint32(4 * place));
+    return Array.from({ length: bytes.length / 4 }, (_, index) => view.getUint32(4 * index));
 }
 
-/** Returns the object of the struct at an address, whose unit is at this offset in the input. */
+/** Converts the struct at an address to an object; `offset` is that of the unit in the input. */
 export function unitOf(view, at, input, offset) {
-    const one = new Shown(view, at, input);
-    const kind = one.byte("kind");
-    const [size, version] = [one.long("size"), one.byte("version")];
-    return { offset, size, version, kind, ...SHAPES[kind](one) };
+    const struct = new Shown(view, at, input);
+    const kind = struct.byte("kind");
+    const [size, version] = [struct.long("size"), struct.byte("version")];
+    return { offset, size, version, kind, ...SHAPES[kind](struct) };
 }
 
 const NOTHING = new Uint8Array(0);
@@ -133,7 +137,7 @@ const WRITTEN = {
     [Kind.ERROR_REPORT]: (unit) => ({
         ...numbersOf(unit, "code"),
         part: unit.about === null ? NOTHING : bytesOf(unit.about, "about"),
-        said: textOfReport(unit),
+        textBytes: textOfReport(unit),
     }),
     [Kind.ASPA]: (unit) => ({
         ...actionOf(unit),
@@ -145,7 +149,7 @@ const WRITTEN = {
 /** The types of numbers that units have. */
 const TYPES = Object.fromEntries(STRUCTS.unit.fields.map(([field, , type]) => [field, type]));
 
-/** Returns these fields of a unit. */
+/** Returns these fields of a unit, after checking them. */
 function numbersOf(unit, ...fields) {
     return Object.fromEntries(
         fields.map((field) => [field, numberOfType(unit[field], field, TYPES[field])]));
@@ -165,27 +169,28 @@ function prefixFields(unit, family, length) {
 }
 
 /** Returns the bytes of a report's text: `textBytes`, or if they are missing, `text` in UTF-8. */
-function textOfReport({ text: said, textBytes }) {
+function textOfReport({ text: string, textBytes }) {
     if (textBytes !== undefined && textBytes !== null) {
         return bytesOf(textBytes, "textBytes");
     }
-    return said === null ? NOTHING : new TextEncoder().encode(textOf(said, "text"));
+    return string === null ? NOTHING : new TextEncoder().encode(textOf(string, "text"));
 }
 
-/** Returns the struct of an object, and the bytes of its parts, for rtr_write_unit. */
-export function structOf(given) {
-    const unit = objectOf(given, "unit");
+/** Converts an object to the fields of a struct rtr_unit, and the bytes of its parts, for
+ * rtr_write_unit. */
+export function structOf(object) {
+    const unit = objectOf(object, "unit");
     const numbers = numbersOf(unit, "kind", "version");
-    const { part = NOTHING, said = NOTHING, ...more } = WRITTEN[unit.kind]?.(unit) ?? {};
-    const input = new Uint8Array(part.length + said.length);
+    const { part = NOTHING, textBytes = NOTHING, ...more } = WRITTEN[unit.kind]?.(unit) ?? {};
+    const input = new Uint8Array(part.length + textBytes.length);
     input.set(part);
-    input.set(said, part.length);
+    input.set(textBytes, part.length);
     const fields = {
         ...numbers,
         ...more,
         partLength: part.length,
         textStart: part.length,
-        textLength: said.length,
+        textLength: textBytes.length,
     };
     return { fields, input };
 }
@@ -196,7 +201,7 @@ function bytesOfProviders(providers) {
     }
     const bytes = new Uint8Array(4 * providers.length);
     const view = new DataView(bytes.buffer);
-    providers.forEach((provider, place) => (
-        view.setUint32(4 * place, wordOf(provider, `providers[${place}]`))));
+    providers.forEach((provider, index) => (
+        view.setUint32(4 * index, wordOf(provider, `providers[${index}]`))));
     return bytes;
 }

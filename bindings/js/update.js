@@ -1,9 +1,9 @@
-// What a client tells of its data.
+// The updates of a client.
 
 import { Kind } from "./rtr_table.js";
 import { changesBetween } from "./data.js";
 
-/** The data of a client, and what leads to them from those before. */
+/** The data of a client, and the changes from the data before. */
 export class Update {
     #session;
     #before;
@@ -15,8 +15,8 @@ export class Update {
         this.client = client;
     }
 
-    /** Returns the changes in canonical form, as a cache sends them. Each call makes them, and may
-     * throw OutOfMemory; the data are there in any case. */
+    /** Returns the changes in canonical form, as a cache sends them. Each call computes them, and
+     * may throw OutOfMemory, which doesn't affect the data. */
     delta() {
         return changesBetween(this.#session, this.#before, this.data);
     }
