@@ -12,7 +12,7 @@ process.once("SIGINT", () => stop.abort());
 const rtr = await load();
 const client = new Client({ host, port: Number(port), signal: stop.signal, rtr });
 client.on("noData", (error) => console.error(error.message));
-client.on("failed", (error) => console.error(error.message)); // it connects again
+client.on("failed", (error) => console.error(error.message)); // it reconnects
 
 let left = Number(updates);
 try {

@@ -1,4 +1,4 @@
-// Follows the first of several caches that answers, and prints whose data there are.
+// Follows the first of several caches that answers, and prints whose data are used.
 //
 // usage: node follow.js HOST:PORT..
 

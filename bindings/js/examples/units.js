@@ -5,7 +5,7 @@
 import { readFileSync } from "node:fs";
 import { Fault, Kind, addressText, kindText, load } from "../rtr_wire.js";
 
-/** Returns what the example prints for a unit. */
+/** Returns the line for a unit. */
 function line(unit) {
     const front = `${unit.offset} v${unit.version} ${kindText(unit.kind)}`;
     switch (unit.kind) {

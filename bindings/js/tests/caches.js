@@ -1,10 +1,10 @@
-// Caches for tests: they serve each connection by a script.
+// Caches for tests, which serve each connection by a script.
 
 import { once } from "node:events";
 import { createServer } from "node:net";
 import { createServer as createTlsServer } from "node:tls";
 
-/** Returns the bytes of a unit: its version and kind, the two bytes after them, and what follows
+/** Returns the bytes of a unit: its version, its kind, the two bytes after them, and the body after
  * its length. */
 export function unit(version, kind, number, ...rest) {
     const bytes = Buffer.alloc(8 + rest.length);
@@ -41,7 +41,7 @@ export const report = (code, text) => unit(1, 10, code, ...word(0), ...word(text
 export const RESET_QUERY = unit(1, 2, 0);
 export const serialQuery = (serial, session = 7) => unit(1, 1, session, ...word(serial));
 
-/** A port at which nobody listens. */
+/** Returns a port at which nobody listens. */
 export async function unused() {
     const server = createServer().listen(0, "127.0.0.1");
     await once(server, "listening");
@@ -63,7 +63,7 @@ class Peer {
         this.socket.write(Buffer.concat(units));
     }
 
-    /** Waits for the next unit; null if there is none any more. */
+    /** Waits for the next unit; null at the end. */
     async next() {
         while (this.#came.length < 8 || this.#came.length < this.#came.readUInt32BE(4)) {
             const more = this.socket.read();
@@ -81,7 +81,7 @@ class Peer {
         return taken;
     }
 
-    /** Waits until bytes came, or the connection is over. */
+    /** Waits until bytes are received, or the connection is over. */
     async #changed() {
         const done = new AbortController();
         await Promise.race(["readable", "end", "close"].map((name) => (
@@ -91,21 +91,21 @@ class Peer {
 
     /** Waits until the router closes. */
     async gone() {
-        while (await this.next() !== null) { /* what it says doesn't matter */ }
+        while (await this.next() !== null) { /* the units are ignored */ }
     }
 
     close() {
         this.socket.end();
     }
 
-    /** Closes so that the router's end is reset. */
+    /** Resets the connection. */
     reset() {
         this.socket.resetAndDestroy();
     }
 }
 
-/** Starts a cache that serves each connection in turn by a script, the last one again and again:
- * its `port`, `errors` of scripts, and `close`. With options of TLS it is one over TLS. */
+/** Starts a cache that serves each connection by the next script, or by the last one if there are
+ * no more. It has a `port`, the `errors` of scripts, and `close`. With options of TLS it uses TLS. */
 export async function cache(scripts, { tls, port = 0, host = "127.0.0.1" } = {}) {
     const [open, errors] = [new Set(), []];
     let count = 0;

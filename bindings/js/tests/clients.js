@@ -1,4 +1,4 @@
-// Tests of a Client, over sockets and with caches that have a script.
+// Tests of a Client over sockets, with scripted caches.
 
 import assert from "node:assert/strict";
 import { spawnSync } from "node:child_process";
@@ -15,32 +15,32 @@ import { Client, follow } from "../client.js";
 import { RESET_QUERY, answer, cache, cacheReset, end, notify, prefix, report, response,
     serialQuery, unused } from "./caches.js";
 
-/** Short waits; and enough time for a machine that is busy. */
+/** Short waits, and limits that suffice on a busy machine. */
 const SOON = { pause: 1, retry: 1, responseLimit: 60_000, connectLimit: 60_000 };
 
 const HOST = "127.0.0.1";
 
 const NO_OPENSSL = "no openssl here, which makes certificates";
 
-/** Makes a client of a port, in a session of its own. */
+/** Returns a client of the cache at a port, with its own session. */
 function clientOf(rtr, port, options = {}) {
     const { settings, ...others } = options;
     return new Client({ host: HOST, port, rtr: rtr.another(), settings: { ...SOON, ...settings },
         ...others });
 }
 
-/** Notes the events of a client, in order. */
+/** Returns a list to which the events of a client are added. */
 function noted(client) {
-    const told = [];
-    client.on("connect", () => told.push("connect"));
-    client.on("data", ({ data }) => told.push(`data ${data.serial}`));
-    client.on("dropped", ({ data }) => told.push(`dropped ${data}`));
-    client.on("noData", (error) => told.push(`noData ${error.message}`));
-    client.on("failed", (error) => told.push(`failed ${error.message}`));
-    return told;
+    const events = [];
+    client.on("connect", () => events.push("connect"));
+    client.on("data", ({ data }) => events.push(`data ${data.serial}`));
+    client.on("dropped", ({ data }) => events.push(`dropped ${data}`));
+    client.on("noData", (error) => events.push(`noData ${error.message}`));
+    client.on("failed", (error) => events.push(`failed ${error.message}`));
+    return events;
 }
 
-/** Waits for so many updates of a loop, and leaves it. */
+/** Waits for this many updates of a loop, and leaves it. */
 async function taken(updates, count) {
     const all = [];
     for await (const update of updates) {
@@ -58,11 +58,11 @@ const changesOf = (update) => Array.from(update.changes(),
 
 /** Runs a test with a cache, which is closed after it. */
 async function withCache(scripts, run, options) {
-    const one = await cache(scripts, options);
+    const server = await cache(scripts, options);
     try {
-        await run(one);
+        await run(server);
     } finally {
-        await one.close();
+        await server.close();
     }
 }
 
@@ -73,7 +73,7 @@ const gives = (...units) => async (peer) => {
     await peer.gone();
 };
 
-/** The first failure of a client that has no data. */
+/** Returns the first failure of a client without data. */
 async function failureOf(client) {
     const failed = once(client, "failed");
     const stop = client[Symbol.asyncIterator]();
@@ -84,7 +84,7 @@ async function failureOf(client) {
     return error;
 }
 
-/** Has every name these addresses, while a function runs. */
+/** Resolves every host name to these addresses while a function runs. */
 async function resolved(addresses, run) {
     const { lookup } = dns;
     dns.lookup = async () => addresses.map((address) => ({ address, family: 4 }));
@@ -97,14 +97,14 @@ async function resolved(addresses, run) {
     }
 }
 
-/** Makes the key and the certificate of a cache of this name; null without openssl. */
+/** Returns the key and the certificate of a cache with this name; null without openssl. */
 function certified(name) {
     const folder = mkdtempSync(join(tmpdir(), "rtr-"));
     const [key, certificate] = ["key", "certificate"].map((file) => join(folder, file));
-    const made = spawnSync("openssl", ["req", "-x509", "-newkey", "ec", "-pkeyopt",
+    const done = spawnSync("openssl", ["req", "-x509", "-newkey", "ec", "-pkeyopt",
         "ec_paramgen_curve:prime256v1", "-nodes", "-days", "2", "-subj", "/CN=cache", "-addext",
         `subjectAltName=${name}`, "-keyout", key, "-out", certificate]);
-    const files = made.status === 0
+    const files = done.status === 0
         ? { key: readFileSync(key), cert: readFileSync(certificate) } : null;
     rmSync(folder, { recursive: true });
     return files;
@@ -113,8 +113,8 @@ function certified(name) {
 const isAborted = (error) => error.name === "AbortError";
 
 export const TESTS = {
-    /** All data, changes after a notify, all data after a cache reset: with the events, and what
-     * changed. Leaving the loop closes the connection. */
+    /** All data, changes after a notify, all data after a cache reset: the events and the changes.
+     * Leaving the loop closes the connection. */
     async follows(rtr) {
         let isGone = false;
         const script = async (peer) => {
@@ -135,14 +135,14 @@ export const TESTS = {
         };
         await withCache([script], async ({ port }) => {
             const client = clientOf(rtr, port);
-            const told = noted(client);
+            const events = noted(client);
             const updates = await taken(client, 3);
             assert.deepEqual(updates.map(changesOf), ["+1 +2", "+3 -1", "+4 -2 -3"]);
             assert.deepEqual(updates.map(({ data }) => [data.serial, data.count]),
                 [[1, 2], [2, 2], [3, 1]]);
-            assert.deepEqual(told, ["connect", "data 1", "data 2", "data 3"]);
+            assert.deepEqual(events, ["connect", "data 1", "data 2", "data 3"]);
             assert.ok(updates.every((update) => update.client === client));
-            // The data of earlier updates are what they were.
+            // The data of earlier updates haven't changed.
             assert.deepEqual(Buffer.from(updates[0].data.bytes),
                 Buffer.concat([prefix(1), prefix(2), end(1)]));
             while (!isGone) {
@@ -151,11 +151,12 @@ export const TESTS = {
         });
     },
 
-    /** No cache there, then one; it closes, and the client connects again and asks for changes. */
+    /** First nobody listens, then a cache does; it closes, and the client reconnects and asks for
+     * changes. */
     async connectsAgain(rtr) {
         const port = await unused();
         const client = clientOf(rtr, port);
-        const told = noted(client);
+        const events = noted(client);
         const updates = client[Symbol.asyncIterator]();
         const first = updates.next();
         await once(client, "failed");
@@ -173,12 +174,12 @@ export const TESTS = {
             await updates.return();
         }, { port });
         const refused = `failed connect ECONNREFUSED ${HOST}:${port}`;
-        assert.deepEqual(told.filter((line) => line !== refused), ["connect", "data 1",
+        assert.deepEqual(events.filter((line) => line !== refused), ["connect", "data 1",
             "failed the cache closed the connection", "connect", "data 2"]);
-        assert.equal(told[0], refused);
+        assert.equal(events[0], refused);
     },
 
-    /** Each address of a name is tried, also by TLS, and the last error is told. */
+    /** Each address of a host name is tried, also over TLS, and the last error is reported. */
     async triesAddresses(rtr) {
         await withCache([gives(answer(1, prefix(1)))], async ({ port }) => {
             await resolved(["127.0.0.2", "127.0.0.3", HOST], async () => {
@@ -195,7 +196,7 @@ export const TESTS = {
         await assert.rejects(client.fetch(), (error) => error.syscall === "getaddrinfo");
     },
 
-    /** An address that doesn't answer has its share of the time, and then the next is tried. */
+    /** An address that doesn't answer gets its share of the time; then the next one is tried. */
     async leavesSilentAddresses(rtr, _, t) {
         const tls = certified("DNS:cache.example");
         if (tls === null) {
@@ -214,7 +215,7 @@ export const TESTS = {
         silent.close();
     },
 
-    /** An answer that is cut: between units, inside one, and by a reset. */
+    /** A truncated answer: between units, inside a unit, and by a reset. */
     async namesCuts(rtr) {
         const cuts = [
             [(peer) => peer.close(), (error) => error instanceof SessionError
@@ -242,7 +243,8 @@ export const TESTS = {
         }
     },
 
-    /** The report about a refused unit reaches a cache that goes on sending, and is told. */
+    /** The report about a refused unit reaches a cache that continues to send; the client emits the
+     * fault. */
     async reports(rtr) {
         const wrong = prefix(3);
         wrong[9] = 33; // the prefix length
@@ -278,7 +280,7 @@ export const TESTS = {
         });
     },
 
-    /** Without data yet the cache is asked again; `fetch` throws. */
+    /** A cache without data yet is asked again; `fetch` throws. */
     async hasNoData(rtr) {
         const script = async (peer) => {
             await peer.next();
@@ -290,15 +292,15 @@ export const TESTS = {
         };
         await withCache([script], async ({ port }) => {
             const client = clientOf(rtr, port);
-            const told = noted(client);
+            const events = noted(client);
             assert.equal((await taken(client, 1))[0].data.serial, 1);
-            assert.deepEqual(told, ["connect",
+            assert.deepEqual(events, ["connect",
                 'noData the cache reports an error: code 2, "later"', "data 1"]);
             await assert.rejects(clientOf(rtr, port).fetch(), NoData);
         });
     },
 
-    /** Data that expire are dropped, as an update and an event. */
+    /** Data that expire are dropped, by an update and an event. */
     async drops(rtr) {
         const script = async (peer) => {
             await peer.next();
@@ -307,22 +309,22 @@ export const TESTS = {
         };
         await withCache([script], async ({ port }) => {
             const client = clientOf(rtr, port, { settings: { refresh: 100_000, expire: 50 } });
-            const told = noted(client);
+            const events = noted(client);
             const updates = await taken(client, 2);
             assert.deepEqual(updates.map(({ data }) => data && data.serial), [1, null]);
             assert.equal(changesOf(updates[1]), "-1");
             assert.equal(updates[0].data.count, 1);
-            assert.deepEqual(told.slice(0, 3), ["connect", "data 1", "dropped null"]);
+            assert.deepEqual(events.slice(0, 3), ["connect", "data 1", "dropped null"]);
         });
     },
 
-    /** Without memory for an answer the failure is told, and the data stay; without memory for the
-     * changes the data are told, and the changes can be asked for once more. */
+    /** Without memory for an answer the client fails, and the data stay; without memory for the
+     * changes it still yields the data, and `changes` can be called again. */
     async staysWithoutMemory(rtr, bytes) {
         const many = Array.from({ length: 30_000 }, (_, n) => {
-            const one = prefix(1);
-            one.writeUInt32BE(n + 10, 16);
-            return one;
+            const unit = prefix(1);
+            unit.writeUInt32BE(n + 10, 16);
+            return unit;
         });
         const script = async (peer) => {
             await peer.next();
@@ -344,11 +346,11 @@ export const TESTS = {
             await updates.return();
             assert.deepEqual([data.serial, (await next).done], [1, true]);
         });
-        const room = await load(bytes, { most: rtr.another().memory + 2_700_000 });
+        const limited = await load(bytes, { most: rtr.another().memory + 2_700_000 });
         await withCache([gives(answer(1, ...many))], async ({ port }) => {
-            const updates = clientOf(rtr, port, { rtr: room })[Symbol.asyncIterator]();
+            const updates = clientOf(rtr, port, { rtr: limited })[Symbol.asyncIterator]();
             const { value: update } = await updates.next();
-            const held = room.hold(new Uint8Array(1_500_000));
+            const held = limited.hold(new Uint8Array(1_500_000));
             assert.throws(() => update.delta(), OutOfMemory);
             assert.equal(update.data.serial, 1);
             held.drop();
@@ -357,12 +359,12 @@ export const TESTS = {
         });
     },
 
-    /** Clients of one session, one after the other, need the memory of one. */
+    /** Clients of a session, one after the other, reuse the same memory. */
     async freesMemory(rtr) {
         const many = Array.from({ length: 20_000 }, (_, n) => {
-            const one = prefix(1);
-            one.writeUInt32BE(n, 16);
-            return one;
+            const unit = prefix(1);
+            unit.writeUInt32BE(n, 16);
+            return unit;
         });
         const shared = rtr.another();
         await withCache([gives(answer(1, ...many))], async ({ port }) => {
@@ -376,7 +378,7 @@ export const TESTS = {
         });
     },
 
-    /** While the caller has an update, nothing is read; so what comes doesn't pile up. */
+    /** While the caller processes an update nothing is read, so no data accumulate. */
     async readsAtItsPace(rtr) {
         const long = Buffer.concat(Array(1 << 21).fill(notify(1)));
         let left = null;
@@ -400,7 +402,7 @@ export const TESTS = {
         });
     },
 
-    /** A client asks before the refresh time if its caller wants present data. */
+    /** A client asks before the refresh time if its caller requests it. */
     async asksNow(rtr) {
         const script = async (peer) => {
             await peer.next();
@@ -411,7 +413,7 @@ export const TESTS = {
         };
         await withCache([script], async ({ port }) => {
             const client = clientOf(rtr, port);
-            client.askNow(); // it doesn't run: nothing happens
+            client.askNow(); // a no-op, since it doesn't run
             const updates = client[Symbol.asyncIterator]();
             await updates.next();
             const next = updates.next();
@@ -422,7 +424,7 @@ export const TESTS = {
         });
     },
 
-    /** Over TLS the cache has to prove its name, or its address. */
+    /** Over TLS the certificate has to have the cache's host name or address. */
     async provesNames(rtr, _, t) {
         const [named, addressed] = [certified("DNS:cache.example"), certified(`IP:${HOST}`)];
         if (named === null) {
@@ -448,8 +450,8 @@ export const TESTS = {
         }, { tls: addressed });
     },
 
-    /** The signal ends a client while it looks up, connects, shakes hands, waits for an answer, and
-     * rests; and while its caller has an update. */
+    /** The signal stops a client during the lookup, the connection, the handshake and the answer,
+     * between queries, and while its caller processes an update. */
     async aborts(rtr) {
         const silent = createServer().listen(0, HOST);
         await once(silent, "listening");
@@ -484,7 +486,7 @@ export const TESTS = {
         });
     },
 
-    /** What a listener throws ends the loop; a second loop at the same time is refused. */
+    /** An error of a listener ends the loop; a second loop at the same time is refused. */
     async endsWithListeners(rtr) {
         await withCache([gives(answer(1, prefix(1)))], async ({ port }) => {
             const client = clientOf(rtr, port);
@@ -500,7 +502,7 @@ export const TESTS = {
         });
     },
 
-    /** Another way to connect: any stream of Node. */
+    /** `connect` may return any stream of Node. */
     async takesStreams(rtr) {
         await withCache([gives(answer(1, prefix(1)))], async ({ port }) => {
             const net = await import("node:net");
@@ -519,10 +521,10 @@ export const TESTS = {
         });
     },
 
-    /** Options are checked, with their names. */
+    /** Wrong options are refused by name. */
     refusesOptions(rtr) {
-        const refused = (options, Kind, said) => assert.throws(() => new Client(options),
-            (error) => error instanceof Kind && error.message === said);
+        const refused = (options, Kind, message) => assert.throws(() => new Client(options),
+            (error) => error instanceof Kind && error.message === message);
         refused(undefined, TypeError, "options must be an object, not undefined");
         refused({ port: 1 }, TypeError, "host must be a string, not undefined");
         refused({ host: "a" }, TypeError, "port must be a number, not undefined");

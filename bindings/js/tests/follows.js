@@ -20,20 +20,20 @@ const SOON = { pause: 1, retry: 20, responseLimit: 60_000, connectLimit: 60_000 
 
 const decision = (shown, member, stop, start) => ({ shown, member, stop, start });
 
-/** A script: it sends all data at the first query, and then waits. */
+/** A script: sends all data at the first query, and then waits. */
 const has = (serial) => async (peer) => {
     await peer.next();
     peer.send(answer(serial, prefix(serial)));
     await peer.gone();
 };
 
-/** Makes a client of each port; the data expire after a time if that is given. */
+/** Returns a client for each port; `expire` limits the age of data. */
 function clientsOf(rtr, ports, settings = {}) {
     return ports.map((port) => new Client({ host: HOST, port, rtr: rtr.another(),
         settings: { ...SOON, ...settings } }));
 }
 
-/** What an update shows: the number of its client, and the serial number of the data. */
+/** Describes an update: the index of its client, and the serial number of the data. */
 function shown(clients, { value }) {
     return `${clients.indexOf(value.client)}: ${value.data?.serial ?? "none"}`;
 }
@@ -47,22 +47,22 @@ async function withCaches(scripts, run) {
     try {
         await run(caches, caches.map(({ port }) => port));
     } finally {
-        for (const one of caches) {
-            await one.close();
+        for (const server of caches) {
+            await server.close();
         }
     }
 }
 
-/** Compiles the cache in C; null where that can't be. */
+/** Compiles the cache in C; returns null if that isn't possible. */
 function compiledCache(folder) {
     const C = fileURLToPath(new URL("../../c", import.meta.url));
     const archive = ["../lib", "../../prebuilt"]
-        .map((place) => join(C, place, "x86_64", "librtr_wire.a")).find(existsSync);
+        .map((folder) => join(C, folder, "x86_64", "librtr_wire.a")).find(existsSync);
     const program = join(folder, "cache");
-    const made = process.platform === "linux" && process.arch === "x64"
+    const done = process.platform === "linux" && process.arch === "x64"
         ? spawnSync("cc", ["-O1", "-o", program, "cache.c", "rtr_cache.c", archive], { cwd: C })
         : {};
-    return made.status === 0 ? program : null;
+    return done.status === 0 ? program : null;
 }
 
 /** Waits for the first line that matches, and returns the match. */
@@ -103,34 +103,34 @@ export const TESTS = {
         assert.deepEqual(empty.shows(0, 0, 0), decision(DATA, 0, null, null));
     },
 
-    /** The data of a cache that is gone stay until the next one has an answer; those of the
-     * preferred one replace them as soon as it has one again. */
+    /** The data of a lost cache stay until the next one has sent an answer; the preferred cache is
+     * used again as soon as it has sent one. */
     async prefers(rtr) {
         await withCaches([has(1), has(5)], async ([first], ports) => {
             const clients = clientsOf(rtr, ports);
             const failures = [];
             clients[0].on("failed", (error) => failures.push(error.message));
             const updates = follow(clients);
-            const one = await updates.next();
-            assert.equal(shown(clients, one), "0: 1");
+            const initial = await updates.next();
+            assert.equal(shown(clients, initial), "0: 1");
             const next = updates.next();
             await first.close();
             assert.equal(shown(clients, await next), "1: 5");
             assert.deepEqual(Array.from((await next).value.changes(),
                 ({ announce, asn }) => [announce, asn]), [[true, 5], [false, 1]]);
-            assert.deepEqual(Buffer.from(one.value.data.bytes),
+            assert.deepEqual(Buffer.from(initial.value.data.bytes),
                 Buffer.concat([prefix(1), end(1)]));
             const again = await cache([has(2)], { port: ports[0] });
             assert.equal(shown(clients, await updates.next()), "0: 2");
             const later = updates.next();
             await again.close();
-            assert.equal(shown(clients, await later), "1: 5"); // it begins again
+            assert.equal(shown(clients, await later), "1: 5"); // it was restarted
             await updates.return();
             assert.ok(failures.length > 1);
         });
     },
 
-    /** A silent cache costs the patience; data that expire are no data any more. */
+    /** The next cache is asked after the patience if the first is silent; data expire. */
     async hasPatience(rtr) {
         const silent = async (peer) => peer.gone();
         await withCaches([silent, has(5)], async (_, ports) => {
@@ -141,11 +141,11 @@ export const TESTS = {
             assert.ok(performance.now() - begun >= 199);
             await updates.return();
         });
-        await withCaches([has(1)], async ([one], ports) => {
+        await withCaches([has(1)], async ([server], ports) => {
             const clients = clientsOf(rtr, ports, { expire: 300 });
             const updates = follow(clients);
             assert.equal(shown(clients, await updates.next()), "0: 1");
-            await one.close();
+            await server.close();
             const { value } = await updates.next();
             assert.equal(value.data, null);
             assert.deepEqual(Array.from(value.changes(), ({ announce }) => announce), [false]);
@@ -153,7 +153,8 @@ export const TESTS = {
         });
     },
 
-    /** An empty answer counts if there is a single cache, or the settings say so. */
+    /** An answer without payloads counts as data if there is only one cache, or if the settings say
+     * so. */
     async countsEmpty(rtr) {
         const empty = async (peer) => {
             await peer.next();
@@ -174,8 +175,8 @@ export const TESTS = {
         });
     },
 
-    /** The signal, or leaving, ends all clients, also while an update is awaited; and so does what
-     * a listener throws. */
+    /** The signal, leaving the loop, or an error of a listener stops all clients, also while an
+     * update is awaited. */
     async ends(rtr) {
         await withCaches([has(1), has(5)], async (_, ports) => {
             const clients = clientsOf(rtr, ports);
@@ -200,7 +201,7 @@ export const TESTS = {
         });
     },
 
-    /** A process ends by itself after its client did: nothing is left open. */
+    /** A process ends by itself after its client: nothing is left open. */
     async leavesNothingOpen() {
         const program = fileURLToPath(new URL("leaves.js", import.meta.url));
         const silent = createServer().listen(0, HOST);
@@ -221,7 +222,7 @@ export const TESTS = {
         silent.close();
     },
 
-    /** The cache in C: all data, and changes at its notify; and the example over it. */
+    /** With the cache in C: all data, and changes after its notify; and the example. */
     async followsC(rtr, _, t) {
         const folder = mkdtempSync(join(tmpdir(), "rtr-"));
         const program = compiledCache(folder);
@@ -258,7 +259,7 @@ export const TESTS = {
     async exampleOfSeveral() {
         const program = fileURLToPath(new URL("../examples/follow.js", import.meta.url));
         await withCaches([has(5)], async (_, [port]) => {
-            const words = [await unused(), port].map((one) => `${HOST}:${one}`);
+            const words = [await unused(), port].map((each) => `${HOST}:${each}`);
             const child = spawn(process.execPath, [program, ...words],
                 { stdio: ["ignore", "pipe", "inherit"], timeout: 60_000 });
             const [line] = await lineOf(child.stdout, /.*/);
@@ -268,7 +269,7 @@ export const TESTS = {
         });
     },
 
-    /** The example of one: it prints changes, until so many updates came or at an interrupt. */
+    /** The example of one cache: it prints changes until this many updates, or an interrupt. */
     async example() {
         const program = fileURLToPath(new URL("../examples/client.js", import.meta.url));
         const script = async (peer) => {

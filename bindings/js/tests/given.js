@@ -1,4 +1,4 @@
-// Arguments: for each public call the wrong ones, and the error that names each.
+// Wrong arguments of each public call, and the errors that name them.
 
 import assert from "node:assert/strict";
 import { readFileSync } from "node:fs";
@@ -40,7 +40,7 @@ const NO_BYTES = { undefined: undefined, null: null, "a number": 24, "a string":
     Array: [...END], DataView: new DataView(END.buffer), Uint16Array: new Uint16Array(8),
     Object: { length: 8 } };
 
-/** Values that aren't numbers, and numbers that aren't whole, or are negative. */
+/** Values that aren't numbers, fractions and negative numbers. */
 const NO_NUMBERS = [undefined, null, "24", 24n, [24], {}, true];
 const NO_INTEGERS = [NaN, Infinity, -1, 0.5];
 const [BYTE, SHORT, WORD] = [2 ** 8, 2 ** 16, 2 ** 32];
@@ -58,7 +58,7 @@ function bytes(name, call) {
     }
 }
 
-/** Checks that all but whole numbers below `end` are refused. */
+/** Checks that everything but integers from 0 to below `end` is refused. */
 function number(name, end, call, others = NO_NUMBERS) {
     for (const value of others) {
         assert.throws(() => call(value), (error) => error instanceof TypeError
@@ -72,7 +72,7 @@ function number(name, end, call, others = NO_NUMBERS) {
     }
 }
 
-/** A number that is optional, or null. */
+/** An optional number, or null. */
 const optional = (name, end, call) => number(name, end, call, ["24", 24n, [24], {}, true]);
 
 /** A number of 64 bits, which may be a BigInt. */
@@ -94,7 +94,7 @@ function wrong(kind, message, call) {
     assert.throws(call, { name: kind, message });
 }
 
-/** The wrong routes of a call that takes one. */
+/** Checks a call that takes a route with wrong ones. */
 function route(call) {
     number("asn", WORD, (asn) => call({ ...ROUTE, asn }));
     bytes("address", (address) => call({ address, prefixLength: 24, asn: 1 }));
@@ -105,15 +105,15 @@ function route(call) {
     wrong("TypeError", "route must be an object, not undefined", () => call());
 }
 
-/** The wrong units of a call that takes one. */
+/** Checks a call that takes a unit with wrong ones. */
 function unit(call) {
     const of = (kind, field) => (value) => call({ ...UNITS[kind], [field]: value });
     wrong("TypeError", "unit must be an object, not a string", () => call("unit"));
-    for (const [kind, one] of Object.entries(UNITS)) {
+    for (const [kind, unit] of Object.entries(UNITS)) {
         number("kind", BYTE, of(kind, "kind"));
         number("version", BYTE, of(kind, "version"));
-        for (const field of Object.keys(one)) {
-            assert.throws(() => call({ ...one, [field]: undefined }), TypeError, field);
+        for (const field of Object.keys(unit)) {
+            assert.throws(() => call({ ...unit, [field]: undefined }), TypeError, field);
         }
     }
     for (const [kind, field, end] of [["notify", "session", SHORT], ["notify", "serial", WORD],
@@ -137,9 +137,9 @@ function unit(call) {
     bytes("address", of("prefix6", "address"));
     bytes("keyIdentifier", of("key", "keyIdentifier"));
     bytes("keyInfo", of("key", "keyInfo"));
-    for (const [kind, field, length, wanted] of [["prefix", "address", 16, 4],
+    for (const [kind, field, length, expected] of [["prefix", "address", 16, 4],
         ["prefix6", "address", 4, 16], ["key", "keyIdentifier", 19, 20]]) {
-        wrong("RangeError", `${field} has ${length} bytes: it must have ${wanted} bytes`,
+        wrong("RangeError", `${field} has ${length} bytes: it must have ${expected} bytes`,
             () => of(kind, field)(new Uint8Array(length)));
     }
     wrong("TypeError", "about must be a Uint8Array or an ArrayBuffer, not a string",
@@ -151,14 +151,14 @@ function unit(call) {
 
 const now = (call) => number("now", BEYOND, call);
 
-/** Calls a function with a link, whose memory is freed then. */
+/** Calls a function with a link, and frees its memory. */
 function linked(rtr, call) {
     const link = rtr.link();
     call(link);
     link.drop();
 }
 
-/** An action of a router that asks. */
+/** An action of a router: a query. */
 function asks(rtr) {
     const router = rtr.router();
     router.tick(0);
@@ -363,17 +363,17 @@ function declared() {
     for (const line of text.split("\n")) {
         inside = /^export class (\w+)/.exec(line)?.[1] ?? (line === "}" ? "" : inside);
         const [, method, first] = /^ {4}(\w+)\(([^)]?)/.exec(line) ?? [];
-        const [, call, given] = /^export function (\w+)\(([^)]?)/.exec(line) ?? [];
+        const [, call, argument] = /^export function (\w+)\(([^)]?)/.exec(line) ?? [];
         if (inside && method && first && method !== "constructor") {
             names.push(`${inside}.${method}`);
-        } else if (call && given) {
+        } else if (call && argument) {
             names.push(call);
         }
     }
     return names;
 }
 
-/** Calls without an argument that could be wrong, or tested by `Held.checker`. */
+/** Calls without arguments that could be wrong, or that `Held.checker` tests. */
 const PLAIN = new Set(["Held.take"]);
 
 export const TESTS = {
@@ -390,15 +390,15 @@ export const TESTS = {
         }
     },
 
-    /** Each declared call is tested this way. */
+    /** All declared calls are in CALLS. */
     refusesAll() {
-        const wanted = declared().filter((name) => !PLAIN.has(name));
-        assert.ok(wanted.length > 40);
-        assert.deepEqual(wanted.filter((name) => !(name in CALLS)), []);
-        const made = { Session, Data, Router, Link, Group, Held };
+        const names = declared().filter((name) => !PLAIN.has(name));
+        assert.ok(names.length > 40);
+        assert.deepEqual(names.filter((name) => !(name in CALLS)), []);
+        const classes = { Session, Data, Router, Link, Group, Held };
         for (const name of Object.keys(CALLS).filter((name) => name.includes("."))) {
             const [owner, method] = name.split(".");
-            assert.equal(typeof made[owner].prototype[method], "function", name);
+            assert.equal(typeof classes[owner].prototype[method], "function", name);
         }
     },
 
@@ -411,34 +411,34 @@ export const TESTS = {
         }
     },
 
-    /** Bytes in an ArrayBuffer, in a Buffer, and of another realm, are bytes. */
+    /** Bytes may be in an ArrayBuffer, in a Buffer, and of another realm. */
     takesBuffers(rtr) {
         const buffer = DATA.buffer.slice(0);
         const foreign = vm.runInNewContext(`Uint8Array.from([${[...DATA]}])`);
-        for (const given of [DATA, buffer, Buffer.from(DATA), foreign, foreign.buffer]) {
-            assert.equal([...rtr.units(given)].length, 2);
-            assert.deepEqual(rtr.data(given).bytes, DATA);
-            assert.deepEqual(rtr.loadData(given).data.bytes, DATA);
-            assert.equal(rtr.hold(given).length, DATA.length);
-            assert.deepEqual(rtr.normalise(given), rtr.normalise(DATA));
-            assert.deepEqual(rtr.router().read(0, given), rtr.router().read(0, DATA));
+        for (const bytes of [DATA, buffer, Buffer.from(DATA), foreign, foreign.buffer]) {
+            assert.equal([...rtr.units(bytes)].length, 2);
+            assert.deepEqual(rtr.data(bytes).bytes, DATA);
+            assert.deepEqual(rtr.loadData(bytes).data.bytes, DATA);
+            assert.equal(rtr.hold(bytes).length, DATA.length);
+            assert.deepEqual(rtr.normalise(bytes), rtr.normalise(DATA));
+            assert.deepEqual(rtr.router().read(0, bytes), rtr.router().read(0, DATA));
         }
         const inside = new Uint8Array([9, 9, ...DATA, 9]).subarray(2, 2 + DATA.length);
         assert.equal([...rtr.units(inside)].length, 2);
     },
 
-    /** Each valid unit is encoded and comes back, and version 0 needs no times, since it has none
-     * (RFC 6810 section 5.8). */
+    /** Each valid unit is encoded, and decoded to the same; version 0 needs no times, since it has
+     * none (RFC 6810 section 5.8). */
     writesUnits(rtr) {
-        for (const one of Object.values(UNITS)) {
-            const written = rtr.next(rtr.writeUnit(one));
-            assert.deepEqual({ ...written, ...one }, written);
+        for (const unit of Object.values(UNITS)) {
+            const written = rtr.next(rtr.writeUnit(unit));
+            assert.deepEqual({ ...written, ...unit }, written);
         }
         const end = { kind: Kind.END_OF_DATA, version: 0, session: 7, serial: 8 };
         assert.equal(rtr.writeUnit(end).length, 12);
     },
 
-    /** A router asks in the given version, and by default in the highest. */
+    /** A router asks in the version of the settings, by default in the highest. */
     asksInVersion(rtr) {
         const asked = (settings) => {
             const router = rtr.router(settings);
@@ -449,27 +449,27 @@ export const TESTS = {
             [2, 2, 2, 1, 0]);
     },
 
-    /** Freed memory is reused: it doesn't grow by bytes, data or checks that were dropped. */
+    /** Freed memory of bytes, data and checks is reused, so the memory doesn't grow. */
     takesAgain(rtr) {
-        const one = rtr.another();
+        const session = rtr.another();
         const large = new Uint8Array(1 << 20);
         const turn = () => {
-            one.hold(large).drop();
-            [...one.check(DATA)];
-            const { data } = one.loadData(DATA);
+            session.hold(large).drop();
+            [...session.check(DATA)];
+            const { data } = session.loadData(DATA);
             data.validate(ROUTE);
             data.drop();
         };
         turn();
-        const before = one.memory;
+        const before = session.memory;
         for (let count = 0; count < 200; count += 1) {
             turn();
         }
-        assert.equal(one.memory, before);
-        one.drop();
+        assert.equal(session.memory, before);
+        session.drop();
     },
 
-    /** Data that were dropped twice free no other memory, and can be looked up again. */
+    /** Dropping data twice frees no other memory; later lookups work. */
     dropsDataOnce(rtr) {
         const data = rtr.data(DATA);
         data.validate(ROUTE);
@@ -485,7 +485,7 @@ export const TESTS = {
         data.drop();
     },
 
-    /** Bytes that were dropped are freed once, and not read any more. */
+    /** Dropped bytes are freed only once, and can't be read. */
     dropsOnce(rtr) {
         const held = rtr.hold(END);
         held.drop();

@@ -1,5 +1,5 @@
-// Takes the library by its name, as programs do that npm installed it for, with each module that
-// the package exports, and reads a prefix (RFC 8210 section 5.6).
+// Imports the installed package by its name, loads each module that it exports, and reads a prefix
+// (RFC 8210 section 5.6).
 
 import assert from "node:assert/strict";
 import { readFile } from "node:fs/promises";

@@ -1,5 +1,5 @@
-// One end of a connection (tests/joined): a Link gets the steps of its cache on standard input, and
-// what it does at each goes to standard output.
+// One end of a connection (tests/joined): a Link, which reads the steps of its cache from standard
+// input, and prints its own.
 //
 // usage: node joined.js MODULE
 
@@ -8,7 +8,7 @@ import { createInterface } from "node:readline";
 import { load } from "../rtr_wire.js";
 import { LinkPlayer, Scene, hex } from "./scenes.js";
 
-/** It sends bytes, for another end. */
+/** A player that records raw bytes, for another end. */
 class JoinedPlayer extends LinkPlayer {
     notesSent(bytes) {
         if (bytes.length > 0) {

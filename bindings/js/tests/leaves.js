@@ -1,4 +1,4 @@
-// Uses a client in a way, and has to end by itself then: nothing is left that keeps the process.
+// Uses a client, and has to end by itself: nothing may keep the process running.
 //
 // usage: node leaves.js breaks|aborts|fetches|follows PORT [tls]
 
@@ -7,12 +7,12 @@ import { Client, follow } from "../client.js";
 const [way, port, tls] = process.argv.slice(2);
 const stop = new AbortController();
 
-function made(settings = {}) {
+function newClient(settings = {}) {
     return new Client({ host: "127.0.0.1", port: Number(port), signal: stop.signal, settings,
         ...(tls ? { tls: {} } : {}) });
 }
 
-/** Ends what runs for so long, and returns how it ended. */
+/** Aborts a run after a time, and returns how it ended. */
 async function aborted(running) {
     setTimeout(() => stop.abort(), 100);
     try {
@@ -25,17 +25,17 @@ async function aborted(running) {
 
 const WAYS = {
     async breaks() {
-        for await (const { data } of made()) {
+        for await (const { data } of newClient()) {
             return data.serial;
         }
         return null;
     },
-    aborts: () => aborted(made().run()),
+    aborts: () => aborted(newClient().run()),
     async fetches() {
-        return (await made().fetch()).serial;
+        return (await newClient().fetch()).serial;
     },
     async follows() {
-        const updates = follow([made(), made()], { settings: { patience: 20 } });
+        const updates = follow([newClient(), newClient()], { settings: { patience: 20 } });
         return aborted(updates.next().then(() => updates.next()));
     },
 };

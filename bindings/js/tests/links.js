@@ -1,4 +1,4 @@
-// Tests of a Link: a router's end with its bytes and data, without sockets.
+// Tests of a Link: a router's end with buffers and data, without sockets.
 
 import assert from "node:assert/strict";
 import { Cause, Fault, Kind, LinkError, LinkStatus, NoData, OutOfMemory, SessionError, Status,
@@ -9,24 +9,24 @@ import { RESET_QUERY, answer, end, notify, prefix, report, response, serialQuery
 
 const SETTINGS = { highest: 1 };
 
-/** Bytes of a session's memory that a client needs without data: its input and output. */
+/** The bytes of a session's memory that a client without data needs: its input and output. */
 const LEAST = 4 << 16;
 
 const bytesOf = (...units) => new Uint8Array(Buffer.concat(units));
 
 /** Announced prefixes of different ASNs, in the order of payloads. */
 function many(count, first = 0) {
-    const one = prefix(1);
-    const bytes = Buffer.alloc(one.length * count);
-    for (let place = 0; place < count; place += 1) {
-        one.copy(bytes, place * one.length);
-        bytes.writeUInt32BE(first + place, (place + 1) * one.length - 4);
+    const unit = prefix(1);
+    const bytes = Buffer.alloc(unit.length * count);
+    for (let index = 0; index < count; index += 1) {
+        unit.copy(bytes, index * unit.length);
+        bytes.writeUInt32BE(first + index, (index + 1) * unit.length - 4);
     }
     return bytes;
 }
 
-/** Gives a link bytes as there is room, and returns the first todo that isn't to wait, with the
- * number of bytes that are left; or null. */
+/** Passes bytes to a link as its input has space, and returns the first todo that isn't to wait,
+ * with the number of remaining bytes; or null. */
 function gives(link, now, bytes) {
     for (let rest = bytes; rest.length > 0;) {
         rest = rest.subarray(link.received(rest));
@@ -38,14 +38,14 @@ function gives(link, now, bytes) {
     return null;
 }
 
-/** Sends what a link has to send, which has to be this. */
+/** Checks the output of a link, and sends it. */
 function sends(link, expected) {
     assert.deepEqual(Buffer.from(link.output), expected);
     link.sent(expected.length);
     assert.equal(link.output.length, 0);
 }
 
-/** Makes a link that has this answer to its first query. */
+/** Returns a link that has loaded this answer to its first query. */
 function loaded(rtr, bytes, now = 0) {
     const link = rtr.link(SETTINGS);
     assert.equal(link.next(now).kind, TodoKind.CONNECT);
@@ -56,20 +56,20 @@ function loaded(rtr, bytes, now = 0) {
     return link;
 }
 
-/** Has a link of serial number 1 ask for changes. */
+/** Makes a link with data of serial number 1 ask for changes. */
 function asks(link, now) {
     assert.equal(gives(link, now, bytesOf(notify(2))), null);
     sends(link, serialQuery(1));
 }
 
-/** The todo has to close the connection for this cause, and drop no data. */
+/** Checks that a todo closes the connection for this cause, and keeps the data. */
 function closes({ kind, cause, drops, error }, expected) {
     assert.deepEqual([kind, cause, drops], [TodoKind.CLOSE, expected, false]);
     return error;
 }
 
 export const TESTS = {
-    /** Data of an earlier event stay as they were, when the next answer comes and after `drop`. */
+    /** Data of an earlier event don't change after the next answer and after `drop`. */
     keepsData(rtr) {
         const link = loaded(rtr, answer(1, prefix(1), prefix(2)));
         const first = link.data(0);
@@ -87,7 +87,7 @@ export const TESTS = {
             Buffer.concat([prefix(3), prefix(1, false), end(2)])), 0);
     },
 
-    /** Data are there until they expire, and a todo tells when they are dropped. */
+    /** Data last until they expire; a todo reports when they are dropped. */
     expires(rtr) {
         const link = loaded(rtr, answer(1, prefix(1)));
         link.lost();
@@ -102,7 +102,7 @@ export const TESTS = {
         link.drop();
     },
 
-    /** A unit that is refused, with its offset from the connection's first byte. */
+    /** A refused unit, with its offset in all bytes of the connection. */
     namesUnits(rtr) {
         const link = loaded(rtr, answer(1, prefix(1)));
         asks(link, 5000);
@@ -121,7 +121,7 @@ export const TESTS = {
         link.drop();
     },
 
-    /** A change that can't be applied, with its offset in the answer. */
+    /** A change that doesn't apply, with its offset in the answer. */
     namesChanges(rtr) {
         const link = loaded(rtr, answer(1, prefix(1)));
         asks(link, 5000);
@@ -133,7 +133,7 @@ export const TESTS = {
         link.drop();
     },
 
-    /** A unit that the close cut off, and the host's reason for a close between units. */
+    /** A unit truncated by the close, and the program's reason for a close between units. */
     namesCuts(rtr) {
         const link = loaded(rtr, answer(1, prefix(1)));
         asks(link, 5000);
@@ -167,7 +167,7 @@ export const TESTS = {
         link.drop();
     },
 
-    /** What is sent in parts. */
+    /** Output that is sent in parts. */
     sendsParts(rtr) {
         const link = rtr.link(SETTINGS);
         link.next(0);
@@ -182,11 +182,11 @@ export const TESTS = {
         link.drop();
     },
 
-    /** Wrong calls have a name, and change nothing. */
+    /** Wrong calls throw an error that names them, and change nothing. */
     refusesCalls(rtr) {
         const link = rtr.link(SETTINGS);
-        const refused = (call, status, said) => assert.throws(call, (error) => (
-            error instanceof LinkError && error.status === status && error.message === said));
+        const refused = (call, status, message) => assert.throws(call, (error) => (
+            error instanceof LinkError && error.status === status && error.message === message));
         refused(() => link.opened(), LinkStatus.OUT_OF_TURN, "rtr_link_opened: OUT_OF_TURN");
         refused(() => link.lost(), LinkStatus.OUT_OF_TURN, "rtr_link_lost: OUT_OF_TURN");
         refused(() => link.received(RESET_QUERY), LinkStatus.OUT_OF_TURN,
@@ -214,7 +214,7 @@ export const TESTS = {
         assert.equal(small.next(end(1)).serial, 1);
     },
 
-    /** The same without memory for the data that the units make, though they fit themselves. */
+    /** The same without memory for the new data, although the units themselves fit. */
     async refusesData(rtr, bytes) {
         const few = many(8000, 100);
         const small = await load(bytes, { most: rtr.another().memory + 2 * LEAST });
@@ -230,8 +230,8 @@ export const TESTS = {
         large.drop();
     },
 
-    /** Whichever piece of memory is refused while an answer is kept and its data are made: either
-     * the failure is told, and the data before stay, or there are the new data. */
+    /** If any allocation fails while an answer is received and applied, the link either fails and
+     * keeps its data, or has the new data. */
     refusesEach(rtr) {
         const long = bytesOf(response(), many(9000, 100), end(2));
         for (let refused = 0, isWhole = false; !isWhole; refused += 1) {
@@ -260,40 +260,40 @@ export const TESTS = {
         }
     },
 
-    /** Changes between data of other versions and sessions, and of none: in the higher version and
-     * the session of the new data. Version 0 has no router keys. */
+    /** Changes between data of different versions and sessions, and from or to none, are in the
+     * higher version and the session of the new data. Version 0 has no router keys. */
     leadsToOthers(rtr) {
         const key = unit(1, 9, 0x100, ...Array(20).fill(3), 0, 0, 0, 5, 1, 2, 3); // of AS 5
         const old = rtr.data(bytesOf(prefix(1), prefix(2), key, end(4)));
         const lower = (bytes) => Uint8Array.of(0, ...bytes.subarray(1));
         const next = rtr.data(bytesOf(lower(prefix(2)), lower(prefix(3)),
             unit(0, 7, 9, 0, 0, 0, 8)));
-        const told = (...sides) => [...rtr.units(changesBetween(rtr, ...sides))]
+        const changes = (...sides) => [...rtr.units(changesBetween(rtr, ...sides))]
             .map(({ version, kind, announce, asn, session, serial }) => (kind === Kind.END_OF_DATA
                 ? `${version} ${session} ${serial}` : `${announce ? "+" : "-"}${asn}`)).join(" ");
-        assert.equal(told(old, next), "+3 -1 -5 1 9 8");
-        assert.equal(told(next, old), "+1 +5 -3 1 7 4");
-        assert.equal(told(null, old), "+1 +2 +5 1 7 4");
-        assert.equal(told(old, null), "-1 -2 -5 1 7 4");
-        assert.equal(told(next, null), "-2 -3 0 9 8");
+        assert.equal(changes(old, next), "+3 -1 -5 1 9 8");
+        assert.equal(changes(next, old), "+1 +5 -3 1 7 4");
+        assert.equal(changes(null, old), "+1 +2 +5 1 7 4");
+        assert.equal(changes(old, null), "-1 -2 -5 1 7 4");
+        assert.equal(changes(next, null), "-2 -3 0 9 8");
         assert.deepEqual([old.count, next.count, next.isEmpty], [3, 2, false]);
         assert.equal(rtr.data(bytesOf(end(1))).isEmpty, true);
-        assert.equal(next.bytes.length, 52); // their copy was changed, and they weren't
+        assert.equal(next.bytes.length, 52); // only their copy was changed
     },
 
-    /** `drop` frees all: many links one after the other need the memory of one. */
+    /** `drop` frees everything: many links, one after the other, reuse the same memory. */
     freesMemory(rtr) {
-        const one = rtr.another();
+        const session = rtr.another();
         const long = bytesOf(response(), many(20000), end(1));
-        loaded(one, long).drop();
-        const before = one.memory;
+        loaded(session, long).drop();
+        const before = session.memory;
         for (let turn = 0; turn < 20; turn += 1) {
-            loaded(one, long).drop();
+            loaded(session, long).drop();
         }
-        assert.equal(one.memory, before);
+        assert.equal(session.memory, before);
     },
 
-    /** After `drop` it begins again without data, and its waits go on growing. */
+    /** After `drop` it restarts without data, and its waits continue to grow. */
     beginsAgain(rtr) {
         const link = rtr.link({ ...SETTINGS, retry: 600_000, pause: 10 });
         let now = 0;

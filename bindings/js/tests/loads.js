@@ -1,15 +1,15 @@
-// Recordings and lists, and the data that each leaves: those of the file tests/loads, which says
-// what it has, and larger ones.
+// Recordings and lists, and the data that they result in: those of the file tests/loads, and larger
+// ones.
 
 import assert from "node:assert/strict";
 import { Fault } from "../rtr_wire.js";
 
-/** The bytes of hex digits. */
+/** Decodes hex digits. */
 const unspaced = (row) => Uint8Array.from(Buffer.from(row.replaceAll(" ", ""), "hex"));
 
 const joined = (pieces) => new Uint8Array(Buffer.concat(pieces));
 
-/** The recordings of the file. */
+/** Returns the recordings of the file. */
 export function read(bytes) {
     const all = [];
     for (const row of new TextDecoder().decode(bytes).split("\n")) {
@@ -33,8 +33,8 @@ export function read(bytes) {
     return all;
 }
 
-/** The bytes of the data that are left, and whether an answer was left out; or the offset of the
- * unit at fault, and the text of the fault. */
+/** Returns the bytes of the data, and whether an answer was ignored; or the offset of the unit at
+ * fault, and the text of the fault. */
 function outcome(rtr, recording) {
     try {
         const { data, hasCut } = rtr.loadData(recording);
@@ -50,8 +50,7 @@ function outcome(rtr, recording) {
     }
 }
 
-/** What is cut off after any of its bytes leaves no data: the offset is that of the unit that is
- * missing there. */
+/** A recording truncated after any byte is refused at the offset of the incomplete unit. */
 function cutOff(rtr, { name, units }) {
     const recording = joined(units);
     const offsets = units.map((_, count) => joined(units.slice(0, count)).length);
@@ -81,22 +80,22 @@ export function loads(rtr, bytes) {
 }
 
 export const TESTS = {
-    /** More data than the buffers have room for at first: IPv4 prefixes of 32 bits and an end of
-     * data (RFC 8210 sections 5.6 and 5.8). */
+    /** More data than the first buffers hold: IPv4 prefixes of 32 bits and an end of data (RFC 8210
+     * sections 5.6 and 5.8). */
     loadsLargeData(rtr) {
         const count = 1 << 20;
         const prefix = [1, 4, 0, 0, 0, 0, 0, 20, 1, 32, 32, 0, 0, 0, 0, 0, 0, 0, 0xfb, 0xf0];
         const end = [1, 7, 0, 7, 0, 0, 0, 24, 0, 0, 0, 1, 0, 0, 14, 16, 0, 0, 2, 88, 0, 0, 28, 32];
         const recording = new Uint8Array(20 * count + end.length);
         const view = new DataView(recording.buffer);
-        for (let place = 0; place < count; place += 1) {
-            recording.set(prefix, 20 * place);
-            view.setUint32(20 * place + 12, place);
+        for (let index = 0; index < count; index += 1) {
+            recording.set(prefix, 20 * index);
+            view.setUint32(20 * index + 12, index);
         }
         recording.set(end, 20 * count);
-        const one = rtr.another();
-        const { data, hasCut } = one.loadData(recording);
+        const session = rtr.another();
+        const { data, hasCut } = session.loadData(recording);
         assert.ok(Buffer.from(data.bytes).equals(recording) && !hasCut);
-        one.drop();
+        session.drop();
     },
 };

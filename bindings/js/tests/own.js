@@ -15,27 +15,27 @@ function many(count) {
     const bytes = new Uint8Array(20 * count + END.length);
     const unit = Uint8Array.from([1, 4, 0, 0, 0, 0, 0, 20, 1, 32, 32, 0, 0, 0, 0, 0, 0, 0, 0, 1]);
     const view = new DataView(bytes.buffer);
-    for (let place = 0; place < count; place += 1) {
-        bytes.set(unit, 20 * place);
-        view.setUint32(20 * place + 12, place);
+    for (let index = 0; index < count; index += 1) {
+        bytes.set(unit, 20 * index);
+        view.setUint32(20 * index + 12, index);
     }
     bytes.set(END, 20 * count);
     return bytes;
 }
 
-/** A module that only has a memory of one page, of 32 bits (flags 0) or of 64 bits (4). */
+/** Returns a module with only a memory of one page, of 32 bits (flags 0) or 64 bits (4). */
 const withMemory = (flags) => Uint8Array.of(
     0, 97, 115, 109, 1, 0, 0, 0, 5, 3, 1, flags, 1, 7, 5, 1, 1, 109, 2, 0);
 
-/** How wide C's types are: a module with 32-bit memory keeps pointers and sizes of 64 bits. */
+/** The sizes of C's types: also with 32-bit memory, pointers and sizes have 64 bits in structs. */
 const WIDTHS = { bool: 1, uint8: 1, uint16: 2, uint32: 4, uint64: 8, size: 8 };
 
-/** Rounds a number up to a multiple of another. */
+/** Rounds a number up to a multiple. */
 const upTo = (multiple, number) => Math.ceil(number / multiple) * multiple;
 
 /** The memory of a module grows as parts are allocated, and freed parts are reused. */
-function growsThis(made) {
-    const heap = new Heap(made(), 1000, 1 << 22);
+function growsThis(newMemory) {
+    const heap = new Heap(newMemory(), 1000, 1 << 22);
     assert.equal(heap.size, 65536);
     const first = heap.take(10);
     assert.equal(first, 1008);
@@ -49,7 +49,7 @@ function growsThis(made) {
     assert.equal(heap.take(99999), second);
     assert.throws(() => heap.take(1 << 22), OutOfMemory);
     assert.ok(heap.size <= 1 << 22);
-    assert.throws(() => new Heap(made(), 0, Infinity).take(2 ** 46), OutOfMemory);
+    assert.throws(() => new Heap(newMemory(), 0, Infinity).take(2 ** 46), OutOfMemory);
 }
 
 export const TESTS = {
@@ -59,13 +59,13 @@ export const TESTS = {
         const widest = (kind) => WIDTHS[kind]
             ?? Math.max(...STRUCTS[kind].fields.map(([, , inner]) => widest(inner)));
         for (const [name, { size, fields }] of Object.entries(STRUCTS)) {
-            let place = 0;
+            let offset = 0;
             for (const [field, start, kind, many = 1] of fields) {
-                place = upTo(widest(kind), place);
-                assert.equal(start, place, `${name}.${field}`);
-                place += many * (WIDTHS[kind] ?? STRUCTS[kind].size);
+                offset = upTo(widest(kind), offset);
+                assert.equal(start, offset, `${name}.${field}`);
+                offset += many * (WIDTHS[kind] ?? STRUCTS[kind].size);
             }
-            assert.equal(size, upTo(widest(name), place), name);
+            assert.equal(size, upTo(widest(name), offset), name);
         }
         assert.equal(STRUCTS.unit.size, 120);
     },
@@ -78,7 +78,7 @@ export const TESTS = {
         }
     },
 
-    /** Without bytes the module beside the library is loaded, with a memory of 32 bits. */
+    /** By default the module beside the library is loaded, with a 32-bit memory. */
     async loadsItself() {
         const own = await load();
         assert.equal(own.next(END).kind, Kind.END_OF_DATA);
@@ -86,14 +86,14 @@ export const TESTS = {
         assert.throws(() => limited.hold(many(10000)), OutOfMemory);
     },
 
-    /** Bytes that are no module, and a module without the library, are refused. */
+    /** Bytes that aren't a module, and another module, are refused. */
     async refusesOthers() {
         await assert.rejects(load(Uint8Array.of(0, 97, 115, 109, 9)), WebAssembly.CompileError);
         await assert.rejects(load(withMemory(0)), OtherVersion);
         await assert.rejects(load(withMemory(4)), has64BitMemory() ? OtherVersion : Unsupported);
     },
 
-    /** A module of another version: this one, with the number of the version before. */
+    /** A module of another version is refused: this one, with a lower version number. */
     async refusesOtherVersions(rtr, bytes) {
         const other = bytes.slice();
         // i32.const VERSION_NUMBER, end
@@ -121,22 +121,22 @@ export const TESTS = {
                 && error.offset === 2000000 && error.wanted === 24 && error.code === 0);
     },
 
-    /** A generator that isn't finished, and others beside it, keep no memory. */
+    /** Unfinished generators hold no memory. */
     leavesNothing(rtr) {
         const bytes = many(30000);
         rtr.delta(bytes, bytes);
         const before = rtr.memory;
         for (let turn = 0; turn < 10; turn += 1) {
-            const one = rtr.units(bytes);
+            const generator = rtr.units(bytes);
             const other = rtr.units(bytes, 20);
-            assert.equal(one.next().value.offset, 0);
+            assert.equal(generator.next().value.offset, 0);
             assert.equal(other.next().value.offset, 20);
-            assert.equal(one.next().value.offset, 20);
+            assert.equal(generator.next().value.offset, 20);
         }
         assert.equal(rtr.memory, before);
     },
 
-    /** Units are objects of their own: the next call changes none. */
+    /** Units are independent objects, which the next call doesn't change. */
     keepsUnits(rtr) {
         const [first, second] = [...rtr.units(many(2))];
         assert.deepEqual([...first.address, ...second.address], [0, 0, 0, 0, 0, 0, 0, 1]);
@@ -144,7 +144,7 @@ export const TESTS = {
             "address", "prefixLength", "maxLength", "asn"]);
     },
 
-    /** If the memory can't grow, an error says so, and the session still works. */
+    /** If the memory can't grow, an error is thrown, and the session still works. */
     async saysNoMemory(rtr, bytes) {
         const small = await load(bytes, { most: rtr.another().memory + 65536 });
         const large = many(10000);
@@ -156,11 +156,11 @@ export const TESTS = {
 
     /** A dropped session has no memory, and throws; another one still works. */
     drops(rtr) {
-        const one = rtr.another();
-        const data = one.data(many(10));
+        const session = rtr.another();
+        const data = session.data(many(10));
         assert.equal(data.validate({ prefix: "0.0.0.3/32", asn: 1 }), Validity.VALID);
-        one.drop();
-        assert.throws(() => one.next(END), Dropped);
+        session.drop();
+        assert.throws(() => session.next(END), Dropped);
         assert.throws(() => data.validate({ prefix: "0.0.0.3/32", asn: 1 }), Dropped);
         data.drop();
         assert.equal(rtr.next(END).kind, Kind.END_OF_DATA);
@@ -184,16 +184,16 @@ export const TESTS = {
         assert.equal(next.validate({ prefix: "no prefix", asn: 1 }), Validity.NO_ROUTE);
     },
 
-    /** An object that doesn't fit the first buffer, and no line for a truncated unit. */
+    /** JSON that doesn't fit the first buffer, and no line for a truncated unit. */
     writesLongLines(rtr) {
-        const providers = Array.from({ length: 9000 }, (_, place) => place + 1);
+        const providers = Array.from({ length: 9000 }, (_, index) => index + 1);
         const long = { kind: Kind.ASPA, version: 2, announce: true, customer: 65000, providers };
         assert.deepEqual(JSON.parse(rtr.changeJson(long)).provider_asns, providers);
         assert.throws(() => rtr.unitLine(END.subarray(0, 19)),
             (error) => error.status === Status.SHORT && error.wanted === 24);
     },
 
-    /** A header alone has the length of its unit. */
+    /** The length of a unit is known from its header. */
     sizes(rtr) {
         assert.equal(rtr.unitSize(END.subarray(0, 8)), 24);
         assert.throws(() => rtr.unitSize(END.subarray(0, 7)),

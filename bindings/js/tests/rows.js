@@ -53,7 +53,7 @@ function outcome(call) {
 }
 
 function same(left, right, what) {
-    if (left.length !== right.length || left.some((byte, place) => byte !== right[place])) {
+    if (left.length !== right.length || left.some((byte, index) => byte !== right[index])) {
         assert.fail(`${what}: ${left} is not ${right}`);
     }
 }
@@ -95,13 +95,13 @@ export function sessions(rtr, bytes) {
         const input = rows.piece(length);
         const held = rtr.hold(input);
         let offset = 0;
-        for (let place = 0; place < answers; place += 1) {
-            const wanted = Object.fromEntries(NUMBERS.map((name) => [name, rows.long()]));
+        for (let index = 0; index < answers; index += 1) {
+            const expected = Object.fromEntries(NUMBERS.map((name) => [name, rows.long()]));
             const [address, identifier] = [rows.piece(16), rows.piece(20)];
             const form = rows.piece(rows.long());
-            shownFields(held, offset, wanted, address, identifier);
-            shownUnit(rtr, input, offset, wanted, form);
-            offset += wanted.size;
+            shownFields(held, offset, expected, address, identifier);
+            shownUnit(rtr, input, offset, expected, form);
+            offset += expected.size;
         }
         held.drop();
         walked(rtr, input);
@@ -109,53 +109,53 @@ export function sessions(rtr, bytes) {
     return count;
 }
 
-function shownFields(held, offset, wanted, address, identifier) {
-    assert.equal(held.status(offset), wanted.status);
+function shownFields(held, offset, expected, address, identifier) {
+    assert.equal(held.status(offset), expected.status);
     const shown = held.shown(offset);
     for (const name of NUMBERS.slice(1)) {
-        assert.equal(shown[METHODS[KINDS[name]]](name), wanted[name], name);
+        assert.equal(shown[METHODS[KINDS[name]]](name), expected[name], name);
     }
     same(shown.row("address", 16), address, "address");
     same(shown.row("keyIdentifier", 20), identifier, "key identifier");
 }
 
-/** The unit as an object, by both calls; and its form. */
-function shownUnit(rtr, input, offset, wanted, form) {
+/** Checks the unit as an object, by both calls, and its form. */
+function shownUnit(rtr, input, offset, expected, form) {
     const unit = outcome(() => rtr.next(input, offset));
     assert.equal(unit.offset, offset);
-    if (wanted.status !== Status.OK) {
+    if (expected.status !== Status.OK) {
         assert.deepEqual([unit.status, unit.size, unit.wanted, unit.detail],
-            [wanted.status, wanted.size, wanted.wanted, wanted.detail]);
+            [expected.status, expected.size, expected.wanted, expected.detail]);
         return;
     }
     for (const name of Object.keys(unit).filter((name) => NUMBERS.includes(name))) {
-        assert.equal(unit[name], wanted[name], name);
+        assert.equal(unit[name], expected[name], name);
     }
     const part = (start, length) => input.subarray(offset + start, offset + start + length);
     if ("announce" in unit) {
-        assert.equal(unit.announce, wanted.action === 1);
+        assert.equal(unit.announce, expected.action === 1);
     }
     if (unit.keyInfo) {
-        same(unit.keyInfo, part(wanted.partStart, wanted.partLength), "key info");
+        same(unit.keyInfo, part(expected.partStart, expected.partLength), "key info");
     }
     if (unit.about) {
-        same(unit.about, part(wanted.partStart, wanted.partLength), "about");
-        same(unit.textBytes, part(wanted.textStart, wanted.textLength), "text");
+        same(unit.about, part(expected.partStart, expected.partLength), "about");
+        same(unit.textBytes, part(expected.textStart, expected.textLength), "text");
     }
     same(rtr.writeUnit(unit), form, "form");
 }
 
-/** The generator yields the units that `next` returns in order, and then throws its Fault. */
+/** The generator yields the units that `next` returns, in order, and then throws its Fault. */
 function walked(rtr, input) {
     const walk = rtr.units(input);
     for (let offset = 0; offset < input.length;) {
-        const wanted = outcome(() => rtr.next(input, offset));
-        const given = outcome(() => walk.next().value);
-        assert.deepEqual({ ...given }, { ...wanted });
-        if (wanted instanceof Fault) {
+        const expected = outcome(() => rtr.next(input, offset));
+        const yielded = outcome(() => walk.next().value);
+        assert.deepEqual({ ...yielded }, { ...expected });
+        if (expected instanceof Fault) {
             return;
         }
-        offset += wanted.size;
+        offset += expected.size;
     }
     assert.equal(walk.next().done, true);
 }
@@ -173,8 +173,10 @@ export function deltas(rtr, bytes) {
     let count = 0;
     for (; rows.hasMore; count += 1) {
         const [call, status, side, detail] = Array.from({ length: 4 }, () => rows.byte());
-        const [offset, one, other, length, places] = Array.from({ length: 5 }, () => rows.long());
-        const [first, second, output] = [rows.piece(one), rows.piece(other), rows.piece(length)];
+        const [offset, firstSize, secondSize, length, places]
+            = Array.from({ length: 5 }, () => rows.long());
+        const [first, second] = [rows.piece(firstSize), rows.piece(secondSize)];
+        const output = rows.piece(length);
         const answer = outcome(() => CALLS[call](rtr, first, second, places));
         if (status === Status.OK) {
             same(answer, output, `deltas ${count}`);
@@ -193,13 +195,13 @@ export function validity(rtr, bytes) {
     while (rows.hasMore) {
         const [length, many] = [rows.word(), rows.word()];
         const data = rtr.data(rows.piece(length));
-        for (let place = 0; place < many; place += 1, count += 1) {
+        for (let index = 0; index < many; index += 1, count += 1) {
             const [family, prefixLength] = [rows.byte(), rows.byte()];
-            const [wanted, covers] = [rows.byte(), rows.byte()];
+            const [validity, covers] = [rows.byte(), rows.byte()];
             const asn = rows.word();
             const address = rows.piece(16).slice(0, family === 4 ? 4 : 16);
             const route = { address, prefixLength, asn };
-            assert.equal(rtr.validate(data, route), wanted, `route ${count}`);
+            assert.equal(rtr.validate(data, route), validity, `route ${count}`);
             const found = [...rtr.covering(data, route)].slice(0, covers);
             for (let each = 0; each < covers; each += 1) {
                 const vrp = { place: rows.word(), asn: rows.word(), prefixLength: rows.byte(),
@@ -223,9 +225,9 @@ export function texts(rtr, bytes) {
         }
         const [, word, number, detail, text] = row.match(/^(text) (\d+) (\d+) (.*)$/)
             ?? row.match(/^(\w+) (\d+)( )(.*)$/);
-        const said = word === "text" ? rtr.statusText(Number(number), Number(detail))
+        const actual = word === "text" ? rtr.statusText(Number(number), Number(detail))
             : rtr.name(Named[word.toUpperCase()], Number(number));
-        assert.equal(said, text, row);
+        assert.equal(actual, text, row);
         count += 1;
     }
     assert.ok(count > 80);

@@ -1,8 +1,7 @@
 // Runs all tests with the module with 32-bit memory in `prebuilt`, or another one: the rows of all
-// languages, the examples, and tests of JavaScript's own. `npm test` calls it. Scripts in Python
-// make most of the rows: without python3 those tests are skipped, and without 64-bit memory in the
-// engine all tests of a module that has it; without openssl those of TLS, and without a C compiler
-// that with the cache in C.
+// languages, the examples, and tests of JavaScript only. `npm test` calls it. Tests are skipped if
+// they need something that is missing: python3 for most rows, an engine with 64-bit memory for a
+// module with such a memory, openssl for TLS, a C compiler for the cache in C.
 //
 // usage: node run.js [MODULE]
 
@@ -27,10 +26,10 @@ import { TESTS as own } from "./own.js";
 const TOP = fileURLToPath(new URL("../../..", import.meta.url));
 const MODULE = resolve(process.argv[2] ?? `${TOP}/prebuilt/wasm32/rtr_wire.wasm`);
 
-/** The rows that stand in a file. */
+/** The rows that are in a file. */
 const FILES = { texts: "tests/texts", samples: "tests/samples", loads: "tests/loads" };
 
-/** The rows that a script makes. */
+/** The rows that a script computes. */
 const SCRIPTS = {
     cases: ["tests/libraries/cases.py", "--inputs", "200"],
     sessions: ["tests/libraries/sessions.py", "cases"],
@@ -44,8 +43,8 @@ const SCRIPTS = {
 /** The examples, and the recordings that they read. */
 const EXAMPLES = { units: "crates/rtr_list/stdin", routes: "crates/rtr_normalise/stdin" };
 
-/** Recordings of tests/loads, and what the example routes.js says of each: its status, what it
- * prints, and what it prints on standard error. */
+/** Recordings of tests/loads, and the result of the example routes.js with each: exit status,
+ * standard output and standard error. */
 const ROUTES = {
     "the recording of docs/OPERATORS.md": [0, `192.0.2.0/24 AS65551 INVALID
   its first 24 bits, up to 24, AS64496: OTHER_AS
@@ -61,7 +60,7 @@ const ROUTES = {
     nothing: [1, "", "routes: unexpected end of input, at byte 0\n"],
 };
 
-/** The flag by which engines that are older have 64-bit memory. */
+/** The flag that enables 64-bit memory in older engines. */
 const FLAG = "--experimental-wasm-memory64";
 
 const python = spawnSync("python3", ["--version"]).status === 0;
@@ -88,7 +87,7 @@ function missing(name) {
     return name in SCRIPTS && !python && "no python3 here, whose scripts make the rows";
 }
 
-/** Makes a session of the module; null if it needs 64-bit memory and the engine has none. */
+/** Returns a session of the module; null if it needs 64-bit memory and the engine has none. */
 async function opened(bytes) {
     try {
         return await load(bytes);
@@ -118,9 +117,9 @@ for (const [group, tests] of Object.entries({ own, given, large, links, clients,
 for (const [name, recording] of Object.entries(EXAMPLES)) {
     test(`examples/${name}.js`, { skip: missing(name) }, () => {
         const example = `${TOP}/bindings/js/examples/${name}`;
-        const said = printed(process.execPath, [`${example}.js`],
+        const output = printed(process.execPath, [`${example}.js`],
             readFileSync(`${TOP}/${recording}`));
-        assert.equal(said.toString(), readFileSync(`${example}.stdout`, "utf8"));
+        assert.equal(output.toString(), readFileSync(`${example}.stdout`, "utf8"));
     });
 }
 test("examples/routes.js over recordings", { skip: missing("routes") }, () => {

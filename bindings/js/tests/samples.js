@@ -73,7 +73,7 @@ function check(rtr, sample) {
     assert.ok(text === undefined || text === null || unit.text === text);
 }
 
-/** Each sample is shown and encoded as the file says, or refused. */
+/** Each sample is listed and encoded as in the file, or refused. */
 export function samples(rtr, file) {
     const all = read(new TextDecoder().decode(file));
     assert.ok(all.length > 50);

@@ -28,7 +28,7 @@ function joined(...pieces) {
     return all;
 }
 
-/** What a router under test did, in lines of a scene. */
+/** The steps of a router under test, as lines of a scene. */
 class Seen {
     now = 0;
     seen = [];
@@ -41,7 +41,7 @@ class Seen {
         this.seen.push(`${this.now} ${what}`);
     }
 
-    /** Notes the units that are sent. */
+    /** Records the units that are sent. */
     notesSent(bytes) {
         for (const { offset, size, kind, ...unit } of this.rtr.units(bytes)) {
             const { version, code, about, text } = unit;
@@ -51,7 +51,7 @@ class Seen {
         }
     }
 
-    /** Notes data, which are shown. */
+    /** Records data that are shown. */
     notesData(bytes) {
         const shown = Array.from(this.rtr.units(bytes),
             ({ offset, size }) => hex(bytes.subarray(offset, offset + size)));
@@ -62,7 +62,7 @@ class Seen {
 /** A Link under test. */
 export class LinkPlayer extends Seen {
     #link;
-    #isOpen = false; // what the cache sends is read
+    #isOpen = false; // whether bytes of the cache are read
     #isBroken = false;
 
     constructor(rtr, settings) {
@@ -122,7 +122,7 @@ export class LinkPlayer extends Seen {
     }
 
     #settle() {
-        while (this.#does(this.#link.next(this.now)) !== TodoKind.WAIT) { /* it isn't done */ }
+        while (this.#does(this.#link.next(this.now)) !== TodoKind.WAIT) { /* continue */ }
     }
 
     #does({ kind, drops }) {
@@ -156,13 +156,13 @@ export class LinkPlayer extends Seen {
     }
 }
 
-/** A Router under test, with what it needs besides. */
+/** A Router under test, with the buffers and data that it needs. */
 class RouterPlayer extends Seen {
     #router;
     #input = NOTHING;
     #kept = NOTHING;
     #data = null;
-    #made = null;
+    #nextData = null;
     #isClosed = false;
     #isBroken = false;
 
@@ -171,7 +171,7 @@ class RouterPlayer extends Seen {
         this.#router = rtr.router(settings);
     }
 
-    /** Nothing is to be freed. */
+    /** A no-op: it has no memory to free. */
     drop() {}
 
     /** Advances the clock to this time. */
@@ -257,12 +257,12 @@ class RouterPlayer extends Seen {
         steps[action.kind]?.();
     }
 
-    /** Applies the changes that were kept, to the data or to none. */
+    /** Applies the collected changes to the data, or to none. */
     #apply(action, about) {
         const end = about.subarray(0, this.rtr.next(about).size);
         const changes = joined(this.#kept, end);
         try {
-            this.#made = this.rtr.applyInOrder(action.changes ? this.#data : end, changes);
+            this.#nextData = this.rtr.applyInOrder(action.changes ? this.#data : end, changes);
             this.#act(this.#router.applied(this.now), NOTHING);
         } catch (error) {
             if (!(error instanceof Fault)) {
@@ -274,7 +274,7 @@ class RouterPlayer extends Seen {
     }
 
     #show() {
-        this.#data = this.#made;
+        this.#data = this.#nextData;
         this.notesData(this.#data);
     }
 
@@ -297,7 +297,7 @@ class RouterPlayer extends Seen {
     }
 }
 
-/** Adds a step that the router has to take, with one space between words and none in a query. */
+/** Formats an expected step, with one space between words and none in a query. */
 function plain(step) {
     const [time, who, ...words] = step.split(/\s+/);
     const isQuery = who === "router>" && words[0] !== "report";
@@ -311,7 +311,7 @@ export class Scene {
     #name;
     #settings = { highest: 1 };
     #player = null;
-    #wanted = [];
+    #expected = [];
     #differs = null;
 
     constructor(rtr, Player, name) {
@@ -329,9 +329,9 @@ export class Scene {
         } else if (time) {
             this.#begun().pass(Number(time));
         } else if (what) {
-            this.#given(...what.split(/ (.*)/));
+            this.#takeStep(...what.split(/ (.*)/));
         } else if (step) {
-            this.#wanted.push(plain(step));
+            this.#expected.push(plain(step));
         }
     }
 
@@ -341,7 +341,7 @@ export class Scene {
         return this.#player;
     }
 
-    #given(time, step) {
+    #takeStep(time, step) {
         const player = this.#begun();
         player.pass(Number(time));
         this.compare();
@@ -355,22 +355,22 @@ export class Scene {
         (steps[step] ?? (() => player.received(bytesOf(step.replace("cache>", "")))))();
     }
 
-    /** Compares what the router did since the last given step. Returns the first difference. */
+    /** Compares the router's steps since the last input. Returns the first difference. */
     compare() {
         const seen = this.#player?.seen.splice(0) ?? [];
-        const wanted = this.#wanted.splice(0);
-        if (seen.join("\n") !== wanted.join("\n")) {
-            this.#differs ??= [`${this.#name}: wanted`, ...wanted, "seen", ...seen].join("\n");
+        const expected = this.#expected.splice(0);
+        if (seen.join("\n") !== expected.join("\n")) {
+            this.#differs ??= [`${this.#name}: expected`, ...expected, "seen", ...seen].join("\n");
         }
         return this.#differs;
     }
 
-    /** Returns what the router did since the last given step, and when it acts by itself. */
+    /** Returns the router's steps since the last input, and when it acts by itself. */
     taken() {
         return [...this.#player.seen.splice(0), `wakes ${this.#player.wakes}`];
     }
 
-    /** Ends it. Returns the first difference. */
+    /** Ends the scene. Returns the first difference. */
     end() {
         const differs = this.compare();
         this.#player?.drop();

@@ -1,11 +1,11 @@
-// What a program in TypeScript may write: it is compiled, and not run.
+// A program in TypeScript, which is compiled and not run.
 
 import { Cause, Fault, Kind, SessionError, Status, TodoKind, Validity, load } from "../rtr_wire.js";
 import type { Data, Loaded, Session, Unit } from "../rtr_wire.js";
 import { Client, follow } from "../client.js";
 import type { Update } from "../client.js";
 
-/** What is told of a unit, whose kind says which fields it has. */
+/** Describes a unit, whose kind determines its fields. */
 function told(unit: Unit): string | null {
     switch (unit.kind) {
         case Kind.ASPA:
@@ -42,7 +42,7 @@ export async function main(module: ArrayBuffer, recording: Uint8Array): Promise<
     console.log(router.state.known.serial, action.kind, router.report(action, recording));
 }
 
-/** What is told of an update. */
+/** Describes an update. */
 function changed(update: Update): string {
     const changes = Array.from(update.changes(), (unit) => told(unit));
     return update.data === null ? "none" : `${update.data.serial} ${changes} ${update.client}`;
