@@ -1,4 +1,4 @@
-//! Bytes that several clients are sent.
+//! Bytes that are sent to several clients.
 
 use std::fs::File;
 use std::io::{self, Write};
@@ -11,9 +11,10 @@ use std::slice;
 use std::sync::Arc;
 use std::vec::Vec;
 
-/// So many bytes are put into a file in memory, from where a socket takes them without a copy.
+/// At least this many bytes are put into a file in memory, from which a socket sends them without a
+/// copy.
 const FILED: usize = 1 << 16;
-/// So many bytes has a huge page.
+/// The size of a huge page.
 const HUGE_PAGE: usize = 1 << 21;
 
 /// Bytes that are shared.
@@ -24,7 +25,7 @@ pub(crate) enum Body {
 }
 
 impl Body {
-    /// These bytes in a file, if they are many and there is one, and else where they are.
+    /// Moves bytes to a file in memory if they are many and the system allows it.
     pub(crate) fn filed(bytes: Arc<Vec<u8>>) -> Body {
         if bytes.len() < FILED {
             return Body::Allocated(bytes);
@@ -32,7 +33,7 @@ impl Body {
         Filed::new(&bytes).map_or(Body::Allocated(bytes), |filed| Body::Filed(Arc::new(filed)))
     }
 
-    /// The file that has them.
+    /// The file that holds them, if one does.
     pub(crate) fn file(&self) -> Option<&File> {
         match self {
             Body::Allocated(_) => None,
@@ -59,7 +60,7 @@ impl Deref for Body {
 }
 
 extern "C" {
-    /// Of the C library, on Linux.
+    // Functions of the C library on Linux.
     fn memfd_create(name: *const c_char, flags: c_uint) -> c_int;
     fn mmap(
         at: *mut c_void,
@@ -75,11 +76,11 @@ extern "C" {
     fn sendfile(socket: c_int, file: c_int, from: *mut i64, most: usize) -> isize;
 }
 
-/// A limit of the system for a process: now, and at most.
+/// A resource limit of the process: the soft and the hard limit.
 #[repr(C)]
 struct Limit([u64; 2]);
 
-// What is to be done with a mapping, and how.
+// Protections and flags of mmap.
 const NOTHING: c_int = 0;
 const READABLE: c_int = 1;
 const SHARED: c_int = 0x1;
@@ -87,7 +88,7 @@ const PRIVATE: c_int = 0x2;
 const FIXED: c_int = 0x10;
 const ANONYMOUS: c_int = 0x20;
 
-/// A file in memory, and where its bytes can be read.
+/// A file in memory, and the mapping of its bytes.
 #[derive(Debug)]
 pub(crate) struct Filed {
     file: File,
@@ -95,27 +96,27 @@ pub(crate) struct Filed {
     length: usize,
 }
 
-// SAFETY: nothing writes to the file once it was made.
+// SAFETY: nothing writes to the file after it was created.
 unsafe impl Send for Filed {}
 unsafe impl Sync for Filed {}
 
 impl Filed {
     fn new(bytes: &[u8]) -> io::Result<Filed> {
         const CLOSED_ON_EXEC: c_uint = 1;
-        // SAFETY: the name ends with a zero byte, and stays.
+        // SAFETY: the name is a static, zero-terminated string.
         let descriptor = unsafe { memfd_create(b"rtr data\0".as_ptr().cast(), CLOSED_ON_EXEC) };
         if descriptor < 0 {
             return Err(io::Error::last_os_error());
         }
-        // SAFETY: the descriptor was just made, and nobody else has it.
+        // SAFETY: the descriptor was just created, and nobody else has it.
         let mut file = unsafe { File::from_raw_fd(descriptor) };
         let length = bytes.len();
         begin_huge(&file, length);
-        // Once: at a limit for the size of files a second write would end the process.
+        // A single write: beyond RLIMIT_FSIZE a second one would kill the process.
         if file.write(bytes)? < length {
             return Err(io::ErrorKind::WriteZero.into());
         }
-        // SAFETY: the system picks a place that is free.
+        // SAFETY: the system chooses a free address.
         let at = unsafe { mmap(null_mut(), length, READABLE, SHARED, descriptor, 0) };
         if at as isize == -1 {
             return Err(io::Error::last_os_error());
@@ -125,21 +126,21 @@ impl Filed {
     }
 
     fn bytes(&self) -> &[u8] {
-        // SAFETY: so many bytes are mapped there until this is dropped, and none of them changes.
+        // SAFETY: this many bytes are mapped until this is dropped, and they don't change.
         unsafe { slice::from_raw_parts(self.at, self.length) }
     }
 }
 
 impl Drop for Filed {
     fn drop(&mut self) {
-        // SAFETY: nobody has a place of the bytes any more.
+        // SAFETY: nobody has a reference to the bytes any more.
         unsafe { munmap(self.at as *mut c_void, self.length) };
     }
 }
 
-/// Has an empty file in memory begin with huge pages, as many as these bytes fill at least by half:
-/// to send them takes less time. A page has to have a byte before. Where the system has none, or a
-/// write behind its limit would end the process, the bytes get the usual pages later.
+/// Lets an empty file in memory start with huge pages, which are faster to send: as many as `size`
+/// bytes fill at least by half. `MADV_COLLAPSE` needs a byte in each page. If the system has no
+/// huge pages, or a write beyond `RLIMIT_FSIZE` would kill the process, the file keeps small pages.
 fn begin_huge(file: &File, size: usize) {
     const COLLAPSE: c_int = 25; // since Linux 6.1
     let huge = (size + HUGE_PAGE / 2) / HUGE_PAGE * HUGE_PAGE;
@@ -147,25 +148,25 @@ fn begin_huge(file: &File, size: usize) {
         return;
     }
     let (length, how) = (huge + HUGE_PAGE, PRIVATE | ANONYMOUS);
-    // SAFETY: the system picks a place that is free.
-    let room = unsafe { mmap(null_mut(), length, NOTHING, how, -1, 0) };
-    if room as isize == -1 {
+    // SAFETY: the system chooses a free address.
+    let reserved = unsafe { mmap(null_mut(), length, NOTHING, how, -1, 0) };
+    if reserved as isize == -1 {
         return;
     }
-    let at = room.wrapping_add(room.align_offset(HUGE_PAGE));
+    let at = reserved.wrapping_add(reserved.align_offset(HUGE_PAGE));
     let (how, descriptor) = (SHARED | FIXED, file.as_raw_fd());
-    // SAFETY: that place lies in the room, of which nobody else has one.
+    // SAFETY: the address is in the reserved range, which nobody else uses.
     let is_mapped = unsafe { mmap(at, huge, READABLE, how, descriptor, 0) } == at;
-    let mut places = (0..huge as u64).step_by(HUGE_PAGE);
-    if is_mapped && places.all(|place| file.write_at(&[0], place).is_ok()) {
-        // SAFETY: so many bytes are mapped there, and keep their values.
+    let mut offsets = (0..huge as u64).step_by(HUGE_PAGE);
+    if is_mapped && offsets.all(|offset| file.write_at(&[0], offset).is_ok()) {
+        // SAFETY: this many bytes are mapped there, and keep their values.
         unsafe { madvise(at, huge, COLLAPSE) };
     }
-    // SAFETY: nobody has a place of the room any more.
-    unsafe { munmap(room, length) };
+    // SAFETY: nobody has an address in the reserved range any more.
+    unsafe { munmap(reserved, length) };
 }
 
-/// Whether a file may have so many bytes.
+/// Reports whether the process may write a file of this size.
 fn may_be_filed(size: usize) -> bool {
     const FILE_SIZE: c_int = 1;
     let mut limit = Limit([0; 2]);
@@ -174,7 +175,7 @@ fn may_be_filed(size: usize) -> bool {
     !failed && size as u64 <= limit.0[0]
 }
 
-/// Has a socket take some bytes of a file, from there on: how many it took.
+/// Sends bytes of a file, from an offset on, to a socket; returns how many were sent.
 pub(crate) fn send_from(
     file: BorrowedFd<'_>,
     from: u64,
@@ -207,7 +208,7 @@ mod tests {
         }
     }
 
-    /// Where files may have fewer bytes than these, they lie in none: in a process of its own.
+    /// If the limit for files is smaller, no file is used. This needs its own process.
     #[test]
     fn many_bytes_for_a_file_lie_in_none() {
         const LIMITED: &str = "RTR_TEST_LIMITED";
@@ -221,7 +222,7 @@ mod tests {
         limited.arg(env::current_exe().unwrap()).arg("--exact");
         limited.arg("body::tests::many_bytes_for_a_file_lie_in_none");
         let output = limited.env(LIMITED, "").output().unwrap();
-        let said = String::from_utf8_lossy(&output.stdout);
-        assert!(said.contains("1 passed"), "{}: {said}", output.status);
+        let stdout = String::from_utf8_lossy(&output.stdout);
+        assert!(stdout.contains("1 passed"), "{}: {stdout}", output.status);
     }
 }

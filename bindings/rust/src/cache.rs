@@ -1,4 +1,4 @@
-//! What a cache has, without sockets and clock.
+//! The data of a cache, without sockets or a clock.
 
 use crate::cache_machine::Present;
 use crate::editions::Edition;
@@ -10,10 +10,10 @@ use std::io::{self, ErrorKind};
 use std::path::Path;
 use std::sync::{Arc, Mutex, MutexGuard, PoisonError};
 
-/// The data of a cache, and what leads to them from those before, without sockets and clock. Each
+/// The data of a cache, and the changes to them from earlier data, without sockets or a clock. Each
 /// of its clients is a [`Served`](crate::Served).
 ///
-/// Any thread may call it: none waits for another that compares new data with the newest.
+/// Any thread may call it. No reader waits while new data are compared with the newest.
 #[derive(Debug, Default)]
 pub struct Cache {
     options: Arc<ServerOptions>,
@@ -22,7 +22,7 @@ pub struct Cache {
     updating: Mutex<()>,
 }
 
-/// A time in milliseconds of a clock that doesn't go back, and what a [`Cache`] has then.
+/// A time in milliseconds, by a monotonic clock, and the data of a [`Cache`] at that time.
 #[derive(Clone, Debug)]
 pub struct Moment {
     pub(crate) now: u64,
@@ -31,7 +31,7 @@ pub struct Moment {
 }
 
 impl Cache {
-    /// A cache that has no data yet.
+    /// Returns a cache without data.
     #[must_use]
     pub fn new(options: ServerOptions) -> Self {
         Cache {
@@ -41,12 +41,12 @@ impl Cache {
         }
     }
 
-    /// Its limits.
+    /// The limits of the cache.
     pub fn options(&self) -> &ServerOptions {
         &self.options
     }
 
-    /// This time, and what the cache has now.
+    /// Returns this time with the present data of the cache.
     pub fn at(&self, now: u64) -> Moment {
         Moment {
             now,
@@ -55,16 +55,16 @@ impl Cache {
         }
     }
 
-    /// Has clients get these data from now on, in the session and with the serial number of their
-    /// end of data. Answers whether they aren't those that the cache has already: then each
-    /// [`Served`](crate::Served) has to go on.
+    /// Serves these data from now on, with the session and serial number of their end of data.
+    /// Returns whether they differ from the present data: then call
+    /// [`Served::next`](crate::Served::next) of each connection.
     ///
     /// # Errors
     ///
-    /// `NewTimings`; `SerialNotAfter`, also for the same payloads under an earlier serial number;
-    /// `Times` where no cache may name their times (RFC 8210 section 6).
+    /// `NewTimings`; `SerialNotAfter`, also for the same payloads with an earlier serial number;
+    /// `Times` if RFC 8210 section 6 doesn't allow their times.
     pub fn update(&self, data: Data) -> Result<bool, UpdateError> {
-        may_name(&data)?;
+        check_times(&data)?;
         let _alone = locked(&self.updating);
         let newest = locked(&self.newest).clone();
         let next = match newest {
@@ -78,8 +78,8 @@ impl Cache {
         Ok(is_new)
     }
 
-    /// Writes the data, and what leads back to those before them, to a file: by another one beside
-    /// it, which then gets its name. Without data it writes nothing.
+    /// Saves the data, and the steps back to earlier ones, to a file: writes one beside it, then
+    /// renames that. Without data it writes nothing.
     ///
     /// # Errors
     ///
@@ -89,16 +89,17 @@ impl Cache {
         newest.map_or(Ok(()), |edition| save(&edition, path.as_ref()))
     }
 
-    /// Takes what [`Cache::save`] wrote, if the cache has no data yet, and answers the data that it
-    /// then has. So clients go on where they are.
+    /// Loads what [`Cache::save`] wrote, if the cache has no data yet, and returns the data that it
+    /// has then, so that clients get deltas after a restart.
     ///
     /// # Errors
     ///
-    /// Those of reading, of which `InvalidData` is for a file that isn't as it was written, or has
-    /// data that [`Cache::update`] doesn't take.
+    /// Those of reading; `InvalidData` for a file that was changed or damaged, or whose data
+    /// [`Cache::update`] would refuse.
     pub fn restore(&self, path: impl AsRef<Path>) -> io::Result<Data> {
         let edition = restore(path.as_ref(), &self.options)?;
-        may_name(&edition.data()).map_err(|error| io::Error::new(ErrorKind::InvalidData, error))?;
+        check_times(&edition.data())
+            .map_err(|error| io::Error::new(ErrorKind::InvalidData, error))?;
         let _alone = locked(&self.updating);
         let mut newest = locked(&self.newest);
         Ok(newest.get_or_insert_with(|| Arc::new(edition)).data())
@@ -106,22 +107,22 @@ impl Cache {
 }
 
 impl Moment {
-    /// What names the newest data.
+    /// The session and serial number of the newest data.
     pub(crate) fn present(&self) -> Present {
         let newest = self.newest.as_ref();
         newest.map_or_else(Present::default, |newest| newest.present)
     }
 }
 
-/// Whether a cache may name the times of these data; version 0 has none.
-fn may_name(data: &Data) -> Result<(), UpdateError> {
+/// Checks that RFC 8210 section 6 allows a cache the times of these data; version 0 has none.
+fn check_times(data: &Data) -> Result<(), UpdateError> {
     match data.end().timing.and_then(TimeRule::broken_by) {
         Some(rule) => Err(UpdateError::Times(rule)),
         None => Ok(()),
     }
 }
 
-/// The mutex locked. What it holds is whole, even if a thread has panicked.
+/// Locks a mutex, even if a thread has panicked with it: its content is always consistent.
 pub(crate) fn locked<T>(mutex: &Mutex<T>) -> MutexGuard<'_, T> {
     mutex.lock().unwrap_or_else(PoisonError::into_inner)
 }

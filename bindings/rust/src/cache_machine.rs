@@ -9,7 +9,7 @@ use crate::sys::milliseconds;
 use std::string::{String, ToString};
 use std::vec::Vec;
 
-/// The text of the report for the reason why a cache ends a connection.
+/// The text of the report with which a cache ends a connection, for this reason.
 pub(crate) fn reason_text(reason: u8) -> String {
     sys::name(named::REASON, reason.into()).to_string()
 }
@@ -40,7 +40,8 @@ impl Cache {
         serving
     }
 
-    /// A unit came; `ended` if nothing follows it. Deltas are known from these serial numbers on.
+    /// Processes the first unit of the input; `ended` if the client has closed. `known` are the
+    /// serial numbers from which deltas are available.
     pub(crate) fn read(
         &mut self,
         now: u64,
@@ -66,7 +67,7 @@ impl Cache {
         serving
     }
 
-    /// The time of the next tick, if nothing comes before.
+    /// The time of the next tick if nothing is received before.
     pub(crate) fn wakes(&self, present: Present) -> u64 {
         unsafe { abi::rtr_cache_wakes(self, &present) }
     }
@@ -89,8 +90,8 @@ impl Serving {
         let (mut report, mut written) = (std::vec![0; abi::LONGEST_UNIT], 0);
         let is_written = unsafe {
             let (start, length) = (input.as_ptr(), input.len());
-            let (output, room) = (report.as_mut_ptr(), report.len());
-            abi::rtr_cache_report_nonnull(self, start, length, output, room, &mut written)
+            let (output, capacity) = (report.as_mut_ptr(), report.len());
+            abi::rtr_cache_report_nonnull(self, start, length, output, capacity, &mut written)
         };
         if is_written {
             output.extend_from_slice(&report[..written]);

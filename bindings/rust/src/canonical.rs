@@ -12,7 +12,7 @@ use alloc::sync::Arc;
 use alloc::vec;
 use alloc::vec::Vec;
 
-/// Bytes in canonical form that end with an end of data. Copies share them.
+/// Bytes in canonical form that end with an end of data. Clones share them.
 #[derive(Clone, Debug, PartialEq, Eq, Hash)]
 pub(crate) struct Canonical {
     pub(crate) bytes: Arc<Vec<u8>>,
@@ -21,16 +21,16 @@ pub(crate) struct Canonical {
 }
 
 impl Canonical {
-    /// The front of these bytes, which is in canonical form.
+    /// Wraps the first `length` of these bytes, which are in canonical form.
     pub(crate) fn new(mut bytes: Vec<u8>, length: usize) -> Self {
         bytes.truncate(length);
         bytes.shrink_to_fit();
         Canonical::of(bytes)
     }
 
-    /// These bytes, which are in canonical form. Where they have much unused room, they are moved
-    /// if there is memory for that.
-    pub(crate) fn made(bytes: Vec<u8>) -> Self {
+    /// Wraps these bytes, which are in canonical form. If much of their capacity is unused, they
+    /// are moved to a vector of the exact size, if memory allows.
+    pub(crate) fn shrunk(bytes: Vec<u8>) -> Self {
         let (length, mut exact) = (bytes.len(), Vec::new());
         if bytes.capacity() - length > length / 8 && exact.try_reserve_exact(length).is_ok() {
             exact.extend_from_slice(&bytes);
@@ -66,7 +66,7 @@ impl Canonical {
         &self.bytes[..self.bytes.len() - end.size()]
     }
 
-    /// Without what a version doesn't have.
+    /// The same for clients of a version, without what it can't carry.
     pub(crate) fn for_version(&self, version: u8) -> Result<Canonical, Fault> {
         if version == self.end.version {
             return Ok(self.clone());
@@ -85,9 +85,9 @@ impl Canonical {
             .take(self.payloads)
     }
 
-    /// What leads from these data to the new, of whatever versions and sessions, or withdraws them
-    /// where there are none. It is in the higher one of the versions, so that what the lower one
-    /// lacks is withdrawn.
+    /// The changes from these data to new data of any versions and sessions, or those that withdraw
+    /// all if there are no new data. They are in the higher of the versions, so that payloads that
+    /// the lower one can't carry are withdrawn.
     ///
     /// # Errors
     ///
@@ -114,8 +114,12 @@ impl Canonical {
         let mut form = Vec::new();
         form.try_reserve_exact(self.bytes.len() + LONGEST_END)?;
         form.resize(form.capacity(), 0);
-        let made = normalise_for(&self.bytes, &mut form, u64::MAX, version);
-        form.truncate(made.expect("data have a form in each version").written);
+        let normalised = normalise_for(&self.bytes, &mut form, u64::MAX, version);
+        form.truncate(
+            normalised
+                .expect("data have a form in each version")
+                .written,
+        );
         if session != self.end.session {
             let end: UnitRef = Unit::EndOfData(EndOfData {
                 version,
@@ -134,17 +138,17 @@ impl Canonical {
     }
 }
 
-/// The changes that lead from the old data to the new, both of one version and session.
+/// The changes from old data to new data of the same version and session.
 fn delta(old: &[u8], new: &[u8]) -> Result<Canonical, TryReserveError> {
     let most = old.len() + new.len();
     let mut changes = Vec::new();
-    changes.try_reserve_exact(most / 8)?; // which is more than most changes have
-    let mut made = sys::append_delta(old, new, &mut changes);
-    if matches!(made, Err(error) if error.fault == Fault::NoRoom) {
+    changes.try_reserve_exact(most / 8)?; // enough for most changes
+    let mut result = sys::append_delta(old, new, &mut changes);
+    if matches!(result, Err(error) if error.fault == Fault::NoRoom) {
         changes = Vec::new();
         changes.try_reserve_exact(most)?;
-        made = sys::append_delta(old, new, &mut changes);
+        result = sys::append_delta(old, new, &mut changes);
     }
-    made.expect("data of one version and session");
-    Ok(Canonical::made(changes))
+    result.expect("data of one version and session");
+    Ok(Canonical::shrunk(changes))
 }

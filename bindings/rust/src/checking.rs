@@ -1,4 +1,4 @@
-//! What units break of the protocol's rules, as the program `rtr_list` says it with `--check`.
+//! Finds the protocol's rules that units break, as `rtr_list --check` does.
 
 use crate::abi::{FINDING_ROOM, NAME_ROOM};
 use crate::fault::Fault;
@@ -9,14 +9,14 @@ use alloc::vec;
 use alloc::vec::Vec;
 use core::fmt;
 
-/// A rule that the unit at an offset breaks, or all units together, where the offset is their
-/// length. As text it is the line of `rtr_list`.
+/// A rule that the unit at an offset breaks, or that all units together break; then the offset is
+/// their length. It is displayed as the line of `rtr_list`.
 #[derive(Clone, Debug, PartialEq, Eq, Hash)]
 #[non_exhaustive]
 pub struct Finding {
-    /// How many bytes stand before the unit.
+    /// The number of bytes before the unit.
     pub offset: u64,
-    /// The line, without its end.
+    /// The line, without a newline.
     pub line: String,
 }
 
@@ -26,8 +26,8 @@ impl fmt::Display for Finding {
     }
 }
 
-/// A check of units that come one after the other, which keeps the names of the payloads that are
-/// announced. It says what `rtr_list --check` says.
+/// A check of consecutive units, which keeps the names of announced payloads. Its findings are
+/// those of `rtr_list --check`.
 ///
 /// ```
 /// use rtr_wire::Checker;
@@ -56,7 +56,7 @@ pub struct Checker {
 }
 
 impl Checker {
-    /// A check that has seen no unit.
+    /// Returns a new check.
     #[must_use]
     pub fn new() -> Self {
         Checker {
@@ -67,11 +67,11 @@ impl Checker {
         }
     }
 
-    /// What the unit breaks that the input begins with, and the unit's size.
+    /// Returns the rules that the unit at the start of the input breaks, and the unit's size.
     ///
     /// # Errors
     ///
-    /// Those of [`unit_size`](crate::unit_size), `Short` if not all of the unit is there, and
+    /// Those of [`unit_size`](crate::unit_size), `Short` for an incomplete unit, and
     /// `EmptyProviders` for an ASPA that is announced without providers.
     pub fn unit(&mut self, input: &[u8]) -> Result<(Vec<Finding>, usize), Fault> {
         let naming = sys::check_name(input, &mut self.name)?;
@@ -79,7 +79,7 @@ impl Checker {
         let checked = sys::check_unit(&mut self.check, input, self.names.contains(name));
         let offset = self.offset;
         let found = checked.findings.iter();
-        let findings = found.filter_map(|finding| said(*finding, offset));
+        let findings = found.filter_map(|finding| to_finding(*finding, offset));
         if naming.begins {
             self.names.clear();
         }
@@ -92,10 +92,10 @@ impl Checker {
         Ok((findings.collect(), naming.size))
     }
 
-    /// What is missing where the input ends.
+    /// Returns the finding for all units together, if there is one.
     #[must_use]
     pub fn finish(&self) -> Option<Finding> {
-        said(sys::check_end(self.check), self.offset)
+        to_finding(sys::check_end(self.check), self.offset)
     }
 }
 
@@ -105,8 +105,8 @@ impl Default for Checker {
     }
 }
 
-/// The finding that the numbers stand for, if one does.
-fn said(finding: sys::FindingNumbers, offset: u64) -> Option<Finding> {
+/// Converts the numbers of a finding; none if they are no finding.
+fn to_finding(finding: sys::FindingNumbers, offset: u64) -> Option<Finding> {
     let mut line = vec![0; FINDING_ROOM];
     let length = sys::finding_line(finding, offset, &mut line);
     line.truncate(length);

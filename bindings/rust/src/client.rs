@@ -17,21 +17,21 @@ use std::string::String;
 use std::time::Duration;
 
 /// A router's end: it asks a cache for data, and follows their changes (RFC 8210 sections 6 to 8),
-/// in one thread, which wakes for bytes and times alone.
+/// in one thread, which wakes only for bytes and times.
 ///
-/// It asks for all data, and then for changes: when the cache notifies it of some, and when the
-/// refresh interval has passed. The data are always those that the cache had at one serial number:
-/// the changes of an answer are all made, or none. It falls to the version that the cache has (RFC
-/// 8210 section 7). After a cache reset it asks for all data (section 8.3), and for a new session
-/// it drops those that it has (section 5.1). A fault is answered by the report that it owes, and
-/// the connection is closed; then it connects again. Data that can't be refreshed are dropped when
-/// they expire (section 6).
+/// It asks for all data, and then for changes: after a notify of the cache, and when the refresh
+/// interval has passed. The data are always those that the cache had at one serial number: either
+/// all changes of an answer are applied, or none. It falls back to the version of the cache (RFC
+/// 8210 section 7). After a cache reset it asks for all data (section 8.3); in a new session it
+/// drops its data (section 5.1). After a fault of the cache it sends the report that is owed,
+/// closes the connection and reconnects. Data that can't be refreshed are dropped when they expire
+/// (section 6).
 ///
-/// Whatever the cache sends, or doesn't, costs no more memory and time than [`ClientOptions`]
-/// allow: some five times the bytes of an answer, at most.
+/// No cache can make it use more memory and time than [`ClientOptions`] allow: at most some five
+/// times the bytes of an answer.
 ///
-/// Over TCP alone nothing is encrypted, and the cache isn't authenticated (RFC 8210 section 9);
-/// [`over`](Client::over) has connections where that is so.
+/// Plain TCP neither encrypts nor authenticates the cache (RFC 8210 section 9);
+/// [`over`](Client::over) takes connections that do.
 ///
 /// ```
 /// use rtr_wire::{Client, ClientOptions, Data, Server, ServerOptions};
@@ -53,19 +53,19 @@ pub struct Client {
     pub(crate) log: Option<Box<Log>>,
 }
 
-/// What makes a connection in a time.
+/// The function that opens connections, each within a time.
 pub(crate) type Dial = dyn Fn(Duration) -> io::Result<Box<dyn Socket>> + Send + Sync;
 
 impl Client {
-    /// A client of the cache at this address: a name or an IPv4 address, a colon and a port, or an
-    /// IPv6 address in brackets, a colon and a port.
+    /// Returns a client of the cache at this address: a host name or an IPv4 address, a colon and a
+    /// port, or an IPv6 address in brackets, a colon and a port.
     pub fn new(address: impl Into<String>, options: ClientOptions) -> Self {
         let address = address.into();
         Client::over(options, move |time| dial(&address, time))
     }
 
-    /// A client that has each of its connections made by this function, in the time that it is
-    /// given: over TLS, for example.
+    /// Returns a client whose connections this function opens, each within the time that it gets:
+    /// over TLS, for example.
     pub fn over<S: Socket + 'static>(
         options: ClientOptions,
         dial: impl Fn(Duration) -> io::Result<S> + Send + Sync + 'static,
@@ -79,8 +79,8 @@ impl Client {
         }
     }
 
-    /// The same with a log, which is told of each connection, change of data and failure: a
-    /// message, and fields by their names.
+    /// Sets a log, which gets each connection, change of data and failure: a message, and fields by
+    /// name.
     #[must_use]
     pub fn with_log(
         self,
@@ -92,30 +92,30 @@ impl Client {
         }
     }
 
-    /// Asks once for all data. It falls to the version that the cache has.
+    /// Asks once for all data, and falls back to the version of the cache.
     ///
     /// # Errors
     ///
-    /// Any but `Expired`.
+    /// Any except `Expired`.
     pub fn fetch(&self) -> Result<Data, ClientError> {
         Follower::new(self).fetch()
     }
 
-    /// Follows the data of the cache until the client is stopped or told to break off, and answers
-    /// the data that it then has, if they haven't expired.
+    /// Follows the data of the cache until the client is stopped or `on` breaks, and returns the
+    /// data that it has then, if they haven't expired.
     pub fn run(&self, on: impl FnMut(Event<'_>) -> ControlFlow<()>) -> Option<Data> {
         Follower::new(self).run(on)
     }
 
-    /// The caller wants the present data: has [`run`](Client::run), also under
-    /// [`follow`](crate::follow()), ask the cache or connect before it is time, from any thread:
-    /// [`Router::ask_now`](crate::Router::ask_now). Where it doesn't run, nothing happens.
+    /// Requests current data, from any thread: [`run`](Client::run), also under
+    /// [`follow`](crate::follow()), asks the cache or connects earlier
+    /// ([`Router::ask_now`](crate::Router::ask_now)). No-op if the client doesn't run.
     pub fn ask_now(&self) {
         self.askings.ask();
     }
 
-    /// Has [`run`](Client::run) and [`fetch`](Client::fetch) end, from another thread or a signal's
-    /// handler: at once, but where a connection is just made.
+    /// Makes [`run`](Client::run) and [`fetch`](Client::fetch) return, from another thread or a
+    /// signal handler: at once, except while connecting.
     pub fn stop(&self) {
         self.stop.set();
     }

@@ -16,21 +16,21 @@ fn write_cause(f: &mut fmt::Formatter<'_>, cause: u8) -> fmt::Result {
     f.write_str(&sys::name(named::CAUSE, cause.into()))
 }
 
-/// What a cache did that the rules of a session don't allow.
+/// A breach of the rules of a session by a cache.
 #[derive(Clone, Copy, Debug, PartialEq, Eq)]
 #[non_exhaustive]
 pub enum Breach {
-    /// A unit isn't of the version of the session (RFC 8210 section 7).
+    /// A unit of another version than the session (RFC 8210 section 7).
     OtherVersion = cause::OTHER_VERSION as isize,
-    /// The answer is of a higher version than the query.
+    /// An answer of a higher version than the query.
     HigherVersion = cause::HIGHER_VERSION as isize,
-    /// A unit is of another session than the data (RFC 8210 section 5.1).
+    /// A unit of another session than the data (RFC 8210 section 5.1).
     OtherSession = cause::OTHER_SESSION as isize,
     /// The serial number of the end of data comes before that of the query.
     SerialBack = cause::OLD_SERIAL as isize,
-    /// There are other data at the very serial number of the query.
+    /// The data changed, but not the serial number.
     OtherData = cause::OTHER_DATA as isize,
-    /// A unit of this kind may not stand where it came.
+    /// A unit of this kind isn't allowed at this point.
     Misplaced = cause::OUT_OF_PLACE as isize,
     /// The version doesn't have payloads of this kind.
     NoPayload = cause::NO_SUCH_PAYLOAD as isize,
@@ -46,26 +46,26 @@ impl fmt::Display for Breach {
 #[derive(Debug)]
 #[non_exhaustive]
 pub enum ClientError {
-    /// The connection failed, or couldn't be made.
+    /// The connection failed, or couldn't be opened.
     #[cfg(feature = "std")]
     Io(std::io::Error),
     /// The cache closed the connection.
     Closed,
-    /// The cache let a limit of time pass.
+    /// The cache exceeded a time limit.
     TooSlow,
     /// The answer has more bytes or units than are allowed.
     TooLong,
     /// The cache didn't refresh the data in time, and they were dropped (RFC 8210 section 6).
     Expired,
-    /// There is no memory for an answer. The data stay, and it is asked for again.
+    /// There is no memory for an answer. The data stay, and the client asks again.
     NoMemory,
-    /// The cache has no payloads, which is no data for a [`Group`](crate::Group).
+    /// The cache has no payloads, which a [`Group`](crate::Group) doesn't accept as data.
     Empty,
     /// The client was stopped.
     Stopped,
     /// A unit is refused.
     Refused(Refusal),
-    /// The changes are refused, or those of one payload contradict one another.
+    /// The changes are refused, or contradict one another.
     Data {
         /// Why.
         error: DataError,
@@ -125,8 +125,8 @@ impl error::Error for ClientError {
 }
 
 impl ClientError {
-    /// Why a connection ends so. The input begins with the unit or the change that it is about, at
-    /// this offset of the connection.
+    /// The error for the reason in `todo`. The input begins with the unit or the change at fault,
+    /// at this offset of the connection.
     pub(crate) fn of(todo: &Todo, input: &[u8], offset: u64) -> ClientError {
         let reason = match todo.cause {
             cause::SLOW => return ClientError::TooSlow,
@@ -158,7 +158,7 @@ impl ClientError {
         }
     }
 
-    /// What the report says that the input begins with.
+    /// The error for the report at the start of the input.
     pub(crate) fn reported(input: &[u8]) -> ClientError {
         match Unit::first(input) {
             Ok((Unit::ErrorReport(report), _)) => ClientError::Reported(report.into_owned()),

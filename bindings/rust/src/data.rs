@@ -15,30 +15,31 @@ pub enum Side {
     Second,
 }
 
-/// Where the unit at fault begins.
+/// The location of the unit at fault.
 #[derive(Clone, Copy, Debug, PartialEq, Eq, Hash)]
 pub struct Place {
     /// The input that has it.
     pub side: Side,
-    /// How many bytes of that input come before it.
+    /// Its offset in that input, in bytes.
     pub offset: usize,
 }
 
-/// Why a call on data or changes failed. Then nothing is changed.
+/// Why a call on data or changes failed. It changed nothing.
 #[derive(Clone, Copy, Debug, PartialEq, Eq, Hash)]
 #[non_exhaustive]
 pub struct DataError {
     /// What is wrong.
     pub fault: Fault,
-    /// The unit that is at fault. There is none for `UnitVersion` and `OtherSession` of two inputs
-    /// that don't fit together, nor for `NoRoom` and `NoIndex`.
+    /// The location of the unit at fault; none for `UnitVersion` and `OtherSession` of two inputs
+    /// of different versions or sessions, and for `NoRoom` and `NoIndex`.
     pub place: Option<Place>,
 }
 
 impl DataError {
-    /// The error report that the peer is owed, if one is, where these are the bytes of the input at
-    /// fault: [`Fault::report`] about the unit there. A duplicate has code 7, and a withdrawal of
-    /// what isn't there code 6 (RFC 8210 sections 5.11 and 12).
+    /// The error report that the peer is owed, if it is owed one; `input` is the input at fault.
+    /// See
+    /// [`Fault::report`]. A duplicate has code 7, a withdrawal of an unknown record code 6 (RFC 8210
+    /// sections 5.11 and 12).
     #[must_use]
     pub fn report<'a>(&self, input: &'a [u8], text: &'a str) -> Option<ErrorReport<&'a [u8]>> {
         let unit = input.get(self.place?.offset..)?;
@@ -57,29 +58,29 @@ impl fmt::Display for DataError {
 
 impl Error for DataError {}
 
-/// Writes the delta that leads a router from the old data to the new (RFC 8210 section 8.2):
-/// changes in canonical form, with the end of data of the new data. It answers their length. An
-/// output as long as both inputs together always suffices, and nothing is allocated.
+/// Writes the delta from old data to new data (RFC 8210 section 8.2), and returns its length:
+/// changes in canonical form, with the end of data of the new data. An output as long as both
+/// inputs together always suffices. It allocates nothing.
 ///
-/// Both are data in canonical form, as `Data` has it; what follows an end of data doesn't count.
+/// Both are data in canonical form, as in `Data`; bytes after an end of data are ignored.
 ///
 /// # Errors
 ///
 /// In this order: `Short` to `Prefix` or `NotCanonical`, the first fault of the old data, or else
-/// of the new; `UnitVersion` with the version of the new data, where the old are of another;
-/// `OtherSession`; `NoRoom`. After `NoRoom` the bytes of the output are open, after any other they
-/// are as they were.
+/// of the new; `UnitVersion` with the version of the new data, if the old are of another;
+/// `OtherSession`; `NoRoom`. After `NoRoom` the content of the output is unspecified; after other
+/// errors it is unchanged.
 pub fn delta_into(old: &[u8], new: &[u8], output: &mut [u8]) -> Result<usize, DataError> {
     sys::delta(old, new, output)
 }
 
-/// Writes what the changes make of the data: data in canonical form, with the end of data of the
-/// changes. It answers their length. All changes are made, or none. An ASPA that is announced takes
-/// the place of the one of its customer. An output as long as both inputs together always suffices,
-/// and nothing is allocated.
+/// Applies changes to data, and writes the result in canonical form, with the end of data of the
+/// changes; returns its length. Either all changes are applied, or none. An announced ASPA replaces
+/// the one of its customer. An output as long as both inputs together always suffices. It allocates
+/// nothing.
 ///
-/// Both are in canonical form, as `Data` and `Changes` have it; what follows their ends of data
-/// doesn't count. [`order_into`] puts changes into it, and [`apply_in_order`] takes others.
+/// Both are in canonical form, as in `Data` and `Changes`; bytes after their ends of data are
+/// ignored. [`order_into`] brings changes into that form, and [`apply_in_order`] takes any order.
 ///
 /// ```
 /// use rtr_wire::apply_into;
@@ -99,24 +100,23 @@ pub fn delta_into(old: &[u8], new: &[u8], output: &mut [u8]) -> Result<usize, Da
 /// # Errors
 ///
 /// In this order: `Short` to `Prefix` or `NotCanonical`, the first fault of the data, or else of
-/// the changes; `UnitVersion` with the version of the changes, where the data are of another;
-/// `OtherSession`; `Duplicate` or `UnknownRecord` of the first of the changes that isn't allowed;
-/// `NoRoom`. After `NoRoom` the bytes of the output are open, after any other they are as they
-/// were.
+/// the changes; `UnitVersion` with the version of the changes, if the data are of another;
+/// `OtherSession`; `Duplicate` or `UnknownRecord` for the first change that isn't allowed;
+/// `NoRoom`. After `NoRoom` the content of the output is unspecified; after other errors it is
+/// unchanged.
 pub fn apply_into(data: &[u8], changes: &[u8], output: &mut [u8]) -> Result<usize, DataError> {
     sys::apply(data, changes, output)
 }
 
-/// Writes what the changes of an answer make of the data, made one after the other in the order in
-/// which they came: data in canonical form, with the end of data of the changes. It answers their
-/// length. All changes are made, or none. An ASPA that is announced takes the place of the one of
-/// its customer. An output as long as both inputs together always suffices, and nothing is
-/// allocated.
+/// Applies the changes of an answer to data, one after the other, and writes the result in
+/// canonical form, with the end of data of the changes; returns its length. Either all changes are
+/// applied, or none. An announced ASPA replaces the one of its customer. An output as long as both
+/// inputs together always suffices. It allocates nothing.
 ///
-/// The data are in canonical form, as `Data` has it; the changes are a sequence, as a cache sends
-/// it after its response. What follows their ends of data doesn't count. The index is room to work
-/// in, with a place for each payload unit of the changes: `changes.len() / 12` always suffice. What
-/// it holds afterwards is open.
+/// The data are in canonical form, as in `Data`; the changes are a sequence, as a cache sends it
+/// after its response. Bytes after their ends of data are ignored. The index is working memory with
+/// an entry for each payload unit of the changes: `changes.len() / 12` entries always suffice. Its
+/// content afterwards is unspecified.
 ///
 /// ```
 /// use rtr_wire::{apply_in_order, Fault};
@@ -141,15 +141,15 @@ pub fn apply_into(data: &[u8], changes: &[u8], output: &mut [u8]) -> Result<usiz
 ///
 /// In this order:
 ///
-/// - `Short` to `Prefix` or `NotCanonical`, the first fault of the data, or else of the changes,
-///   where `NotCanonical` is of what isn't of the version of the units before it;
-/// - `UnitVersion` with the version of the changes, where the data are of another; `OtherSession`;
+/// - `Short` to `Prefix` or `NotCanonical`, the first fault of the data, or else of the changes, in
+///   which `NotCanonical` is a unit of another version than those before it;
+/// - `UnitVersion` with the version of the changes, if the data are of another; `OtherSession`;
 /// - `NoIndex`;
-/// - `Duplicate` or `UnknownRecord` for the first of the changes, as they came, that announces what
-///   is there then or withdraws what isn't (RFC 8210 section 12);
+/// - `Duplicate` or `UnknownRecord` for the first unit that announces a payload which is already
+///   present, or withdraws one which isn't (RFC 8210 section 12);
 /// - `NoRoom`.
 ///
-/// After `NoRoom` the bytes of the output are open, after any other they are as they were.
+/// After `NoRoom` the content of the output is unspecified; after other errors it is unchanged.
 pub fn apply_in_order(
     data: &[u8],
     changes: &[u8],
@@ -159,14 +159,13 @@ pub fn apply_in_order(
     sys::apply_in_order(data, changes, index, output)
 }
 
-/// Writes the sequence that the input begins with in canonical form: what its changes come to, made
-/// one after the other. It answers their length. Caches send deltas in any order, and
-/// [`apply_into`] takes them in canonical form alone; [`apply_in_order`] takes them as they are. An
-/// output as long as the input always
-/// suffices, and nothing is allocated.
+/// Writes the net effect of the changes in the sequence at the start of the input, in canonical
+/// form, and returns its length. Caches send deltas in any order, but [`apply_into`] takes them
+/// only in canonical form; [`apply_in_order`] takes them as they are. An output as long as the
+/// input always suffices. It allocates nothing.
 ///
-/// The index is room to work in, with a place for each payload unit: `input.len() / 12` always
-/// suffice. What it holds afterwards is open.
+/// The index is working memory with an entry for each payload unit: `input.len() / 12` entries
+/// always suffice. Its content afterwards is unspecified.
 ///
 /// ```
 /// use rtr_wire::order_into;
@@ -187,15 +186,15 @@ pub fn apply_in_order(
 ///
 /// In this order:
 ///
-/// - `Short` to `Prefix`, or `NotCanonical` for what isn't of the version of the units before it:
-///   the first fault of the input;
+/// - `Short` to `Prefix`, or `NotCanonical` for a unit of another version than those before it: the
+///   first fault of the input;
 /// - `NoIndex`;
-/// - `Duplicate` or `UnknownRecord` for the second unit that announces, or withdraws, a payload
-///   with nothing in between, and `Undecided` for the last change of a customer's ASPA
-///   where that withdraws and the first announces: the first in the order of payloads;
+/// - `Duplicate` or `UnknownRecord` for a payload that is announced, or withdrawn, twice in a row,
+///   and `Undecided` for an ASPA that is first announced and in the end withdrawn: the first of
+///   these in the order of payloads;
 /// - `NoRoom`.
 ///
-/// After `NoRoom` the bytes of the output are open, after any other they are as they were.
+/// After `NoRoom` the content of the output is unspecified; after other errors it is unchanged.
 pub fn order_into(
     input: &[u8],
     index: &mut [usize],

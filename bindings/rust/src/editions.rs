@@ -30,12 +30,12 @@ pub(crate) struct Edition {
     back: Vec<Back>,
     /// The serial numbers that these lead to.
     pub(crate) known: Vec<u32>,
-    made: Mutex<Made>,
+    encoded: Mutex<Encoded>,
 }
 
 /// Encoded answers, made when the first client asks.
 #[derive(Debug, Default)]
-struct Made {
+struct Encoded {
     forms: [Option<Body>; VERSIONS],
     /// Deltas to the present data, by the serial number they start from: whole, and by version.
     changes: BTreeMap<u32, (Changes, [Option<Changes>; VERSIONS])>,
@@ -65,11 +65,11 @@ impl Edition {
             data,
             back: Vec::new(),
             known: Vec::new(),
-            made: Mutex::default(),
+            encoded: Mutex::default(),
         }
     }
 
-    /// The next edition, of these data; none if nothing has changed.
+    /// Returns the next edition, with these data; none if nothing has changed.
     pub(crate) fn next(
         &self,
         data: &Data,
@@ -108,23 +108,23 @@ impl Edition {
     /// The same, with the steps back to earlier serial numbers, as far as the options allow.
     fn keeping(mut self, back: impl IntoIterator<Item = Back>, options: &ServerOptions) -> Edition {
         let end = self.data.end();
-        let mut room = options.keep_bytes;
+        let mut left = options.keep_bytes;
         for Back { until, changes } in back {
             let changes = changes.in_version(end.version);
             let (serial, size) = (changes.end().serial, changes.as_bytes().len());
             let comes_before = compare_serials(serial, end.serial) == Some(Ordering::Less);
             let is_old = until.elapsed().map_or(false, |age| age > options.keep);
-            if !comes_before || is_old || size > room {
+            if !comes_before || is_old || size > left {
                 break;
             }
-            room -= size;
+            left -= size;
             self.known.push(serial);
             self.back.push(Back { until, changes });
         }
         self
     }
 
-    /// The edition that was saved, if its parts fit together.
+    /// Returns a saved edition, if its parts are consistent.
     pub(crate) fn restored(data: Data, back: Vec<Back>, options: &ServerOptions) -> Option<Self> {
         let edition = Edition::first(data, 0).keeping(back, options);
         let oldest = edition.known.last();
@@ -133,7 +133,8 @@ impl Edition {
             .then_some(edition)
     }
 
-    /// What is saved: the data, and the steps back, each with the time when newer data came.
+    /// Returns the sequences to save: the data, and the steps back, each with the time when newer
+    /// data came.
     pub(crate) fn sequences(&self) -> impl Iterator<Item = (SystemTime, &[u8])> {
         let back = self
             .back
@@ -163,7 +164,7 @@ impl Edition {
 
     /// All data as encoded for clients of a version.
     pub(crate) fn all(&self, version: u8) -> Body {
-        let form = &mut locked(&self.made).forms[usize::from(version)];
+        let form = &mut locked(&self.encoded).forms[usize::from(version)];
         form.get_or_insert_with(|| Body::filed(self.data.in_version(version).shared()))
             .clone()
     }
@@ -175,15 +176,18 @@ impl Edition {
             let end = self.data.without_payloads().in_version(version);
             return Body::Allocated(end.shared());
         }
-        let is_made = locked(&self.made).changes.contains_key(&serial);
-        if !is_made {
+        let is_known = locked(&self.encoded).changes.contains_key(&serial);
+        if !is_known {
             let old = self
                 .at(serial)
-                .expect("each step leads back to where the next begins");
+                .expect("each step leads back to the start of the next");
             self.lead_from(&old, options);
         }
-        let mut made = locked(&self.made);
-        let (whole, forms) = made.changes.get_mut(&serial).expect("it was just made");
+        let mut encoded = locked(&self.encoded);
+        let (whole, forms) = encoded
+            .changes
+            .get_mut(&serial)
+            .expect("it was just computed");
         // Changes are filtered by version as data are.
         let form = forms[usize::from(version)].get_or_insert_with(|| whole.in_version(version));
         Body::Allocated(form.shared())
@@ -195,13 +199,14 @@ impl Edition {
             .delta_to(&self.data)
             .expect("both are of one session and version");
         let size = changes.as_bytes().len();
-        let mut made = locked(&self.made);
-        made.size += size;
-        if made.size > options.keep_bytes {
-            made.changes.clear();
-            made.size = size;
+        let mut encoded = locked(&self.encoded);
+        encoded.size += size;
+        if encoded.size > options.keep_bytes {
+            encoded.changes.clear();
+            encoded.size = size;
         }
-        made.changes
+        encoded
+            .changes
             .insert(old.end().serial, (changes, Default::default()));
     }
 }

@@ -1,4 +1,4 @@
-//! What may be wrong with a unit or a call.
+//! Faults of units and calls.
 
 use crate::abi::{code, named, prefix_rule, status, HEADER_SIZE, MOST_REPORT_PARTS};
 use crate::error::Error;
@@ -25,33 +25,33 @@ pub enum Fault {
     EmptyProviders,
     /// The lengths of a prefix break this part of their rule.
     Prefix(PrefixRule),
-    /// As many units as were allowed were taken.
+    /// The limit of units was reached before an end of data.
     TooMany,
-    /// The output is too short for what comes next.
+    /// The output is too short.
     NoRoom,
     /// No unit has these fields.
     NoForm,
-    /// This unit or end of data may not stand there in data or changes in canonical form.
+    /// A unit, or an end of data, breaks the canonical form of data or changes.
     NotCanonical,
-    /// The second input is of another session than the first, or an end of data than its answer.
+    /// The second input is of another session than the first, or an end of data of another session
+    /// than its answer.
     OtherSession,
-    /// A payload is announced that is there already.
+    /// A payload is announced that is already present.
     Duplicate,
-    /// A payload is withdrawn that isn't there.
+    /// A payload is withdrawn that isn't present.
     UnknownRecord,
-    /// An ASPA is announced and then withdrawn, so that what the changes come to depends on the
-    /// data.
+    /// An ASPA is announced and then withdrawn, so the net change depends on the data.
     Undecided,
-    /// The index has fewer places than there are units.
+    /// The index has fewer entries than there are units.
     NoIndex,
-    /// In a recording a unit of this version stands in an answer of another, or changes data of
+    /// In a recording, a unit of this version is in an answer of another, or changes data of
     /// another.
     OtherVersion(u8),
-    /// In a recording the serial number of changes comes before that of the data.
+    /// In a recording, the serial number of changes comes before that of the data.
     OldSerial,
-    /// A cache reset stands inside an answer.
+    /// A cache reset inside an answer.
     ResetInside,
-    /// An error report stands inside an answer.
+    /// An error report inside an answer.
     ReportInside,
     /// A status that this version of the crate doesn't know.
     Unknown(u8),
@@ -141,19 +141,18 @@ impl Fault {
         }
     }
 
-    /// The error code that this fault is reported with, where it is that of the unit that these
-    /// bytes begin, or none: for what isn't the peer's fault, and about an error report (RFC 8210
-    /// sections 5.11 and 12).
+    /// The error code for this fault of the unit at the start of these bytes. It is none if the
+    /// peer isn't at fault, and for an error report (RFC 8210 sections 5.11 and 12).
     pub fn code(self, unit: &[u8]) -> Option<ErrorCode> {
         sys::error_code(self.status(), unit).map(ErrorCode)
     }
 
-    /// The error report that this fault owes to the peer, where it is that of the unit that these
-    /// bytes begin, if it owes one (RFC 8210 section 5.11). It has the version of that unit: set
-    /// another one where the session has another.
+    /// The error report that the peer is owed for this fault of the unit at the start of these
+    /// bytes, if it is owed one (RFC 8210 section 5.11). It has the version of that unit: change it
+    /// if the session has another.
     ///
-    /// It encloses that unit, of one whose header is refused the header, and at most 65519 bytes;
-    /// of the text as much as is then left. More bytes after the unit don't matter.
+    /// It encloses the unit, or only the header if that is refused, up to 65519 bytes; then as much
+    /// of the text as fits. Bytes after the unit are ignored.
     #[must_use]
     pub fn report<'a>(self, unit: &'a [u8], text: &'a str) -> Option<ErrorReport<&'a [u8]>> {
         let code = self.code(unit)?;
@@ -171,8 +170,8 @@ impl Fault {
         })
     }
 
-    /// Of the bytes that a unit with this fault begins those that are its own: of one whose header
-    /// is refused, the header, since the length in it is not to be believed.
+    /// The bytes of the unit with this fault at the start of these bytes: only the header if that
+    /// is refused, since its length can't be trusted.
     pub(crate) fn of_unit(self, bytes: &[u8]) -> &[u8] {
         let size = match self {
             Fault::Short => bytes.len(),
@@ -204,13 +203,13 @@ impl fmt::Display for Fault {
 
 impl Error for Fault {}
 
-/// What was wrong, in an error report (RFC 8210 section 12). Codes above 8 are as in the Rust crate
+/// The code of an error report (RFC 8210 section 12). Codes above 8 are those of the Rust crate
 /// `rpki`.
 #[derive(Clone, Copy, Debug, PartialEq, Eq, PartialOrd, Ord, Hash)]
 pub struct ErrorCode(pub u16);
 
 impl ErrorCode {
-    /// The data that came can't be read, or its fields contradict one another.
+    /// The received data can't be parsed, or their fields contradict one another.
     pub const CORRUPT_DATA: Self = ErrorCode(code::CORRUPT_DATA);
     /// The peer failed for a reason of its own.
     pub const INTERNAL_ERROR: Self = ErrorCode(code::INTERNAL_ERROR);
@@ -224,7 +223,7 @@ impl ErrorCode {
     pub const UNSUPPORTED_PDU_TYPE: Self = ErrorCode(code::UNSUPPORTED_PDU_TYPE);
     /// A record was withdrawn that the router doesn't have.
     pub const WITHDRAWAL_OF_UNKNOWN_RECORD: Self = ErrorCode(code::WITHDRAWAL_OF_UNKNOWN_RECORD);
-    /// A record was announced that the router has already.
+    /// A record was announced that the router already has.
     pub const DUPLICATE_ANNOUNCEMENT_RECEIVED: Self =
         ErrorCode(code::DUPLICATE_ANNOUNCEMENT_RECEIVED);
     /// A unit has another version than the one agreed on.

@@ -16,24 +16,23 @@ use std::thread;
 use std::time::{Duration, Instant};
 use std::vec::Vec;
 
-/// Follows the data of the most preferred of some caches that answers (RFC 8210 section 10), as a
-/// [`Group`](crate::Group) of this number of members decides, until the caller breaks off or a
-/// client that runs is stopped. It returns the data that are then shown. The group's settings are
-/// the default ones; an empty answer of the only member is data.
+/// Follows the data of the most preferred cache that answers (RFC 8210 section 10), as a
+/// [`Group`](crate::Group) with this number of members decides, until `on` breaks or a running
+/// client is stopped. Returns the data in use at the end. The group has the default settings; an
+/// answer without payloads counts as data if there is only one member.
 ///
-/// A member is started with the client that the first function makes for its number each time, in
-/// a thread of its own. The other function is told what happens: [`Event::Data`] of the member
-/// whose data are shown, [`Event::Dropped`] of the last one that had data, and each
-/// [`Event::Failed`], also [`ClientError::Empty`](crate::ClientError::Empty). If others' data are
-/// shown than before, the changes lead there from those, of whatever session and version they were.
+/// Each time a member is started, `client` returns the client for its number, which runs in its own
+/// thread. `on` is called with each event: [`Event::Data`] of the member whose data are used,
+/// [`Event::Dropped`] of the last one that had data, and each [`Event::Failed`], also
+/// [`ClientError::Empty`](crate::ClientError::Empty). After a switch to another member the changes
+/// are those from the data used before, of any session and version.
 ///
-/// Clients that aren't needed any more are stopped, and all are at the end, without waiting for
-/// their threads.
+/// Clients that aren't needed any more are stopped, and all are stopped at the end, without waiting
+/// for their threads.
 ///
 /// # Errors
 ///
-/// For more than [`Group::MOST`](crate::Group::MOST) members, or if the system has no thread for
-/// one.
+/// For more than [`Group::MOST`](crate::Group::MOST) members, or if a thread can't be started.
 ///
 /// ```
 /// use rtr_wire::{follow, Client, ClientOptions, Data, Event, RoaPayload, Server, ServerOptions};
@@ -101,7 +100,7 @@ fn run(
         begun: Instant::now(),
         preferred,
         members: (0..members).map(|_| None).collect(),
-        kept: (0..members).map(|_| Kept::default()).collect(),
+        kept: (0..members).map(|_| SavedRouter::default()).collect(),
         turns: 0,
         client,
         sender,
@@ -115,10 +114,10 @@ fn run(
 
 /// The router of a stopped member, with its clock, with which it continues when it is started
 /// again. A run holds the lock from its start to its end.
-type Kept = Arc<Mutex<Option<Timed>>>;
+type SavedRouter = Arc<Mutex<Option<Timed>>>;
 
 /// A message of a member's thread.
-struct Told {
+struct Message {
     member: usize,
     turn: u64,
     /// The step and the data after it; none if the client has ended.
@@ -126,24 +125,24 @@ struct Told {
 }
 
 /// The sending end of a member's thread. Dropping it reports that the client has ended.
-struct Teller {
+struct Sender {
     member: usize,
     turn: u64,
-    sender: SyncSender<Told>,
+    sender: SyncSender<Message>,
 }
 
-impl Teller {
+impl Sender {
     /// Sends a message; breaks off if nobody receives any more.
     fn tell(&self, step: Option<(Step, Option<Data>)>) -> ControlFlow<()> {
         let (member, turn) = (self.member, self.turn);
-        match self.sender.send(Told { member, turn, step }) {
+        match self.sender.send(Message { member, turn, step }) {
             Ok(()) => ControlFlow::Continue(()),
             Err(_) => ControlFlow::Break(()),
         }
     }
 }
 
-impl Drop for Teller {
+impl Drop for Sender {
     fn drop(&mut self) {
         let _ = self.tell(None);
     }
@@ -162,15 +161,15 @@ impl Drop for Member {
     }
 }
 
-/// The members, and what is shown.
+/// The members, and the data in use.
 struct Followed<C> {
     begun: Instant,
     preferred: Preferred,
     members: Vec<Option<Member>>,
-    kept: Vec<Kept>,
+    kept: Vec<SavedRouter>,
     turns: u64,
     client: C,
-    sender: SyncSender<Told>,
+    sender: SyncSender<Message>,
 }
 
 impl<C: FnMut(usize) -> Arc<Client>> Followed<C> {
@@ -185,14 +184,15 @@ impl<C: FnMut(usize) -> Arc<Client>> Followed<C> {
         let kept = Arc::clone(&self.kept[member]);
         let thread = thread::Builder::new().name(format!("rtr client {member}"));
         thread.spawn(move || {
-            let teller = Teller {
+            let member_sender = Sender {
                 member,
                 turn,
                 sender,
             };
             let mut kept = kept.lock().unwrap_or_else(PoisonError::into_inner);
             let follower = Follower::after(&client, kept.take());
-            let router = follower.steps(|step, data| teller.tell(Some((step, data.cloned()))));
+            let router =
+                follower.steps(|step, data| member_sender.tell(Some((step, data.cloned()))));
             *kept = Some(router);
         })?;
         Ok(())
@@ -204,24 +204,24 @@ impl<C: FnMut(usize) -> Arc<Client>> Followed<C> {
     }
 
     /// The next message of a thread; a timeout at the group's next tick.
-    fn next(&self, told: &Receiver<Told>) -> Result<Told, RecvTimeoutError> {
+    fn next(&self, messages: &Receiver<Message>) -> Result<Message, RecvTimeoutError> {
         match self.preferred.wakes() {
-            u64::MAX => told.recv().map_err(RecvTimeoutError::from),
-            wakes => told.recv_timeout(Duration::from_millis(wakes.saturating_sub(self.now()))),
+            u64::MAX => messages.recv().map_err(RecvTimeoutError::from),
+            wakes => messages.recv_timeout(Duration::from_millis(wakes.saturating_sub(self.now()))),
         }
     }
 
     /// Handles messages until the caller breaks off or a client has ended.
     fn run(
         &mut self,
-        told: &Receiver<Told>,
+        messages: &Receiver<Message>,
         on: &mut impl FnMut(usize, Event<'_>) -> ControlFlow<()>,
     ) -> io::Result<()> {
         loop {
-            let decided = match self.next(told) {
+            let decided = match self.next(messages) {
                 Err(RecvTimeoutError::Disconnected) => return Ok(()),
                 Err(RecvTimeoutError::Timeout) => self.preferred.tick(self.now()),
-                Ok(Told { member, turn, step }) => {
+                Ok(Message { member, turn, step }) => {
                     if !matches!(&self.members[member], Some(runs) if runs.turn == turn) {
                         continue;
                     }
@@ -241,7 +241,7 @@ impl<C: FnMut(usize) -> Arc<Client>> Followed<C> {
         }
     }
 
-    /// Tells the caller what happened.
+    /// Passes events to the caller.
     fn tell(
         &mut self,
         on: &mut impl FnMut(usize, Event<'_>) -> ControlFlow<()>,

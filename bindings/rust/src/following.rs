@@ -1,4 +1,4 @@
-//! The host of a router: its socket, in one thread.
+//! Runs a router with a socket, in one thread.
 
 use crate::asking::Asking;
 use crate::client::Client;
@@ -23,7 +23,7 @@ use std::vec::Vec;
 /// The least time for a connection attempt, even if less is left.
 const LEAST: Duration = Duration::from_millis(100);
 
-/// A router, and the moment when its clock began.
+/// A router, and the start of its clock.
 pub(crate) struct Timed {
     router: Router,
     begun: Instant,
@@ -58,7 +58,7 @@ impl<'c> Follower<'c> {
         Follower::of(client, Timed::new(&client.options))
     }
 
-    /// The same, which continues with the router of an earlier run, if there is one.
+    /// Returns a follower that continues with the router of an earlier run, if there is one.
     pub(crate) fn after(client: &'c Client, earlier: Option<Timed>) -> Self {
         Follower::of(
             client,
@@ -169,7 +169,7 @@ impl<'c> Follower<'c> {
         Duration::from_millis(self.router.wakes().saturating_sub(self.now()))
     }
 
-    /// A connection, if one is made before the router's next tick.
+    /// Opens a connection, unless the router's next tick comes before.
     fn connect(&mut self) {
         match (self.client.dial)(self.left().max(LEAST)) {
             Ok(socket) => {

@@ -6,18 +6,18 @@ use core::fmt;
 use core::mem::MaybeUninit;
 use core::time::Duration;
 
-/// Decides whose data are shown and who is asked, of several members by preference (RFC 8210
+/// Decides which of several members are asked, and whose data are used, by preference (RFC 8210
 /// section 10). A member follows a cache, as a `Router` or a `Client` does; member 0 is preferred
 /// most.
 ///
 /// It holds no data. Its caller starts member 0, calls one method for each event of a member, and
 /// [`Group::tick`] at the time [`Group::wakes`]; and carries out each decision. Events of a member
-/// that doesn't run are ignored. Times are in milliseconds of a clock that doesn't go back.
+/// that doesn't run are ignored. Times are in milliseconds, by a monotonic clock.
 ///
 /// A member is current from a whole answer until its next failure. The data of the most preferred
-/// current member are shown; while none is current, those of the member that had a whole answer
-/// last, until they expire. A member runs while each one before it, since it was started and since
-/// its last whole answer, failed or was silent for the patience.
+/// current member are used; while none is current, those of the member that was current last, until
+/// they expire. A member runs while each one before it, since its start and its last whole answer,
+/// has failed or was silent for the patience.
 ///
 /// ```
 /// use rtr_wire::{Group, GroupSettings, Shown};
@@ -47,7 +47,7 @@ pub struct GroupSettings {
 impl Default for GroupSettings {
     fn default() -> Self {
         let mut usual = MaybeUninit::uninit();
-        // SAFETY: the call writes all of the struct that the pointer points at.
+        // SAFETY: the call initializes the whole struct.
         let usual: abi::GroupSettings = unsafe {
             abi::rtr_group_usual(usual.as_mut_ptr());
             usual.assume_init()
@@ -78,15 +78,15 @@ impl std::error::Error for TooManyMembers {}
 /// A decision of a [`Group`], which its caller carries out in this order.
 #[derive(Clone, Copy, Debug, PartialEq, Eq, Hash)]
 pub struct Decision {
-    /// What to show.
+    /// Which data to use.
     pub shown: Shown,
-    /// Stop this member and all after it, and forget their data.
+    /// Stop this member and all after it, and drop their data.
     pub stop: Option<usize>,
     /// Start this member, without data.
     pub start: Option<usize>,
 }
 
-/// What a [`Group`] shows.
+/// The data that a [`Group`] uses.
 #[derive(Clone, Copy, Debug, PartialEq, Eq, Hash)]
 pub enum Shown {
     /// The same as before.
@@ -101,20 +101,20 @@ impl Group {
     /// The most members of a group.
     pub const MOST: usize = MOST_MEMBERS;
 
-    /// A group of this number of members without data, whose first one is started now.
+    /// Returns a group of this number of members without data; the first one is started now.
     ///
     /// # Errors
     ///
     /// For more than [`Group::MOST`].
     pub fn new(members: usize, settings: GroupSettings, now: u64) -> Result<Group, TooManyMembers> {
-        let wanted = abi::GroupSettings {
+        let settings = abi::GroupSettings {
             patience: milliseconds(settings.patience),
             empty_is_data: settings.empty_is_data,
         };
         let mut group = MaybeUninit::uninit();
-        // SAFETY: the call writes all of the struct that the first pointer points at.
+        // SAFETY: the call initializes the whole struct of the first pointer.
         let (answer, group) = unsafe {
-            let answer = abi::rtr_group_init(group.as_mut_ptr(), &wanted, members, now);
+            let answer = abi::rtr_group_init(group.as_mut_ptr(), &settings, members, now);
             (answer, group.assume_init())
         };
         match answer {
@@ -123,21 +123,21 @@ impl Group {
         }
     }
 
-    /// When to call [`Group::tick`], if nothing happens before; `u64::MAX` for never.
+    /// When to call [`Group::tick`] if nothing happens before; `u64::MAX` for never.
     #[must_use]
     pub fn wakes(&self) -> u64 {
         // SAFETY: the pointer is to a live group; so below.
         unsafe { abi::rtr_group_wakes(&self.0) }
     }
 
-    /// Time has passed: starts the next member if the patience is over.
+    /// Reports that time has passed. Starts the next member if the patience is over.
     pub fn tick(&mut self, now: u64) -> Decision {
         let mut answer = GroupAnswer::default();
         unsafe { abi::rtr_group_tick(&mut self.0, now, &mut answer) };
         Decision::of(&answer)
     }
 
-    /// The member whose data are shown.
+    /// The member whose data are used.
     #[must_use]
     pub fn best(&self) -> Option<usize> {
         let mut member = 0;
@@ -146,23 +146,23 @@ impl Group {
         has.then_some(member)
     }
 
-    /// A member has data of a whole answer, with this number of payloads; they may be the same as
-    /// before.
+    /// Reports that a member has the data of a whole answer, with this number of payloads; they may
+    /// be the same as before.
     pub fn shows(&mut self, now: u64, member: usize, payloads: usize) -> Decision {
         let mut answer = GroupAnswer::default();
         unsafe { abi::rtr_group_shows(&mut self.0, now, member, payloads, &mut answer) };
         Decision::of(&answer)
     }
 
-    /// A member has no data any more. This is a failure too: if a connection ends so, don't call
-    /// [`Group::fails`] as well.
+    /// Reports that a member lost its data. This is also a failure: don't call [`Group::fails`] for
+    /// the end of the connection.
     pub fn drops(&mut self, now: u64, member: usize) -> Decision {
         let mut answer = GroupAnswer::default();
         unsafe { abi::rtr_group_drops(&mut self.0, now, member, &mut answer) };
         Decision::of(&answer)
     }
 
-    /// A member failed, or its cache has no data. The data that it has stay.
+    /// Reports that a member failed, or that its cache has no data. Its present data stay.
     pub fn fails(&mut self, now: u64, member: usize) -> Decision {
         let mut answer = GroupAnswer::default();
         unsafe { abi::rtr_group_fails(&mut self.0, now, member, &mut answer) };

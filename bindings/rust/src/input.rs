@@ -2,17 +2,17 @@
 
 use alloc::vec::Vec;
 
-/// Bytes that came on a connection and aren't consumed yet.
+/// Received bytes of a connection that aren't consumed yet.
 #[derive(Debug, Default)]
 pub(crate) struct Input {
     came: Vec<u8>,
-    /// How many of them are consumed.
+    /// The number of consumed bytes.
     taken: usize,
     ended: bool,
 }
 
 impl Input {
-    /// Appends bytes that came. No bytes mean the end of the stream.
+    /// Appends received bytes. No bytes mean the end of the stream.
     pub(crate) fn add(&mut self, bytes: &[u8]) {
         self.ended |= bytes.is_empty();
         self.came.drain(..self.taken);

@@ -21,7 +21,7 @@ const HEAD: usize = 16;
 /// The FNV-1a hash of no bytes.
 const NOTHING: u64 = 0xcbf2_9ce4_8422_2325;
 
-/// The hash of bytes after those that have this one.
+/// Continues a hash with more bytes.
 fn hashed(hash: u64, bytes: &[u8]) -> u64 {
     const PRIME: u64 = 0x0100_0000_01b3;
     bytes.iter().fold(hash, |hash, byte| {
@@ -29,7 +29,7 @@ fn hashed(hash: u64, bytes: &[u8]) -> u64 {
     })
 }
 
-/// Two numbers, one behind the other.
+/// Encodes two numbers, one after the other.
 fn head(numbers: [u64; 2]) -> [u8; HEAD] {
     u128::to_be_bytes(u128::from(numbers[0]) << 64 | u128::from(numbers[1]))
 }
@@ -61,7 +61,7 @@ pub(crate) fn restore(path: &Path, options: &ServerOptions) -> io::Result<Editio
     parse(&read(path)?, options).ok_or_else(torn)
 }
 
-/// The edition of a file's bytes, if they are as they were written.
+/// Parses the edition in a file's bytes; none if they were changed or damaged.
 fn parse(input: &[u8], options: &ServerOptions) -> Option<Edition> {
     let mut rest = input.get(HEAD..)?;
     if input[..HEAD] != head([u64::from_be_bytes(*FORM), hashed(NOTHING, rest)]) {

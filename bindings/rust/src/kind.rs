@@ -74,8 +74,8 @@ impl From<Kind> for u8 {
 }
 
 impl Kind {
-    /// Whether a version of the protocol has units of this type: version 0 doesn't have router
-    /// keys, version 1 doesn't have ASPAs, and there is no version above 2.
+    /// Reports whether a version of the protocol has units of this type. Version 0 has all but
+    /// router keys and ASPAs, version 1 all but ASPAs, version 2 all; there are no higher versions.
     #[must_use]
     pub fn is_in(self, version: u8) -> bool {
         sys::version_has(version, self.into())

@@ -1,13 +1,13 @@
 //! Units of the RPKI to Router protocol ([RFC 6810], [RFC 8210]), of all eleven types, and
 //! sequences of them, over the proved library `rtr_c`.
 //!
-//! What the archive's functions promise is proved; this crate is tested.
+//! The functions of the archive are proved to meet their contracts; this crate is tested.
 //!
 //! # A connection
 //!
 //! [`Reader`] reads units from anything that is [`std::io::Read`], one at a time, and [`Writer`]
-//! writes them to anything that is [`std::io::Write`]. [`Reader::next_unit`] lends each unit, which
-//! costs no memory:
+//! writes them to anything that is [`std::io::Write`]. [`Reader::next_unit`] lends each unit, and
+//! doesn't allocate:
 //!
 //! ```
 //! use rtr_wire::{Reader, Unit};
@@ -31,33 +31,34 @@
 //! ```
 //!
 //! A [`Reader`] is also an iterator over units that own their bytes, and [`Reader::sequence`] is
-//! one over what a cache sends in answer to a query: payload units up to an end of data.
+//! one over the answer of a cache to a query: payload units up to an end of data.
 //!
 //! # Bytes in memory
 //!
-//! [`Units`] goes over the units of a slice, [`Unit::first`] shows the one that it begins with, and
+//! [`Units`] iterates over the units of a slice, [`Unit::first`] parses the first one, and
 //! [`Unit::write`] writes one. [`normalise`], [`normalise_for`] and [`same_meaning`] take whole
-//! sequences. All of these allocate nothing.
+//! sequences. None of these allocates.
 //!
 //! # Data and deltas
 //!
-//! [`Data`] is what a cache has, or a router has of it, in canonical form. [`load_data`] loads
-//! what a recording or a list leaves. [`Data::delta_to`] makes what a serial query is answered by,
-//! [`Data::apply_in_order`] makes all changes that a cache sends, or none, and [`Data::apply`]
-//! those that [`order`] puts in canonical form. [`delta_into`], [`apply_in_order`], [`order_into`] and
-//! [`apply_into`] do the same over slices, and allocate nothing.
+//! [`Data`] are the data of a cache or a router, in canonical form. [`load_data`] loads a recording or
+//! a list. [`Data::delta_to`] computes the answer to a serial query, [`Data::apply_in_order`]
+//! applies the changes that a cache sends, and [`Data::apply`] those that [`order`] brings into
+//! canonical form. [`delta_into`], [`apply_in_order`], [`order_into`] and [`apply_into`] do the
+//! same over slices, and allocate nothing.
 //!
 //! # Routes
 //!
-//! [`Data::validate`] says whether a route is valid by the data ([RFC 6811]), and
-//! [`Data::covering`] which VRPs cover it and why each doesn't match. [`Tables`] does the same over slices.
+//! [`Data::validate`] reports whether a route is valid by the data ([RFC 6811]), and
+//! [`Data::covering`] which VRPs cover it, and why each doesn't match. [`Tables`] does the same over
+//! slices.
 //!
 //! # Sessions
 //!
-//! [`Client`] follows a cache, and [`Server`] is one, each in a thread, over TCP or what else is a
-//! [`Socket`]; [`follow`] has several caches by preference. [`Router`], [`Preferred`] and [`Served`]
-//! are the same without sockets and clock, for programs with a loop of their own; the crate
-//! [`rtr-wire-tokio`](https://docs.rs/rtr-wire-tokio) has one.
+//! [`Client`] follows a cache, and [`Server`] is one, each in a thread, over TCP or any other
+//! [`Socket`]; [`follow`] follows several caches by preference. [`Router`], [`Preferred`] and
+//! [`Served`] are the same without sockets or a clock, for programs with their own loop; the crate
+//! [`rtr-wire-tokio`](https://docs.rs/rtr-wire-tokio) has one for tokio.
 //!
 //! # Features
 //!
@@ -69,7 +70,7 @@
 //! [RFC 6811]: https://www.rfc-editor.org/rfc/rfc6811
 //! [RFC 8210]: https://www.rfc-editor.org/rfc/rfc8210
 #![no_std]
-// Without `std` some of what the page links isn't there.
+// Without `std` some links of the page lead nowhere.
 #![cfg_attr(not(feature = "std"), allow(rustdoc::broken_intra_doc_links))]
 #![deny(missing_docs, unsafe_op_in_unsafe_fn)]
 #![warn(clippy::pedantic)]
@@ -79,7 +80,7 @@ extern crate alloc;
 #[cfg(any(feature = "std", test))]
 extern crate std;
 
-/// What `core` has since Rust 1.81: without `std` this crate needs that version.
+/// These are in `core` since Rust 1.81: without `std` this crate needs that version.
 #[cfg(not(feature = "std"))]
 use core::{error, net};
 #[cfg(feature = "std")]
@@ -88,7 +89,7 @@ use std::{error, net};
 #[cfg(feature = "std")]
 mod asking;
 #[rustfmt::skip]
-#[allow(clippy::pedantic)] // It has the words of `rtr.h`.
+#[allow(clippy::pedantic)] // generated, with the comments of `rtr.h`
 mod abi;
 #[cfg(feature = "std")]
 mod body;

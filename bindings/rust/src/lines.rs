@@ -8,8 +8,8 @@ use alloc::string::String;
 use alloc::vec;
 use alloc::vec::Vec;
 
-/// The line that `rtr_list` prints of the unit that the input begins with, of one that stands after
-/// so many bytes, without its end; and the size of the unit. Like `rtr_list` it shows a prefix whose
+/// Returns the line that `rtr_list` prints for the unit at the start of the input, with this offset
+/// and without a newline, and the size of the unit. Like `rtr_list` it accepts a prefix whose
 /// lengths break their rule, which [`Unit::first`](crate::Unit::first) refuses.
 ///
 /// ```
@@ -23,12 +23,12 @@ use alloc::vec::Vec;
 ///
 /// # Errors
 ///
-/// Those of [`unit_size`](crate::unit_size), and `Short` if not all of the unit is there.
+/// Those of [`unit_size`](crate::unit_size), and `Short` for an incomplete unit.
 pub fn unit_line(input: &[u8], offset: u64) -> Result<(String, usize), Fault> {
     line_by(|output| sys::line(input, offset, output))
 }
 
-/// The same as an object in JSON, as `rtr_list --json` prints it.
+/// Returns the unit as a JSON object, as `rtr_list --json` prints it, and its size.
 ///
 /// ```
 /// // The ASPA of AS65552 is withdrawn.
@@ -45,8 +45,9 @@ pub fn unit_json(input: &[u8], offset: u64) -> Result<(String, usize), Fault> {
     line_by(|output| sys::json(input, offset, output))
 }
 
-/// A change as a line of text, as `rtr_diff` prints it, without its end; none for a unit that has no
-/// payload, and for one that has no form. Key info is in base64 (RFC 4648 section 5), unpadded.
+/// Returns a change as a line of text, as `rtr_diff` prints it, without a newline; none for a unit
+/// that isn't a payload unit, or can't be written. Key info is in base64 (RFC 4648 section 5),
+/// unpadded.
 ///
 /// ```
 /// use rtr_wire::{change_line, Unit};
@@ -63,8 +64,8 @@ pub fn change_line(unit: &UnitRef) -> Option<String> {
     change_by(sys::change_line, unit)
 }
 
-/// The line that the call writes to the front of the output, of which it answers the length, and
-/// the size of the unit.
+/// Returns the line that a call writes to the output, and the size of the unit. The call returns
+/// the length of the line and that size.
 fn line_by(
     mut call: impl FnMut(&mut [u8]) -> Result<(usize, usize), Fault>,
 ) -> Result<(String, usize), Fault> {
@@ -79,8 +80,8 @@ fn line_by(
     Ok((String::from_utf8_lossy(&line).into_owned(), size))
 }
 
-/// A change as an object in JSON, as `rtr_diff --json` prints it; none for a unit that has no
-/// payload, and for one that has no form.
+/// Returns a change as a JSON object, as `rtr_diff --json` prints it; none for a unit that isn't a
+/// payload unit, or can't be written.
 ///
 /// ```
 /// use rtr_wire::{change_json, Unit};
@@ -97,7 +98,7 @@ pub fn change_json(unit: &UnitRef) -> Option<String> {
     change_by(sys::change_json, unit)
 }
 
-/// What the call writes of the change that a unit makes.
+/// Returns the text that a call writes for the change of a unit.
 fn change_by(
     call: impl Fn(&[u8], &mut [u8]) -> Result<(usize, usize), Fault>,
     unit: &UnitRef,

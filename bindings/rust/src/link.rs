@@ -1,5 +1,5 @@
-//! A router's end of a session with its bytes and its data, without sockets and clock: the proved
-//! client of the archive, and the buffers that it works in.
+//! A router's end of a session with buffers and data, without sockets or a clock: the proved client
+//! of the archive, and the buffers that it works in.
 
 use crate::abi::{self, link_status, todo_kind, LinkState, Todo};
 use crate::abi::{LONGEST_END, LONGEST_UNIT, SERIAL_SIZE, SHORTEST_PAYLOAD};
@@ -10,16 +10,16 @@ use alloc::vec;
 use alloc::vec::Vec;
 use core::mem::take;
 
-/// The proved client, its buffers, which grow when it asks for more room, and its data. Times are
-/// in milliseconds.
+/// The proved client, its buffers, which grow when it asks for that, and its data. Times are in
+/// milliseconds.
 #[derive(Debug)]
 pub(crate) struct Link {
     client: abi::Link,
-    /// Bytes that were read: the first `filled` of them.
+    /// The input: its first `filled` bytes were read.
     input: Vec<u8>,
-    /// Room for the data of the next answer; its length is 0.
-    made: Vec<u8>,
-    /// Room to sort an answer in; its length is 0.
+    /// The buffer for the next data; its length is 0, only its capacity is used.
+    next_data: Vec<u8>,
+    /// The index to sort an answer; its length is 0, only its capacity is used.
     index: Vec<usize>,
     output: Vec<u8>,
     data: Option<Data>,
@@ -29,22 +29,21 @@ pub(crate) struct Link {
     is_second: bool,
     /// The time of the last call.
     now: u64,
-    /// How many bytes were received on the connection.
+    /// The number of bytes received on the connection.
     received: u64,
-    /// How many bytes of the input were filled before the last call.
-    told: usize,
-    /// Whether memory was refused for bytes that came.
+    /// The number of filled bytes of the input before the last call.
+    filled_before: usize,
+    /// Whether there was no memory for received bytes.
     is_starved: bool,
-    /// Whether the last call gave up for want of memory.
+    /// Whether the last call gave up for lack of memory.
     gave_up: bool,
 }
 
 /// A call that takes the input and the output.
-type Telling =
+type InputOutputCall =
     unsafe extern "C" fn(*mut abi::Link, u64, *mut u8, usize, *mut u8, usize, *mut Todo) -> u8;
 
-/// The status of a call that this crate makes. It makes none that is refused: but for a clock that
-/// goes back, a refusal is a fault of its own.
+/// Panics if a call was refused: either the caller's clock went back, or this crate has a bug.
 fn must(status: u8) {
     assert!(
         status != link_status::BAD_TIME,
@@ -56,14 +55,14 @@ fn must(status: u8) {
     );
 }
 
-/// Gives a buffer this length, if there is memory for it. It grows to twice its length at least, so
-/// that a long answer is seldom moved, unless that is refused.
-fn lengthen(buffer: &mut Vec<u8>, room: usize) -> Result<(), TryReserveError> {
-    let more = room.saturating_sub(buffer.len());
+/// Grows a buffer to this size. Its capacity at least doubles, so that a long answer is seldom
+/// moved, or if memory doesn't allow that, grows to the size.
+fn lengthen(buffer: &mut Vec<u8>, size: usize) -> Result<(), TryReserveError> {
+    let more = size.saturating_sub(buffer.len());
     if buffer.try_reserve(more).is_err() {
         buffer.try_reserve_exact(more)?;
     }
-    buffer.resize(room, 0);
+    buffer.resize(size, 0);
     Ok(())
 }
 
@@ -72,7 +71,7 @@ fn is_room(kind: u8) -> bool {
 }
 
 impl Link {
-    /// A client with these options and a random number.
+    /// Returns a client with these options and a random number.
     pub(crate) fn new(options: &ClientOptions, chance: u16) -> Link {
         let mut client = abi::Link::default();
         // SAFETY: both structs are live.
@@ -80,22 +79,22 @@ impl Link {
         Link {
             client,
             input: Vec::new(),
-            made: Vec::new(),
+            next_data: Vec::new(),
             index: Vec::new(),
-            // A report behind two queries.
+            // Two queries and a report.
             output: vec![0; LONGEST_UNIT + 2 * SERIAL_SIZE],
             data: None,
             former: None,
             is_second: false,
             now: 0,
             received: 0,
-            told: 0,
+            filled_before: 0,
             is_starved: false,
             gave_up: false,
         }
     }
 
-    /// Begins again without data and connection: the waits for a failing cache continue to grow.
+    /// Restarts without data and connection: the waits for a failing cache continue to grow.
     pub(crate) fn again(&mut self) {
         // SAFETY: the struct is live.
         must(unsafe { abi::rtr_link_again(&mut self.client) });
@@ -113,12 +112,12 @@ impl Link {
         self.data
     }
 
-    /// The data that the present ones replaced, or that were dropped, once.
+    /// Takes the data that the present ones replaced, or that were dropped.
     pub(crate) fn take_former(&mut self) -> Option<Data> {
         self.former.take()
     }
 
-    /// Whether there are data that haven't expired at this time.
+    /// Reports whether there are data that haven't expired at this time.
     pub(crate) fn has_data(&self, now: u64) -> bool {
         self.state(now).has_data
     }
@@ -128,25 +127,25 @@ impl Link {
         self.state(self.now).wakes
     }
 
-    /// A connection was opened.
+    /// Reports that a connection was opened.
     pub(crate) fn opened(&mut self) {
         // SAFETY: the struct is live.
         must(unsafe { abi::rtr_link_opened(&mut self.client) });
     }
 
-    /// No connection could be opened, or it was lost.
+    /// Reports that connecting failed, or that the connection was lost.
     pub(crate) fn lost(&mut self) {
         // SAFETY: the struct is live.
         must(unsafe { abi::rtr_link_lost(&mut self.client) });
     }
 
-    /// Where bytes that come are read to: not empty after [`todo_kind::WAIT`].
+    /// The buffer to read bytes into: not empty after [`todo_kind::WAIT`].
     pub(crate) fn room(&mut self) -> &mut [u8] {
         let filled = self.filled();
         &mut self.input[filled..]
     }
 
-    /// So many bytes were read to the room.
+    /// Reports that `count` bytes were read into that buffer.
     pub(crate) fn received(&mut self, count: usize) {
         let (input, length) = (self.input.as_ptr(), self.input.len());
         // SAFETY: the struct and the buffer are live, and the buffer is of this length.
@@ -154,7 +153,7 @@ impl Link {
         self.received += count as u64;
     }
 
-    /// These bytes came. Without memory for them the next call gives up.
+    /// Adds received bytes. Without memory for them the next call gives up.
     pub(crate) fn add(&mut self, bytes: &[u8]) {
         let needed = self.filled() + bytes.len();
         if needed > self.input.len() && lengthen(&mut self.input, needed).is_err() {
@@ -165,12 +164,12 @@ impl Link {
         self.received(bytes.len());
     }
 
-    /// The bytes that are to be sent.
+    /// The unsent bytes.
     pub(crate) fn output(&self) -> &[u8] {
         &self.output[..self.state(self.now).unsent]
     }
 
-    /// So many of them were sent.
+    /// Reports that `count` of them were sent.
     pub(crate) fn sent(&mut self, count: usize) {
         let (output, length) = (self.output.as_mut_ptr(), self.output.len());
         // SAFETY: the struct and the buffer are live, and the buffer is of this length.
@@ -182,23 +181,24 @@ impl Link {
         must(status);
     }
 
-    /// The input from this offset on, as it was before the last call: where a todo has an offset,
-    /// the unit begins there.
+    /// The input from an offset of a todo on, as it was before the last call: there the unit
+    /// begins.
     pub(crate) fn input_from(&self, offset: usize) -> &[u8] {
-        &self.input[offset..self.told]
+        &self.input[offset..self.filled_before]
     }
 
-    /// How many bytes of the connection came before that offset.
+    /// Converts that offset to one in all bytes of the connection.
     pub(crate) fn position(&self, offset: usize) -> u64 {
-        self.received - (self.told - offset) as u64
+        self.received - (self.filled_before - offset) as u64
     }
 
-    /// Whether the last call gave up for want of memory.
+    /// Reports whether the last call gave up for lack of memory.
     pub(crate) fn gave_up(&self) -> bool {
         self.gave_up
     }
 
-    /// What is to be done next, but room for buffers and nothing at all. New data are there then.
+    /// Returns what to do next, after growing buffers and skipping steps without effect for the
+    /// caller.
     pub(crate) fn next(&mut self, now: u64) -> Todo {
         self.trim();
         self.gave_up = false;
@@ -216,7 +216,7 @@ impl Link {
         }
     }
 
-    /// The caller wants the present data. Returns what is to be done, as [`Link::next`] does.
+    /// Requests current data. Returns what to do, as [`Link::next`].
     pub(crate) fn ask_now(&mut self, now: u64) -> Todo {
         loop {
             let todo = self.tell(now, abi::rtr_link_ask_now_nonnull);
@@ -229,15 +229,15 @@ impl Link {
         }
     }
 
-    /// Memory was refused: the connection ends, and the data stay.
+    /// Gives up for lack of memory: the connection ends, and the data stay.
     fn give_up(&mut self, now: u64) -> Todo {
         self.gave_up = true;
         self.tell(now, abi::rtr_link_give_up_nonnull)
     }
 
-    /// Makes a call that takes the input and the output.
-    fn tell(&mut self, now: u64, call: Telling) -> Todo {
-        self.told = self.filled();
+    /// Makes a call on the input and the output.
+    fn tell(&mut self, now: u64, call: InputOutputCall) -> Todo {
+        self.filled_before = self.filled();
         self.now = now;
         let mut todo = Todo::default();
         let (input, output) = (&mut self.input, &mut self.output);
@@ -250,20 +250,20 @@ impl Link {
         todo
     }
 
-    /// Has the client take its next step.
+    /// Lets the client take its next step.
     fn turn(&mut self, now: u64) -> Todo {
         let state = self.state(self.now);
         if state.answers {
             self.make_room(&state);
         }
-        self.told = state.filled;
+        self.filled_before = state.filled;
         self.now = now;
         let mut todo = Todo::default();
         let held = self.data.as_ref().map_or(&[][..], Data::as_bytes);
-        // The client doesn't write to the buffer that holds the data, whose bytes are shared.
+        // The client doesn't write to the buffer of the present data, whose bytes are shared.
         let held = (held.as_ptr() as *mut u8, held.len());
-        let made = (self.made.as_mut_ptr(), self.made.capacity());
-        let (first, second) = in_order(self.is_second, held, made);
+        let next = (self.next_data.as_mut_ptr(), self.next_data.capacity());
+        let (first, second) = in_order(self.is_second, held, next);
         // SAFETY: all structs and buffers are live, and the buffers are of these lengths.
         must(unsafe {
             abi::rtr_link_next_nonnull(
@@ -286,15 +286,15 @@ impl Link {
         todo
     }
 
-    /// Has the buffers and the data be as a call left them.
+    /// Updates the buffers and the data after a call.
     fn follow(&mut self, todo: &Todo) {
         if todo.kind == todo_kind::DATA {
             self.is_second = !self.is_second;
-            let mut made = take(&mut self.made);
-            let shown = self.state_of(made.capacity(), self.now).shown;
-            // SAFETY: the client wrote the data to the front of this buffer.
-            unsafe { made.set_len(shown) };
-            self.former = self.data.replace(Data::made(made));
+            let mut data = take(&mut self.next_data);
+            let shown = self.state_of(data.capacity(), self.now).shown;
+            // SAFETY: the client wrote the data to the start of this buffer.
+            unsafe { data.set_len(shown) };
+            self.former = self.data.replace(Data::shrunk(data));
         }
         if todo.drops || todo.kind == todo_kind::DROPPED {
             self.former = self.data.take();
@@ -303,38 +303,38 @@ impl Link {
             self.received = 0;
         }
         if !is_room(todo.kind) {
-            self.made = Vec::new();
+            self.next_data = Vec::new();
             self.index = Vec::new();
         }
     }
 
-    /// Gives the buffers room for any answer of this length, so that the client doesn't find out by
-    /// trying how much it needs. Where that is refused, it asks.
+    /// Grows the buffers for any answer of this length, so that the client needn't try smaller
+    /// sizes. Without memory for that, it asks for the sizes that it needs.
     fn make_room(&mut self, state: &LinkState) {
         let base = if state.since { state.shown } else { 0 };
-        let made = base + state.answer + 2 * LONGEST_END;
-        let _ = self.made.try_reserve_exact(made);
+        let most = base + state.answer + 2 * LONGEST_END;
+        let _ = self.next_data.try_reserve_exact(most);
         let _ = self
             .index
             .try_reserve_exact(state.answer / SHORTEST_PAYLOAD);
     }
 
-    /// Gives a buffer the room that the client asks for, if there is memory for it.
+    /// Grows the buffer that the client asks for, if memory allows.
     fn grow(&mut self, todo: &Todo) -> Result<(), TryReserveError> {
         match todo.kind {
             todo_kind::INPUT_ROOM => lengthen(&mut self.input, todo.room),
             todo_kind::OUTPUT_ROOM => lengthen(&mut self.output, todo.room),
             todo_kind::INDEX_ROOM => self.index.try_reserve_exact(todo.room),
-            _ => self.made.try_reserve_exact(todo.room),
+            _ => self.next_data.try_reserve_exact(todo.room),
         }
     }
 
-    /// Frees the room in the input of a long answer that was taken.
+    /// Shrinks the input after a long answer.
     fn trim(&mut self) {
         const MOST: usize = 8 * LONGEST_UNIT;
         let filled = self.filled();
-        let (room, mut short) = (filled + LONGEST_UNIT, Vec::new());
-        if self.input.capacity() > MOST.max(8 * filled) && short.try_reserve_exact(room).is_ok() {
+        let (size, mut short) = (filled + LONGEST_UNIT, Vec::new());
+        if self.input.capacity() > MOST.max(8 * filled) && short.try_reserve_exact(size).is_ok() {
             short.extend_from_slice(&self.input[..filled]);
             self.input = short;
         }
@@ -351,9 +351,9 @@ impl Link {
         )
     }
 
-    /// What the buffers hold, where that of the data has this length.
+    /// Returns the state of the buffers, if that of the present data has this length.
     fn state_of(&self, held: usize, now: u64) -> LinkState {
-        let (first, second) = in_order(self.is_second, held, self.made.capacity());
+        let (first, second) = in_order(self.is_second, held, self.next_data.capacity());
         let mut state = LinkState::default();
         // SAFETY: both structs are live.
         must(unsafe {
@@ -371,12 +371,11 @@ impl Link {
     }
 }
 
-/// The first and the second of the data buffers, where that which holds the data is the second or
-/// not.
-fn in_order<T>(is_second: bool, held: T, made: T) -> (T, T) {
+/// Orders the buffers of the present and the next data; the present data may be in the second one.
+fn in_order<T>(is_second: bool, held: T, next: T) -> (T, T) {
     if is_second {
-        (made, held)
+        (next, held)
     } else {
-        (held, made)
+        (held, next)
     }
 }

@@ -7,40 +7,39 @@ use crate::owned_data::Data;
 use crate::sys;
 use alloc::vec;
 
-/// How many bytes the data may have at first; the buffers grow for more.
-const FIRST_ROOM: usize = 1 << 24;
+/// The first size, at most, of the buffers for the data; they grow if needed.
+const FIRST_CAPACITY: usize = 1 << 24;
 
-/// What a recording or a list leaves.
+/// The result of [`load_data`].
 #[derive(Clone, Debug, PartialEq, Eq, Hash)]
 #[non_exhaustive]
 pub struct Loaded {
-    /// The data of its whole answers.
+    /// The data after all whole answers.
     pub data: Data,
-    /// Whether an answer was left out, since the next one began before its end of data.
+    /// Whether an answer was ignored, since the next one began before its end of data.
     pub has_cut: bool,
 }
 
-/// Loads the data that a recording or a list of units leaves: its answers one after the other, each
-/// with or without a cache response, their payload units in any order. An answer changes the data
-/// before it; after a reset query or a cache reset, and in another session, it replaces them
-/// (RFC 8210 sections 5.1, 5.4 and 5.9). All of the input counts, also what a router sent.
+/// Loads the data that a recording or a list of units results in. It applies all answers one after
+/// the other, each with or without a cache response, with payload units in any order. An answer
+/// changes the data before it; after a reset query or a cache reset, and in another session, it
+/// replaces them (RFC 8210 sections 5.1, 5.4 and 5.9). The input may have units of the router, too.
 ///
-/// It allocates two buffers, as long as the input but at most 16 MiB at first, which grow if the
+/// It allocates two buffers as long as the input, but at first at most 16 MiB, which grow if the
 /// data are longer, and an index of the payload units of an answer.
 ///
 /// # Errors
 ///
-/// The first unit at which the recording can't go on, with its offset:
+/// The fault of the first unit that is refused, with its offset:
 ///
-/// - `Short` to `Prefix` for what isn't a unit; `Short` also at the end of the input, if an answer
-///   has no end of data there or none came;
-/// - `Duplicate` or `UnknownRecord` for the first change of an answer that isn't allowed (RFC 8210
-///   section 12);
+/// - `Short` to `Prefix` for an invalid unit; `Short` also at the end of the input, if an answer
+///   lacks its end of data or there is no answer;
+/// - `Duplicate` or `UnknownRecord` for a change that RFC 8210 section 12 doesn't allow;
 /// - `OtherVersion` for a payload unit or an end of data of another version than those before it in
 ///   its answer, or than the data that it changes;
 /// - `OtherSession` for an end of data of another session than its answer (section 5.8);
-/// - `OldSerial` for an end of data of changes whose serial number comes before that of the data
-///   (RFC 1982);
+/// - `OldSerial` for an end of data whose serial number comes before that of the data that its
+///   answer changes (RFC 1982);
 /// - `ResetInside` or `ReportInside` for a cache reset or an error report inside an answer.
 ///
 /// ```
@@ -63,11 +62,11 @@ pub struct Loaded {
 /// # Ok::<(), rtr_wire::DataError>(())
 /// ```
 pub fn load_data(recording: &[u8]) -> Result<Loaded, DataError> {
-    let mut room = recording.len().min(FIRST_ROOM);
-    let mut places = room / IPV4_SIZE;
+    let mut capacity = recording.len().min(FIRST_CAPACITY);
+    let mut entries = capacity / IPV4_SIZE;
     loop {
-        let mut index = vec![0; places];
-        let (mut work, mut output) = (vec![0; room], vec![0; room]);
+        let mut index = vec![0; entries];
+        let (mut work, mut output) = (vec![0; capacity], vec![0; capacity]);
         let loaded = sys::load(recording, &mut index, &mut work, &mut output);
         match loaded.status {
             status::OK => {
@@ -76,8 +75,8 @@ pub fn load_data(recording: &[u8]) -> Result<Loaded, DataError> {
                     has_cut: loaded.has_cut,
                 })
             }
-            status::NO_INDEX => places = loaded.wanted.max(2 * places),
-            status::NO_ROOM => room = (2 * room).min(recording.len()),
+            status::NO_INDEX => entries = loaded.wanted.max(2 * entries),
+            status::NO_ROOM => capacity = (2 * capacity).min(recording.len()),
             status => {
                 return Err(DataError {
                     fault: Fault::of(status, loaded.detail),

@@ -8,7 +8,7 @@ use core::fmt::Display;
 #[derive(Clone, Copy, Debug, PartialEq, Eq, PartialOrd, Ord, Hash)]
 #[non_exhaustive]
 pub enum LogLevel {
-    /// Details, to look for a fault.
+    /// Details for debugging.
     Debug,
     /// Normal operation.
     Info,
@@ -57,7 +57,7 @@ impl Data {
         }
     }
 
-    /// Logs that these are the data now.
+    /// Logs new data.
     #[doc(hidden)]
     pub fn log(&self, log: &Log, others: &LogFields<'_>) {
         let (end, payloads) = (self.end(), self.len());

@@ -14,7 +14,7 @@ use core::time::Duration;
 /// ```
 #[derive(Clone, Debug)]
 pub struct ClientOptions {
-    /// The highest version to ask for (default 1). Version 2 brings ASPAs, of which caches in use
+    /// The highest version to ask in (default 1). Version 2 adds ASPAs, for which caches in use
     /// have several layouts.
     pub version: u8,
     /// The time limit for connecting (default 30 seconds).
@@ -91,7 +91,7 @@ pub struct ServerOptions {
     pub keep: Duration,
     /// The most bytes of steps back to earlier data, and of encoded deltas (default 64 MiB each).
     pub keep_bytes: usize,
-    /// Whether to close with a report of code 0, instead of sending a cache reset, where a client's
+    /// Whether to close with a report of code 0, instead of sending a cache reset, if a client's
     /// serial number isn't known any more: BIRD 2.0 asks again soon only after such a report.
     pub refuse: bool,
     /// The time limit for a client's first query (default 30 seconds).
@@ -127,7 +127,7 @@ impl Default for ServerOptions {
     }
 }
 
-/// A duration as the machine has it, in milliseconds.
+/// Converts a duration to the machine's milliseconds.
 fn span(milliseconds: u32) -> Duration {
     Duration::from_millis(milliseconds.into())
 }

@@ -14,13 +14,11 @@ use alloc::sync::Arc;
 use alloc::vec;
 use alloc::vec::Vec;
 
-/// Data in canonical form: what a cache has, or a router has of it. It owns its bytes; clones share
-/// them.
+/// The data of a cache or a router, in canonical form. They own their bytes; clones share them.
 ///
-/// These are units that announce payloads, all of one version, each payload once, and of each
-/// customer one ASPA, and then an end of data of that version. Their order is that of payloads:
-/// origins, IPv4 before IPv6, by address, prefix length, max length and ASN; router keys by key
-/// identifier, ASN and key info; ASPAs by customer.
+/// They are units that announce payloads, each payload once and one ASPA per customer, and an end
+/// of data, all of one version. Payloads are ordered: origins, IPv4 before IPv6, by address, prefix
+/// length, max length and ASN; router keys by key identifier, ASN and key info; ASPAs by customer.
 ///
 /// Two data are equal if their payloads and their ends of data are.
 ///
@@ -37,7 +35,7 @@ use alloc::vec::Vec;
 /// assert_eq!(data.as_bytes(), sent);
 /// assert_eq!((data.len(), data.end().serial), (1, 5));
 ///
-/// // What leads back to no payloads withdraws it.
+/// // The changes back to no payloads withdraw it.
 /// let changes = data.delta_to(&nothing)?;
 /// let unit = changes.units().next();
 /// assert!(matches!(unit, Some(Unit::Ipv4Prefix(prefix)) if !prefix.announce));
@@ -48,25 +46,25 @@ use alloc::vec::Vec;
 pub struct Data(pub(crate) Canonical, Box<sys::Lookup>);
 
 impl Data {
-    /// These, which withdraw nothing.
+    /// Wraps data in canonical form.
     fn of(canonical: Canonical) -> Data {
         let lookup = sys::check_data(&canonical.bytes).expect("they are in canonical form");
         Data(canonical, Box::new(lookup))
     }
 
-    /// The data at the front of these bytes, which a call wrote in canonical form.
+    /// Wraps the first `length` of these bytes, which a call wrote in canonical form.
     pub(crate) fn written(bytes: Vec<u8>, length: usize) -> Data {
         Data::of(Canonical::new(bytes, length))
     }
 
-    /// The data that these bytes are, which a call wrote in canonical form. Where they have much
-    /// unused room, they are moved if there is memory for that.
-    pub(crate) fn made(bytes: Vec<u8>) -> Data {
-        Data::of(Canonical::made(bytes))
+    /// Wraps these bytes, which a call wrote in canonical form. If much of their capacity is
+    /// unused, they are moved to a vector of the exact size, if memory allows.
+    pub(crate) fn shrunk(bytes: Vec<u8>) -> Data {
+        Data::of(Canonical::shrunk(bytes))
     }
 
-    /// Data without payloads. In versions 1 and 2 the intervals that RFC 8210 section 6 recommends
-    /// stand for none.
+    /// Returns data without payloads. In versions 1 and 2, the default timing is that which RFC
+    /// 8210 section 6 recommends.
     ///
     /// # Errors
     ///
@@ -88,14 +86,14 @@ impl Data {
         Ok(Data::of(Canonical::new(bytes, length)))
     }
 
-    /// The data that these bytes begin with, which have to be in canonical form. What follows the
-    /// end of data doesn't count, and what is free in a unit isn't kept.
+    /// Parses the data at the start of these bytes, which have to be in canonical form. Bytes after
+    /// the end of data are ignored, and bits without a meaning are cleared.
     ///
     /// # Errors
     ///
-    /// `Short` to `Prefix` or `NotCanonical`, with the place of the first fault.
+    /// `Short` to `Prefix` or `NotCanonical`, with the location of the first fault.
     pub fn parse(bytes: &[u8]) -> Result<Data, DataError> {
-        // The delta from data to itself is its end of data, and applied it leaves the data.
+        // The delta from data to itself is its end of data; applying that returns the data.
         let mut end = [0; LONGEST_END];
         let size = delta_into(bytes, bytes, &mut end)?;
         let mut form = vec![0; bytes.len() + size];
@@ -103,12 +101,12 @@ impl Data {
         Ok(Data::of(Canonical::new(form, length)))
     }
 
-    /// The data that a sequence makes which only announces, in whatever order. What follows its end
-    /// of data doesn't count: [`load_data`](crate::load_data) takes whole recordings.
+    /// Returns the data of a sequence of announcements in any order. Bytes after its end of data
+    /// are ignored; [`load_data`](crate::load_data) loads whole recordings.
     ///
     /// # Errors
     ///
-    /// `NotCanonical` for the first unit that withdraws; else those of [`order`].
+    /// `NotCanonical` for the first withdrawal; else those of [`order`].
     pub fn from_sequence(input: &[u8]) -> Result<Data, DataError> {
         let changes = order(input)?;
         let mut units = Units::sequence(input, u64::MAX);
@@ -140,7 +138,7 @@ impl Data {
         self.0.into_bytes()
     }
 
-    /// The payload units, in their order. Each of them announces.
+    /// The payload units, in order; all are announcements.
     pub fn units(&self) -> impl Iterator<Item = UnitRef<'_>> + Clone + '_ {
         self.0.units()
     }
@@ -151,7 +149,7 @@ impl Data {
         self.0.end
     }
 
-    /// How many payloads there are.
+    /// The number of payloads.
     #[must_use]
     pub fn len(&self) -> usize {
         self.0.payloads
@@ -183,21 +181,22 @@ impl Data {
         sys::validate(self.as_bytes(), &self.1, route)
     }
 
-    /// The VRPs of the data that cover the route, in their order, each with why it doesn't match.
+    /// The VRPs of the data that cover the route, in order, each with the reason why it doesn't
+    /// match.
     #[must_use]
     pub fn covering(&self, route: &Route) -> Covering<'_> {
         Covering::new(self.as_bytes(), &self.1, route)
     }
 
-    /// The changes that lead a router from this data to the new (RFC 8210 section 8.2). They have
-    /// the new data's end of data, and [`apply`](Data::apply) makes the new data of them.
+    /// Returns the changes from these data to new data (RFC 8210 section 8.2), for
+    /// [`apply`](Data::apply). They have the new data's end of data.
     ///
     /// # Errors
     ///
-    /// `UnitVersion` with the version of the new data, where this is of another; `OtherSession`.
+    /// `UnitVersion` with the version of the new data, if these are of another; `OtherSession`.
     pub fn delta_to(&self, new: &Data) -> Result<Changes, DataError> {
         let most = self.0.bytes.len() + new.0.bytes.len();
-        let mut bytes = vec![0; most / 8]; // which is more than most changes have
+        let mut bytes = vec![0; most / 8]; // enough for most changes
         let mut length = delta_into(self.as_bytes(), new.as_bytes(), &mut bytes);
         if matches!(length, Err(error) if error.fault == Fault::NoRoom) {
             bytes = vec![0; most];
@@ -206,35 +205,35 @@ impl Data {
         Ok(Changes::of(Canonical::new(bytes, length?)))
     }
 
-    /// Data without payloads that have the end of data of these.
+    /// Returns data without payloads, with the same end of data.
     #[cfg(feature = "std")]
     pub(crate) fn without_payloads(&self) -> Data {
         let end = self.end();
         Data::new(end.version, end.session, end.serial, end.timing).expect("its version has a form")
     }
 
-    /// What the changes make of this data: all of them are made, or none. An ASPA that is announced
-    /// takes the place of the one of its customer. The end of data is that of the changes.
+    /// Applies changes to these data, and returns the result, with the end of data of the changes.
+    /// Either all changes are applied, or none. An announced ASPA replaces the one of its customer.
     ///
     /// # Errors
     ///
-    /// In this order: `UnitVersion` with the version of the changes, where the data is of another;
-    /// `OtherSession`; `Duplicate` or `UnknownRecord`, with the place of the first of the changes
-    /// that isn't allowed.
+    /// In this order: `UnitVersion` with the version of the changes, if the data are of another;
+    /// `OtherSession`; `Duplicate` or `UnknownRecord`, with the location of the first change that
+    /// isn't allowed.
     pub fn apply(&self, changes: &Changes) -> Result<Data, DataError> {
         let mut bytes = vec![0; self.0.bytes.len() + changes.as_bytes().len()];
         let length = apply_into(self.as_bytes(), changes.as_bytes(), &mut bytes)?;
         Ok(Data::of(Canonical::new(bytes, length)))
     }
 
-    /// What the changes of an answer make of this data, made one after the other in the order in
-    /// which they came: all of them are made, or none. An ASPA that is announced takes the place of
-    /// the one of its customer. They are a sequence, as a cache sends it after its response, and
-    /// the end of data is theirs.
+    /// Applies the changes of an answer to these data, one after the other, and returns the result,
+    /// with the end of data of the changes. Either all changes are applied, or none. An announced
+    /// ASPA replaces the one of its customer. The changes are a sequence, as a cache sends it after
+    /// its response.
     ///
     /// # Errors
     ///
-    /// Those of [`apply_in_order`], but `NoIndex` and `NoRoom`.
+    /// Those of [`apply_in_order`], except `NoIndex` and `NoRoom`.
     pub fn apply_in_order(&self, sent: &[u8]) -> Result<Data, DataError> {
         let mut index = vec![0; sent.len() / SHORTEST_PAYLOAD];
         let mut bytes = vec![0; self.0.bytes.len() + sent.len()];
@@ -242,8 +241,8 @@ impl Data {
         Ok(Data::of(Canonical::new(bytes, length)))
     }
 
-    /// The data for clients of a version, as [`normalise_for`](crate::normalise_for) writes it:
-    /// without what that version doesn't have.
+    /// Returns the data for clients of a version, as [`normalise_for`](crate::normalise_for) writes
+    /// them: without payloads that the version can't carry.
     ///
     /// # Errors
     ///
@@ -255,7 +254,7 @@ impl Data {
         self.0.for_version(version).map(Data::of)
     }
 
-    /// The same for a version that there is.
+    /// The same for a version that exists.
     #[cfg(feature = "std")]
     pub(crate) fn in_version(&self, version: u8) -> Data {
         self.for_version(version).expect("there is this version")
@@ -269,7 +268,7 @@ impl Data {
 
     /// The same payloads in another session and with another serial number.
     #[must_use]
-    #[allow(clippy::missing_panics_doc)] // It can't: the end of data is one of these data.
+    #[allow(clippy::missing_panics_doc)] // It can't panic: the end of data has a valid version.
     pub fn numbered(&self, session: u16, serial: u32) -> Data {
         let end = EndOfData {
             session,
@@ -287,13 +286,13 @@ impl Data {
     }
 }
 
-/// What the changes of the sequence that the input begins with come to, made one after the other.
-/// [`Data::apply`] takes what this makes of them. What isn't compared or shown but only made onto
-/// data needs no order: [`Data::apply_in_order`] takes the sequence as it came.
+/// Returns the net effect of the changes in the sequence at the start of the input, applied one
+/// after the other, for [`Data::apply`]. To apply changes without comparing or printing them, use
+/// [`Data::apply_in_order`], which takes the sequence as it is.
 ///
 /// # Errors
 ///
-/// Those of [`order_into`], but `NoIndex` and `NoRoom`.
+/// Those of [`order_into`], except `NoIndex` and `NoRoom`.
 ///
 /// ```
 /// use rtr_wire::{order, Fault};

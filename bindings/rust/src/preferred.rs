@@ -9,48 +9,48 @@ use alloc::collections::VecDeque;
 use alloc::vec::Vec;
 use core::mem::replace;
 
-/// What is shown of several routers in order of preference (RFC 8210 section 10), as a [`Group`]
-/// decides, without sockets and clock: the data of one of them, and the steps that lead there.
+/// The data in use of several routers by preference (RFC 8210 section 10), as a [`Group`] decides,
+/// without sockets or a clock: the data of one of them, and the steps that lead there.
 ///
-/// Its caller runs the routers. It starts member 0, calls [`Preferred::tell`] with each step of a
-/// member that runs, and [`Preferred::tick`] at the time [`Preferred::wakes`]; takes the steps of
-/// [`Preferred::take_step`], until there are none; and then stops and starts members as the
-/// decision says: a member that is started again continues by
-/// [`Router::again`](crate::Router::again). Times are in milliseconds of a clock that doesn't go
-/// back.
+/// The caller runs the routers. It starts member 0, calls [`Preferred::tell`] with each step of a
+/// running member, and [`Preferred::tick`] at the time [`Preferred::wakes`]; takes the steps of
+/// [`Preferred::take_step`], until there are none; and then stops and starts members as decided. A
+/// restarted member continues with [`Router::again`](crate::Router::again). Times are in
+/// milliseconds, by a monotonic clock.
 ///
-/// Its steps are [`Step::Data`] of the member whose data are shown, [`Step::Dropped`] of the last
-/// one that had data, and each [`Step::Failed`], also [`ClientError::Empty`]. If others' data are
-/// shown than before, the changes lead there from those, of whatever session and version they were.
+/// Its steps are [`Step::Data`] of the member whose data are used, [`Step::Dropped`] of the last
+/// one that had data, and each [`Step::Failed`], also [`ClientError::Empty`]. After a switch to
+/// another member the changes are those from the data used before, of any session and version.
 #[derive(Debug)]
 pub struct Preferred {
     group: Group,
     settings: GroupSettings,
     members: Vec<Member>,
-    /// The member whose data are shown, and the data.
+    /// The member whose data are used, and the data.
     shown: Option<(usize, Data)>,
-    told: VecDeque<Told>,
+    pending: VecDeque<Pending>,
 }
 
-/// What is known of a member.
+/// The state of a member.
 #[derive(Clone, Debug, Default)]
 struct Member {
     data: Option<Data>,
-    /// Whether its data were dropped, and the failure that follows hasn't come yet.
+    /// Whether its data were dropped, and the failure of the same event is still to come.
     dropped: bool,
 }
 
-/// A step of a member, and the data that are shown with it; none if they stay.
+/// A step of a member, and the data that are used from then on; none if they don't change.
 #[derive(Debug)]
-struct Told {
+struct Pending {
     member: usize,
     step: Step,
     shown: Option<Data>,
 }
 
 impl Preferred {
-    /// Routers of this number, without data, the first of which is started now. With no settings an
-    /// empty answer of the only router is data, and the others are the default ones.
+    /// Returns a group of this number of routers without data; the first one is started now. The
+    /// default settings are those of a group, except that an answer without payloads counts as data
+    /// if there is only one router.
     ///
     /// # Errors
     ///
@@ -69,25 +69,25 @@ impl Preferred {
             settings,
             members: (0..members).map(|_| Member::default()).collect(),
             shown: None,
-            told: VecDeque::new(),
+            pending: VecDeque::new(),
         })
     }
 
-    /// When to call [`Preferred::tick`], if nothing happens before; `u64::MAX` for never.
+    /// When to call [`Preferred::tick`] if nothing happens before; `u64::MAX` for never.
     #[must_use]
     pub fn wakes(&self) -> u64 {
         self.group.wakes()
     }
 
-    /// Time has passed: starts the next member if the patience is over.
+    /// Reports that time has passed. Starts the next member if the patience is over.
     pub fn tick(&mut self, now: u64) -> Decision {
         let decided = self.group.tick(now);
         self.forget(&decided);
         decided
     }
 
-    /// A member that runs took this step, and has these data after it. Steps without an event
-    /// change nothing.
+    /// Reports a step of a running member, and its data after it. Steps without an event change
+    /// nothing.
     ///
     /// # Panics
     ///
@@ -107,13 +107,13 @@ impl Preferred {
         decided
     }
 
-    /// The next step, and its member; its data are shown from now on.
+    /// Takes the next step, and its member; its data are used from now on.
     pub fn take_step(&mut self) -> Option<(usize, Step)> {
-        let Told {
+        let Pending {
             member,
             step,
             shown,
-        } = self.told.pop_front()?;
+        } = self.pending.pop_front()?;
         match (&step, shown) {
             (Step::Data(_), Some(data)) => self.shown = Some((member, data)),
             (Step::Dropped(_), _) => self.shown = None,
@@ -122,7 +122,7 @@ impl Preferred {
         Some((member, step))
     }
 
-    /// The event of a step that [`Preferred::take_step`] returned last.
+    /// The event of the step that [`Preferred::take_step`] returned last.
     #[must_use]
     pub fn event<'a>(&'a self, step: &'a Step) -> Option<Event<'a>> {
         match (step, &self.shown) {
@@ -133,20 +133,20 @@ impl Preferred {
         }
     }
 
-    /// The member whose data are shown, and the data. They may have expired since its last step.
+    /// The member whose data are used, and the data. They may have expired since its last step.
     #[must_use]
     pub fn shown(&self) -> Option<(usize, &Data)> {
         self.shown.as_ref().map(|(member, data)| (*member, data))
     }
 
-    /// The data that are shown.
+    /// The data in use.
     #[must_use]
     pub fn into_shown(self) -> Option<Data> {
         self.shown.map(|(_, data)| data)
     }
 
-    /// The group's decision on a step. The failure that follows a loss of data is no event of the
-    /// group.
+    /// Returns the group's decision on a step. The group isn't told of the failure that follows a
+    /// loss of data.
     fn decide(&mut self, now: u64, member: usize, step: &Step) -> Decision {
         let has = &mut self.members[member];
         let dropped = replace(&mut has.dropped, matches!(step, Step::Dropped(_)));
@@ -163,7 +163,7 @@ impl Preferred {
         }
     }
 
-    /// Whether a member has new data without payloads that don't count.
+    /// Reports whether a member has new data without payloads, which don't count.
     fn has_empty(&self, member: usize, step: &Step) -> bool {
         let data = self.members[member].data.as_ref();
         matches!(step, Step::Data(_))
@@ -171,7 +171,7 @@ impl Preferred {
             && data.map_or(false, Data::is_empty)
     }
 
-    /// Forgets the data of members that stop or start.
+    /// Drops the data of members that stop or start.
     fn forget(&mut self, decided: &Decision) {
         let first = decided.stop.unwrap_or(self.members.len());
         self.members[first..].fill(Member::default());
@@ -181,7 +181,7 @@ impl Preferred {
     }
 
     fn push(&mut self, member: usize, step: Step, shown: Option<Data>) {
-        self.told.push_back(Told {
+        self.pending.push_back(Pending {
             member,
             step,
             shown,
@@ -195,7 +195,7 @@ impl Preferred {
         }
     }
 
-    /// The shown data were dropped, or an empty answer withdrew them.
+    /// Handles the loss of the data in use, also by an answer without payloads.
     fn show_nothing(&mut self, member: usize, step: Step) {
         match step {
             Step::Dropped(changes) | Step::Data(changes) => {
@@ -205,8 +205,8 @@ impl Preferred {
         }
     }
 
-    /// Shows the data of a member after a step of one. Its own changes lead there if the data
-    /// before were its own, or there were none.
+    /// Uses the data of a member after a step of one. The changes are its own if its data were used
+    /// before, or there were none.
     fn show(&mut self, source: usize, member: usize, step: Step) {
         let data = self.members[source].data.clone();
         let others = self.shown.as_ref().filter(|(before, _)| *before != source);

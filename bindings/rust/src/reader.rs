@@ -22,7 +22,7 @@ pub enum Error {
     Io(io::Error),
     /// A unit that was read is refused.
     Refused(Refusal),
-    /// A unit that was to be written has no form.
+    /// A unit can't be written.
     NoForm(Fault),
 }
 
@@ -64,8 +64,8 @@ impl From<io::Error> for Error {
 }
 
 impl From<Error> for io::Error {
-    /// An error of the reader or the writer as it is; else one of the kind `UnexpectedEof` for
-    /// `Short`, `InvalidData` for what was read, and `InvalidInput` for what was to be written.
+    /// The error of the reader or the writer itself; else one of the kind `UnexpectedEof` for
+    /// `Short`, `InvalidData` for a unit that was read, and `InvalidInput` for a unit to write.
     fn from(error: Error) -> Self {
         let kind = match &error {
             Error::Io(_) => io::ErrorKind::Other,
@@ -82,15 +82,15 @@ impl From<Error> for io::Error {
     }
 }
 
-/// Reads units of all types from a reader, and keeps one at a time. It takes a unit's header, and
-/// then exactly the unit's bytes: it never reads ahead. So give it a [`std::io::BufReader`] where
-/// reads are dear, as on a socket or a file.
+/// Reads units of all types from a reader, and buffers one at a time. It reads a unit's header, and
+/// then exactly the unit's bytes: it never reads ahead. Use a [`std::io::BufReader`] if reads are
+/// expensive, as from a socket or a file.
 ///
-/// A length is checked before it is believed: the buffer never grows for a length that no unit has,
-/// and never above 65535 bytes.
+/// A length is checked before it is trusted: the buffer never grows for an invalid length, and
+/// never above 65535 bytes.
 ///
-/// As an iterator it gives units that own their bytes. It ends after a whole unit where the input
-/// ends, and after the first error.
+/// As an iterator it yields units that own their bytes. It ends at the end of the input, if that is
+/// after a whole unit, and after the first error.
 ///
 /// ```
 /// use rtr_wire::{Reader, ResetQuery, Unit};
@@ -105,11 +105,11 @@ impl From<Error> for io::Error {
 pub struct Reader<R> {
     inner: R,
     buffer: Vec<u8>,
-    /// Bytes in the buffer: of the last unit, or of one that isn't whole yet.
+    /// The number of bytes in the buffer: of the last unit, or of an incomplete one.
     filled: usize,
-    /// Bytes of the last unit, which the next call drops; 0 after an error.
+    /// The size of the last unit, which the next call drops; 0 after an error.
     size: usize,
-    /// Where the first byte in the buffer stood.
+    /// The offset of the first byte in the buffer.
     offset: u64,
     /// Whether the iterator has ended.
     ended: bool,
@@ -128,13 +128,13 @@ impl<R> Reader<R> {
         }
     }
 
-    /// How many bytes the units had that were taken: where the next one begins.
+    /// The offset of the next unit, in bytes.
     pub fn offset(&self) -> u64 {
         self.offset + self.size as u64
     }
 
-    /// The bytes of the last unit, as they were read, or of a prefix that was refused; none after
-    /// another error.
+    /// The bytes of the last unit, as they were read, or of a refused prefix; none after other
+    /// errors.
     pub fn bytes(&self) -> &[u8] {
         &self.buffer[..self.size]
     }
@@ -144,12 +144,12 @@ impl<R> Reader<R> {
         &self.inner
     }
 
-    /// The reader inside. What is read from it is missing here.
+    /// The reader inside. Bytes that are read from it directly are missing here.
     pub fn get_mut(&mut self) -> &mut R {
         &mut self.inner
     }
 
-    /// The reader inside. What was read of a unit that isn't whole yet is lost.
+    /// The reader inside. The bytes of an incomplete unit are lost.
     pub fn into_inner(self) -> R {
         self.inner
     }
@@ -165,19 +165,19 @@ impl<R> Reader<R> {
 }
 
 impl<R: Read> Reader<R> {
-    /// Reads a unit, and lends it until the next call; [`Unit::into_owned`] keeps it. It is none
-    /// where the input ends after a whole unit. Each unit is parsed once, and nothing is allocated,
-    /// unless the buffer has to grow or there is an error.
+    /// Reads a unit, and lends it until the next call; [`Unit::into_owned`] keeps it. It is none if
+    /// the input ends after a whole unit. Each unit is parsed once, and nothing is allocated unless
+    /// the buffer has to grow or there is an error.
     ///
     /// # Errors
     ///
     /// - `Refused` with `Short` if the input ends inside a unit;
-    /// - `Refused` with `UnitType` to `EmptyProviders` if a header is refused. What follows it
-    ///   isn't read, and each call answers the same;
-    /// - `Refused` with `Prefix` if the lengths of a prefix break their rule. The next call goes on
-    ///   after that unit;
-    /// - `Io` if the reader fails, but not for `Interrupted`. What was read is kept, so that the
-    ///   next call goes on where this one stopped, after a timeout for instance.
+    /// - `Refused` with `UnitType` to `EmptyProviders` if a header is refused. Later bytes aren't
+    ///   read, and each call returns the same error;
+    /// - `Refused` with `Prefix` if the lengths of a prefix break their rule. The next call skips
+    ///   that unit;
+    /// - `Io` if the reader fails, except for `Interrupted`, which is retried. Bytes that were read
+    ///   stay buffered, so the next call continues, for example after a timeout.
     pub fn next_unit(&mut self) -> Result<Option<UnitRef<'_>>, Error> {
         if self.read_unit(false)? {
             return self.parse().map(Some);
@@ -185,8 +185,8 @@ impl<R: Read> Reader<R> {
         Ok(None)
     }
 
-    /// The sequence that begins where the reader stands: payload units up to an end of data, which
-    /// is given too. At most `limit` units are taken, the end of data included.
+    /// Reads the sequence that begins with the next unit: payload units up to and including an end
+    /// of data. It reads at most `limit` units, including the end of data.
     pub fn sequence(&mut self, limit: u64) -> Sequence<'_, R> {
         Sequence {
             reader: self,
@@ -195,8 +195,8 @@ impl<R: Read> Reader<R> {
         }
     }
 
-    /// Reads the bytes of a unit, and answers whether there is one. If the units of a sequence are
-    /// wanted, the types that none has are refused.
+    /// Reads the bytes of a unit, and returns whether there is one. `in_sequence` refuses types
+    /// that aren't allowed in sequences.
     fn read_unit(&mut self, in_sequence: bool) -> Result<bool, Error> {
         if self.size > 0 {
             self.offset += self.size as u64;
@@ -228,10 +228,10 @@ impl<R: Read> Reader<R> {
         }
     }
 
-    /// Reads until there are so many bytes of the unit, and answers whether there are.
+    /// Reads until the buffer has `size` bytes of the unit, and returns whether it does.
     fn fill(&mut self, size: usize) -> Result<bool, Error> {
         if size > self.buffer.len() {
-            // Twice as long as it was, where the unit isn't longer.
+            // At least doubles the buffer.
             let grown = size.max(2 * self.buffer.len()).min(LONGEST_UNIT);
             self.buffer.resize(grown, 0);
         }
@@ -248,7 +248,7 @@ impl<R: Read> Reader<R> {
     }
 }
 
-/// The error for a reader that says it gave more bytes than there was room for.
+/// The error for a reader that returns a larger count than the buffer it got.
 fn impossible_count() -> Error {
     io::Error::new(io::ErrorKind::Other, "impossible count of bytes read").into()
 }
@@ -295,13 +295,13 @@ pub struct Sequence<'r, R> {
 
 impl<R: Read> Sequence<'_, R> {
     /// Reads a unit, and lends it until the next call. It is none after the end of data, and after
-    /// an error that isn't `Io`.
+    /// an error other than `Io`.
     ///
     /// # Errors
     ///
-    /// `Refused` with `TooMany`, before a unit is read; those of [`Reader::next_unit`], but
-    /// `UnitType` before any other fault for a header of a type that no sequence has, and `Short`
-    /// where the input ends before an end of data.
+    /// `Refused` with `TooMany`, before a unit is read; those of [`Reader::next_unit`], with
+    /// `UnitType` before any other fault for a type that isn't allowed in sequences, and `Short` if
+    /// the input ends before an end of data.
     pub fn next_unit(&mut self) -> Result<Option<UnitRef<'_>>, Error> {
         if self.ended {
             return Ok(None);
@@ -315,7 +315,7 @@ impl<R: Read> Sequence<'_, R> {
         unit.map(Some)
     }
 
-    /// Reads the bytes of a unit, which there has to be.
+    /// Reads the bytes of a unit; the end of the input is an error.
     fn read_unit(&mut self) -> Result<(), Error> {
         if self.limit == 0 {
             return Err(Error::Refused(Refusal {

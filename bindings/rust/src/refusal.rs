@@ -1,4 +1,4 @@
-//! A unit that is refused, with its bytes.
+//! A refused unit with its bytes.
 
 use crate::error;
 use crate::fault::Fault;
@@ -12,15 +12,15 @@ use core::fmt;
 pub struct Refusal {
     /// What is wrong.
     pub fault: Fault,
-    /// Where the unit begins, in bytes from the first one that the reader gave.
+    /// The offset of the unit in the reader's input, in bytes.
     pub offset: u64,
-    /// The bytes of the unit, as far as they were read: of one whose header is refused, the header.
+    /// The bytes of the unit, as far as they were read; only the header if that is refused.
     pub unit: Vec<u8>,
 }
 
 impl Refusal {
-    /// The error report that the fault owes to the peer, if it owes one, as [`Fault::report`] says:
-    /// it encloses the unit, and its text says what is wrong.
+    /// The error report that the peer is owed, if it is owed one ([`Fault::report`]). It encloses
+    /// the unit, and its text is that of the fault.
     #[must_use]
     pub fn report(&self) -> Option<ErrorReport<Vec<u8>>> {
         let text = self.fault.to_string();

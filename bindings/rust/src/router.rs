@@ -1,4 +1,4 @@
-//! A router's end of a session without sockets and clock.
+//! A router's end of a session, without sockets or a clock.
 
 use crate::abi::{cause, status, todo_kind, Todo};
 use crate::changes::Changes;
@@ -9,60 +9,60 @@ use crate::owned_data::Data;
 use alloc::collections::VecDeque;
 use core::mem::take;
 
-/// What the program that carries a [`Router`] has to do next.
+/// What the program of a [`Router`] has to do next.
 #[derive(Debug)]
 #[non_exhaustive]
 pub enum Step {
-    /// Nothing, until bytes come or the time is [`Router::wakes`]. Bytes to be sent may be there.
+    /// Send [`Router::output`], if there is any, and wait until bytes come or the time is
+    /// [`Router::wakes`].
     Wait,
     /// Open a connection, then call [`Router::connected`] or [`Router::lost`].
     Connect,
-    /// Send what is left to be sent, and close the connection.
+    /// Send the rest of [`Router::output`], and close the connection.
     Close,
-    /// [`Router::data`] are other data now: these changes lead there from those before.
+    /// [`Router::data`] are new data; these are the changes from the data before.
     Data(Changes),
-    /// There are no data any more: these changes withdraw all that there were.
+    /// The data were dropped; these changes withdraw them.
     Dropped(Changes),
-    /// Why the connection was closed, or why there is no answer yet. The router goes on.
+    /// Why the connection was closed, or why there is no answer yet. The router continues.
     Failed(ClientError),
 }
 
-/// What a [`Client`](crate::Client) tells while it runs.
+/// An event of a running [`Client`](crate::Client).
 #[derive(Debug)]
 #[non_exhaustive]
 pub enum Event<'a> {
-    /// An end of data came: these are all data of the cache now, whole, and the changes lead there
-    /// from those before. The changes are computed when they are first used.
+    /// An answer was completed: all data of the cache, and the changes from the data before. The
+    /// changes are computed when they are first used.
     Data {
         /// The data.
         data: &'a Data,
-        /// What announces and withdraws the difference.
+        /// The changes from the data before.
         changes: &'a Changes,
     },
-    /// The data had to be dropped, since they have expired or the cache has begun another session.
+    /// The data were dropped, since they have expired or the cache has begun another session.
     Dropped {
-        /// What withdraws all of them.
+        /// The withdrawals of all payloads.
         changes: &'a Changes,
     },
-    /// A connection has ended, or a query has no answer yet. The client goes on.
+    /// A connection has ended, or a query has no answer yet. The client continues.
     Failed(&'a ClientError),
 }
 
-/// A router's end of a session (RFC 8210) without sockets and clock: bytes and times are given to
-/// it, and it says what is to be done. The proved client of the archive decides that; this has its
-/// buffers and its data, and tells what it does in types.
+/// A router's end of a session (RFC 8210), without sockets or a clock: it takes bytes and times,
+/// and returns what to do. The proved client of the archive decides that; this type has its buffers
+/// and data.
 ///
-/// Times are in milliseconds of a clock that doesn't go back: a method panics at an earlier time
-/// than that of the last call. Data stay as they are after the router has others: nothing is
-/// written to their bytes.
+/// Times are in milliseconds, by a monotonic clock: a method panics at an earlier time than that of
+/// the last call. Data are immutable, and stay valid after the router has new ones.
 #[derive(Debug)]
 pub struct Router {
     link: Link,
     steps: VecDeque<Step>,
     connection: Connection,
-    /// Why the connection was lost, if the caller said so.
+    /// Why the connection was lost, if the caller reported that.
     error: Option<ClientError>,
-    /// Whether the caller wants the present data, and the client doesn't know it yet.
+    /// Whether a request for current data is pending.
     asks: bool,
 }
 
@@ -70,16 +70,16 @@ pub struct Router {
 #[derive(Clone, Copy, Debug, PartialEq, Eq)]
 enum Connection {
     None,
-    /// One is wanted, and the caller hasn't said what became of it.
+    /// The caller is opening one.
     Wanted,
     Open,
-    /// It couldn't be made, or nothing comes any more; it isn't closed yet.
+    /// Connecting failed, or no more bytes come; it isn't closed yet.
     Lost,
 }
 
 impl Router {
-    /// A router without data, which wants a connection at once. The random number has the waits of
-    /// many routers differ.
+    /// Returns a router without data, which connects at once. The random number varies the waits of
+    /// many routers.
     #[must_use]
     pub fn new(options: &ClientOptions, random: u16) -> Router {
         Router {
@@ -91,8 +91,8 @@ impl Router {
         }
     }
 
-    /// Begins again without data and connection, as one of several by preference that was stopped:
-    /// the waits for a failing cache continue to grow, and so does the clock.
+    /// Restarts without data and connection, for example in a group after a stop. The waits for a
+    /// failing cache continue to grow; the clock continues, too.
     pub fn again(&mut self) {
         self.link.again();
         self.steps.clear();
@@ -101,36 +101,35 @@ impl Router {
         self.asks = false;
     }
 
-    /// The caller wants the present data: at the next call of [`Router::next`] a router that waits
-    /// asks the cache, or a pause after its last query; one without a connection connects, or does
-    /// so after a pause if the last query or connection is less than a pause ago. While a
-    /// connection is made or an answer is awaited this changes nothing.
+    /// Requests current data: at the next call of [`Router::next`] the router asks the cache, or
+    /// without a connection connects, unless its last query or connection is less than a pause ago;
+    /// then it does so after the pause. No-op while it connects or waits for an answer.
     pub fn ask_now(&mut self) {
         self.asks = true;
     }
 
-    /// Whether it has data at this time, which is no earlier than that of the last call. They are
-    /// there until they expire (RFC 8210 section 6), also where [`Router::next`] hasn't dropped
-    /// them yet.
+    /// Reports whether it has data that haven't expired at this time (RFC 8210 section 6), even if
+    /// [`Router::next`] hasn't dropped expired ones yet. The time must not be earlier than that of the
+    /// last call.
     #[must_use]
     pub fn has_data(&self, now: u64) -> bool {
         self.link.has_data(now)
     }
 
-    /// All data of the cache, whole, if there are some: those after the last call of
-    /// [`Router::next`]. [`Router::has_data`] says whether they have expired since.
+    /// The data after the last call of [`Router::next`], if there are any. [`Router::has_data`]
+    /// reports whether they have expired since.
     #[must_use]
     pub fn data(&self) -> Option<&Data> {
         self.link.data()
     }
 
-    /// The data, if there are some.
+    /// The data, if there are any.
     #[must_use]
     pub fn into_data(self) -> Option<Data> {
         self.link.into_data()
     }
 
-    /// What a step tells of the data or of a failure; none for one that has something be done.
+    /// The event of a step; none for a step that only asks for an action.
     #[must_use]
     pub fn event<'a>(&'a self, step: &'a Step) -> Option<Event<'a>> {
         match (step, self.data()) {
@@ -141,14 +140,14 @@ impl Router {
         }
     }
 
-    /// When [`Router::next`] is to be called, if nothing comes before.
+    /// When to call [`Router::next`] if nothing happens before.
     #[must_use]
     pub fn wakes(&self) -> u64 {
         self.link.wakes()
     }
 
-    /// The connection is there, which [`Step::Connect`] wanted; nothing happens if none is wanted
-    /// any more.
+    /// Reports that the connection is open that [`Step::Connect`] asked for. No-op if it isn't
+    /// needed any more.
     pub fn connected(&mut self, now: u64) {
         if self.connection == Connection::Wanted {
             self.connection = Connection::Open;
@@ -157,7 +156,7 @@ impl Router {
         }
     }
 
-    /// No connection could be made, or it broke. Nothing happens if it was closed before.
+    /// Reports that connecting failed, or the connection broke. No-op if it was closed before.
     #[cfg(feature = "std")]
     pub fn lost(&mut self, now: u64, error: std::io::Error) {
         if self.connection != Connection::None {
@@ -166,14 +165,14 @@ impl Router {
         self.disconnected(now);
     }
 
-    /// The same, where no more is known of why.
+    /// The same without a reason.
     pub fn disconnected(&mut self, now: u64) {
         self.end_of_input();
         self.go_on(now);
     }
 
-    /// These bytes came. Without any, the cache sends no more. Nothing happens without a
-    /// connection, or behind the end of what the cache sends.
+    /// Processes received bytes; none mean that the cache has closed. No-op without a connection,
+    /// or after the cache has closed.
     pub fn received(&mut self, bytes: &[u8]) {
         if bytes.is_empty() {
             self.end_of_input();
@@ -182,18 +181,18 @@ impl Router {
         }
     }
 
-    /// Where bytes that come can be read to, without a copy: not empty while there is a connection
-    /// and [`Router::next`] returned [`Step::Wait`]. Then call [`Router::filled`].
+    /// The buffer to read bytes into without a copy; then call [`Router::filled`]. It isn't empty
+    /// while there is a connection and [`Router::next`] returned [`Step::Wait`].
     pub fn room(&mut self) -> &mut [u8] {
         self.link.room()
     }
 
-    /// So many bytes were read to [`Router::room`], as by [`Router::received`]: without any, the
-    /// cache sends no more.
+    /// Reports that `count` bytes were read into [`Router::room`]; 0 means that the cache has
+    /// closed.
     ///
     /// # Panics
     ///
-    /// If there is room for fewer.
+    /// If that buffer is shorter.
     pub fn filled(&mut self, count: usize) {
         if count == 0 {
             self.end_of_input();
@@ -202,7 +201,7 @@ impl Router {
         }
     }
 
-    /// Nothing comes any more.
+    /// The cache has closed.
     fn end_of_input(&mut self) {
         if matches!(self.connection, Connection::Wanted | Connection::Open) {
             self.connection = Connection::Lost;
@@ -236,7 +235,7 @@ impl Router {
         while self.steps.is_empty() && self.does(now) {}
     }
 
-    /// Does what is to be done next; false if that is to wait.
+    /// Carries out the link's next request; returns false if that is to wait.
     fn does(&mut self, now: u64) -> bool {
         let mut todo = self.link.next(now);
         if todo.kind == todo_kind::WAIT && take(&mut self.asks) {
@@ -264,7 +263,7 @@ impl Router {
         true
     }
 
-    /// Tells that there are other data, or none any more.
+    /// Queues the step for new data, or for their loss.
     fn tell_data(&mut self) {
         let (old, new) = (self.link.take_former(), self.link.data().cloned());
         let step = if new.is_some() {
@@ -275,7 +274,7 @@ impl Router {
         self.steps.extend(Changes::between(old, new).map(step));
     }
 
-    /// The connection ends.
+    /// Queues the end of the connection, and its reason.
     fn close(&mut self, todo: &Todo) {
         if todo.drops {
             self.tell_data();
@@ -286,7 +285,7 @@ impl Router {
         self.steps.extend(error.map(Step::Failed));
     }
 
-    /// Why the connection ends; none if it is made again at once, in another version.
+    /// Why the connection ends; none if the router reconnects at once in another version.
     fn ending(&mut self, todo: &Todo) -> Option<ClientError> {
         let lost = self.error.take();
         let is_memory = todo.cause == cause::NOT_APPLIED && todo.status == status::OK;

@@ -1,5 +1,4 @@
-//! A connection of a server does in each scene of a cache what the scene says. The scenes are
-//! those of the repository's tests.
+//! Plays the scenes of a cache, which are in the repository's tests, with a connection of a server.
 
 use super::{Server, ServerOptions};
 use crate::cache::{locked, Moment};
@@ -23,19 +22,19 @@ use std::time::Duration;
 use std::vec::Vec;
 
 const TRANSCRIPTS: &str = concat!(env!("CARGO_MANIFEST_DIR"), "/../../tests/transcripts");
-/// How long bytes may take from one end of a connection to the other.
+/// The time limit for bytes from one end of a connection to the other.
 const PATIENCE: Duration = Duration::from_secs(20);
 
 /// A connection, and the router's end of it.
 struct Joined {
     connection: Connection,
     router: UnixStream,
-    /// How many bytes the router takes, until it is to take others.
-    room: Arc<AtomicUsize>,
+    /// How many more bytes the router reads.
+    readable: Arc<AtomicUsize>,
     is_broken: bool,
 }
 
-/// The cache's end of a connection, and how many bytes the router takes.
+/// The cache's end of a connection, and how many more bytes the router reads.
 struct Taken(UnixStream, Arc<AtomicUsize>);
 
 impl Read for Taken {
@@ -70,14 +69,14 @@ impl Socket for Taken {
     }
 }
 
-/// A scene that is played, with a made clock.
+/// A scene in progress, with a simulated clock.
 struct Played {
     name: String,
     options: ServerOptions,
     server: Option<Server>,
     now: u64,
     joined: Option<Joined>,
-    /// What the cache did, if no scene says what it has to do: it plays with another end.
+    /// The cache's steps, if it is connected to another end and the scene doesn't expect any.
     seen: Option<String>,
 }
 
@@ -96,15 +95,15 @@ fn hex(bytes: &[u8]) -> String {
 }
 
 impl Joined {
-    /// What the router does.
-    fn given(&mut self, step: &str, words: &[&str]) {
-        let set_room = |room| self.room.store(room, Ordering::Relaxed);
+    /// Carries out a step of the router.
+    fn take_step(&mut self, step: &str, words: &[&str]) {
+        let set_readable = |readable| self.readable.store(readable, Ordering::Relaxed);
         match (step, words) {
             ("router>", bytes) => self.router.write_all(&bytes_of(bytes)).unwrap(),
-            (_, ["takes", count]) => set_room(count.parse().unwrap()),
+            (_, ["takes", count]) => set_readable(count.parse().unwrap()),
             (_, ["closes"]) => self.router.shutdown(Shutdown::Write).unwrap(),
             (_, ["breaks"]) => {
-                set_room(usize::MAX);
+                set_readable(usize::MAX);
                 self.router.shutdown(Shutdown::Both).unwrap();
                 self.is_broken = true;
             }
@@ -112,27 +111,27 @@ impl Joined {
         }
     }
 
-    /// Whether nothing is to be done now, where bytes came for the connection or not.
+    /// Whether the connection has nothing to do now; `comes` reports whether it has bytes to read.
     fn rests(&self, moment: &Moment, is_ready: bool) -> bool {
         let connection = &self.connection;
-        let is_held = connection.is_sending() && self.room.load(Ordering::Relaxed) == 0;
+        let is_held = connection.is_sending() && self.readable.load(Ordering::Relaxed) == 0;
         let waits = is_held || !connection.is_sending() && !is_ready;
         connection.is_over() || waits && connection.wakes(moment) > moment.now
     }
 
-    /// Whether bytes came for the connection, or their end.
+    /// Whether bytes, or the end of the stream, can be read.
     fn is_ready(&self) -> bool {
         let mut awaited = [Awaited::to_read(&self.connection.socket())];
         wait(&mut awaited, 0);
         !self.connection.is_sending() && awaited[0].is_ready()
     }
 
-    /// Whether all was sent that comes before the end.
+    /// Whether all bytes before the end were sent.
     fn has_ended(&self) -> bool {
         !self.connection.is_served() && !self.connection.is_sending()
     }
 
-    /// What has come for the router.
+    /// The bytes that the router has received.
     fn came(&mut self) -> Vec<u8> {
         let mut came = Vec::new();
         self.router.set_nonblocking(true).unwrap();
@@ -143,7 +142,7 @@ impl Joined {
         came
     }
 
-    /// A unit that the router reads, as a scene says it.
+    /// Reads a unit of the router, and formats it as in scenes.
     fn reads(&mut self) -> String {
         let mut unit = std::vec![0; 8];
         self.router.read_exact(&mut unit).expect("a header");
@@ -187,7 +186,7 @@ impl Played {
         self.server().shared.cache.at(now)
     }
 
-    /// Has the connection go on at this time until it waits for something.
+    /// Serves the connection at this time until it waits.
     fn settle(&mut self) {
         let (mut moment, now) = (self.moment(), self.now);
         if let Some(joined) = &mut self.joined {
@@ -201,7 +200,7 @@ impl Played {
         self.sees();
     }
 
-    /// Notes what the cache did now, if no scene says it.
+    /// Records the cache's steps now, if the scene doesn't expect any.
     fn sees(&mut self) {
         if let (Some(joined), Some(seen)) = (&mut self.joined, &mut self.seen) {
             let came = joined.came();
@@ -215,14 +214,14 @@ impl Played {
         }
     }
 
-    /// When the connection goes on by itself, if there is one.
+    /// When the connection acts by itself, if there is one.
     fn wakes(&mut self) -> Option<u64> {
         let moment = self.moment();
         let joined = self.joined.as_ref().filter(|joined| !joined.has_ended())?;
         Some(joined.connection.wakes(&moment))
     }
 
-    /// The clock comes to this time.
+    /// Advances the clock to this time.
     fn pass(&mut self, time: u64) {
         while let Some(wakes) = self.wakes().filter(|wakes| *wakes <= time) {
             self.now = self.now.max(wakes);
@@ -232,12 +231,12 @@ impl Played {
     }
 
     fn connects(&mut self, beyond: bool) {
-        // A pair has each byte at its other end as soon as it was written.
+        // In a socket pair each byte can be read as soon as it was written.
         let (router, stream) = UnixStream::pair().unwrap();
         router.set_read_timeout(Some(PATIENCE)).unwrap();
         stream.set_nonblocking(true).unwrap();
-        let room = Arc::new(AtomicUsize::new(usize::MAX));
-        let socket = Box::new(Taken(stream, Arc::clone(&room)));
+        let readable = Arc::new(AtomicUsize::new(usize::MAX));
+        let socket = Box::new(Taken(stream, Arc::clone(&readable)));
         let (mut moment, now) = (self.moment(), self.now);
         let from = (Ipv4Addr::LOCALHOST, 0).into();
         let mut connection = Connection::new(socket, from, &moment);
@@ -248,14 +247,14 @@ impl Played {
         self.joined = Some(Joined {
             connection,
             router,
-            room,
+            readable,
             is_broken: false,
         });
         self.settle();
     }
 
-    /// What the router or the data do.
-    fn given(&mut self, step: &str, words: &[&str]) {
+    /// Carries out a step of the router or the data.
+    fn take_step(&mut self, step: &str, words: &[&str]) {
         if let Some(joined) = self.joined.as_mut().filter(|joined| !joined.is_broken) {
             let is_over = !joined.connection.is_served();
             assert!(
@@ -270,47 +269,47 @@ impl Played {
             ("router", ["connects", ..]) => self.connects(true),
             ("router" | "router>", words) => {
                 if let Some(joined) = self.joined.as_mut().filter(|joined| !joined.has_ended()) {
-                    joined.given(step, words);
+                    joined.take_step(step, words);
                 }
                 self.settle();
             }
             ("data", ["{", bytes @ .., "}"]) => {
                 let data = Data::parse(&bytes_of(bytes)).expect("data");
-                let is_new = self.server().update(data).expect("data that are later");
+                let is_new = self.server().update(data).expect("later data");
                 assert!(is_new || self.seen.is_some(), "{}", self.name);
                 self.settle();
             }
-            ("saves", [path]) => self.server().save(path).expect("a file that is written"),
+            ("saves", [path]) => self.server().save(path).expect("a written file"),
             ("restores", [path]) => {
-                self.server().restore(path).expect("a file that is whole");
+                self.server().restore(path).expect("a complete file");
             }
             (_, words) => self.forgets(words[0].parse().unwrap()),
         }
     }
 
-    /// The changes since a serial number can't be told any more, nor those since the ones before.
+    /// Drops the deltas from a serial number and those before it.
     fn forgets(&mut self, serial: u32) {
         let shared = Arc::clone(&self.server().shared);
         let mut newest = locked(&shared.cache.newest);
         let newest = newest.as_mut().and_then(Arc::get_mut).expect("an edition");
-        let place = newest.known.iter().position(|known| *known == serial);
-        newest.known.truncate(place.expect("it is known"));
+        let index = newest.known.iter().position(|known| *known == serial);
+        newest.known.truncate(index.expect("it is known"));
     }
 
-    /// The cache has to do this now.
-    fn wanted(&mut self, step: &str, words: &[&str]) {
+    /// Checks that the cache takes this step now.
+    fn expect(&mut self, step: &str, words: &[&str]) {
         if step == "closes" {
             return self.closes();
         }
         let joined = self.joined.as_mut().expect("a connection");
-        let wanted = match words {
+        let expected = match words {
             ["report", ..] => words.join(" "),
             bytes => bytes.concat(),
         };
-        assert_eq!(joined.reads(), wanted, "{}", self.name);
+        assert_eq!(joined.reads(), expected, "{}", self.name);
     }
 
-    /// The connection is over, and nothing is left to be read.
+    /// Checks that the connection is over, and nothing is left to read.
     fn closes(&mut self) {
         let joined = self.joined.take().expect("a connection");
         let (connection, mut router) = (joined.connection, joined.router);
@@ -343,17 +342,17 @@ impl Played {
             [time, step @ ("router" | "router>" | "data" | "forgets" | "saves" | "restores"), words @ ..] =>
             {
                 self.pass(time.parse().unwrap());
-                self.given(step, words);
+                self.take_step(step, words);
             }
             [time, step, words @ ..] => {
                 self.pass(time.parse().unwrap());
-                self.wanted(step, words);
+                self.expect(step, words);
             }
             _ => panic!("{}: {:?}", self.name, words),
         }
     }
 
-    /// The scene is over: nothing else was sent.
+    /// Ends the scene: nothing else was sent.
     fn end(mut self) {
         if let Some(joined) = &mut self.joined {
             assert!(joined.connection.is_served(), "{}: it ended", self.name);
@@ -363,7 +362,7 @@ impl Played {
     }
 }
 
-/// Plays the scenes of a file, and answers how many there are.
+/// Plays the scenes of a file, and returns their number.
 fn play(path: &Path) -> usize {
     let text = std::fs::read_to_string(path).expect("a file");
     let (mut played, mut count): (Option<Played>, usize) = (None, 0);
@@ -404,18 +403,18 @@ fn transcripts_of_a_cache() {
     let mut paths = scenes_in(&Path::new(TRANSCRIPTS).join("cache"));
     match status {
         Ok(status) => {
-            assert!(status.success(), "the families of scenes are made");
+            assert!(status.success(), "the families of scenes are generated");
             paths.extend(scenes_in(&folder));
         }
         Err(error) => std::println!("no python3, so no families of scenes: {error}"),
     }
     let count: usize = paths.iter().map(|path| play(path)).sum();
     let _ = std::fs::remove_dir_all(&folder);
-    assert!(count >= 100, "only {count} scenes"); // without those that are made
+    assert!(count >= 100, "only {count} scenes"); // without generated ones
 }
 
-/// Is an end that a router is joined with, where the environment says where to tell what it does:
-/// what happens to it comes on standard input.
+/// Plays an end that is connected to a router, if the environment names a file for its steps: reads
+/// the router's steps from standard input.
 #[test]
 fn joined() {
     let mut output = match std::env::var("RTR_JOINED") {

@@ -6,25 +6,25 @@ use crate::fault::Fault;
 use crate::sys;
 use core::fmt;
 
-/// How far a call that normalises got: whole units, and the end of data if it was accepted.
+/// The progress of a normalising call: whole units, and the end of data if it was accepted.
 #[derive(Clone, Copy, Debug, Default, PartialEq, Eq)]
 pub struct Progress {
-    /// Payload units that were taken from the input.
+    /// The number of payload units that were read.
     pub units: u64,
-    /// How many of them were written.
+    /// The number of these that were written.
     pub forms: u64,
-    /// Bytes of the input that were taken.
+    /// The number of bytes that were read.
     pub taken: usize,
-    /// Bytes of the output that were written.
+    /// The number of bytes that were written.
     pub written: usize,
 }
 
-/// A call that normalises stopped before an end of data: how far it got, and why.
+/// A normalising call stopped before an end of data: its progress, and the fault.
 #[derive(Clone, Copy, Debug, PartialEq, Eq)]
 pub struct Stopped {
-    /// What was taken and written until then.
+    /// The progress until then.
     pub progress: Progress,
-    /// Why it stopped, at the unit that begins after what was taken.
+    /// The fault of the unit after the bytes that were read.
     pub fault: Fault,
 }
 
@@ -36,13 +36,13 @@ impl fmt::Display for Stopped {
 
 impl Error for Stopped {}
 
-/// Normalises the sequence that the input begins with: reads payload units up to an end of data,
-/// and writes the form of what each means, and the end of data, to the front of the output. At most
-/// `limit` units are taken, the end of data included. It allocates nothing.
+/// Normalises the sequence at the start of the input: reads payload units up to an end of data, and
+/// writes the form of each, and the end of data, to the output. It reads at most `limit` units,
+/// including the end of data. It allocates nothing.
 ///
-/// It succeeds exactly if the input begins with fewer than `limit` acceptable payload units and an
+/// It succeeds if and only if the input begins with fewer than `limit` valid payload units and an
 /// end of data, and the output is at least as long as their form. An output as long as the input
-/// always is. What follows in the input isn't taken.
+/// always suffices. Later bytes of the input aren't read.
 ///
 /// ```
 /// use rtr_wire::normalise;
@@ -58,22 +58,22 @@ impl Error for Stopped {}
 ///
 /// # Errors
 ///
-/// In this order: `TooMany`; `Short` to `Prefix`; `NoRoom`. Then `progress` says which whole units
-/// were taken before the fault; their form is written. A caller goes on after them with more room,
-/// more input or another limit.
+/// In this order: `TooMany`; `Short` to `Prefix`; `NoRoom`. `progress` has the whole units before
+/// the fault, whose form is written. A caller can continue after them with a longer output, more
+/// input or another limit.
 pub fn normalise(input: &[u8], output: &mut [u8], limit: u64) -> Result<Progress, Stopped> {
     sys::normalise(input, output, limit)
 }
 
-/// As [`normalise`], for clients of one protocol version. Units that the version doesn't have are
-/// checked and counted in `units` but not written. All others, and the end of data, are written in
+/// Like [`normalise`], for clients of a protocol version. Units that the version doesn't have are
+/// checked and counted in `units`, but not written. All others, and the end of data, are written in
 /// this version. An output 12 bytes longer than the input always suffices, since an end of data has
 /// 12 bytes in version 0 and 24 in versions 1 and 2.
 ///
 /// # Errors
 ///
-/// Those of [`normalise`]. For a version above 2 it is `UnitVersion` before any other, with nothing
-/// taken or written.
+/// Those of [`normalise`]. For a version above 2, `UnitVersion` comes before any other fault, and
+/// nothing is read or written.
 pub fn normalise_for(
     input: &[u8],
     output: &mut [u8],
@@ -83,13 +83,13 @@ pub fn normalise_for(
     sys::normalise_for(input, output, limit, version)
 }
 
-/// A comparison stopped before an end of data: where, and why.
+/// A comparison stopped before an end of data: the fault, and its location.
 #[derive(Clone, Copy, Debug, PartialEq, Eq, Hash)]
 #[non_exhaustive]
 pub struct NotCompared {
-    /// Why it stopped, at the unit that begins there.
+    /// The fault of the unit at this location.
     pub fault: Fault,
-    /// The input that has this unit, and how many bytes come before it.
+    /// The input that has this unit, and its offset there.
     pub place: Place,
 }
 
@@ -106,13 +106,13 @@ impl fmt::Display for NotCompared {
 
 impl Error for NotCompared {}
 
-/// Whether both inputs begin with sequences that mean the same, of fewer than `limit` payload
-/// units each. It allocates nothing.
+/// Reports whether both inputs begin with sequences that mean the same, of fewer than `limit`
+/// payload units each. It allocates nothing.
 ///
 /// # Errors
 ///
-/// One of `Short` to `TooMany`: that of the left input, or if the left one is accepted, that of the
-/// right one, at the unit at which [`normalise`] stops.
+/// One of `Short` to `TooMany`, for the unit at which [`normalise`] stops: that of the left input,
+/// or if the left one is accepted, that of the right one.
 pub fn same_meaning(left: &[u8], right: &[u8], limit: u64) -> Result<bool, NotCompared> {
     sys::same_meaning(left, right, limit)
 }

@@ -1,4 +1,4 @@
-//! A cache's connection to a client, without sockets and clock.
+//! A cache's connection to a client, without sockets or a clock.
 
 use crate::body::Body;
 use crate::cache::Moment;
@@ -12,10 +12,10 @@ use std::io;
 use std::time::Duration;
 use std::vec::Vec;
 
-/// How many newer data may come while a client is still being sent some.
+/// A connection ends if more than this many newer data come while it is being sent some.
 const MOST_BEHIND: u64 = 2;
-/// How long the server goes on reading after its last bytes, in milliseconds: closing with unread
-/// bytes would reset the connection, and the client could lose them.
+/// How long the server continues to read after its last bytes, in milliseconds: closing with unread
+/// bytes would reset the connection, and the client could lose the last bytes.
 const LINGER: u64 = 200;
 
 /// What the host of a [`Served`] has to do next.
@@ -26,7 +26,7 @@ pub enum ServedStep {
     Receive,
     /// Send some of [`Served::output`], then call [`Served::sent`] or [`Served::lost`].
     Send,
-    /// Shut the connection down for writing, and go on reading.
+    /// Shut the connection down for writing, and continue to read.
     Finish,
     /// Close the connection.
     Close,
@@ -40,15 +40,15 @@ enum Phase {
     Served,
     /// The last bytes are being sent.
     Ending,
-    /// All is sent; what comes until this time is ignored.
+    /// All bytes are sent; bytes that come until this time are ignored.
     Over {
         until: u64,
     },
 }
 
-/// A connection of a client to a [`Cache`](crate::Cache) (RFC 8210) without sockets and clock:
-/// its host gives it bytes and times, and does what [`Served::next`] returns. The proved machine of
-/// `rtr_cache` decides the answers.
+/// A connection of a client to a [`Cache`](crate::Cache) (RFC 8210), without sockets or a clock:
+/// its program passes bytes and times, and does what [`Served::next`] returns. The proved machine
+/// of `rtr_cache` decides the answers.
 ///
 /// Connections share the encoded data.
 ///
@@ -89,7 +89,7 @@ pub struct Served {
     began: u64,
     output: Option<Output>,
     /// The session, and the number of the edition that is being sent.
-    place: Option<(u16, u64)>,
+    sending: Option<(u16, u64)>,
     phase: Phase,
     /// Why it ended, until [`Served::next`] has returned that.
     ended: Option<ServerError>,
@@ -104,7 +104,7 @@ impl Served {
             input: Input::default(),
             began: moment.now,
             output: None,
-            place: None,
+            sending: None,
             phase: Phase::Served,
             ended: None,
         }
@@ -122,7 +122,7 @@ impl Served {
         self.phase == Phase::Served
     }
 
-    /// When to call [`Served::next`], if nothing comes before.
+    /// When to call [`Served::next`] if nothing happens before.
     #[must_use]
     pub fn wakes(&self, moment: &Moment) -> u64 {
         match self.phase {
@@ -134,7 +134,7 @@ impl Served {
         }
     }
 
-    /// Takes bytes that came. No bytes mean that the client sends no more.
+    /// Processes received bytes; none mean that the client has closed.
     pub fn received(&mut self, moment: &Moment, bytes: &[u8]) {
         let is_empty = self.input.bytes().is_empty();
         if bytes.is_empty() && is_empty {
@@ -214,7 +214,7 @@ impl Served {
         if moment.now >= self.due(moment) {
             return Some(ServerError::TooSlow);
         }
-        let (session, number) = self.place.filter(|_| self.output.is_some())?;
+        let (session, number) = self.sending.filter(|_| self.output.is_some())?;
         match moment.newest.as_ref()? {
             newest if newest.present.session != session => Some(ServerError::OtherSession),
             newest if newest.number - number > MOST_BEHIND => Some(ServerError::TooFarBehind),
@@ -222,7 +222,7 @@ impl Served {
         }
     }
 
-    /// Gives the machine a unit that came, or the time.
+    /// Passes a received unit, or the time, to the machine.
     fn tell(&mut self, moment: &Moment) -> Serving {
         let (now, present) = (moment.now, moment.present());
         let (input, ended) = (self.input.bytes(), self.input.has_ended());
@@ -247,7 +247,7 @@ impl Served {
             _ => Body::default(),
         };
         let newest = moment.newest.as_ref();
-        self.place = newest.map(|newest| (newest.present.session, newest.number));
+        self.sending = newest.map(|newest| (newest.present.session, newest.number));
         let mut head = Vec::new();
         serving.append(self.input.bytes(), &mut head);
         self.output = Output::new(head, body, moment.now);

@@ -43,7 +43,7 @@ struct Shared {
     stop: Stop,
     /// Listeners and connections that the thread hasn't taken over yet.
     listeners: Mutex<Vec<Listener>>,
-    given: Mutex<Vec<(Box<dyn Socket>, SocketAddr)>>,
+    connections: Mutex<Vec<(Box<dyn Socket>, SocketAddr)>>,
     /// How many clients are served.
     clients: AtomicUsize,
 }
@@ -110,9 +110,9 @@ impl Server {
         log: impl Fn(LogLevel, &str, &LogFields<'_>) + Send + Sync + 'static,
     ) -> Self {
         let log: Arc<Log> = Arc::new(log);
-        let told = Arc::clone(&log);
+        let ended_log = Arc::clone(&log);
         let ended = move |from: SocketAddr, error: &ServerError| {
-            told(
+            ended_log(
                 LogLevel::Info,
                 "ended",
                 &[("client", &from), ("error", error)],
@@ -129,7 +129,7 @@ impl Server {
                 log,
                 stop: Stop::default(),
                 listeners: Mutex::default(),
-                given: Mutex::default(),
+                connections: Mutex::default(),
                 clients: AtomicUsize::new(0),
             }),
             thread: Mutex::default(),
@@ -144,10 +144,10 @@ impl Server {
     /// `NewTimings`; `SerialNotAfter`, also for the same payloads with an earlier serial number;
     /// `Times` if RFC 8210 section 6 doesn't allow their times.
     pub fn update(&self, data: Data) -> Result<bool, UpdateError> {
-        let told = self.shared.log.as_ref().map(|log| (log, data.clone()));
+        let update_log = self.shared.log.as_ref().map(|log| (log, data.clone()));
         let is_new = self.shared.cache.update(data)?;
         if is_new {
-            if let Some((log, data)) = told {
+            if let Some((log, data)) = update_log {
                 data.log_served(&**log);
             }
             self.wake();
@@ -220,7 +220,7 @@ impl Server {
     /// Those of starting a thread.
     pub fn serve(&self, socket: impl Socket + 'static, from: SocketAddr) -> io::Result<()> {
         self.start()?;
-        locked(&self.shared.given).push((Box::new(socket), from));
+        locked(&self.shared.connections).push((Box::new(socket), from));
         self.wake();
         Ok(())
     }
@@ -405,8 +405,8 @@ impl Host {
                 _ => self.act(*key, true),
             }
         }
-        let given = take(&mut *locked(&self.shared.given));
-        for (socket, from) in given {
+        let connections = take(&mut *locked(&self.shared.connections));
+        for (socket, from) in connections {
             self.serve(socket, from, false);
         }
     }

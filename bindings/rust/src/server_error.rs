@@ -1,4 +1,4 @@
-//! Why a cache ends a connection, or doesn't take data.
+//! Why a cache ends a connection, or refuses data.
 
 use crate::abi::{named, time_rule};
 use crate::cache_machine::{reason, reason_text, Serving};
@@ -16,17 +16,17 @@ use std::vec::Vec;
 pub enum ServerError {
     /// The connection failed.
     Io(io::Error),
-    /// The client let a limit of time pass.
+    /// The client exceeded a time limit.
     TooSlow,
-    /// More than two editions came while the client was sent one.
+    /// More than two newer data came while the client was being sent some.
     TooFarBehind,
-    /// There are as many clients as are allowed, or as the system has room for.
+    /// The limit of clients is reached, or the system has no descriptors left.
     TooManyClients,
-    /// The client has data of a session before the present one.
+    /// The client has data of an earlier session.
     OtherSession,
     /// A unit of the client is refused.
     Refused {
-        /// The code that it is reported with, if a report is owed.
+        /// The code of the report, if one is owed.
         code: Option<ErrorCode>,
         /// What is wrong.
         text: String,
@@ -59,7 +59,7 @@ impl std::error::Error for ServerError {
 }
 
 impl ServerError {
-    /// Why the machine ends a connection, for the unit that the input begins with.
+    /// Why the machine ends a connection; the input begins with the unit.
     pub(crate) fn of(serving: &Serving, input: &[u8]) -> ServerError {
         let text = match (serving.reason, Unit::first(input)) {
             (reason::SLOW, _) => return ServerError::TooSlow,
@@ -76,25 +76,25 @@ impl ServerError {
     }
 }
 
-/// Why a [`Server`](crate::Server) doesn't take new data. It goes on with the data that it has.
+/// Why a [`Server`](crate::Server) refuses new data. It keeps its present data.
 #[derive(Clone, Copy, Debug, PartialEq, Eq)]
 #[non_exhaustive]
 pub enum UpdateError {
-    /// The new data are of the session of those that the server has, but their serial number isn't
-    /// after those's (RFC 1982).
+    /// The new data are of the same session as the present ones, but their serial number isn't
+    /// after the present one (RFC 1982).
     SerialNotAfter {
-        /// The serial number of the data that the server has.
+        /// The serial number of the present data.
         present: u32,
         /// The serial number of the new data.
         new: u32,
     },
-    /// The new data differ from those that the server has in the times of their end of data alone.
+    /// The new data differ from the present ones only in the times of their end of data.
     NewTimings,
-    /// No cache may name the times of their end of data: they break this rule (RFC 8210 section 6).
+    /// The times of their end of data break this rule for caches (RFC 8210 section 6).
     Times(TimeRule),
 }
 
-/// A rule on the times that a cache names (RFC 8210 section 6).
+/// A rule for the times of a cache (RFC 8210 section 6).
 #[derive(Clone, Copy, Debug, PartialEq, Eq)]
 #[non_exhaustive]
 pub enum TimeRule {

@@ -110,36 +110,36 @@ pub(crate) fn unit_size(input: &[u8]) -> Result<usize, Fault> {
 }
 
 /// A text of the archive.
-pub(crate) struct Said {
+pub(crate) struct Text {
     bytes: [u8; abi::TEXT_ROOM],
     length: usize,
 }
 
-impl Said {
+impl Text {
     /// The text that a call writes to the front of these bytes.
     fn by(call: impl FnOnce(&mut [u8], &mut usize) -> u8) -> Self {
-        let mut said = Said {
+        let mut text = Text {
             bytes: [0; abi::TEXT_ROOM],
             length: 0,
         };
-        call(&mut said.bytes, &mut said.length);
-        said
+        call(&mut text.bytes, &mut text.length);
+        text
     }
 }
 
-impl Deref for Said {
+impl Deref for Text {
     type Target = str;
 
     fn deref(&self) -> &str {
-        // Texts are ASCII, and shorter than the room for them.
+        // Texts are ASCII, and shorter than the buffer.
         let text = self.bytes.get(..self.length).unwrap_or(&self.bytes);
         str::from_utf8(text).unwrap_or_default()
     }
 }
 
 /// The text of a status with its detail.
-pub(crate) fn status_text(status: u8, detail: u8) -> Said {
-    Said::by(|output, length| {
+pub(crate) fn status_text(status: u8, detail: u8) -> Text {
+    Text::by(|output, length| {
         // SAFETY: the output is live and of this length, and the count overlaps nothing.
         unsafe { abi::rtr_text_nonnull(status, detail, output.as_mut_ptr(), output.len(), length) }
     })
@@ -151,9 +151,9 @@ pub(crate) fn milliseconds(span: Duration) -> u32 {
     whole.max(u32::from(!span.is_zero()))
 }
 
-/// The name of a number of the sort that `named` says.
-pub(crate) fn name(named: u8, number: u16) -> Said {
-    Said::by(|output, length| {
+/// The name of a number; `named` selects of what.
+pub(crate) fn name(named: u8, number: u16) -> Text {
+    Text::by(|output, length| {
         // SAFETY: as in `status_text`.
         unsafe { abi::rtr_name_nonnull(named, number, output.as_mut_ptr(), output.len(), length) }
     })
@@ -167,12 +167,12 @@ pub(crate) fn times_rule(timing: Timing) -> u8 {
         retry,
         expire,
     } = timing;
-    // SAFETY: it reads and writes nothing but numbers.
+    // SAFETY: it only takes numbers.
     unsafe { abi::rtr_times_rule(refresh, retry, expire) }
 }
 
-/// The length of the line of the first unit of the input, whose front is in the output, and the
-/// size of the unit.
+/// Writes the line of the first unit of the input, as much as fits; returns the length of the whole
+/// line, and the size of the unit.
 #[cfg(feature = "alloc")]
 pub(crate) fn line(input: &[u8], offset: u64, output: &mut [u8]) -> Result<(usize, usize), Fault> {
     let mut answer = abi::Line::default();
@@ -250,7 +250,7 @@ fn lined(answer: abi::Line) -> Result<(usize, usize), Fault> {
     }
 }
 
-/// Writes the name to the front of the output, which is long enough for any name.
+/// Writes the name to the output, which is long enough for any name.
 #[cfg(feature = "alloc")]
 pub(crate) fn check_name(input: &[u8], output: &mut [u8]) -> Result<abi::Naming, Fault> {
     let mut answer = abi::Naming::default();
@@ -289,7 +289,7 @@ pub(crate) fn check_end(check: Check) -> FindingNumbers {
     finding
 }
 
-/// The length of the line, whose front is written; 0 if there is none.
+/// Writes the line; returns its length, or 0 if there is none.
 #[cfg(feature = "alloc")]
 pub(crate) fn finding_line(finding: FindingNumbers, offset: u64, output: &mut [u8]) -> usize {
     // SAFETY: the slice is live and of this length, and overlaps nothing.
@@ -350,7 +350,7 @@ pub(crate) fn same_meaning(left: &[u8], right: &[u8], limit: u64) -> Result<bool
     }
 }
 
-/// The written bytes, or why the call failed.
+/// Returns the number of written bytes, or why the call failed.
 fn data_result(answer: DataAnswer) -> Result<usize, DataError> {
     let place = |side| Place {
         side,
@@ -386,7 +386,7 @@ pub(crate) fn delta(old: &[u8], new: &[u8], output: &mut [u8]) -> Result<usize, 
     data_result(answer)
 }
 
-/// Writes the delta to an empty vector's room.
+/// Writes the delta to the capacity of an empty vector.
 #[cfg(feature = "alloc")]
 pub(crate) fn append_delta(
     old: &[u8],
@@ -472,8 +472,8 @@ pub(crate) fn order(
     data_result(answer)
 }
 
-/// Writes the data that the recording leaves. After `NO_INDEX` the answer has how many entries the
-/// index needs at least; after `NO_ROOM` the work or the output was too short.
+/// Writes the data that a recording results in. After `NO_INDEX` the answer has the least number of
+/// entries that the index needs; after `NO_ROOM` the work or the output was too short.
 #[cfg(feature = "alloc")]
 pub(crate) fn load(
     recording: &[u8],
@@ -499,7 +499,7 @@ pub(crate) fn load(
     loaded
 }
 
-/// What lookups need to know of the data at the front of the slice.
+/// Builds the lookup of the data at the start of the slice.
 pub(crate) fn check_data(data: &[u8]) -> Result<Lookup, DataError> {
     let (mut lookup, mut answer) = (Lookup::default(), DataAnswer::default());
     // SAFETY: the slice is live and of this length, never null, and the rest overlaps nothing.
@@ -510,7 +510,7 @@ pub(crate) fn check_data(data: &[u8]) -> Result<Lookup, DataError> {
     Ok(lookup)
 }
 
-/// The route as the archive takes it.
+/// Converts a route for the archive.
 fn route_numbers(route: &Route) -> RouteNumbers {
     let mut numbers = RouteNumbers {
         asn: route.asn(),
@@ -574,7 +574,7 @@ pub(crate) fn version_has(version: u8, kind: u8) -> bool {
 }
 
 impl Unit {
-    /// The typed unit, whose bytes these are.
+    /// Converts the struct to a typed unit with these bytes.
     pub(crate) fn typed<'a>(&self, bytes: &'a [u8]) -> UnitRef<'a> {
         let (version, session, serial) = (self.version, self.session, self.serial);
         let announce = self.action == 1;
@@ -633,7 +633,7 @@ impl Unit {
             _ => unit::Unit::ErrorReport(unit::ErrorReport {
                 version,
                 code: ErrorCode(self.code),
-                // A report whose inner lengths don't fit has no parts.
+                // A report whose inner lengths are wrong has no parts.
                 parts: (self.part_start > 0).then(|| ReportParts {
                     unit: part,
                     text: &bytes[self.text_start..][..self.text_length],
@@ -656,7 +656,8 @@ impl Unit {
         })
     }
 
-    /// The unit as the archive takes it, without the length of its part, a report without its text.
+    /// Converts the unit for the archive, without the length of its part, and a report without its
+    /// text.
     pub(crate) fn of<B>(typed: &unit::Unit<B>) -> Self {
         let unit = Unit {
             kind: typed.kind().into(),
@@ -714,7 +715,7 @@ impl Unit {
         }
     }
 
-    /// The report as the archive takes it, without its parts.
+    /// Converts the report for the archive, without its parts.
     pub(crate) fn of_report<B>(report: &ErrorReport<B>) -> Self {
         Unit {
             kind: Kind::ErrorReport.into(),

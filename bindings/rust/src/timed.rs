@@ -48,7 +48,7 @@ impl Stop {
             ends.as_ref().map(|(_, end)| Awaited::to_read(end))
         };
         if self.is_set() {
-            return self.set(); // for others, which perhaps weren't woken
+            return self.set(); // wakes other threads, which `set` may have missed
         }
         let most = if woken.is_some() {
             most

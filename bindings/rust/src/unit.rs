@@ -143,14 +143,14 @@ pub struct ErrorReport<B> {
     pub version: u8,
     /// What was wrong.
     pub code: ErrorCode,
-    /// The unit that it is about and its text; none if the lengths inside of the report don't fit.
+    /// The unit that it is about and its text; none if the lengths inside of the report are wrong.
     pub parts: Option<ReportParts<B>>,
 }
 
 /// The parts of an error report, at most 65519 bytes together.
 #[derive(Clone, Copy, Debug, PartialEq, Eq, Hash)]
 pub struct ReportParts<B> {
-    /// The unit that the report is about, or its front, or nothing.
+    /// The unit that the report is about, or its start, or nothing.
     pub unit: B,
     /// The text, which should be in UTF-8.
     pub text: B,
@@ -165,11 +165,11 @@ pub struct Aspa<B> {
     pub announce: bool,
     /// The autonomous system whose providers these are.
     pub customer: u32,
-    /// The providers, on a withdrawal too where it has some.
+    /// The providers; a withdrawal may have some, too.
     pub providers: Providers<B>,
 }
 
-/// The providers of an ASPA, as they stand in a unit: four bytes each, in network order.
+/// The providers of an ASPA, as they are encoded: four bytes each, in network byte order.
 ///
 /// ```
 /// use rtr_wire::Providers;
@@ -197,8 +197,8 @@ impl FromIterator<u32> for Providers<Vec<u8>> {
     }
 }
 
-/// A unit of any type. `B` are bytes: `&[u8]` in a unit that is lent, as [`UnitRef`], and `Vec<u8>`
-/// in one that owns them, as `OwnedUnit`.
+/// A unit of any type. `B` are bytes: `&[u8]` in a borrowed unit ([`UnitRef`]), `Vec<u8>` in one
+/// that owns them (`OwnedUnit`).
 #[derive(Clone, Copy, Debug, PartialEq, Eq, Hash)]
 #[non_exhaustive]
 pub enum Unit<B> {
@@ -233,13 +233,13 @@ pub type UnitRef<'a> = Unit<&'a [u8]>;
 #[cfg(feature = "alloc")]
 pub type OwnedUnit = Unit<Vec<u8>>;
 
-/// How many bytes the unit has that the input begins with, by its header alone: at most 65535. It
-/// is none if fewer than the eight bytes of a header are there. What follows the header isn't read,
-/// and may be missing.
+/// Returns the size in bytes of the unit at the start of the input, from its header: at most 65535.
+/// It is none if the input has fewer than the eight bytes of a header. Later bytes aren't read, and
+/// may be missing.
 ///
 /// # Errors
 ///
-/// `UnitType` to `EmptyProviders`, as [`Unit::first`] has them.
+/// `UnitType` to `EmptyProviders`, as from [`Unit::first`].
 pub fn unit_size(input: &[u8]) -> Result<Option<usize>, Fault> {
     match sys::unit_size(input) {
         Ok(size) => Ok(Some(size)),
@@ -249,13 +249,13 @@ pub fn unit_size(input: &[u8]) -> Result<Option<usize>, Fault> {
 }
 
 impl<'a> UnitRef<'a> {
-    /// The unit that the input begins with, and what follows it. Only fixed fields are copied, and
-    /// nothing is allocated.
+    /// Parses the unit at the start of the input, and returns it with the rest of the input. It
+    /// copies only the fixed fields, and allocates nothing.
     ///
     /// # Errors
     ///
-    /// `Short` to `Prefix`. [`unit_size`] says then how many bytes are wanted (`Short`), or by how
-    /// many to go on (`Prefix`).
+    /// `Short` to `Prefix`. Then [`unit_size`] returns how many bytes are needed (`Short`), or how
+    /// many to skip (`Prefix`).
     pub fn first(input: &'a [u8]) -> Result<(Self, &'a [u8]), Fault> {
         let unit = sys::next(input)?;
         let (bytes, rest) = input.split_at(unit.size);
@@ -304,7 +304,7 @@ impl<B> Unit<B> {
         }
     }
 
-    /// Whether a payload unit announces or else withdraws; none for units of other types.
+    /// Whether a payload unit announces; false if it withdraws, none for units of other types.
     pub fn announces(&self) -> Option<bool> {
         match self {
             Unit::Ipv4Prefix(prefix) => Some(prefix.announce),
@@ -315,7 +315,7 @@ impl<B> Unit<B> {
         }
     }
 
-    /// The unit with other bytes, made from those that it has.
+    /// Converts the bytes of the unit by a function.
     pub fn map<C>(self, mut bytes: impl FnMut(B) -> C) -> Unit<C> {
         match self {
             Unit::SerialNotify(unit) => Unit::SerialNotify(unit),
@@ -352,7 +352,7 @@ impl<B> Unit<B> {
 }
 
 impl<B: AsRef<[u8]>> Unit<B> {
-    /// How many bytes the written form has, if the unit has one.
+    /// The size of the written form in bytes, if the unit can be written.
     #[allow(clippy::match_same_arms)] // in the order of the sections of RFC 8210
     pub fn size(&self) -> usize {
         match self {
@@ -372,10 +372,10 @@ impl<B: AsRef<[u8]>> Unit<B> {
         }
     }
 
-    /// Writes the written form to the front of the output, and answers its length in bytes, at most
-    /// 65535. Host bits of an address are cleared, a withdrawn ASPA is written without providers,
-    /// and an end of data of version 0 without timings. One of a later version that has no timings
-    /// gets those that RFC 8210 section 6 recommends. A report whose lengths don't fit is written
+    /// Writes the form of the unit to the output, and returns its length in bytes, at most 65535.
+    /// Host bits of an address are cleared, a withdrawn ASPA is written without providers, and an
+    /// end of data of version 0 without timings. An end of data of a later version without timings
+    /// gets those that RFC 8210 section 6 recommends. A report whose lengths are wrong is written
     /// without parts. It allocates nothing.
     ///
     /// ```
@@ -403,8 +403,8 @@ impl<B: AsRef<[u8]>> Unit<B> {
         sys::write(&unit, part, output).map_err(|fault| self.detailed(fault))
     }
 
-    /// The fault of a unit that has no form, with the detail that the call of the archive doesn't
-    /// report.
+    /// Adds the detail to the fault of a unit that can't be written, since the archive's call
+    /// doesn't return it.
     fn detailed(&self, fault: Fault) -> Fault {
         match (fault, self) {
             (Fault::UnitVersion(_), _) => Fault::UnitVersion(self.version()),
@@ -418,12 +418,12 @@ impl<B: AsRef<[u8]>> Unit<B> {
         }
     }
 
-    /// Appends the written form, and answers its length in bytes. Where the vector has room for
-    /// [`size`](Unit::size) bytes, nothing is allocated.
+    /// Appends the form of the unit, and returns its length in bytes. It allocates nothing if the
+    /// vector has capacity for [`size`](Unit::size) more bytes.
     ///
     /// # Errors
     ///
-    /// Those of [`write`](Unit::write) but `NoRoom`. Then nothing is appended.
+    /// Those of [`write`](Unit::write), except `NoRoom`. Then nothing is appended.
     #[cfg(feature = "alloc")]
     pub fn append(&self, to: &mut Vec<u8>) -> Result<usize, Fault> {
         let start = to.len();
@@ -434,7 +434,7 @@ impl<B: AsRef<[u8]>> Unit<B> {
     }
 }
 
-/// The first part of the rule that the lengths of a prefix break.
+/// The first part of the rule on lengths that a prefix breaks.
 fn broken(width: u8, length: u8, max_length: u8) -> PrefixRule {
     if length > width {
         PrefixRule::LengthOver
@@ -469,8 +469,8 @@ impl<B: AsRef<[u8]>> ErrorReport<B> {
         }
     }
 
-    /// Writes the report. The archive's call takes a text only where it lies beside the unit, so
-    /// the text is put after a report that has none.
+    /// Writes the report. The archive's call takes the unit and the text only from one buffer, so
+    /// it writes a report without a text, and the text is appended.
     fn write(&self, output: &mut [u8]) -> Result<usize, Fault> {
         let (unit, text) = self.parts();
         if unit.len() > MOST_REPORT_PARTS || text.len() > MOST_REPORT_PARTS - unit.len() {
@@ -480,7 +480,7 @@ impl<B: AsRef<[u8]>> ErrorReport<B> {
         if output.len() < size {
             return Err(Fault::NoRoom);
         }
-        let number = |length| u32::try_from(length).expect("a report isn't as long");
+        let number = |length| u32::try_from(length).expect("a report is shorter");
         let start = sys::write(&sys::Unit::of_report(self), unit, output)?;
         output[4..8].copy_from_slice(&number(size).to_be_bytes());
         output[start - 4..start].copy_from_slice(&number(text.len()).to_be_bytes());
@@ -489,8 +489,8 @@ impl<B: AsRef<[u8]>> ErrorReport<B> {
     }
 }
 
-/// The order of two serial numbers (RFC 1982), or none if they lie half the circle of 2^32 numbers
-/// apart. This order isn't transitive.
+/// Returns the order of two serial numbers (RFC 1982), or none if their distance is 2^31. This
+/// order isn't transitive.
 ///
 /// ```
 /// use rtr_wire::compare_serials;

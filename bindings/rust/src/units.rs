@@ -4,8 +4,8 @@ use crate::fault::Fault;
 use crate::kind::Kind;
 use crate::unit::{Unit, UnitRef};
 
-/// The units of a slice, one after the other, up to its end or the first fault. Each is parsed
-/// once, and nothing is allocated.
+/// An iterator over the units of a slice, up to its end or the first fault. It parses each unit
+/// once, and allocates nothing.
 ///
 /// ```
 /// use rtr_wire::{Kind, Units};
@@ -21,13 +21,13 @@ use crate::unit::{Unit, UnitRef};
 pub struct Units<'a> {
     input: &'a [u8],
     offset: usize,
-    /// How many units a sequence may still have; none where all units of the input are wanted.
+    /// How many more units a sequence may have; none to read all units of the input.
     limit: Option<u64>,
     ended: bool,
 }
 
 impl<'a> Units<'a> {
-    /// All units of the input, of any type.
+    /// Iterates over all units of the input, of any type.
     #[must_use]
     pub fn new(input: &'a [u8]) -> Self {
         Units {
@@ -38,11 +38,12 @@ impl<'a> Units<'a> {
         }
     }
 
-    /// The units of the sequence that the input begins with: payload units up to an end of data,
-    /// which is given too. At most `limit` units are taken, the end of data included.
+    /// Iterates over the units of the sequence at the start of the input: payload units up to and
+    /// including an end of data, at most `limit` units.
     ///
-    /// Faults: `TooMany`, before a unit is parsed; those of [`Unit::first`], but `UnitType` for
-    /// every type that no sequence has, and `Short` where the input ends before an end of data.
+    /// Faults: `TooMany`, before a unit is parsed; those of [`Unit::first`], with `UnitType` for
+    /// every type that isn't allowed in sequences, and `Short` if the input ends before an end of
+    /// data.
     #[must_use]
     pub fn sequence(input: &'a [u8], limit: u64) -> Self {
         Units {
@@ -51,20 +52,19 @@ impl<'a> Units<'a> {
         }
     }
 
-    /// How many bytes the units have that were given. After a fault, where the unit begins that is
-    /// refused.
+    /// The number of bytes of the units so far; after a fault, the offset of the refused unit.
     #[must_use]
     pub fn offset(&self) -> usize {
         self.offset
     }
 
-    /// What follows the units that were given.
+    /// The rest of the input after the units so far.
     #[must_use]
     pub fn rest(&self) -> &'a [u8] {
         &self.input[self.offset..]
     }
 
-    /// The next unit, which there is.
+    /// Parses the next unit; the rest isn't empty.
     fn parse(&mut self) -> Result<UnitRef<'a>, Fault> {
         let input = self.rest();
         if let Some(left) = self.limit {
@@ -77,7 +77,7 @@ impl<'a> Units<'a> {
     }
 }
 
-/// A header at the front of the bytes has to be of a type that sequences have.
+/// Refuses a header of a type that isn't allowed in sequences.
 pub(crate) fn refuse_outside_of_sequences(bytes: &[u8]) -> Result<(), Fault> {
     match *bytes {
         [_, number, _, _, _, _, _, _, ..] => match Kind::try_from(number) {

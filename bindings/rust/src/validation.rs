@@ -8,7 +8,7 @@ use crate::sys;
 use core::fmt;
 use core::iter::FusedIterator;
 
-/// What origin validation says of a route (RFC 6811 section 2).
+/// The result of origin validation of a route (RFC 6811 section 2).
 #[derive(Clone, Copy, Debug, PartialEq, Eq, Hash)]
 pub enum Validity {
     /// No VRP covers the route.
@@ -29,7 +29,7 @@ impl fmt::Display for Validity {
     }
 }
 
-/// Why a VRP that covers a route doesn't match it: the first of these that holds.
+/// Why a VRP that covers a route doesn't match it: the first of these that applies.
 #[derive(Clone, Copy, Debug, PartialEq, Eq, Hash)]
 pub enum Mismatch {
     /// The VRP is of AS 0, which matches no route.
@@ -71,8 +71,8 @@ pub struct Route {
 }
 
 impl Route {
-    /// The route of this prefix with this origin AS. An AS of 0 is for a route that has no one
-    /// origin, since its path ends with an `AS_SET`: no VRP matches it. Host bits are cleared.
+    /// Returns the route of this prefix with this origin AS. Use AS 0 for a route without a single
+    /// origin, whose path ends with an `AS_SET`: no VRP matches it. Host bits are cleared.
     ///
     /// # Errors
     ///
@@ -97,13 +97,13 @@ impl Route {
         self.address
     }
 
-    /// How many bits of the address count.
+    /// The length of the prefix in bits.
     #[must_use]
     pub fn length(&self) -> u8 {
         self.length
     }
 
-    /// The origin AS, or 0 where there is no one origin.
+    /// The origin AS, or 0 if there is no single origin.
     #[must_use]
     pub fn asn(&self) -> u32 {
         self.asn
@@ -116,7 +116,7 @@ impl fmt::Display for Route {
     }
 }
 
-/// The address with zero after so many bits.
+/// Clears the bits of an address after the prefix length.
 pub(crate) fn first_bits(address: IpAddr, length: u8) -> IpAddr {
     match address {
         IpAddr::V4(address) => {
@@ -136,17 +136,17 @@ pub(crate) fn first_bits(address: IpAddr, length: u8) -> IpAddr {
 #[derive(Clone, Copy, Debug, PartialEq, Eq, Hash)]
 #[non_exhaustive]
 pub struct Vrp {
-    /// Which payload of the data it is, from 0.
+    /// The index of the payload in the data, from 0.
     pub place: usize,
     /// The address of its prefix.
     pub address: IpAddr,
     /// The length of its prefix.
     pub length: u8,
-    /// The longest prefix length that is meant.
+    /// The longest prefix length that the AS may announce.
     pub max_length: u8,
     /// Its AS.
     pub asn: u32,
-    /// Why it doesn't match the route, or none where it does.
+    /// Why it doesn't match the route; none if it does.
     pub mismatch: Option<Mismatch>,
 }
 
@@ -157,9 +157,9 @@ impl fmt::Display for Vrp {
     }
 }
 
-/// Data in canonical form, as [`apply_into`](crate::apply_into) writes them, with where their
-/// prefixes lie, so that routes are looked up by halving. They are made in two passes over the data,
-/// which they borrow; nothing is allocated.
+/// Data in canonical form, as [`apply_into`](crate::apply_into) writes them, with the offsets of
+/// their prefixes, so that routes are found by binary search. They borrow the data, and are built
+/// in two passes over them, without allocation.
 ///
 /// ```
 /// use rtr_wire::{Mismatch, Route, Tables, Validity};
@@ -185,12 +185,12 @@ pub struct Tables<'a> {
 }
 
 impl<'a> Tables<'a> {
-    /// The tables of the data that these bytes begin with. What follows the end of data doesn't
-    /// count.
+    /// Builds the tables of the data at the start of these bytes. Bytes after the end of data are
+    /// ignored.
     ///
     /// # Errors
     ///
-    /// `Short` to `Prefix` or `NotCanonical`, with the place of the first fault.
+    /// `Short` to `Prefix` or `NotCanonical`, with the location of the first fault.
     pub fn of(data: &'a [u8]) -> Result<Tables<'a>, DataError> {
         let lookup = sys::check_data(data)?;
         Ok(Tables { data, lookup })
@@ -225,7 +225,7 @@ pub struct Covering<'a> {
 }
 
 impl<'a> Covering<'a> {
-    /// Those of the data that the lookup was made of.
+    /// Returns those of the data that the lookup was built from.
     pub(crate) fn new(data: &'a [u8], lookup: &'a sys::Lookup, route: &Route) -> Covering<'a> {
         Covering {
             data,

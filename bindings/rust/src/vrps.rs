@@ -1,4 +1,4 @@
-//! Data made of VRPs, and VRPs of data.
+//! Data from VRPs, and VRPs of data.
 
 use crate::error::Error;
 use crate::fault::Fault;
@@ -13,18 +13,19 @@ use core::fmt;
 /// A validated ROA payload, as validators print it (RFC 6811 section 2).
 #[derive(Clone, Copy, Debug, PartialEq, Eq, PartialOrd, Ord, Hash)]
 pub struct RoaPayload {
-    /// The address of its prefix. Bits after the length mean nothing.
+    /// The address of its prefix. Host bits are ignored.
     pub address: IpAddr,
     /// The length of its prefix.
     pub length: u8,
-    /// The longest prefix length that is meant; none stands for the length, as in a ROA.
+    /// The longest prefix length that the AS may announce; by default the prefix length, as in a
+    /// ROA.
     pub max_length: Option<u8>,
     /// Its AS.
     pub asn: u32,
 }
 
 impl RoaPayload {
-    /// The one form of all that mean the same.
+    /// Normalises it: payloads that mean the same become equal.
     fn plain(self) -> RoaPayload {
         RoaPayload {
             address: first_bits(self.address, self.length),
@@ -57,7 +58,7 @@ impl RoaPayload {
         }
     }
 
-    /// That of a unit, if it is a prefix.
+    /// Returns the payload of a unit, if that is a prefix.
     fn of(unit: &UnitRef) -> Option<RoaPayload> {
         let (address, length, max_length, asn) = match unit {
             Unit::Ipv4Prefix(unit) => (unit.address.into(), unit.length, unit.max_length, unit.asn),
@@ -133,10 +134,10 @@ impl Data {
         timing: Option<Timing>,
     ) -> Result<Data, RoaPayloadError> {
         let (mut units, mut seen) = (Vec::new(), BTreeSet::new());
-        for (place, vrp) in vrps.into_iter().enumerate() {
+        for (index, vrp) in vrps.into_iter().enumerate() {
             let unit = vrp.unit(version);
             let start = units.len();
-            let place = Some(place);
+            let place = Some(index);
             let appended = unit.append(&mut units);
             appended.map_err(|fault| RoaPayloadError { place, fault })?;
             if !seen.insert(vrp.plain()) {

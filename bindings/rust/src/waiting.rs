@@ -6,17 +6,17 @@ use std::os::unix::io::{AsRawFd, FromRawFd, OwnedFd};
 use std::os::unix::net::UnixStream;
 use std::vec::Vec;
 
-/// A socket to wait for, as in the C library.
+/// A socket to wait for: the C library's struct pollfd.
 #[repr(C)]
 #[derive(Clone, Copy, Debug)]
 pub(crate) struct Awaited {
     descriptor: c_int,
-    wanted: c_short,
+    events: c_short,
     came: c_short,
 }
 
 extern "C" {
-    /// Of Linux's C library: the standard library can't wait for several sockets.
+    // Functions of the C library on Linux: the standard library can't wait for several sockets.
     fn poll(awaited: *mut Awaited, count: c_ulong, milliseconds: c_int) -> c_int;
     // The same for many sockets, which are registered once.
     fn epoll_create1(flags: c_int) -> c_int;
@@ -58,10 +58,10 @@ impl Awaited {
         Awaited::of(socket, WRITABLE)
     }
 
-    fn of(socket: &impl AsRawFd, wanted: c_short) -> Awaited {
+    fn of(socket: &impl AsRawFd, events: c_short) -> Awaited {
         Awaited {
             descriptor: socket.as_raw_fd(),
-            wanted,
+            events,
             came: 0,
         }
     }
@@ -104,7 +104,7 @@ impl Poller {
         if descriptor < 0 {
             return Err(io::Error::last_os_error());
         }
-        // SAFETY: the descriptor was just made, and nobody else has it.
+        // SAFETY: the descriptor was just created, and nobody else has it.
         Ok(Poller(unsafe { OwnedFd::from_raw_fd(descriptor) }))
     }
 
@@ -138,7 +138,7 @@ impl Poller {
         let what = if wants_room { WRITABLE } else { READABLE };
         let mut event = Event { what, key };
         let (poller, descriptor) = (self.0.as_raw_fd(), socket.as_raw_fd());
-        // SAFETY: the event is live, and the call keeps no place of it.
+        // SAFETY: the event is live, and the call doesn't keep its address.
         match unsafe { epoll_ctl(poller, how, descriptor, &mut event) } {
             0 => Ok(()),
             _ => Err(io::Error::last_os_error()),

@@ -1,12 +1,12 @@
-//! Units to a writer.
+//! Writes units to a writer.
 
 use crate::reader::Error;
 use crate::unit::Unit;
 use std::io::Write;
 use std::vec::Vec;
 
-/// Writes units to a writer, each by one `write_all`. It keeps nothing back: give it a
-/// [`std::io::BufWriter`] where writes are dear, and flush that.
+/// Writes units to a writer, each by one `write_all`, without buffering: use a
+/// [`std::io::BufWriter`] if writes are expensive, and flush that.
 ///
 /// ```
 /// use rtr_wire::{OwnedUnit, ResetQuery, Unit, Writer};
@@ -49,7 +49,7 @@ impl<W> Writer<W> {
 }
 
 impl<W: Write> Writer<W> {
-    /// Writes the written form of a unit, as [`Unit::write`] makes it.
+    /// Writes the form of a unit, as [`Unit::write`] does.
     ///
     /// # Errors
     ///
