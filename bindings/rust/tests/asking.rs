@@ -1,4 +1,4 @@
-//! Clients that ask before their refresh time.
+//! Requests for current data before the refresh time.
 #![cfg(feature = "std")]
 
 mod peers;
@@ -32,7 +32,7 @@ fn changed(from: u32, to: u32) -> Vec<u8> {
     [&response(2, SESSION), changes.as_bytes()].concat()
 }
 
-/// A router that is connected and has asked, with a pause of a second between queries, from time 0.
+/// A router that has connected and asked at time 0, with a pause of a second between queries.
 fn asked() -> Router {
     asked_with(milliseconds(1000))
 }
@@ -84,7 +84,7 @@ fn a_router_that_waits() {
     assert_eq!(router.wakes(), 5000 + 3_600_000);
 }
 
-/// While an answer is awaited or comes the wish changes nothing, and no byte of the answer or of a
+/// While an answer is awaited or received a request is a no-op, and no byte of the answer or of a
 /// partial unit is lost.
 #[test]
 fn a_router_in_an_answer() {
@@ -123,8 +123,8 @@ fn a_router_without_data() {
     assert_eq!(sent(&mut router), reset_query(2));
 }
 
-/// Without a connection, less than a pause after its last query, it connects after a pause, where it
-/// would wait for a second; a wish doesn't have it connect later than that. Then it asks once.
+/// Without a connection, less than a pause after its last query, it connects after a pause instead
+/// of a second; a request doesn't make it connect later. Then it asks once.
 #[test]
 fn a_router_without_a_connection() {
     let mut router = asked_with(milliseconds(400));
@@ -149,7 +149,7 @@ fn a_router_without_a_connection() {
     assert_eq!(sent(&mut router), []);
 }
 
-/// Where connections can't be made it doesn't wait for its time, which grows.
+/// After failed connections a request ends the wait, which grows.
 #[test]
 fn a_router_that_is_refused() {
     let options = ClientOptions {
@@ -170,8 +170,8 @@ fn a_router_that_is_refused() {
     assert!(matches!(router.next(now), Step::Connect));
 }
 
-/// Data are valid up to their expire time, and then aren't, also before they are dropped (RFC 8210
-/// section 6). The wish to ask doesn't keep them.
+/// Data are valid until their expire time, even if they are dropped later (RFC 8210 section 6). A
+/// request doesn't prolong that.
 #[test]
 fn data_that_have_expired() {
     let mut router = asked();
@@ -192,7 +192,7 @@ fn data_that_have_expired() {
     ));
 }
 
-/// A cache that answers twice, and does this in between; the second query is a wish.
+/// A cache that answers twice, and calls a function in between; the second query is requested.
 fn answers_twice(listener: &TcpListener, between: impl FnOnce()) {
     let mut cache = Peer::of(listener.accept().unwrap().0);
     cache.unit().unwrap();
@@ -241,7 +241,7 @@ fn a_client_that_waits() {
     }
 }
 
-/// So is a member that is followed, by the client that the caller made for it.
+/// So is a member of a group, by its client.
 #[test]
 fn a_client_that_is_followed() {
     let _alone = alone();

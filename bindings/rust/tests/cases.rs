@@ -1,5 +1,5 @@
 //! The cases that `tests/libraries/cases.py` writes: read from the file that `RTR_CASES` names, or
-//! else made by python3. Where there is no python3, nothing is tested here.
+//! computed by python3. Without python3 nothing is tested here.
 
 mod computed;
 
@@ -17,7 +17,7 @@ struct Case {
     form: Vec<u8>,
 }
 
-/// The cases, or none where they can't be made.
+/// The cases, or none if they can't be computed.
 fn cases() -> Vec<Case> {
     let bytes = computed::cases("RTR_CASES", "libraries/cases.py", &["--inputs", "300"]);
     let bytes = bytes.unwrap_or_default();
@@ -78,7 +78,7 @@ impl Case {
         assert_eq!(output[..progress.written], self.form);
     }
 
-    /// In steps, with little room and few units each time: the result is the same.
+    /// In steps, with a short output and few units at a time: the result is the same.
     fn check_in_turns(&self) {
         let (mut form, mut units, mut taken, mut room) = (Vec::new(), 0, 0, 16);
         let ended = loop {

@@ -1,4 +1,4 @@
-//! A client, and caches that behave or don't.
+//! A client, and well-behaved and faulty caches.
 #![cfg(feature = "std")]
 
 mod common;
@@ -46,7 +46,7 @@ impl Played {
         self.within(PATIENCE).expect("the client connects")
     }
 
-    /// A connection on which this query comes.
+    /// Accepts a connection, and expects this query.
     fn asked(&self, query: &[u8]) -> Peer {
         let mut peer = self.accept();
         peer.expect(query);
@@ -55,7 +55,7 @@ impl Played {
 }
 
 impl Peer {
-    /// These bytes have to come.
+    /// Expects these bytes.
     fn expect(&mut self, bytes: &[u8]) {
         let unit = self.unit().expect("the client is there");
         let wanted = Unit::first(bytes).unwrap().0.into_owned();
@@ -100,7 +100,7 @@ fn named(unit: &UnitRef) -> (String, String) {
 }
 
 impl Log {
-    /// The changes have to turn the payloads before into the present ones.
+    /// Checks that the changes lead from the payloads before to the present ones.
     fn add(&mut self, event: &Event<'_>) {
         let (changes, data) = match event {
             Event::Data { data, changes, .. } => (*changes, Some(*data)),
@@ -135,7 +135,7 @@ impl Drop for Stopping<'_> {
     }
 }
 
-/// Runs a client beside the script, which may read the log, and returns the client's events. The
+/// Runs a client and the script, which may read the log, and returns the client's events. The
 /// script's result, such as a connection, lives until the client is stopped.
 fn follow<T>(
     address: SocketAddr,
@@ -204,7 +204,7 @@ fn report(version: u8, code: ErrorCode) -> Vec<u8> {
     }))
 }
 
-/// A client of the crate's own cache gets each of its data, in each version.
+/// A client of the crate's own cache gets all of its data, in each version.
 #[test]
 fn follows_a_server() {
     let _alone = alone();
@@ -316,8 +316,7 @@ fn a_session() {
     assert_eq!(told, wanted);
 }
 
-/// While a cache has no data the client asks again. Data that it can't refresh are kept until they
-/// expire.
+/// A client asks a cache without data again. Data that it can't refresh are kept until they expire.
 #[test]
 fn no_data_and_expired_data() {
     let _alone = alone();
@@ -372,8 +371,8 @@ fn stops_after(cache: &Played, answer: &[u8], resets: bool) -> ClientError {
     })
 }
 
-/// An answer to a reset query that ends after any of its bytes gives no data, and changes are
-/// applied whole or not at all.
+/// An answer to a reset query that is truncated after any byte yields no data; changes are applied
+/// completely or not at all.
 #[test]
 fn caches_that_stop() {
     let _alone = alone();
@@ -443,7 +442,7 @@ fn refused_sequences() -> Vec<Refused> {
     ]
 }
 
-/// Units that may not come at that point.
+/// Units that aren't allowed at that point.
 fn misplaced() -> Vec<Refused> {
     let text = "unit is not allowed here";
     let code = Some(ErrorCode::UNSUPPORTED_PDU_TYPE);
@@ -572,8 +571,8 @@ fn slow(bytes: Vec<u8>) -> Plays {
     })
 }
 
-/// A client leaves a cache that stalls, is slow, or floods within a bounded time, and names the
-/// reason.
+/// A client disconnects from a cache that stalls, is slow, or floods within a bounded time, and
+/// reports the reason.
 #[test]
 fn hostile_caches() {
     let _alone = alone();
@@ -605,7 +604,7 @@ fn hostile_caches() {
         assert_eq!(error.to_string(), text);
         assert!(time < LATE, "{text} comes late");
     }
-    // The count of units is a limit too.
+    // The number of units is limited, too.
     let options = ClientOptions {
         units: 3,
         ..options()
@@ -645,7 +644,7 @@ fn limits() {
     }
 }
 
-/// Why a client gets nothing from a cache, and after how long it says so.
+/// The reason why a client gets nothing from a cache, and the time until it reports that.
 fn fetch_played(plays: Plays, options: ClientOptions) -> (ClientError, Duration) {
     let cache = Played::new();
     let client = Client::new(cache.address().to_string(), options);
@@ -738,7 +737,7 @@ fn stopped() {
     });
 }
 
-/// While nothing comes and it isn't time no client wakes, with a connection and without one.
+/// No client wakes before bytes come or it is time, with a connection or without one.
 #[test]
 fn no_thread_wakes() {
     let _alone = alone();

@@ -1,4 +1,4 @@
-//! Data and changes in canonical form. What is expected is computed by maps, in the order of names.
+//! Data and changes in canonical form. Expected values are computed by maps, in the order of names.
 
 use rtr_wire::*;
 use std::collections::BTreeMap;
@@ -27,7 +27,7 @@ struct Payload {
     withdraw: Vec<u8>,
 }
 
-/// Reads them from the units, by RFC 8210 sections 5.6, 5.7 and 5.10 and `docs/PROTOCOL.md`.
+/// Parses payloads by RFC 8210 sections 5.6, 5.7 and 5.10 and `docs/PROTOCOL.md`.
 fn header(kind: u8, field: [u8; 2], size: usize) -> Vec<u8> {
     let mut bytes = vec![2, kind, field[0], field[1]];
     bytes.extend((size as u32).to_be_bytes());
@@ -135,7 +135,7 @@ fn delta(old: &Model, new: &Model, serial: u8) -> Vec<u8> {
 }
 
 /// A call with an output of this length returns these bytes, and leaves the rest of the output
-/// unchanged; a shorter output has no room.
+/// unchanged; a shorter output is refused.
 fn writes(wanted: &[u8], room: usize, mut call: impl FnMut(&mut [u8]) -> Result<usize, DataError>) {
     let mut output = vec![0xa5; room];
     assert_eq!(call(&mut output), Ok(wanted.len()));
@@ -164,8 +164,8 @@ fn deltas() {
     }
 }
 
-/// Changes one after the other, of which the rules allow each, and what they make of the model. No
-/// ASPA is announced and in the end withdrawn.
+/// Random valid changes, one after the other, and the model after them. No ASPA is announced and in
+/// the end withdrawn.
 fn steps(model: &mut Model, random: &mut Random) -> Vec<u8> {
     let (mut bytes, mut announced) = (Vec::new(), Vec::new());
     for _ in 0..random.below(14) {
@@ -223,7 +223,8 @@ fn at(side: Side, offset: usize) -> Option<Place> {
     Some(Place { side, offset })
 }
 
-/// Bytes that hold no data, why not, and where. `a` and `b` have 20 bytes and are in order.
+/// Bytes that aren't data, with the fault and its offset. `a` and `b` have 20 bytes and are in
+/// order.
 fn no_data() -> Vec<(Vec<u8>, Fault, usize)> {
     let (a, b, end) = (ipv4(1).announce, ipv4(2).announce, end(5, 1));
     let mut bad = b.clone();
@@ -347,8 +348,8 @@ fn changes_that_the_rules_refuse() {
     writes(&wanted, 400, |output| apply_into(&data, &changes, output));
 }
 
-/// The first change, as they came, that announces what is there or withdraws what isn't, whatever
-/// comes after it.
+/// The fault is that of the first change in the answer that announces a present payload or
+/// withdraws a missing one, whatever follows.
 #[test]
 fn changes_in_order_that_the_rules_refuse() {
     let (a, b, gone) = (ipv4(1), ipv4(2), aspa(4, &[]).withdraw);
@@ -367,7 +368,7 @@ fn changes_in_order_that_the_rules_refuse() {
         let answer = refused(|out| apply_in_order(&data, &changes, &mut [0; 9], out));
         assert_eq!(answer, wanted);
     }
-    // An ASPA that is announced, over another too, and withdrawn is gone.
+    // An ASPA that is announced, even over another one, and then withdrawn is gone.
     let (other, gone) = (aspa(3, &[7, 8]).announce, aspa(3, &[]).withdraw);
     let changes = [&other[..], &gone, &end(5, 2)].concat();
     let wanted = [&a.announce[..], &end(5, 2)].concat();
@@ -433,7 +434,7 @@ fn what_has_no_order() {
     assert_eq!(answer, (Fault::NoIndex, None));
 }
 
-/// A duplicate and a withdrawal of what isn't there are reported, by codes 7 and 6 (RFC 8210
+/// A duplicate and a withdrawal of an unknown record are reported by codes 7 and 6 (RFC 8210
 /// section 12), with the unit that they are about.
 #[test]
 fn reports() {
@@ -464,7 +465,7 @@ fn reports() {
 mod owned {
     use super::*;
 
-    /// Data and changes that own their bytes do the same.
+    /// The same with data and changes that own their bytes.
     #[test]
     fn same_as_slices() {
         let mut random = Random(11);
@@ -529,7 +530,7 @@ mod owned {
         assert_eq!(Data::new(3, 5, 0, None), Err(Fault::UnitVersion(3)));
     }
 
-    /// Units that only announce are data in any order.
+    /// Announcements in any order are data.
     #[test]
     fn from_sequences() {
         let (a, b, end) = (ipv4(1), ipv4(2), end(5, 1));
@@ -560,8 +561,8 @@ mod owned {
         );
     }
 
-    /// A version has what it has, and an end of data of its own length. Bits that are free aren't
-    /// kept.
+    /// Data for a version have its payloads, and an end of data of its length. Free bits are
+    /// cleared.
     #[test]
     fn versions() {
         let payloads = [ipv4(1), key(1, 2, &[3]), aspa(4, &[5])];

@@ -1,5 +1,5 @@
-//! The cases that `tests/libraries/deltas.py` writes: read from the file that `RTR_DELTAS` names, or
-//! else made by python3. Where there is no python3, nothing is tested here.
+//! The cases that `tests/libraries/deltas.py` writes: read from the file that `RTR_DELTAS` names,
+//! or computed by python3. Without python3 nothing is tested here.
 #![cfg(feature = "std")]
 
 mod computed;
@@ -21,7 +21,7 @@ struct Case<'a> {
 }
 
 impl<'a> Case<'a> {
-    /// The case at the front of these bytes, and the rest.
+    /// Parses the case at the start of these bytes; returns it and the rest.
     fn first(bytes: &'a [u8]) -> (Self, &'a [u8]) {
         let (head, rest) = bytes.split_at(4);
         let (numbers, rest) = rest.split_at(40);
@@ -86,7 +86,7 @@ fn deltas() {
             }
             Err(error) => case.check_fault(error),
         }
-        // This one has an index of its own, which always suffices.
+        // This call allocates its own index, which always suffices.
         if case.call == 2 && case.status != Fault::NoIndex.status() {
             match order(case.first) {
                 Ok(changes) => assert_eq!((0, changes.as_bytes()), (case.status, case.output)),

@@ -14,7 +14,7 @@ use std::sync::{Arc, Mutex};
 use std::thread;
 use std::time::{Duration, Instant};
 
-/// How long a scene may take, also on a busy machine.
+/// The time limit of a scene, also on a busy machine.
 const ENOUGH: Duration = Duration::from_secs(300);
 
 /// The address of a cache while it can be reached.
@@ -63,12 +63,12 @@ fn in_time(scene: impl FnOnce() + Send + 'static) {
     }
 }
 
-/// The first cache of two, which comes and goes while it is told of.
+/// The first cache of two, which starts and stops as the events come.
 struct Scene {
     first: Place,
     server: Option<Server>,
     second: Data,
-    /// The data that were shown, in order.
+    /// The data that were used, in order.
     shown: Vec<(usize, u32)>,
     /// How often the first has failed since then.
     failed: usize,
@@ -103,7 +103,7 @@ impl Scene {
                 *self.first.lock().unwrap() = None;
                 self.server.take().expect("it is there").stop();
             }
-            // The data of the first live, but the second has a whole answer.
+            // The data of the first haven't expired, but the second has a whole answer.
             3 => {
                 let old = data_of(SESSION, 7, 30).numbered(9, 3);
                 assert_eq!(*changes, old.delta_to(data).unwrap());
@@ -142,7 +142,7 @@ fn the_first_that_answers() {
     });
 }
 
-/// Follows caches until data of the second are shown.
+/// Follows caches until data of the second are used.
 fn until_second(settings: GroupSettings, places: &[Place], on: impl FnMut(&Event<'_>)) -> Data {
     let mut on = on;
     let clients = |member: usize| client(&places[member], options());
@@ -156,7 +156,7 @@ fn until_second(settings: GroupSettings, places: &[Place], on: impl FnMut(&Event
     data.unwrap().expect("there are data")
 }
 
-/// A cache that is silent costs the patience.
+/// The next cache is asked after the patience if the first is silent.
 #[test]
 fn a_silent_cache() {
     in_time(|| {
@@ -177,7 +177,7 @@ fn a_silent_cache() {
     });
 }
 
-/// An empty answer is a failure, but data of the only cache.
+/// An answer without payloads is a failure, unless there is only one cache.
 #[test]
 fn empty_answers() {
     in_time(|| {

@@ -5,7 +5,7 @@ mod common;
 
 use rtr_wire::*;
 
-/// Each sample is shown and written as the file says, or refused.
+/// Each sample is listed and written as in the file, or refused.
 #[test]
 fn samples() {
     let all = common::samples();
@@ -43,7 +43,7 @@ fn check(sample: &common::Sample) {
     }
 }
 
-/// A line for which there isn't room at once, and units that have none.
+/// A line that is longer than the first buffer, and units without a line.
 #[test]
 fn long() {
     let mut report = vec![1, 10, 0, 0, 0, 0, 4, 16, 0, 0, 0, 0, 0, 0, 4, 0];

@@ -1,5 +1,5 @@
-//! Recordings and lists, and the data that each leaves: those of the file `tests/loads`, which says
-//! what it has, and larger ones.
+//! Recordings and lists, and the data that they result in: those of the file `tests/loads`, and
+//! larger ones.
 #![cfg(feature = "alloc")]
 
 mod common;
@@ -7,11 +7,11 @@ mod common;
 use common::{loads, Load};
 use rtr_wire::{load_data, Side};
 
-/// What loading leaves: the bytes of the data, and whether an answer was left out; or the offset of
-/// the unit at fault, and the text of the fault.
+/// The result of loading: the bytes of the data, and whether an answer was ignored; or the offset
+/// of the unit at fault, and the text of the fault.
 type Outcome = Result<(Vec<u8>, bool), (usize, String)>;
 
-/// What is expected of a recording.
+/// The expected result of a recording.
 fn expected(row: &Load) -> Outcome {
     match &row.refused {
         Some(refused) => Err(refused.clone()),
@@ -19,13 +19,13 @@ fn expected(row: &Load) -> Outcome {
     }
 }
 
-/// Whether nothing but the whole recording leaves data.
+/// Whether only the whole recording results in data.
 fn is_one_answer(row: &Load) -> bool {
     let ends = row.units.iter().filter(|unit| unit[1] == 7).count();
     row.refused.is_none() && ends == 1
 }
 
-/// The offset of each unit, and of the end.
+/// The offsets of the units, and of the end.
 fn offsets(row: &Load) -> Vec<usize> {
     (0..=row.units.len())
         .map(|before| row.units[..before].concat().len())
@@ -55,7 +55,7 @@ fn recordings() {
     }
 }
 
-/// Data are a list, which leaves them.
+/// The bytes of data are a list that results in them.
 #[test]
 fn data_again() {
     for row in loads().iter().filter(|row| row.refused.is_none()) {
@@ -64,8 +64,7 @@ fn data_again() {
     }
 }
 
-/// What is cut off after any of its bytes leaves no data: the offset is that of the unit that is
-/// missing there.
+/// A recording truncated after any byte is refused at the offset of the incomplete unit.
 #[test]
 fn cut_off() {
     for row in loads().iter().filter(|row| is_one_answer(row)) {
@@ -91,7 +90,7 @@ fn end(serial: u8) -> Vec<u8> {
     [head, times].concat()
 }
 
-/// More data than the buffers have room for at first.
+/// More data than the first buffers hold.
 #[test]
 fn large_data() {
     let count = 1 << 20;

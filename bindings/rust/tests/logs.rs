@@ -23,7 +23,7 @@ impl Lines {
         self.0.lock().unwrap().push(line);
     }
 
-    /// Whether exactly these lines come.
+    /// Checks that exactly these lines are logged.
     fn are(&self, wanted: &[&str]) {
         let are = holds(|| *self.0.lock().unwrap() == wanted);
         assert!(are, "{:#?}", self.0.lock().unwrap());
@@ -71,7 +71,7 @@ fn both_ends() {
     assert!(last.starts_with("Warn failed error="), "{last}");
 }
 
-/// Data of serial number 0 are served, with a warning.
+/// Data of serial number 0 are served, and a warning is logged.
 #[test]
 fn serial_zero() {
     let _alone = alone();

@@ -1,5 +1,5 @@
-//! How much memory hostile peers cost a client and a server. This is the only test of its program,
-//! so that no other allocates.
+//! The memory that hostile peers can make a client and a server use. It is the only test of its
+//! program, so that no other test allocates.
 #![cfg(feature = "std")]
 #![deny(unsafe_op_in_unsafe_fn)]
 
@@ -12,13 +12,13 @@ use std::net::{SocketAddr, TcpListener, TcpStream};
 use std::sync::atomic::{AtomicUsize, Ordering};
 use std::time::Duration;
 
-/// The system's allocator, whose bytes are counted.
+/// The system's allocator with a count of allocated bytes.
 struct Counted;
 
 static HELD: AtomicUsize = AtomicUsize::new(0);
 static MOST: AtomicUsize = AtomicUsize::new(0);
 
-// SAFETY: all is done by the system's allocator.
+// SAFETY: the system's allocator does all the work.
 unsafe impl GlobalAlloc for Counted {
     unsafe fn alloc(&self, layout: Layout) -> *mut u8 {
         let held = HELD.fetch_add(layout.size(), Ordering::Relaxed) + layout.size();
@@ -81,7 +81,7 @@ fn memory() {
     };
     let held = most(|| flood(&prefix(1, 1), options.clone()));
     assert!(BYTES / 2 < held && held < 5 * BYTES, "{held} bytes");
-    // A length that no unit has isn't believed.
+    // An impossible length isn't trusted.
     let held = most(|| flood(&[2, 9, 1, 0, 0xff, 0xff, 0xff, 0xff], options.clone()));
     assert!(held < BYTES / 2, "{held} bytes");
     // A server: clients that ask over and over and don't read share the data.
@@ -99,7 +99,7 @@ fn memory() {
         std::thread::sleep(Duration::from_millis(200));
     });
     assert!(held < count * (8 << 10), "{held} bytes");
-    // Routers that are slow hold three editions at most, of fifteen.
+    // Slow routers hold at most three editions of fifteen.
     let before = HELD.load(Ordering::Relaxed);
     let mut slow = Vec::new();
     for serial in 2..=16 {

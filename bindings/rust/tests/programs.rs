@@ -11,8 +11,7 @@ use std::path::{Path, PathBuf};
 use std::process::{Child, Command, Output, Stdio};
 use std::sync::mpsc::{channel, Receiver};
 
-/// An example program, as `cargo test` leaves it beside this test (with `--test` it does not build
-/// it anew).
+/// An example program, which `cargo test` builds beside this test (`--test` doesn't rebuild it).
 fn program(name: &str) -> Command {
     let mut path: PathBuf = std::env::current_exe().unwrap();
     path.pop();
@@ -114,8 +113,8 @@ impl Drop for Cache {
     }
 }
 
-/// The cache has no place for the newest of many clients, and still takes new data, of which the
-/// size and the time may be those of the data before.
+/// The cache refuses the newest of too many clients, and still loads new data, even of the same
+/// size and time as before.
 #[test]
 fn few_descriptors() {
     let file = std::env::temp_dir().join(format!("rtr-cache-3-{}", std::process::id()));
@@ -131,7 +130,7 @@ fn few_descriptors() {
     let mut clients: Vec<Peer> = (0..60).map(|_| Peer::connect(address)).collect();
     let full = Some((ErrorCode::INTERNAL_ERROR, 2));
     assert_eq!(clients[59].report(), full);
-    // Of the same size and time.
+    // The same size and time.
     let told = |serial| format!("serial {serial}: {} payloads", data(1).len());
     let old = cache.file.with_extension("old");
     std::fs::copy(&cache.file, &old).unwrap();
@@ -197,7 +196,7 @@ fn restarts() {
     std::fs::remove_file(file.with_extension("whole")).unwrap();
 }
 
-/// With `--refuse` a report comes instead of a cache reset.
+/// With `--refuse` the cache sends a report instead of a cache reset.
 #[test]
 fn refuses() {
     let file = std::env::temp_dir().join(format!("rtr-cache-5-{}", std::process::id()));
@@ -230,7 +229,7 @@ fn cache_and_client() {
     let listening = cache.line();
     let address = listening.strip_prefix("listening on ").unwrap();
     let name = file.display();
-    // There is no file yet, and then one that isn't taken.
+    // There is no file yet, and then one that is refused.
     assert!(cache.line().starts_with(&format!("{name}: ")));
     let none = client(&[address, "--once"]);
     assert_eq!(none.status.code(), Some(1));
@@ -276,7 +275,7 @@ fn cache_and_client() {
         String::from_utf8(got.stdout).unwrap(),
         lines(&of_0, change_line)
     );
-    // The same serial number can't name other data.
+    // Other data need another serial number.
     cache.replace(data(3).numbered(SESSION, 2).as_bytes());
     let refused = "serial 2 of other data isn't after serial 2";
     assert_eq!(cache.line(), format!("{name}: {refused}"));
@@ -307,7 +306,7 @@ fn by_preference() {
     assert_eq!(cache.end("TERM"), Some(0));
 }
 
-/// A client that goes on prints each change, and a cache ends by SIGINT too.
+/// A client that follows prints each change; SIGINT ends a cache, too.
 #[test]
 fn changes_as_they_come() {
     let file = std::env::temp_dir().join(format!("rtr-cache-2-{}", std::process::id()));
@@ -377,7 +376,7 @@ fn arguments() {
     assert_eq!(got.status.code(), Some(1));
 }
 
-/// What the example `routes` prints of a recording, on standard output and error, and its status.
+/// Returns the output, the errors and the status of the example `routes` with a recording.
 fn routes(recording: &[u8]) -> (String, String, Option<i32>) {
     let mut command = program("routes");
     command.stdin(Stdio::piped()).stdout(Stdio::piped());
@@ -394,7 +393,7 @@ fn routes(recording: &[u8]) -> (String, String, Option<i32>) {
     )
 }
 
-/// The example over the recording that `docs/OPERATORS.md` makes, and over what it refuses.
+/// The example with the recording of `docs/OPERATORS.md`, and with refused inputs.
 #[test]
 fn routes_by_recordings() {
     let loads = common::loads();

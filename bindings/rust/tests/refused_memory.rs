@@ -1,5 +1,5 @@
-//! A router whose large allocations are refused: it reports that, keeps its data, and goes on when
-//! there is memory again. New data, and their loss, are reported without memory.
+//! A router whose large allocations fail: it reports that, keeps its data, and continues when there
+//! is memory again. New data, and their loss, are reported without memory.
 #![cfg(feature = "std")]
 #![deny(unsafe_op_in_unsafe_fn)]
 
@@ -11,18 +11,18 @@ use std::alloc::{GlobalAlloc, Layout, System};
 use std::cell::Cell;
 use std::ptr;
 
-/// The system's allocator, which refuses a thread its large allocations after some.
+/// The system's allocator, which fails large allocations of a thread after a number of them.
 struct Refusing;
 
-/// The bytes that a large allocation has at least.
+/// The least size of a large allocation.
 const LARGE: usize = 4096;
 
 thread_local! {
-    /// How many large allocations the thread may still make.
+    /// The number of large allocations that the thread may still make.
     static LEFT: Cell<usize> = const { Cell::new(usize::MAX) };
 }
 
-// SAFETY: all is done by the system's allocator, or refused.
+// SAFETY: the system's allocator does all the work, or the allocation fails.
 unsafe impl GlobalAlloc for Refusing {
     unsafe fn alloc(&self, layout: Layout) -> *mut u8 {
         if layout.size() >= LARGE {
@@ -45,7 +45,7 @@ unsafe impl GlobalAlloc for Refusing {
 #[global_allocator]
 static ALLOCATOR: Refusing = Refusing;
 
-/// Has a thread make this many large allocations at most meanwhile.
+/// Limits the large allocations of the thread while a function runs.
 fn with_most<T>(count: usize, done: impl FnOnce() -> T) -> T {
     LEFT.with(|left| left.set(count));
     let result = done();
@@ -110,7 +110,7 @@ fn steps(router: &mut Router, bytes: &[u8], in_room: bool) -> Vec<Step> {
     }
 }
 
-/// The router connects again, and gets the data.
+/// The router reconnects, and gets the data.
 fn recovers(mut router: Router) {
     let wakes = router.wakes();
     assert!(matches!(router.next(wakes), Step::Connect));
@@ -124,8 +124,8 @@ fn recovers(mut router: Router) {
     assert_eq!(router.data(), Some(&data(2)));
 }
 
-/// Whichever of its allocations is refused while an answer is kept and applied: the connection
-/// ends, and the data stay.
+/// If any allocation fails while an answer is received and applied, the connection ends, and the
+/// data stay.
 #[test]
 fn answers_without_memory() {
     for answer in answers() {
@@ -150,7 +150,7 @@ fn answers_without_memory() {
     }
 }
 
-/// New data are told without memory for what changed, which can be asked for again.
+/// New data are reported without memory for the changes, which can be computed later.
 #[test]
 fn changes_without_memory() {
     for answer in answers() {
@@ -207,7 +207,7 @@ fn dropped_without_memory() {
     );
 }
 
-/// One cache's data instead of another's, of another session: their changes too are made later.
+/// A switch to another cache with another session: these changes can be computed later, too.
 #[test]
 fn others_without_memory() {
     let others = data_of(9, 7, 10_000);

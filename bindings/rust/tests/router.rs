@@ -1,4 +1,4 @@
-//! A router without sockets and clock: what it keeps, what it sends, and late reports.
+//! A router without sockets or a clock: its data, its output, and late reports.
 #![cfg(feature = "std")]
 
 mod peers;
@@ -49,7 +49,7 @@ fn asked() -> Router {
     router
 }
 
-/// Reads bytes to the router's room, as much at once as there is room for, and this many at most.
+/// Passes bytes to the router's buffer, at most this many at a time.
 fn read(router: &mut Router, bytes: &[u8], most: usize, now: u64) -> Vec<Step> {
     let (mut rest, mut steps) = (bytes, Vec::new());
     while !rest.is_empty() {
@@ -73,7 +73,7 @@ fn read(router: &mut Router, bytes: &[u8], most: usize, now: u64) -> Vec<Step> {
     }
 }
 
-/// The only step, which tells of data.
+/// Expects a single step, with new data.
 fn data_step(steps: Vec<Step>) -> Changes {
     match <[Step; 1]>::try_from(steps) {
         Ok([Step::Data(changes)]) => changes,
@@ -81,8 +81,8 @@ fn data_step(steps: Vec<Step>) -> Changes {
     }
 }
 
-/// Data that a caller keeps stay as they are, whatever comes after them, and share their bytes with
-/// those of the router. So do the changes of each event, also such as are computed later.
+/// Data that a caller keeps don't change, whatever follows, and share their bytes with the
+/// router's. The same holds for the changes of each event, even if they are computed later.
 #[test]
 fn data_that_are_kept() {
     let mut router = asked();
@@ -142,7 +142,7 @@ fn changes_of_two_threads() {
     }
 }
 
-/// A query and a report are sent a byte at a time, and bytes that come meanwhile are read.
+/// A query and a report are sent a byte at a time, and bytes that arrive meanwhile are read.
 #[test]
 fn partial_sends() {
     let mut router = Router::new(&options(), 0);
@@ -178,8 +178,8 @@ fn partial_sends() {
     ));
 }
 
-/// The offset of a refused unit counts from the first byte of its connection, however it was read;
-/// that of a refused change from the first unit of the answer.
+/// The offset of a refused unit is that in all bytes of its connection, however it was read; that
+/// of a refused change is that in the answer.
 #[test]
 fn offsets() {
     let prefix_of_33_bits = [
@@ -220,7 +220,7 @@ fn offsets() {
     }
 }
 
-/// What is reported of a connection after it was closed, or was lost already, changes nothing.
+/// Reports about a connection that was closed or lost change nothing.
 #[test]
 fn late_reports() {
     let mut router = Router::new(&options(), 0);
@@ -239,7 +239,7 @@ fn late_reports() {
     router.filled(0);
     assert!(matches!(router.next(0), Step::Wait));
     assert_eq!(router.data(), None);
-    // What was read before the loss counts, and the error of the caller is told.
+    // Bytes that were read before the loss are processed, and the caller's error is reported.
     let wakes = router.wakes();
     assert!(matches!(router.next(wakes), Step::Connect));
     router.connected(wakes);
@@ -257,8 +257,7 @@ fn late_reports() {
     assert_eq!(router.data(), Some(&data(1)));
 }
 
-/// Begun again, a router has neither data nor a connection, and waits longer for a cache that
-/// fails.
+/// A restarted router has neither data nor a connection, and waits longer for a failing cache.
 #[test]
 fn begins_again() {
     let mut router = asked();

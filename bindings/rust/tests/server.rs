@@ -1,4 +1,4 @@
-//! A cache, and clients that behave or don't.
+//! A cache, and well-behaved and faulty clients.
 #![cfg(feature = "std")]
 
 mod common;
@@ -12,7 +12,7 @@ use std::sync::mpsc::{channel, Receiver};
 use std::sync::Mutex;
 use std::time::Instant;
 
-/// A server on a port of the loopback interface, whose threads are gone after it.
+/// A server on the loopback interface, whose threads have to end with it.
 struct Cache {
     server: Server,
     address: SocketAddr,
@@ -31,7 +31,7 @@ fn options() -> ServerOptions {
     }
 }
 
-/// Limits that a test waits for, and that a client which acts at once never reaches.
+/// Limits short enough to wait for, which a client that acts at once never reaches.
 fn limits() -> ServerOptions {
     ServerOptions {
         first_query: milliseconds(2000),
@@ -62,7 +62,7 @@ impl Cache {
         Peer::connect(self.address)
     }
 
-    /// Another client is answered, so the cache serves.
+    /// Checks that the cache serves another client.
     fn serves(&self, serial: u32) {
         let mut client = self.client();
         client.send(&reset_query(2));
@@ -154,8 +154,8 @@ fn what_is_kept() {
     knows(&cache, 1, 3..=4);
 }
 
-/// The serial number goes on from the highest to the lowest (RFC 1982), and the data of one half of
-/// all serial numbers before it are known.
+/// The serial number wraps from the highest to the lowest (RFC 1982); changes from at most half of
+/// all serial numbers before it are kept.
 #[test]
 fn serial_numbers_wrap() {
     let _alone = alone();
@@ -314,7 +314,7 @@ fn updates() {
     let text = "the expire time has to be 600 to 172800 seconds";
     assert_eq!(refused.to_string(), text);
     cache.serves(3);
-    // Those who have data of another session are disconnected.
+    // Clients that have data of another session are disconnected.
     let mut client = cache.client();
     client.send(&reset_query(2));
     client.response();
@@ -325,8 +325,8 @@ fn updates() {
     assert!(matches!(client.unit(), Some(Unit::CacheReset(_))));
 }
 
-/// A client that has data of a session which has ended gets nothing of the next one, however soon
-/// it asks (RFC 8210 section 5.1).
+/// A client with data of an earlier session gets no data of the next one, however soon it asks (RFC
+/// 8210 section 5.1).
 #[test]
 fn sessions_that_end() {
     let _alone = alone();
@@ -400,7 +400,7 @@ fn bad_units() {
         client.try_send(&later);
         assert_eq!(client.report(), unexpected);
     }
-    // A long unit is enclosed as far as there is room.
+    // A long unit is enclosed as far as it fits.
     let mut key = vec![1, 9, 1, 0, 0, 0, 0xff, 0xff];
     key.resize(65535, 0);
     let mut client = cache.client();
@@ -465,7 +465,7 @@ fn slow_clients() {
     let _alone = alone();
     let cache = Cache::new(limits());
     assert_eq!(cache.server.update(data_of(SESSION, 1, 20)), Ok(true));
-    // Nothing comes, a unit comes a byte at a time, or nothing comes after a query.
+    // The client sends nothing, a unit a byte at a time, or nothing after a query.
     let (mut nothing, mut bytes, mut idle) = (cache.client(), cache.client(), cache.client());
     idle.send(&reset_query(2));
     idle.response();
@@ -485,7 +485,8 @@ fn slow_clients() {
     assert!(holds(|| cache.server.clients() <= 1));
 }
 
-/// A client that asks and doesn't read is cut, while others are served, and nothing is left of it.
+/// A client that asks and doesn't read is disconnected, while others are served; none of its memory
+/// is left.
 #[test]
 fn clients_that_do_not_read() {
     let _alone = alone();
@@ -507,7 +508,7 @@ fn clients_that_do_not_read() {
     }
     drop(reading);
     assert!(holds(|| cache.server.clients() == 0));
-    // One that reads too slowly is cut where its data are too old.
+    // A client that reads too slowly is disconnected when its data are too old.
     let mut slow = cache.client();
     (0..40).for_each(|_| slow.try_send(&reset_query(2)));
     std::thread::sleep(milliseconds(200));
@@ -538,7 +539,7 @@ fn a_slow_reader() {
     assert!(came == wanted, "other bytes came");
 }
 
-/// As many clients as are allowed are served, and others when one has gone.
+/// At most the limit of clients is served; another one is served after one has left.
 #[test]
 fn too_many_clients() {
     let _alone = alone();
@@ -670,8 +671,8 @@ fn answers_that_are_cut() {
     }
 }
 
-/// While nothing comes no thread wakes: neither for clients that ask nothing, nor for those that
-/// don't read what they are sent.
+/// No thread wakes without cause: neither for clients that ask nothing, nor for those that don't
+/// read.
 #[test]
 fn no_thread_wakes() {
     let _alone = alone();
@@ -745,7 +746,7 @@ fn reasons() {
     assert!(told.recv_timeout(milliseconds(10)).is_err());
 }
 
-/// IPv6 too, and two addresses at once.
+/// IPv6, and two addresses at once.
 #[test]
 fn addresses() {
     let _alone = alone();

@@ -1,5 +1,5 @@
 //! The sessions that `tests/libraries/sessions.py` computes: read from the file that `RTR_SESSIONS`
-//! names, or else made by python3. Where there is no python3, nothing is tested here.
+//! names, or computed by python3. Without python3 nothing is tested here.
 #![cfg(feature = "std")]
 
 mod computed;
@@ -15,7 +15,7 @@ struct Answer {
     form: Vec<u8>,
 }
 
-/// The bytes of all sessions, which are taken from the front.
+/// A reader of the bytes of all sessions.
 struct Bytes(Vec<u8>, usize);
 
 impl Bytes {
@@ -171,7 +171,7 @@ fn in_memory() {
                 }
                 Err(fault) => {
                     answer.check_fault(fault);
-                    // Only a refused prefix is stepped over, and then an answer follows.
+                    // Only a refused prefix is skipped, and then another answer follows.
                     let size = unit_size(rest).ok().flatten().unwrap_or(0);
                     rest = &rest[size.min(rest.len())..];
                 }

@@ -141,7 +141,7 @@ fn sockets_of_unix() {
     assert!(holds(|| server.clients() == 0));
 }
 
-/// The same over sockets that hide, hold and refuse: nothing is lost.
+/// The same over sockets that hide, buffer and refuse: nothing is lost.
 #[test]
 fn hidden_bytes() {
     let _alone = alone();
@@ -156,7 +156,7 @@ fn hidden_bytes() {
     });
     follows(&client, &server);
     assert!(holds(|| server.clients() == 0));
-    // One that reads nothing of the sort is reported to, by a report of which it reads nothing.
+    // A client without the transport gets a report, which it can't decode.
     let mut plain = Peer::connect(address);
     plain.send(&reset_query(2));
     let mut report = Vec::new();
@@ -209,7 +209,7 @@ fn a_hidden_report() {
     });
 }
 
-/// A socket that can't be set up is reported, and no other waits.
+/// A failed setup of a socket is reported, and no other client waits for it.
 #[test]
 fn connections_that_are_refused() {
     let _alone = alone();
@@ -229,7 +229,7 @@ fn connections_that_are_refused() {
     assert_eq!(client.response(), data(1).as_bytes());
 }
 
-/// A client that waits for bytes, for the time of its next connection, or for room for its query
+/// A client that waits for bytes, for the time of its next connection, or to write its query
 /// doesn't wake, and still ends when it is stopped.
 #[test]
 fn no_client_wakes() {

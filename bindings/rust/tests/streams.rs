@@ -9,7 +9,8 @@ use rtr_wire::*;
 use std::error::Error as _;
 use std::io::{self, Read, Write};
 
-/// Returns at most this many bytes a read, and before each read an error of this kind, if any.
+/// A reader that returns at most this many bytes per read, and an error of this kind before each
+/// read, if any.
 struct Slow<'a> {
     rest: &'a [u8],
     most: usize,
@@ -41,7 +42,7 @@ impl Read for Slow<'_> {
     }
 }
 
-/// The ways in which a session is given.
+/// The ways in which a session is read.
 fn ways(input: &[u8]) -> [Slow<'_>; 4] {
     [
         Slow::new(input, usize::MAX, None),
@@ -51,7 +52,7 @@ fn ways(input: &[u8]) -> [Slow<'_>; 4] {
     ]
 }
 
-/// The units of all rows, with bytes of their own.
+/// The units of all rows, which own their bytes.
 fn owned() -> Vec<OwnedUnit> {
     rows().into_iter().map(|row| row.1.into_owned()).collect()
 }
@@ -63,7 +64,7 @@ fn refusal(error: Error) -> Refusal {
     }
 }
 
-/// A session of all types is read, however its bytes come, and written back.
+/// A session of all types is read, however its bytes arrive, and written back.
 #[test]
 fn there_and_back() {
     let session = session();
@@ -105,8 +106,8 @@ fn iterated() {
     assert_eq!(bytes, session);
 }
 
-/// A session that is cut at each of its bytes: whole units come, and then none between two units,
-/// or else `Short`, with the place and the bytes of the unit.
+/// A session truncated at each byte: whole units are read, and then none between two units, or else
+/// `Short`, with the offset and the bytes of the unit.
 #[test]
 fn cut() {
     let session = session();
@@ -148,7 +149,8 @@ fn ended() {
     assert!(reader.next().is_none());
 }
 
-/// A reader that fails before each byte: its error is the source of ours, and nothing is lost.
+/// A reader that fails before each byte: its error is the source of the returned one, and nothing
+/// is lost.
 #[test]
 fn failing() {
     let session = session();
@@ -171,7 +173,7 @@ fn failing() {
     assert_eq!((units, failures), (owned(), session.len() + 1));
 }
 
-/// A reader whose count can't be.
+/// A reader that returns an impossible count.
 #[test]
 fn impossible_count() {
     struct Odd;
@@ -218,7 +220,7 @@ fn long_key(size: usize) -> Vec<u8> {
     bytes
 }
 
-/// The buffer grows with the units, and stays as long as the longest may be.
+/// The buffer grows with the units, up to the longest one.
 #[test]
 fn buffer_grows() {
     let sizes = [40, 100, 1000, 40000, 40001, 65535, 33];
@@ -231,8 +233,8 @@ fn buffer_grows() {
     assert!(matches!(reader.next_unit(), Ok(None)));
 }
 
-/// A prefix that breaks its rule is refused with its bytes and its report, and the next call goes
-/// on after it.
+/// A prefix that breaks its rule is refused with its bytes and its report, and the next call skips
+/// it.
 #[test]
 fn going_on() {
     let mut refused = IPV4.to_vec();
@@ -281,7 +283,7 @@ fn sequence_in_session() {
         .map(|unit| unit.kind());
     assert_eq!(last, Some(Kind::SerialNotify));
     for other in [0, 1, 2, 3, 5, 8, 10, 12, 255] {
-        // Its length doesn't matter.
+        // The fault doesn't depend on its length.
         let input = [1, other, 0, 0, 0xff, 0, 0, 0];
         let mut reader = Reader::new(&input[..]);
         let mut sequence = reader.sequence(1);
@@ -293,7 +295,7 @@ fn sequence_in_session() {
     }
 }
 
-/// A sequence that ends without an end of data is `Short`, between two units too.
+/// A sequence without an end of data is `Short`, even between two units.
 #[test]
 fn cut_sequence() {
     let session = [IPV4, KEY, END].concat();
@@ -337,7 +339,7 @@ fn limit() {
     assert_eq!(fault, Some(Fault::TooMany));
 }
 
-/// A sequence goes on after its reader failed.
+/// A sequence continues after its reader failed.
 #[test]
 fn sequence_goes_on() {
     let session = [IPV4, END].concat();
@@ -395,7 +397,7 @@ fn writer_fails() {
     assert_eq!(bytes, [7]);
 }
 
-/// Each thread has a reader and a writer of its own.
+/// Each thread has its own reader and writer.
 #[test]
 fn in_threads() {
     let session = session();

@@ -10,7 +10,7 @@ use std::time::Duration;
 
 const TRANSCRIPTS: &str = concat!(env!("CARGO_MANIFEST_DIR"), "/../../tests/transcripts");
 
-/// A scene that is played, with a made clock.
+/// A scene in progress, with a simulated clock.
 struct Played {
     name: String,
     options: ClientOptions,
@@ -21,7 +21,7 @@ struct Played {
     broken: bool,
     wanted: String,
     seen: String,
-    /// Whether it plays with another end (`tests/joined`), which gets the bytes as they are.
+    /// Whether it is connected to another end (`tests/joined`), which gets the raw bytes.
     joined: bool,
 }
 
@@ -75,7 +75,7 @@ impl Played {
         writeln!(self.seen, "{} {}", self.now, what).unwrap();
     }
 
-    /// Notes what the router sends: queries, and reports.
+    /// Records what the router sends: queries and reports.
     fn sends(&mut self) {
         let output = self.router().output().to_vec();
         if self.broken {
@@ -129,7 +129,7 @@ impl Played {
         }
     }
 
-    /// The clock reaches this time.
+    /// Advances the clock to this time.
     fn pass(&mut self, time: u64) {
         while self.router().wakes() <= time {
             self.now = self.now.max(self.router().wakes());
@@ -138,7 +138,7 @@ impl Played {
         self.now = time;
     }
 
-    /// What the cache does, the router's caller, or the clock.
+    /// Carries out a step of the cache, the router's caller, or the clock.
     fn given(&mut self, time: u64, step: &str, words: &[&str]) {
         self.pass(time);
         match step {
@@ -198,7 +198,7 @@ impl Played {
     }
 }
 
-/// A report in the words of a scene.
+/// Formats a report as in scenes.
 fn reported(report: &rtr_wire::ErrorReport<&[u8]>) -> String {
     let parts = report.parts.as_ref().expect("its lengths fit");
     let unit = if parts.unit.is_empty() {
@@ -259,8 +259,8 @@ fn transcripts() {
     assert!(count >= 100, "only {count} scenes");
 }
 
-/// Is an end that a cache is joined with (`tests/joined`), where the environment says where to tell
-/// what it does: what happens to it comes on standard input.
+/// Plays an end that is connected to a cache (`tests/joined`), if the environment names a file for
+/// its steps: reads the cache's steps from standard input.
 #[test]
 fn joined() {
     let mut output = match std::env::var("RTR_JOINED") {

@@ -7,7 +7,7 @@ use common::{ASPA, CACHE_RESET, END, IPV4, IPV6, KEY, REPORT, RESET_QUERY, WITHD
 use rtr_wire::*;
 use std::cmp::Ordering;
 
-/// The decoded fields of each, and that each is written back unchanged.
+/// Each unit is decoded to these fields, and written back unchanged.
 #[test]
 fn there_and_back() {
     for (bytes, unit) in rows() {
@@ -29,7 +29,7 @@ fn there_and_back() {
     }
 }
 
-/// All units of a slice, cut at each byte.
+/// All units of a slice, truncated at each byte.
 #[test]
 fn cut() {
     let session = session();
@@ -51,8 +51,8 @@ fn cut() {
     }
 }
 
-/// Free bits are written as zero: host bits, sessions that mean nothing, flags but the lowest; and
-/// the providers of a withdrawal are omitted.
+/// Free bits are written as zero: host bits, unused sessions, all flags but the lowest; the
+/// providers of a withdrawal are omitted.
 #[test]
 fn forms() {
     let prefix = [
@@ -75,7 +75,7 @@ fn forms() {
     }
 }
 
-/// A report whose inner lengths don't fit shows no parts, and is written without them.
+/// A report whose inner lengths are wrong has no parts, and is written without them.
 #[test]
 fn reports_that_dont_fit() {
     let far = u32::MAX;
@@ -238,7 +238,7 @@ fn long_parts() {
     }
 }
 
-/// An end of data given without timings gets those of RFC 8210 section 6 if it has to have some.
+/// An end of data without timings gets those of RFC 8210 section 6 in versions that have timings.
 #[test]
 fn timings_that_are_not_said() {
     let end = |version| -> UnitRef {
@@ -325,7 +325,7 @@ fn reports() {
             Some(9),
         ),
         (&[2, 9, 0, 0, 0, 1, 0, 0, 9], Fault::TooLong, Some(0)),
-        // None about a report.
+        // No report is owed about a report.
         (&[1, 10, 0, 0, 0, 0, 0, 15, 9], Fault::UnitLength, None),
         (&[1, 10, 0, 0, 0, 1, 0, 0, 9], Fault::TooLong, None),
         (&[1, 10, 0, 0, 0, 0, 0, 16, 9], Fault::Short, None),
@@ -350,7 +350,7 @@ fn reports() {
     assert_eq!(Fault::NoRoom.code(IPV4), None);
 }
 
-/// A refused prefix is enclosed whole, and nothing after it.
+/// A refused prefix is enclosed completely, and nothing after it.
 #[test]
 fn report_of_a_prefix() {
     let mut unit = IPV4.to_vec();
@@ -365,7 +365,7 @@ fn report_of_a_prefix() {
     assert_eq!((report.version, report.code), (1, ErrorCode::CORRUPT_DATA));
 }
 
-/// A report's enclosed unit, and then its text, is cut so that the report has 65535 bytes.
+/// A report's enclosed unit, and then its text, is truncated to keep the report at 65535 bytes.
 #[test]
 fn reports_cut() {
     for (length, enclosed, text) in [

@@ -1,6 +1,6 @@
-//! The tables of VRPs that `tests/libraries/validity.py` computes, with the validity of routes: read
-//! from the file that `RTR_VALIDITY` names, or else made by python3. Where there is no python3,
-//! nothing is tested here.
+//! The tables of VRPs that `tests/libraries/validity.py` computes, with the validity of routes:
+//! read from the file that `RTR_VALIDITY` names, or computed by python3. Without python3 nothing is
+//! tested here.
 #![cfg(feature = "std")]
 
 use rtr_wire::{
@@ -26,7 +26,7 @@ struct Row {
     covering: Vec<Wanted>,
 }
 
-/// The bytes of the tables, or none if there is no python3 to make them.
+/// The bytes of the tables, or none without python3 to compute them.
 fn bytes_of_tables() -> Option<Vec<u8>> {
     if let Ok(path) = std::env::var("RTR_VALIDITY") {
         return Some(std::fs::read(path).expect("the file of tables is read"));
@@ -51,7 +51,7 @@ fn bytes_of_tables() -> Option<Vec<u8>> {
     }
 }
 
-/// Bytes of which numbers are taken, the lowest byte first.
+/// A reader of little-endian numbers.
 struct Bytes<'a>(&'a [u8]);
 
 impl<'a> Bytes<'a> {

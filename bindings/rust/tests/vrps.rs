@@ -66,7 +66,7 @@ fn data_of_vrps() {
     }
 }
 
-/// The first VRP that no unit can have is named by its index.
+/// The error for an invalid VRP has the index of the first one.
 #[test]
 fn refused() {
     let good = vrp("192.0.2.0/24", None);
@@ -86,7 +86,7 @@ fn refused() {
     assert_eq!(error.to_string(), error.fault.to_string());
 }
 
-/// From data with other payloads only the VRPs come, in their order.
+/// From data with other payloads only the VRPs are returned, in order.
 #[test]
 fn vrps_of_data() {
     let mut bytes = [common::IPV4, common::IPV6].concat();
