@@ -58,12 +58,12 @@ impl<S: AsyncRead + AsyncWrite + Unpin> Carried<S> {
     /// Waits for bytes or for room, and carries them at the moment when the wait ends.
     pub(crate) fn carry<M: Fn() -> Moment>(
         &mut self,
-        wanted: Wanted,
+        awaited: Wanted,
         moment: M,
     ) -> Carrying<'_, S, M> {
         Carrying {
             carried: self,
-            wanted,
+            awaited,
             moment,
         }
     }
@@ -87,10 +87,10 @@ impl<S: AsyncRead + AsyncWrite + Unpin> Carried<S> {
             return Poll::Ready(());
         }
         let mut bytes = [0; CHUNK];
-        let mut room = ReadBuf::new(&mut bytes);
-        let read = Pin::new(&mut self.stream).poll_read(cx, &mut room);
+        let mut buffer = ReadBuf::new(&mut bytes);
+        let read = Pin::new(&mut self.stream).poll_read(cx, &mut buffer);
         read.map(|read| match read {
-            Ok(()) => self.served.received(&moment(), room.filled()),
+            Ok(()) => self.served.received(&moment(), buffer.filled()),
             Err(error) => self.served.lost(error),
         })
     }
@@ -114,7 +114,7 @@ impl<S: AsyncRead + AsyncWrite + Unpin> Carried<S> {
 /// The wait of a connection for bytes or for room.
 pub(crate) struct Carrying<'s, S, M> {
     carried: &'s mut Carried<S>,
-    wanted: Wanted,
+    awaited: Wanted,
     moment: M,
 }
 
@@ -125,7 +125,7 @@ impl<S: AsyncRead + AsyncWrite + Unpin, M: Fn() -> Moment> Future for Carrying<'
 
     fn poll(mut self: Pin<&mut Self>, cx: &mut Context<'_>) -> Poll<()> {
         let this = &mut *self;
-        match this.wanted {
+        match this.awaited {
             Wanted::Room => this.carried.poll_send(&this.moment, cx),
             Wanted::Bytes => this.carried.poll_receive(&this.moment, cx),
         }

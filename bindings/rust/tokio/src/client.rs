@@ -54,7 +54,7 @@ pub struct AsyncClient<S> {
     link: Link<S>,
     timer: Timer,
     /// The last step with an event.
-    told: Option<Step>,
+    last: Option<Step>,
     log: Option<Box<Log>>,
 }
 
@@ -116,7 +116,7 @@ impl<S: AsyncRead + AsyncWrite + Unpin> AsyncClient<S> {
             begun: None,
             link: Link::None,
             timer: Timer::default(),
-            told: None,
+            last: None,
             log: None,
         }
     }
@@ -150,9 +150,9 @@ impl<S: AsyncRead + AsyncWrite + Unpin> AsyncClient<S> {
     /// next call goes on.
     #[allow(clippy::missing_panics_doc)] // It can't: each such step has an event.
     pub async fn next(&mut self) -> Event<'_> {
-        self.told = None; // which frees the data before the last ones
+        self.last = None; // which frees the data before the last ones
         Going(self).await;
-        let event = self.told.as_ref().and_then(|step| self.router.event(step));
+        let event = self.last.as_ref().and_then(|step| self.router.event(step));
         event.expect("such a step has an event")
     }
 
@@ -167,7 +167,7 @@ impl<S: AsyncRead + AsyncWrite + Unpin> AsyncClient<S> {
                 return Ok(data.clone());
             }
             Going(self).await;
-            if let Some(Step::Failed(error)) = self.told.take() {
+            if let Some(Step::Failed(error)) = self.last.take() {
                 return Err(error);
             }
         }
@@ -176,14 +176,14 @@ impl<S: AsyncRead + AsyncWrite + Unpin> AsyncClient<S> {
     /// Closes the connection, and drops the data. The next call begins again with the same cache.
     pub(crate) fn stop(&mut self) {
         self.link = Link::None;
-        self.told = None;
+        self.last = None;
         self.router.again();
     }
 
     /// Takes the last step with an event, and the data after it.
     pub(crate) fn take_told(&mut self) -> Option<(Step, Option<&Data>)> {
-        let told = self.told.take()?;
-        Some((told, self.router.data()))
+        let step = self.last.take()?;
+        Some((step, self.router.data()))
     }
 
     /// Runs until a step has an event.
@@ -209,7 +209,7 @@ impl<S: AsyncRead + AsyncWrite + Unpin> AsyncClient<S> {
                     if let (Some(log), Some(event)) = (&self.log, self.router.event(&step)) {
                         event.log(log);
                     }
-                    self.told = Some(step);
+                    self.last = Some(step);
                     return Poll::Ready(());
                 }
             }
@@ -220,7 +220,7 @@ impl<S: AsyncRead + AsyncWrite + Unpin> AsyncClient<S> {
     fn carry(&mut self, cx: &mut Context<'_>, now: u64) -> bool {
         match &mut self.link {
             Link::Dialed(dialed) => match dialed.as_mut().poll(cx) {
-                Poll::Ready(made) => self.dialed(made, now),
+                Poll::Ready(result) => self.dialed(result, now),
                 Poll::Pending => return false,
             },
             Link::Open(open) => {
@@ -234,8 +234,8 @@ impl<S: AsyncRead + AsyncWrite + Unpin> AsyncClient<S> {
     }
 
     /// A connection was made, or couldn't be.
-    fn dialed(&mut self, made: io::Result<S>, now: u64) {
-        self.link = match made {
+    fn dialed(&mut self, result: io::Result<S>, now: u64) {
+        self.link = match result {
             Ok(stream) => {
                 if let Some(log) = &self.log {
                     log(LogLevel::Debug, "connected", &[]);
@@ -300,10 +300,10 @@ impl<S: AsyncRead + AsyncWrite + Unpin> Open<S> {
         if self.has_ended {
             return false;
         }
-        let mut room = ReadBuf::new(router.room());
-        match Pin::new(&mut self.stream).poll_read(cx, &mut room) {
+        let mut buffer = ReadBuf::new(router.room());
+        match Pin::new(&mut self.stream).poll_read(cx, &mut buffer) {
             Poll::Ready(Ok(())) => {
-                let count = room.filled().len();
+                let count = buffer.filled().len();
                 self.has_ended = count == 0;
                 router.filled(count);
             }

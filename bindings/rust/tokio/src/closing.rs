@@ -73,10 +73,10 @@ impl<S: AsyncRead + AsyncWrite + Unpin> Closing<S> {
     fn poll_discard(&mut self, cx: &mut Context<'_>) -> Poll<()> {
         while self.discarded < MOST_BYTES {
             let mut bytes = [0; 4096];
-            let mut room = ReadBuf::new(&mut bytes);
-            match Pin::new(&mut self.stream).poll_read(cx, &mut room) {
-                Poll::Ready(Ok(())) if !room.filled().is_empty() => {
-                    self.discarded += room.filled().len();
+            let mut buffer = ReadBuf::new(&mut bytes);
+            match Pin::new(&mut self.stream).poll_read(cx, &mut buffer) {
+                Poll::Ready(Ok(())) if !buffer.filled().is_empty() => {
+                    self.discarded += buffer.filled().len();
                 }
                 Poll::Ready(_) => break,
                 Poll::Pending => return Poll::Pending,

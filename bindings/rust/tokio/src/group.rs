@@ -44,7 +44,7 @@ pub struct AsyncGroup<S> {
     begun: Option<Instant>,
     timer: Timer,
     /// The last step with an event, and its member.
-    told: Option<(usize, Step)>,
+    last: Option<(usize, Step)>,
     /// Which members to stop and start, once the caller has all events before that.
     decided: Option<Decision>,
 }
@@ -92,7 +92,7 @@ impl<S: AsyncRead + AsyncWrite + Unpin> AsyncGroup<S> {
             members,
             begun: None,
             timer: Timer::default(),
-            told: None,
+            last: None,
             decided: None,
         })
     }
@@ -118,10 +118,10 @@ impl<S: AsyncRead + AsyncWrite + Unpin> AsyncGroup<S> {
     /// version they were.
     #[allow(clippy::missing_panics_doc)] // It can't: each such step has an event.
     pub async fn next(&mut self) -> (usize, Event<'_>) {
-        self.told = None;
+        self.last = None;
         Going(self).await;
-        let told = self.told.as_ref();
-        let event = told.and_then(|(member, step)| Some((*member, self.preferred.event(step)?)));
+        let last = self.last.as_ref();
+        let event = last.and_then(|(member, step)| Some((*member, self.preferred.event(step)?)));
         event.expect("such a step has an event")
     }
 
@@ -129,8 +129,8 @@ impl<S: AsyncRead + AsyncWrite + Unpin> AsyncGroup<S> {
     fn poll(&mut self, cx: &mut Context<'_>) -> Poll<()> {
         let begun = *self.begun.get_or_insert_with(Instant::now);
         loop {
-            self.told = self.preferred.take_step();
-            if self.told.is_some() {
+            self.last = self.preferred.take_step();
+            if self.last.is_some() {
                 return Poll::Ready(());
             }
             if let Some(decided) = self.decided.take() {

@@ -104,9 +104,9 @@ impl AsyncServer {
         log: impl Fn(LogLevel, &str, &LogFields<'_>) + Send + Sync + 'static,
     ) -> Self {
         let log: Arc<Log> = Arc::new(log);
-        let told = Arc::clone(&log);
+        let ended_log = Arc::clone(&log);
         let ended = move |from: SocketAddr, error: &ServerError| {
-            told(
+            ended_log(
                 LogLevel::Info,
                 "ended",
                 &[("client", &from), ("error", error)],
@@ -136,10 +136,10 @@ impl AsyncServer {
     /// `NewTimings`; `SerialNotAfter`, also for the same payloads with an earlier serial number;
     /// `Times` if RFC 8210 section 6 doesn't allow their times.
     pub fn update(&self, data: Data) -> Result<bool, UpdateError> {
-        let told = self.shared.log.as_ref().map(|log| (log, data.clone()));
+        let update_log = self.shared.log.as_ref().map(|log| (log, data.clone()));
         let is_new = self.shared.cache.update(data)?;
         if is_new {
-            if let Some((log, data)) = told {
+            if let Some((log, data)) = update_log {
                 data.log_served(&**log);
             }
             self.shared.changes.send_modify(|_| {});
@@ -316,7 +316,7 @@ impl Shared {
         let mut changes = self.changes.subscribe();
         while !*changes.borrow_and_update() {
             let moment = self.moment();
-            let wanted = match carried.next(&moment) {
+            let awaited = match carried.next(&moment) {
                 ServedStep::Receive => Wanted::Bytes,
                 ServedStep::Send => Wanted::Room,
                 ServedStep::Ended(error) => {
@@ -330,7 +330,7 @@ impl Shared {
             tokio::select! {
                 biased;
                 _ = changes.changed() => {}
-                () = carried.carry(wanted, || self.moment()) => {}
+                () = carried.carry(awaited, || self.moment()) => {}
                 () = self.sleep_until(wakes) => {}
             }
         }
