@@ -130,3 +130,10 @@ left_after b rest n h e =
     let sum : length b - length rest + n ≡ 16 + (p + n) = omega (arith, consumed b rest h e) in
     ap (λ m. drop m b) sum ∙ sym (drop-drop (p + n) 16 b) ∙ sym (drop-drop n p (drop 16 b))
     ∙ ap (drop n) (sym e)
+
+-- where its bytes stand
+pub bytes_at : (b s : List ℕ) → HasPart b → s ≡ part_bytes b →
+    take (length s) (drop 16 b) ≡ part_bytes b
+unfolding HasPart part_bytes
+bytes_at b s h e =
+    ap (λ n. take n (drop 16 b)) (ap length e ∙ length-take-le (part_size b) (drop 16 b) h.1)

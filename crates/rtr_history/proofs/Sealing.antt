@@ -1,6 +1,6 @@
 -- How long the heads of files are.
-use Rattle.std.proofs.Common.{◌≡◌, ◌++◌, ℕ, List, length, arith}
-use Rattle.std.proofs.lemmas.List.{length-append}
+use Rattle.std.proofs.Common.{◌≡◌, ◌∙◌, ◌++◌, ℕ, List, ap, arith, drop, length, subst, sym}
+use Rattle.std.proofs.lemmas.List.{drop_at, length-append}
 use Rattle.rtr_base.specs.Bytes.{be}
 use Rattle.rtr_base.proofs.Numbers.{length-be}
 use Rattle.rtr_history.specs.Seal.{fnv, kept_form, old_head, seal}
@@ -26,3 +26,10 @@ old_length s =
       length-append (kept_form 49) (be (fnv s) 8),
       length-be (fnv s) 8,
     )
+
+-- what follows the head of a sealed file
+pub behind_head : (file s : List ℕ) → file ≡ seal s ++ s → drop 24 file ≡ s
+behind_head file s e = ap (drop 24) e ∙ drop_at (seal s) s 24 (seal_length s)
+
+pub opened : (file s : List ℕ) → file ≡ seal s ++ s → file ≡ seal (drop 24 file) ++ drop 24 file
+opened file s e = subst (λ t. file ≡ seal t ++ t) (sym (behind_head file s e)) e

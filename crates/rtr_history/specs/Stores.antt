@@ -1,8 +1,8 @@
 -- What a cache serves and what it took, in two buffers (this library's own; what a cache has to be
 -- able to tell: RFC 8210 sections 5.1, 5.3 and 8.2).
 use Rattle.std.specs.Prelude.{◌≡◌, ◌≢◌, ◌<◌, ◌≤◌, ◌+◌, ◌*◌, ⊤, ℕ, Bool, not, List, [], Option}
-use Rattle.std.specs.Prelude.{Some, None, IsSome, Result, Ok, Err, take, length}
-use Rattle.std.specs.Prelude.{if◌then◌else◌}
+use Rattle.std.specs.Prelude.{Some, None, IsSome, Result, Ok, Err, take, length, false}
+use Rattle.std.specs.Prelude.{if◌then◌else◌, ◌&&◌, ◌||◌, is_some}
 use Rattle.rtr_units.specs.AnyEnd.{end_meaning}
 use Rattle.rtr_units.specs.declared.end.EndOfData.{EndOfData}
 use Rattle.rtr_history.specs.Next.{Advances, ContinuesHistory, IsFlawIn, IsShortForNewer}
@@ -14,6 +14,7 @@ use Rattle.rtr_history.specs.declared.check.CheckFault.{CheckFault}
 use Rattle.rtr_history.specs.declared.check.CheckFault.TheVariants as faults
 use Rattle.rtr_history.specs.declared.newer.Untaken.{Untaken}
 use Rattle.rtr_history.specs.declared.newer.Untaken.TheVariants as untaken
+use Rattle.rtr_history.specs.declared.numbers.Numbers.{Numbers}
 use Rattle.rtr_history.specs.declared.stores.Stores.{Stores}
 
 -- ---- the two stores
@@ -56,6 +57,46 @@ after_call (Err why) m = m
 abbrev pub after_saving : Option ℕ → Stores → Stores
 after_saving None m = m
 after_saving (Some n) m = record m { served = Some n; taken = None; second = not m.second }
+
+-- the stores at a start, where this much of the first buffer is served, and where the cache
+-- doesn't save and has this session
+abbrev pub fresh_stores : (served unsaved : Option ℕ) → Stores
+fresh_stores o u = record { served = o; taken = None; second = false; unsaved = u }
+
+-- ---- the numbers of the two stores
+
+abbrev pub numbers_of : Stores → Numbers
+numbers_of m = record {
+  served = m.served;
+  taken = m.taken;
+  second = m.second;
+  unsaved = m.unsaved;
+}
+
+abbrev pub stores_of : Numbers → Stores
+stores_of n = record {
+  served = n.served;
+  taken = n.taken;
+  second = n.second;
+  unsaved = n.unsaved;
+}
+
+-- Stores have these numbers: only a store that is served is in the second buffer, and none waits
+-- where the cache doesn't save.
+abbrev pub are_of_stores : Numbers → Bool
+are_of_stores n =
+    (not n.second || is_some n.served) && (not (is_some n.unsaved) || not (is_some n.taken))
+
+abbrev pub numbered_stores : Numbers → Option Stores
+numbered_stores n = if are_of_stores n then Some (stores_of n) else None
+
+-- the stores after the one that waits, if there is one, was saved
+abbrev pub after_saved : Stores → Stores
+after_saved m = after_saving m.taken m
+
+-- the stores after the one that waits was given up
+abbrev pub after_giving_up : Stores → Stores
+after_giving_up m = record m { taken = None }
 
 -- ---- what comes of newer data
 

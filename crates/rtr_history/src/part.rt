@@ -1,7 +1,10 @@
 //! The parts of a history.
 
-ghost use Rattle.std.specs.Prelude.{◌≡◌, ◌+◌, ◌<◌, ◌^◌, ◌≤◌, IfSome, IsSome, length, take, drop};
+ghost use Rattle.std.specs.Prelude.{◌≡◌, ◌+◌, ◌<◌, ◌^◌, ◌≤◌, IfSome, IsSome, List, length, take};
+ghost use Rattle.std.specs.Prelude.{drop};
 ghost use Rattle.rtr_base.specs.Bytes.{value};
+ghost use Rattle.rtr_slices.specs.Canonical.{HoldsData};
+ghost use Rattle.rtr_history.specs.Snapshots.{HoldsHistory, Snapshot};
 ghost use Rattle.rtr_history.specs.Parts.{HasPart, head_bytes, part_bytes, part_rest, part_time};
 
 /// How many bytes stand before the bytes of a part.
@@ -56,4 +59,18 @@ pub fn first_part(input: &[u8]) -> Option<(u64, &[u8], &[u8])>
     }
     let (bytes, rest) = after.split_at(size as usize);
     Some((time, bytes, rest))
+}
+
+/// Where the present data of a history stand in it: their offset, and their length.
+pub fn data_at(history: &[u8]) -> Option<(usize, usize)>
+    ensures holds { IfSome result (λ p. (x : Snapshot) (ys : List Snapshot) →
+        HoldsHistory history.now x ys →
+        HoldsData (take p.1 (drop p.0 history.now)) x.payloads x.end) }
+    ensures finds { (x : Snapshot) (ys : List Snapshot) → HoldsHistory history.now x ys →
+        IsSome result }
+{
+    match first_part(history) {
+        Some(part) => Some((HEAD, part.1.len())),
+        None => None,
+    }
 }

@@ -2,20 +2,23 @@
 
 ghost use Rattle.std.specs.Prelude.{◌≡◌, ◌≤◌, ◌+◌, ◌-◌, ◌∷◌, ℕ, ◌↔◌, IfErr, IfOk, IfSome};
 ghost use Rattle.std.specs.Prelude.{[], Err, IsOk, IsSome, IsTrue, List, None, Option, Some};
-ghost use Rattle.std.specs.Prelude.{length, take};
+ghost use Rattle.std.specs.Prelude.{drop, length, take};
 ghost use Rattle.rtr_slices.specs.Canonical.{HoldsData};
 ghost use Rattle.rtr_history.specs.Checks.{IsShortForCheck};
 ghost use Rattle.rtr_history.specs.Life.{IsLife, IsUnsavedLife, MayTake};
-ghost use Rattle.rtr_history.specs.Parts.{part_rest};
+ghost use Rattle.rtr_history.specs.Parts.{HasPart, part_rest};
 ghost use Rattle.rtr_history.specs.Snapshots.{HoldsHistory, Snapshot};
 ghost use Rattle.rtr_history.specs.Store.{HoldsStore};
 ghost use Rattle.rtr_history.specs.Stores.{ChecksStore, IsFlawOfNew, IsShortForTaking, MayBeOf};
-ghost use Rattle.rtr_history.specs.Stores.{TakesData, after_call, after_saving, front_of, held_of};
-ghost use Rattle.rtr_history.specs.Stores.{other_of, served_store, size_of, taken_store};
+ghost use Rattle.rtr_history.specs.Stores.{TakesData, after_call, after_giving_up, after_saving};
+ghost use Rattle.rtr_history.specs.Stores.{fresh_stores, front_of, held_of};
+ghost use Rattle.rtr_history.specs.Stores.{numbered_stores, numbers_of, other_of, served_store};
+ghost use Rattle.rtr_history.specs.Stores.{size_of, stores_of, taken_store};
 
 use crate::check::{CheckFault, check_history};
 use crate::newer::{Untaken, first_store, next_store, session_of};
 use crate::next::{Limits, Refused};
+use crate::numbers::Numbers;
 use crate::part::first_part;
 use rtr_units::end::EndOfData;
 
@@ -40,6 +43,7 @@ pub struct Stores {
 impl Stores {
     /// Those of a new cache, which saves, and has no data and no file yet.
     pub fn new() -> Stores
+        ensures is { result ≡ fresh_stores None None }
         ensures life { (first second : List ℕ) →
             IsLife [] None (served_store result first second) (taken_store result first second) }
     {
@@ -54,6 +58,7 @@ impl Stores {
     /// Those of a cache that doesn't save, at a start: all data are of this session, under which it
     /// served none before (RFC 8210 section 5.1).
     pub fn unsaved(session: u16) -> Stores
+        ensures is { result ≡ fresh_stores None (Some session) }
         ensures session { result.unsaved ≡ Some session }
         ensures none { result.taken ≡ None }
         ensures serves_none { result.served ≡ None }
@@ -66,6 +71,34 @@ impl Stores {
         }
     }
 
+    /// The numbers of these stores.
+    pub fn numbers(&self) -> Numbers
+        ensures is { result ≡ numbers_of self.now }
+        ensures same { stores_of result ≡ self.now }
+    {
+        Numbers {
+            served: self.served,
+            taken: self.taken,
+            second: self.second,
+            unsaved: self.unsaved,
+        }
+    }
+
+    /// The stores that have these numbers, or none if the numbers are of none.
+    pub fn of_numbers(numbers: &Numbers) -> Option<Stores>
+        ensures { result ≡ numbered_stores numbers.now }
+    {
+        if !numbers.are_of_stores() {
+            return None;
+        }
+        Some(Stores {
+            served: numbers.served,
+            taken: numbers.taken,
+            second: numbers.second,
+            unsaved: numbers.unsaved,
+        })
+    }
+
     /// Those of a cache that saves, at a start: its file has the store of this length at the front
     /// of the first buffer, which is served. It works in an index and a buffer, as `check_history`
     /// does.
@@ -75,6 +108,7 @@ impl Stores {
         index: &mut [usize],
         buffer: &mut [u8],
     ) -> Result<Stores, CheckFault>
+        ensures is { IfOk result (λ m. m ≡ fresh_stores (Some size) None) }
         ensures life { IfOk result (λ m. (xs : List Snapshot) (second : List ℕ) →
             IsLife xs (Some (take size first.now)) None None → (z : Snapshot)
             × IsLife (z ∷ xs) (Some (take size first.now)) (served_store m first.now second)
@@ -272,7 +306,7 @@ impl Stores {
     /// Gives up the store that was taken, as when it could not be saved: what is served stays.
     /// Whether the file has it doesn't matter.
     pub fn give_up(&mut self)
-        ensures after { self.new ≡ record self.old { taken = None } }
+        ensures after { self.new ≡ after_giving_up self.old }
         ensures life { (xs : List Snapshot) (file : Option (List ℕ)) (first second : List ℕ) →
             IsLife xs file (served_store self.old first second)
             (taken_store self.old first second) →
@@ -302,6 +336,36 @@ impl Stores {
             Some(part) => Some(part.2),
             None => None,
         }
+    }
+
+    /// Where the history that is served stands in the buffer of the store that is served: its
+    /// offset, and its length.
+    pub fn history_at(&self, first: &[u8], second: &[u8]) -> Option<(usize, usize)>
+        ensures at { IfSome result (λ p. (b : List ℕ) →
+            served_store self.now first.now second.now ≡ Some b → drop p.0 b ≡ part_rest b) }
+        ensures length { IfSome result (λ p. (b : List ℕ) →
+            served_store self.now first.now second.now ≡ Some b → p.0 + p.1 ≡ length b) }
+        ensures serves { IsSome result → IsSome (served_store self.now first.now second.now) }
+        ensures finds { (b : List ℕ) (x : Snapshot) (ys : List Snapshot) →
+            served_store self.now first.now second.now ≡ Some b → HoldsStore b x ys →
+            IsSome result }
+    {
+        match self.served {
+            Some(size) => rest_at(self.held(size, first, second)),
+            None => None,
+        }
+    }
+}
+
+/// Where the parts after the first one begin, and how long they are.
+fn rest_at(parts: &[u8]) -> Option<(usize, usize)>
+    ensures at { IfSome result (λ p. drop p.0 parts.now ≡ part_rest parts.now) }
+    ensures length { IfSome result (λ p. p.0 + p.1 ≡ length parts.now) }
+    ensures finds { HasPart parts.now → IsSome result }
+{
+    match first_part(parts) {
+        Some(part) => Some((parts.len() - part.2.len(), part.2.len())),
+        None => None,
     }
 }
 
