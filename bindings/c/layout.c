@@ -316,4 +316,38 @@ AT(rtr_serving, status, 27);
 AT(rtr_serving, detail, 28);
 AT(rtr_serving, reports, 29);
 
+_Static_assert(sizeof(struct rtr_stores) == 32, "rtr_stores");
+AT(rtr_stores, served, 0);
+AT(rtr_stores, taken, 8);
+AT(rtr_stores, mark, 16);
+AT(rtr_stores, session, 20);
+AT(rtr_stores, serves, 22);
+AT(rtr_stores, waits, 23);
+AT(rtr_stores, second, 24);
+AT(rtr_stores, unsaved, 25);
+
+_Static_assert(sizeof(struct rtr_history_limits) == 16, "rtr_history_limits");
+AT(rtr_history_limits, time, 0);
+AT(rtr_history_limits, bytes, 8);
+
+_Static_assert(sizeof(struct rtr_stores_answer) == 32, "rtr_stores_answer");
+AT(rtr_stores_answer, length, 0);
+AT(rtr_stores_answer, offset, 8);
+AT(rtr_stores_answer, wanted, 16);
+AT(rtr_stores_answer, status, 24);
+AT(rtr_stores_answer, room, 25);
+AT(rtr_stores_answer, flaw, 26);
+AT(rtr_stores_answer, detail, 27);
+
+_Static_assert(sizeof(struct rtr_stores_state) == 32, "rtr_stores_state");
+AT(rtr_stores_state, offset, 0);
+AT(rtr_stores_state, length, 8);
+AT(rtr_stores_state, taken, 16);
+AT(rtr_stores_state, serves, 24);
+AT(rtr_stores_state, waits, 25);
+AT(rtr_stores_state, second, 26);
+
+_Static_assert(sizeof(struct rtr_store_head) == 24, "rtr_store_head");
+AT(rtr_store_head, bytes, 0);
+
 #endif

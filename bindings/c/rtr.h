@@ -1590,6 +1590,258 @@ static inline bool rtr_cache_report(const struct rtr_serving *serving,
                                     rtr_writable(output), output_length, written);
 }
 
+/* The data of a cache, with the changes since earlier data of its session, as bytes: without files,
+ * a clock or memory (RFC 8210 sections 5.1, 5.3 and 8.2). A history is the present data and the
+ * steps back to earlier data. A store is what a cache saves: the sessions that it left, and a
+ * history. A struct rtr_stores says which of two buffers of the program has the store that is
+ * served, and whether the other one has a store that has to be saved first. The program calls
+ *
+ *   at a start  rtr_stores_new, if the cache never served data. If it did, its file is read,
+ *               checked by rtr_store_open, and the store behind its head copied to the front of the
+ *               first buffer, for rtr_stores_start. A cache that doesn't save calls
+ *               rtr_stores_unsaved, with a session that it never used before
+ *   for data    rtr_stores_take, with new data in canonical form. If it returns RTR_STORES_OK and
+ *               the cache saves, the program writes the head of rtr_store_seal, and behind it the
+ *               store at rtr_stores_to_save, to a file that replaces the one before, and calls
+ *               rtr_stores_saved once the file is on the disk. The new data are served from then
+ *               on. If the file can't be written, it calls rtr_stores_give_up
+ *   for a       rtr_history_data, rtr_history_knows and rtr_history_since, with the history at
+ *   query       rtr_stores_served. It stays there until new data are served
+ *
+ * Then a cache never serves two data under one session and serial number, over any number of starts
+ * and power cuts. These calls take any bytes as their struct: a wrong call has an rtr_stores_status,
+ * and changes nothing. Times are in milliseconds since 1970. */
+
+/* How a call on stores or on a history ended. RTR_STORES_NOT_MADE is checked first, and then
+ * RTR_STORES_SHORT_BUFFER. */
+enum rtr_stores_status {
+    RTR_STORES_OK = 0,
+    RTR_STORES_NOT_MADE = 1,       /* no call leaves the struct like this */
+    RTR_STORES_SHORT_BUFFER = 2,   /* a buffer is shorter than the store in it */
+    RTR_STORES_WAITS = 3,          /* a store waits to be saved or given up */
+    RTR_STORES_FLAW = 4,           /* the data aren't in canonical form */
+    RTR_STORES_OTHER_SESSION = 5,  /* the cache doesn't save, and started with another session */
+    RTR_STORES_SESSION_LEFT = 6,   /* the cache used the session of the data before another one */
+    RTR_STORES_OTHER_VERSION = 7,  /* the data before are of another protocol version */
+    RTR_STORES_SAME_DATA = 8,      /* the data are those that are served */
+    RTR_STORES_OTHER_TIMES = 9,    /* only the times differ from those of the data served */
+    RTR_STORES_OLD_SERIAL = 10,    /* the serial number isn't later than that of the data served */
+    RTR_STORES_MALFORMED = 11,     /* the bytes aren't a store, or aren't a history */
+    RTR_STORES_NO_ROOM = 12,       /* a buffer is too short for this call */
+    RTR_STORES_UNKNOWN_SERIAL = 13, /* the history has no data of this serial number */
+    RTR_STORES_UNIT_VERSION = 14   /* the protocol version is above RTR_HIGHEST_VERSION */
+};
+
+/* The buffer that is too short. */
+enum rtr_room {
+    RTR_ROOM_INDEX = 1,
+    RTR_ROOM_BUFFER = 2,
+    RTR_ROOM_SPARE = 3,
+    RTR_ROOM_OUTPUT = 4,
+    RTR_ROOM_FIRST = 5,
+    RTR_ROOM_SECOND = 6
+};
+
+/* The stores of a cache. Its fields are its own. It may be copied. */
+struct rtr_stores {
+    size_t served, taken;
+    uint32_t mark;
+    uint16_t session;
+    uint8_t serves, waits, second, unsaved;
+};
+
+/* Which steps back a history keeps. */
+struct rtr_history_limits {
+    uint64_t time; /* a step is kept for this many milliseconds after it was made */
+    size_t bytes;  /* the steps have at most this many bytes, with 16 bytes for each step */
+};
+
+/* How a call ended. Fields that an answer doesn't have are 0. */
+struct rtr_stores_answer {
+    size_t length;  /* of the store or the changes that were written */
+    size_t offset;  /* RTR_STORES_FLAW: where the unit at fault begins in the data */
+    size_t wanted;  /* RTR_STORES_NO_ROOM: the length that suffices for this call; of the index in
+                       entries */
+    uint8_t status; /* an rtr_stores_status */
+    uint8_t room;   /* RTR_STORES_NO_ROOM: an rtr_room */
+    uint8_t flaw;   /* RTR_STORES_FLAW: an rtr_status */
+    uint8_t detail; /* RTR_STORES_FLAW: as in an rtr_data_answer; RTR_STORES_OTHER_VERSION: the
+                       version of the data */
+};
+
+/* What the two buffers have. */
+struct rtr_stores_state {
+    size_t offset; /* of the history that is served, in the buffer of its store */
+    size_t length; /* of that history */
+    size_t taken;  /* the length of the store to save, at the front of the other buffer */
+    bool serves;   /* a history is served */
+    bool waits;    /* a store has to be saved */
+    bool second;   /* the second buffer has the store that is served, and the first the other one */
+};
+
+/* What a file begins with; the store follows. */
+struct rtr_store_head {
+    uint8_t bytes[24];
+};
+
+/* The two buffers. A program that makes one of them longer keeps what it holds. */
+struct rtr_stores_buffers {
+    uint8_t *first, *second;
+    size_t first_length, second_length;
+};
+
+/* Memory that calls work in. What it holds doesn't matter, and is undefined afterwards. */
+struct rtr_work {
+    size_t *index;          /* to sort in */
+    size_t index_length;
+    uint8_t *buffer, *spare;
+    size_t buffer_length, spare_length;
+};
+
+/* Begins the stores of a new cache, which serves no data, whatever the struct holds. */
+void rtr_stores_new(struct rtr_stores *stores);
+
+/* Begins those of a cache that doesn't save, at a start: rtr_stores_take serves data at once, and
+ * takes those of this session only. */
+void rtr_stores_unsaved(struct rtr_stores *stores, uint16_t session);
+
+/* Begins those of a cache that saves, at a start: the first buffer has the store of its file, of
+ * this length, at its front. It is served if it is a whole store. The spare buffer isn't used. An
+ * index of one entry for each 12 bytes of the store, and a buffer as long as it, always suffice.
+ *
+ * RTR_STORES_OK, _SHORT_BUFFER, _MALFORMED, or _NO_ROOM for the index or the buffer; the struct
+ * stays as it was unless it is RTR_STORES_OK. */
+static inline uint8_t rtr_stores_start(struct rtr_stores *stores, size_t size,
+                                       const struct rtr_stores_buffers *buffers,
+                                       const struct rtr_work *work,
+                                       struct rtr_stores_answer *answer)
+{
+    static size_t nowhere;
+    return rtr_stores_start_nonnull(stores, size, rtr_readable(buffers->first),
+                                    buffers->first_length, work->index ? work->index : &nowhere,
+                                    work->index_length, rtr_writable(work->buffer),
+                                    work->buffer_length, answer);
+}
+
+/* Takes new data in canonical form, at this time: writes their store to the buffer without the one
+ * that is served. A cache that doesn't save serves it at once; else it waits for rtr_stores_saved,
+ * and what is served stays. Data of the session that is served need a later serial number (RFC
+ * 1982); data of another session begin a history, and their session may be none that the cache
+ * left. The index isn't used. A buffer as long as the store that is served and the data together,
+ * a spare one twice as long and 32 bytes more, and for the store 18 bytes more than the store, the
+ * data and the spare buffer together, always suffice.
+ *
+ * Any rtr_stores_status but the last two. RTR_STORES_NO_ROOM is for the buffer, the spare buffer,
+ * or the first or the second buffer. Unless it is RTR_STORES_OK, what is served and what waits
+ * stays. */
+static inline uint8_t rtr_stores_take(struct rtr_stores *stores,
+                                      const uint8_t *data, size_t data_length, uint64_t now,
+                                      const struct rtr_history_limits *limits,
+                                      const struct rtr_stores_buffers *buffers,
+                                      const struct rtr_work *work,
+                                      struct rtr_stores_answer *answer)
+{
+    return rtr_stores_take_nonnull(stores, rtr_readable(data), data_length, now, limits,
+                                   rtr_writable(work->buffer), work->buffer_length,
+                                   rtr_writable(work->spare), work->spare_length,
+                                   rtr_writable(buffers->first), buffers->first_length,
+                                   rtr_writable(buffers->second), buffers->second_length, answer);
+}
+
+/* The file has the store that was taken, which is served from now on. If none waits, nothing
+ * changes. RTR_STORES_OK or RTR_STORES_NOT_MADE. */
+uint8_t rtr_stores_saved(struct rtr_stores *stores);
+
+/* Drops the store that was taken, as when it couldn't be saved, whether or not the file has it:
+ * what is served stays. RTR_STORES_OK or RTR_STORES_NOT_MADE. */
+uint8_t rtr_stores_give_up(struct rtr_stores *stores);
+
+/* What the two buffers have. RTR_STORES_OK, _NOT_MADE or _SHORT_BUFFER; if the call is refused, all
+ * fields are 0. */
+static inline uint8_t rtr_stores_state(const struct rtr_stores *stores,
+                                       const struct rtr_stores_buffers *buffers,
+                                       struct rtr_stores_state *state)
+{
+    return rtr_stores_state_nonnull(stores, rtr_readable(buffers->first), buffers->first_length,
+                                    rtr_readable(buffers->second), buffers->second_length, state);
+}
+
+/* The history that is served, of `length` bytes; a null pointer if none is. */
+static inline const uint8_t *rtr_stores_served(const struct rtr_stores_buffers *buffers,
+                                               const struct rtr_stores_state *state,
+                                               size_t *length)
+{
+    *length = state->length;
+    return !state->serves ? NULL
+                          : (state->second ? buffers->second : buffers->first) + state->offset;
+}
+
+/* The store to save, of `length` bytes; a null pointer if none waits. */
+static inline const uint8_t *rtr_stores_to_save(const struct rtr_stores_buffers *buffers,
+                                                const struct rtr_stores_state *state,
+                                                size_t *length)
+{
+    *length = state->taken;
+    return !state->waits ? NULL : state->second ? buffers->first : buffers->second;
+}
+
+/* Writes the changes that lead a router of this version from the data of a serial number to the
+ * present data of a history, in canonical form and with the end of the present data: what is sent
+ * behind a cache response (RFC 8210 section 8.2). An index of one entry for each 12 bytes of the
+ * history, a buffer twice as long as the history, a spare one as long as it, and an output 12 bytes
+ * longer than the buffer always suffice.
+ *
+ * RTR_STORES_OK; or, with nothing written, RTR_STORES_UNIT_VERSION, which comes first, or
+ * RTR_STORES_UNKNOWN_SERIAL; RTR_STORES_NO_ROOM for the index, the buffer, the spare buffer or the
+ * output; RTR_STORES_MALFORMED. */
+static inline uint8_t rtr_history_since(const uint8_t *history, size_t history_length,
+                                        uint32_t serial, uint8_t version,
+                                        const struct rtr_work *work,
+                                        uint8_t *output, size_t output_length,
+                                        struct rtr_stores_answer *answer)
+{
+    static size_t nowhere;
+    return rtr_history_since_nonnull(rtr_readable(history), history_length, serial, version,
+                                     work->index ? work->index : &nowhere, work->index_length,
+                                     rtr_writable(work->buffer), work->buffer_length,
+                                     rtr_writable(work->spare), work->spare_length,
+                                     rtr_writable(output), output_length, answer);
+}
+
+/* The present data of a history, in canonical form, of `length` bytes: what a router gets that has
+ * none, in the version of the data. A null pointer if the bytes aren't a history. */
+static inline const uint8_t *rtr_history_data(const uint8_t *history, size_t history_length,
+                                              size_t *length)
+{
+    size_t offset;
+    return rtr_history_data_nonnull(rtr_readable(history), history_length, &offset, length)
+               ? history + offset
+               : NULL;
+}
+
+/* Reports whether a history has data of this serial number, so that rtr_history_since writes the
+ * changes since them. */
+static inline bool rtr_history_knows(const uint8_t *history, size_t history_length,
+                                     uint32_t serial)
+{
+    return rtr_history_knows_nonnull(rtr_readable(history), history_length, serial);
+}
+
+/* Writes the head of a file that has this store behind it: the form of the file, the length of the
+ * store, and its checksum. */
+static inline void rtr_store_seal(const uint8_t *store, size_t store_length,
+                                  struct rtr_store_head *head)
+{
+    rtr_store_seal_nonnull(rtr_readable(store), store_length, head);
+}
+
+/* Reports whether a file begins with the head of the bytes behind it, so that the store is all that
+ * follows the first sizeof(struct rtr_store_head) bytes. rtr_stores_start still has to check it. */
+static inline bool rtr_store_open(const uint8_t *file, size_t file_length)
+{
+    return rtr_store_open_nonnull(rtr_readable(file), file_length);
+}
+
 /* Returns the text of a rule on times, never null; any number may be passed. */
 static inline const char *rtr_time_rule_text(uint8_t rule)
 {

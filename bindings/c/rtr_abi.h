@@ -26,6 +26,7 @@ struct rtr_comparison;
 struct rtr_covering;
 struct rtr_data_answer;
 struct rtr_finding;
+struct rtr_history_limits;
 struct rtr_line;
 struct rtr_link;
 struct rtr_link_state;
@@ -36,6 +37,10 @@ struct rtr_present;
 struct rtr_route;
 struct rtr_router;
 struct rtr_serving;
+struct rtr_store_head;
+struct rtr_stores;
+struct rtr_stores_answer;
+struct rtr_stores_state;
 struct rtr_todo;
 struct rtr_unit;
 
@@ -160,6 +165,37 @@ size_t rtr_cache_unit_nonnull(const struct rtr_serving *serving, uint8_t *output
 bool rtr_cache_report_nonnull(const struct rtr_serving *serving,
                               const uint8_t *input, size_t input_length,
                               uint8_t *output, size_t output_length, size_t *written);
+
+/* rtr_stores_start to rtr_store_open */
+uint8_t rtr_stores_start_nonnull(struct rtr_stores *stores, size_t size,
+                                 const uint8_t *first, size_t first_length,
+                                 size_t *index, size_t index_length,
+                                 uint8_t *buffer, size_t buffer_length,
+                                 struct rtr_stores_answer *answer);
+uint8_t rtr_stores_take_nonnull(struct rtr_stores *stores, const uint8_t *data, size_t data_length,
+                                uint64_t now, const struct rtr_history_limits *limits,
+                                uint8_t *buffer, size_t buffer_length,
+                                uint8_t *spare, size_t spare_length,
+                                uint8_t *first, size_t first_length,
+                                uint8_t *second, size_t second_length,
+                                struct rtr_stores_answer *answer);
+uint8_t rtr_stores_state_nonnull(const struct rtr_stores *stores,
+                                 const uint8_t *first, size_t first_length,
+                                 const uint8_t *second, size_t second_length,
+                                 struct rtr_stores_state *state);
+uint8_t rtr_history_since_nonnull(const uint8_t *history, size_t history_length,
+                                  uint32_t serial, uint8_t version,
+                                  size_t *index, size_t index_length,
+                                  uint8_t *buffer, size_t buffer_length,
+                                  uint8_t *spare, size_t spare_length,
+                                  uint8_t *output, size_t output_length,
+                                  struct rtr_stores_answer *answer);
+bool rtr_history_data_nonnull(const uint8_t *history, size_t history_length, size_t *offset,
+                              size_t *length);
+bool rtr_history_knows_nonnull(const uint8_t *history, size_t history_length, uint32_t serial);
+void rtr_store_seal_nonnull(const uint8_t *store, size_t store_length,
+                            struct rtr_store_head *head);
+bool rtr_store_open_nonnull(const uint8_t *file, size_t file_length);
 
 #ifdef __cplusplus
 }

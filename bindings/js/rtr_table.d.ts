@@ -389,6 +389,53 @@ export const Reason: {
 };
 export type Reason = (typeof Reason)[keyof typeof Reason];
 
+/** How a call on stores or on a history ended. RTR_STORES_NOT_MADE is checked first, and then
+ * RTR_STORES_SHORT_BUFFER.
+ */
+export const StoresStatus: {
+    readonly OK: 0;
+    /** No call leaves the struct like this. */
+    readonly NOT_MADE: 1;
+    /** A buffer is shorter than the store in it. */
+    readonly SHORT_BUFFER: 2;
+    /** A store waits to be saved or given up. */
+    readonly WAITS: 3;
+    /** The data aren't in canonical form. */
+    readonly FLAW: 4;
+    /** The cache doesn't save, and started with another session. */
+    readonly OTHER_SESSION: 5;
+    /** The cache used the session of the data before another one. */
+    readonly SESSION_LEFT: 6;
+    /** The data before are of another protocol version. */
+    readonly OTHER_VERSION: 7;
+    /** The data are those that are served. */
+    readonly SAME_DATA: 8;
+    /** Only the times differ from those of the data served. */
+    readonly OTHER_TIMES: 9;
+    /** The serial number isn't later than that of the data served. */
+    readonly OLD_SERIAL: 10;
+    /** The bytes aren't a store, or aren't a history. */
+    readonly MALFORMED: 11;
+    /** A buffer is too short for this call. */
+    readonly NO_ROOM: 12;
+    /** The history has no data of this serial number. */
+    readonly UNKNOWN_SERIAL: 13;
+    /** The protocol version is above RTR_HIGHEST_VERSION. */
+    readonly UNIT_VERSION: 14;
+};
+export type StoresStatus = (typeof StoresStatus)[keyof typeof StoresStatus];
+
+/** The buffer that is too short. */
+export const Room: {
+    readonly INDEX: 1;
+    readonly BUFFER: 2;
+    readonly SPARE: 3;
+    readonly OUTPUT: 4;
+    readonly FIRST: 5;
+    readonly SECOND: 6;
+};
+export type Room = (typeof Room)[keyof typeof Room];
+
 /** The settings of a router: rtr.h describes each. Times are in milliseconds. */
 export interface Settings {
     mostBytes: number;

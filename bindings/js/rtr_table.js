@@ -261,6 +261,33 @@ export const Reason = Object.freeze({
     UNKNOWN: 9,
 });
 
+export const StoresStatus = Object.freeze({
+    OK: 0,
+    NOT_MADE: 1,
+    SHORT_BUFFER: 2,
+    WAITS: 3,
+    FLAW: 4,
+    OTHER_SESSION: 5,
+    SESSION_LEFT: 6,
+    OTHER_VERSION: 7,
+    SAME_DATA: 8,
+    OTHER_TIMES: 9,
+    OLD_SERIAL: 10,
+    MALFORMED: 11,
+    NO_ROOM: 12,
+    UNKNOWN_SERIAL: 13,
+    UNIT_VERSION: 14,
+});
+
+export const Room = Object.freeze({
+    INDEX: 1,
+    BUFFER: 2,
+    SPARE: 3,
+    OUTPUT: 4,
+    FIRST: 5,
+    SECOND: 6,
+});
+
 export const STRUCTS = Object.freeze({
     answer: { size: 48, fields: [
         ["units", 0, "uint64"],
@@ -570,6 +597,40 @@ export const STRUCTS = Object.freeze({
         ["detail", 28, "uint8"],
         ["reports", 29, "bool"],
     ] },
+    stores: { size: 32, fields: [
+        ["served", 0, "size"],
+        ["taken", 8, "size"],
+        ["mark", 16, "uint32"],
+        ["session", 20, "uint16"],
+        ["serves", 22, "uint8"],
+        ["waits", 23, "uint8"],
+        ["second", 24, "uint8"],
+        ["unsaved", 25, "uint8"],
+    ] },
+    historyLimits: { size: 16, fields: [
+        ["time", 0, "uint64"],
+        ["bytes", 8, "size"],
+    ] },
+    storesAnswer: { size: 32, fields: [
+        ["length", 0, "size"],
+        ["offset", 8, "size"],
+        ["wanted", 16, "size"],
+        ["status", 24, "uint8"],
+        ["room", 25, "uint8"],
+        ["flaw", 26, "uint8"],
+        ["detail", 27, "uint8"],
+    ] },
+    storesState: { size: 32, fields: [
+        ["offset", 0, "size"],
+        ["length", 8, "size"],
+        ["taken", 16, "size"],
+        ["serves", 24, "bool"],
+        ["waits", 25, "bool"],
+        ["second", 26, "bool"],
+    ] },
+    storeHead: { size: 24, fields: [
+        ["bytes", 0, "uint8", 24],
+    ] },
 });
 
 export const FUNCTIONS = Object.freeze({
@@ -645,6 +706,18 @@ export const FUNCTIONS = Object.freeze({
     rtr_cache_read_nonnull: ["void", "*", "uint64", "*", "*", "size", "*", "size", "bool", "*"],
     rtr_cache_unit_nonnull: ["size", "*", "*", "size"],
     rtr_cache_report_nonnull: ["bool", "*", "*", "size", "*", "size", "*"],
+    rtr_stores_new: ["void", "*"],
+    rtr_stores_unsaved: ["void", "*", "uint16"],
+    rtr_stores_start_nonnull: ["uint8", "*", "size", "*", "size", "*", "size", "*", "size", "*"],
+    rtr_stores_take_nonnull: ["uint8", "*", "*", "size", "uint64", "*", "*", "size", "*", "size", "*", "size", "*", "size", "*"],
+    rtr_stores_state_nonnull: ["uint8", "*", "*", "size", "*", "size", "*"],
+    rtr_history_since_nonnull: ["uint8", "*", "size", "uint32", "uint8", "*", "size", "*", "size", "*", "size", "*", "size", "*"],
+    rtr_history_data_nonnull: ["bool", "*", "size", "*", "*"],
+    rtr_history_knows_nonnull: ["bool", "*", "size", "uint32"],
+    rtr_store_seal_nonnull: ["void", "*", "size", "*"],
+    rtr_store_open_nonnull: ["bool", "*", "size"],
+    rtr_stores_saved: ["uint8", "*"],
+    rtr_stores_give_up: ["uint8", "*"],
 });
 
 const statusTexts = [

@@ -414,6 +414,50 @@ pub(crate) mod reason {
     pub(crate) const UNKNOWN: u8 = 9;
 }
 
+/// How a call on stores or on a history ended. RTR_STORES_NOT_MADE is checked first, and then
+/// RTR_STORES_SHORT_BUFFER.
+pub(crate) mod stores_status {
+    pub(crate) const OK: u8 = 0;
+    /// No call leaves the struct like this.
+    pub(crate) const NOT_MADE: u8 = 1;
+    /// A buffer is shorter than the store in it.
+    pub(crate) const SHORT_BUFFER: u8 = 2;
+    /// A store waits to be saved or given up.
+    pub(crate) const WAITS: u8 = 3;
+    /// The data aren't in canonical form.
+    pub(crate) const FLAW: u8 = 4;
+    /// The cache doesn't save, and started with another session.
+    pub(crate) const OTHER_SESSION: u8 = 5;
+    /// The cache used the session of the data before another one.
+    pub(crate) const SESSION_LEFT: u8 = 6;
+    /// The data before are of another protocol version.
+    pub(crate) const OTHER_VERSION: u8 = 7;
+    /// The data are those that are served.
+    pub(crate) const SAME_DATA: u8 = 8;
+    /// Only the times differ from those of the data served.
+    pub(crate) const OTHER_TIMES: u8 = 9;
+    /// The serial number isn't later than that of the data served.
+    pub(crate) const OLD_SERIAL: u8 = 10;
+    /// The bytes aren't a store, or aren't a history.
+    pub(crate) const MALFORMED: u8 = 11;
+    /// A buffer is too short for this call.
+    pub(crate) const NO_ROOM: u8 = 12;
+    /// The history has no data of this serial number.
+    pub(crate) const UNKNOWN_SERIAL: u8 = 13;
+    /// The protocol version is above RTR_HIGHEST_VERSION.
+    pub(crate) const UNIT_VERSION: u8 = 14;
+}
+
+/// The buffer that is too short.
+pub(crate) mod room {
+    pub(crate) const INDEX: u8 = 1;
+    pub(crate) const BUFFER: u8 = 2;
+    pub(crate) const SPARE: u8 = 3;
+    pub(crate) const OUTPUT: u8 = 4;
+    pub(crate) const FIRST: u8 = 5;
+    pub(crate) const SECOND: u8 = 6;
+}
+
 #[repr(C)]
 #[derive(Clone, Copy, Debug, Default, PartialEq, Eq, Hash)]
 pub(crate) struct Answer {
@@ -817,6 +861,55 @@ pub(crate) struct Serving {
     pub(crate) status: u8,
     pub(crate) detail: u8,
     pub(crate) reports: bool,
+}
+
+#[repr(C)]
+#[derive(Clone, Copy, Debug, Default, PartialEq, Eq, Hash)]
+pub(crate) struct Stores {
+    pub(crate) served: usize,
+    pub(crate) taken: usize,
+    pub(crate) mark: u32,
+    pub(crate) session: u16,
+    pub(crate) serves: u8,
+    pub(crate) waits: u8,
+    pub(crate) second: u8,
+    pub(crate) unsaved: u8,
+}
+
+#[repr(C)]
+#[derive(Clone, Copy, Debug, Default, PartialEq, Eq, Hash)]
+pub(crate) struct HistoryLimits {
+    pub(crate) time: u64,
+    pub(crate) bytes: usize,
+}
+
+#[repr(C)]
+#[derive(Clone, Copy, Debug, Default, PartialEq, Eq, Hash)]
+pub(crate) struct StoresAnswer {
+    pub(crate) length: usize,
+    pub(crate) offset: usize,
+    pub(crate) wanted: usize,
+    pub(crate) status: u8,
+    pub(crate) room: u8,
+    pub(crate) flaw: u8,
+    pub(crate) detail: u8,
+}
+
+#[repr(C)]
+#[derive(Clone, Copy, Debug, Default, PartialEq, Eq, Hash)]
+pub(crate) struct StoresState {
+    pub(crate) offset: usize,
+    pub(crate) length: usize,
+    pub(crate) taken: usize,
+    pub(crate) serves: bool,
+    pub(crate) waits: bool,
+    pub(crate) second: bool,
+}
+
+#[repr(C)]
+#[derive(Clone, Copy, Debug, Default, PartialEq, Eq, Hash)]
+pub(crate) struct StoreHead {
+    pub(crate) bytes: [u8; 24],
 }
 
 extern "C" {
@@ -1268,6 +1361,89 @@ extern "C" {
         output_length: usize,
         written: *mut usize,
     ) -> bool;
+    pub(crate) fn rtr_stores_new(
+        stores: *mut Stores,
+    );
+    pub(crate) fn rtr_stores_unsaved(
+        stores: *mut Stores,
+        session: u16,
+    );
+    pub(crate) fn rtr_stores_start_nonnull(
+        stores: *mut Stores,
+        size: usize,
+        first: *const u8,
+        first_length: usize,
+        index: *mut usize,
+        index_length: usize,
+        buffer: *mut u8,
+        buffer_length: usize,
+        answer: *mut StoresAnswer,
+    ) -> u8;
+    pub(crate) fn rtr_stores_take_nonnull(
+        stores: *mut Stores,
+        data: *const u8,
+        data_length: usize,
+        now: u64,
+        limits: *const HistoryLimits,
+        buffer: *mut u8,
+        buffer_length: usize,
+        spare: *mut u8,
+        spare_length: usize,
+        first: *mut u8,
+        first_length: usize,
+        second: *mut u8,
+        second_length: usize,
+        answer: *mut StoresAnswer,
+    ) -> u8;
+    pub(crate) fn rtr_stores_state_nonnull(
+        stores: *const Stores,
+        first: *const u8,
+        first_length: usize,
+        second: *const u8,
+        second_length: usize,
+        state: *mut StoresState,
+    ) -> u8;
+    pub(crate) fn rtr_history_since_nonnull(
+        history: *const u8,
+        history_length: usize,
+        serial: u32,
+        version: u8,
+        index: *mut usize,
+        index_length: usize,
+        buffer: *mut u8,
+        buffer_length: usize,
+        spare: *mut u8,
+        spare_length: usize,
+        output: *mut u8,
+        output_length: usize,
+        answer: *mut StoresAnswer,
+    ) -> u8;
+    pub(crate) fn rtr_history_data_nonnull(
+        history: *const u8,
+        history_length: usize,
+        offset: *mut usize,
+        length: *mut usize,
+    ) -> bool;
+    pub(crate) fn rtr_history_knows_nonnull(
+        history: *const u8,
+        history_length: usize,
+        serial: u32,
+    ) -> bool;
+    pub(crate) fn rtr_store_seal_nonnull(
+        store: *const u8,
+        store_length: usize,
+        head: *mut StoreHead,
+    );
+    pub(crate) fn rtr_store_open_nonnull(
+        file: *const u8,
+        file_length: usize,
+    ) -> bool;
+    pub(crate) fn rtr_stores_saved(
+        stores: *mut Stores,
+    ) -> u8;
+    pub(crate) fn rtr_stores_give_up(
+        stores: *mut Stores,
+    ) -> u8;
 }
 
 #[cfg(all(test, target_pointer_width = "64"))]
@@ -1592,5 +1768,39 @@ mod tests {
         assert_eq!(place!(value.status), 27);
         assert_eq!(place!(value.detail), 28);
         assert_eq!(place!(value.reports), 29);
+        let value = super::Stores::default();
+        assert_eq!(size_of::<super::Stores>(), 32);
+        assert_eq!(place!(value.served), 0);
+        assert_eq!(place!(value.taken), 8);
+        assert_eq!(place!(value.mark), 16);
+        assert_eq!(place!(value.session), 20);
+        assert_eq!(place!(value.serves), 22);
+        assert_eq!(place!(value.waits), 23);
+        assert_eq!(place!(value.second), 24);
+        assert_eq!(place!(value.unsaved), 25);
+        let value = super::HistoryLimits::default();
+        assert_eq!(size_of::<super::HistoryLimits>(), 16);
+        assert_eq!(place!(value.time), 0);
+        assert_eq!(place!(value.bytes), 8);
+        let value = super::StoresAnswer::default();
+        assert_eq!(size_of::<super::StoresAnswer>(), 32);
+        assert_eq!(place!(value.length), 0);
+        assert_eq!(place!(value.offset), 8);
+        assert_eq!(place!(value.wanted), 16);
+        assert_eq!(place!(value.status), 24);
+        assert_eq!(place!(value.room), 25);
+        assert_eq!(place!(value.flaw), 26);
+        assert_eq!(place!(value.detail), 27);
+        let value = super::StoresState::default();
+        assert_eq!(size_of::<super::StoresState>(), 32);
+        assert_eq!(place!(value.offset), 0);
+        assert_eq!(place!(value.length), 8);
+        assert_eq!(place!(value.taken), 16);
+        assert_eq!(place!(value.serves), 24);
+        assert_eq!(place!(value.waits), 25);
+        assert_eq!(place!(value.second), 26);
+        let value = super::StoreHead::default();
+        assert_eq!(size_of::<super::StoreHead>(), 24);
+        assert_eq!(place!(value.bytes), 0);
     }
 }

@@ -25,3 +25,4 @@ mod Rooms
 mod LoadRoom
 mod Links
 mod LinksTold
+mod StoresTold

@@ -25,3 +25,6 @@ pub mod Texts
 pub mod Links
 pub mod LinkTodos
 pub mod LinkStates
+pub mod Stores
+pub mod StoresAnswers
+pub mod StoresCalls

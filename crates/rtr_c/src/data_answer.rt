@@ -82,7 +82,7 @@ impl RtrDataAnswer {
 }
 
 /// The status of what is wrong at a place.
-fn reason_status(reason: &Reason) -> u8
+pub(crate) fn reason_status(reason: &Reason) -> u8
     ensures { result ≡ reason_status reason.now }
 {
     match reason {
@@ -92,7 +92,7 @@ fn reason_status(reason: &Reason) -> u8
 }
 
 /// The type, the version or the broken rule that is refused, or 0.
-fn reason_detail(reason: &Reason) -> u8
+pub(crate) fn reason_detail(reason: &Reason) -> u8
     ensures { result ≡ reason_detail reason.now }
 {
     match reason {

@@ -89,7 +89,7 @@ pub(crate) fn flag_from(number: u8) -> bool
 }
 
 /// The number of a flag.
-fn flag_to(set: bool) -> u8
+pub(crate) fn flag_to(set: bool) -> u8
     ensures number { result ≡ flag set }
     ensures same { flag_set result ≡ set }
     ensures most { result ≤ 1 }
@@ -246,7 +246,7 @@ fn suits_phase(phase: u8, holding: u8) -> bool
 }
 
 /// Whether these are flags.
-fn are_flags(a: u8, b: u8, c: u8, d: u8) -> bool
+pub(crate) fn are_flags(a: u8, b: u8, c: u8, d: u8) -> bool
     ensures { result ≡ are_flags a b c d }
 {
     a <= 1 && b <= 1 && c <= 1 && d <= 1

@@ -425,6 +425,53 @@ class Reason(enum.IntEnum):
     UNKNOWN = 9
 
 
+class StoresStatus(enum.IntEnum):
+    """How a call on stores or on a history ended. RTR_STORES_NOT_MADE is checked first, and then
+    RTR_STORES_SHORT_BUFFER.
+    """
+
+    OK = 0
+    # No call leaves the struct like this.
+    NOT_MADE = 1
+    # A buffer is shorter than the store in it.
+    SHORT_BUFFER = 2
+    # A store waits to be saved or given up.
+    WAITS = 3
+    # The data aren't in canonical form.
+    FLAW = 4
+    # The cache doesn't save, and started with another session.
+    OTHER_SESSION = 5
+    # The cache used the session of the data before another one.
+    SESSION_LEFT = 6
+    # The data before are of another protocol version.
+    OTHER_VERSION = 7
+    # The data are those that are served.
+    SAME_DATA = 8
+    # Only the times differ from those of the data served.
+    OTHER_TIMES = 9
+    # The serial number isn't later than that of the data served.
+    OLD_SERIAL = 10
+    # The bytes aren't a store, or aren't a history.
+    MALFORMED = 11
+    # A buffer is too short for this call.
+    NO_ROOM = 12
+    # The history has no data of this serial number.
+    UNKNOWN_SERIAL = 13
+    # The protocol version is above RTR_HIGHEST_VERSION.
+    UNIT_VERSION = 14
+
+
+class Room(enum.IntEnum):
+    """The buffer that is too short."""
+
+    INDEX = 1
+    BUFFER = 2
+    SPARE = 3
+    OUTPUT = 4
+    FIRST = 5
+    SECOND = 6
+
+
 class rtr_answer(Structure):
     units: int
     forms: int
@@ -1097,6 +1144,84 @@ class rtr_serving(Structure):
     ]
 
 
+class rtr_stores(Structure):
+    served: int
+    taken: int
+    mark: int
+    session: int
+    serves: int
+    waits: int
+    second: int
+    unsaved: int
+
+    _fields_ = [
+        ("served", c_size_t),
+        ("taken", c_size_t),
+        ("mark", c_uint32),
+        ("session", c_uint16),
+        ("serves", c_uint8),
+        ("waits", c_uint8),
+        ("second", c_uint8),
+        ("unsaved", c_uint8),
+    ]
+
+
+class rtr_history_limits(Structure):
+    time: int
+    bytes: int
+
+    _fields_ = [
+        ("time", c_uint64),
+        ("bytes", c_size_t),
+    ]
+
+
+class rtr_stores_answer(Structure):
+    length: int
+    offset: int
+    wanted: int
+    status: int
+    room: int
+    flaw: int
+    detail: int
+
+    _fields_ = [
+        ("length", c_size_t),
+        ("offset", c_size_t),
+        ("wanted", c_size_t),
+        ("status", c_uint8),
+        ("room", c_uint8),
+        ("flaw", c_uint8),
+        ("detail", c_uint8),
+    ]
+
+
+class rtr_stores_state(Structure):
+    offset: int
+    length: int
+    taken: int
+    serves: bool
+    waits: bool
+    second: bool
+
+    _fields_ = [
+        ("offset", c_size_t),
+        ("length", c_size_t),
+        ("taken", c_size_t),
+        ("serves", c_bool),
+        ("waits", c_bool),
+        ("second", c_bool),
+    ]
+
+
+class rtr_store_head(Structure):
+    bytes: Any
+
+    _fields_ = [
+        ("bytes", c_uint8 * 24),
+    ]
+
+
 # The fields of these structs, for the module struct.
 UNIT_LETTERS = "@NNNNNNIIIIIIHHBBBBBB16s20sB0N"
 ROUTE_LETTERS = "@IBB16s0I"
@@ -1207,4 +1332,22 @@ PROTOTYPES: dict[str, tuple[Any, list[Any]]] = {
     "rtr_cache_unit_nonnull": (c_size_t, [POINTER(rtr_serving), c_void_p, c_size_t]),
     "rtr_cache_report_nonnull": (c_bool, [POINTER(rtr_serving), c_void_p, c_size_t, c_void_p,
         c_size_t, c_void_p]),
+    "rtr_stores_new": (None, [POINTER(rtr_stores)]),
+    "rtr_stores_unsaved": (None, [POINTER(rtr_stores), c_uint16]),
+    "rtr_stores_start_nonnull": (c_uint8, [POINTER(rtr_stores), c_size_t, c_void_p, c_size_t,
+        c_void_p, c_size_t, c_void_p, c_size_t, POINTER(rtr_stores_answer)]),
+    "rtr_stores_take_nonnull": (c_uint8, [POINTER(rtr_stores), c_void_p, c_size_t, c_uint64,
+        POINTER(rtr_history_limits), c_void_p, c_size_t, c_void_p, c_size_t, c_void_p, c_size_t,
+        c_void_p, c_size_t, POINTER(rtr_stores_answer)]),
+    "rtr_stores_state_nonnull": (c_uint8, [POINTER(rtr_stores), c_void_p, c_size_t, c_void_p,
+        c_size_t, POINTER(rtr_stores_state)]),
+    "rtr_history_since_nonnull": (c_uint8, [c_void_p, c_size_t, c_uint32, c_uint8, c_void_p,
+        c_size_t, c_void_p, c_size_t, c_void_p, c_size_t, c_void_p, c_size_t,
+        POINTER(rtr_stores_answer)]),
+    "rtr_history_data_nonnull": (c_bool, [c_void_p, c_size_t, c_void_p, c_void_p]),
+    "rtr_history_knows_nonnull": (c_bool, [c_void_p, c_size_t, c_uint32]),
+    "rtr_store_seal_nonnull": (None, [c_void_p, c_size_t, POINTER(rtr_store_head)]),
+    "rtr_store_open_nonnull": (c_bool, [c_void_p, c_size_t]),
+    "rtr_stores_saved": (c_uint8, [POINTER(rtr_stores)]),
+    "rtr_stores_give_up": (c_uint8, [POINTER(rtr_stores)]),
 }

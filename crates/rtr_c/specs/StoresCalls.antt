@@ -1,0 +1,124 @@
+-- What the calls on the stores of a cache promise (this library's own).
+use Rattle.std.specs.Prelude.{◌≡◌, ◌+◌, ◌∷◌, ℕ, true, false, List, length, take}
+use Rattle.std.specs.Prelude.{drop, Option, Some, None, IsSome, Result, Ok, Err, IsOk, IfOk, IfErr}
+use Rattle.std.specs.Prelude.{if◌then◌else◌}
+use Rattle.rtr_slices.specs.Canonical.{HoldsData}
+use Rattle.rtr_history.specs.Checks.{IsShortForCheck}
+use Rattle.rtr_history.specs.Life.{IsLife, IsUnsavedLife, MayTake}
+use Rattle.rtr_history.specs.Parts.{part_rest}
+use Rattle.rtr_history.specs.Since.{IsShortForAnswer, WritesChangesSince}
+use Rattle.rtr_history.specs.Snapshots.{HoldsHistory, Snapshot, snapshot_at}
+use Rattle.rtr_history.specs.Store.{HoldsStore}
+use Rattle.rtr_history.specs.Stores.{IsFlawOfNew, IsShortForTaking, TakesData, after_call}
+use Rattle.rtr_history.specs.Stores.{after_giving_up, after_saved, fresh_stores, held_of, numbers_of}
+use Rattle.rtr_history.specs.Stores.{other_of, served_store, size_of, taken_store}
+use Rattle.rtr_history.specs.declared.check.CheckFault.{CheckFault}
+use Rattle.rtr_history.specs.declared.check.CheckFault.TheVariants.{Malformed}
+use Rattle.rtr_history.specs.declared.newer.Untaken.{Untaken}
+use Rattle.rtr_history.specs.declared.since.SinceFault.{SinceFault}
+use Rattle.rtr_history.specs.declared.stores.Stores.{Stores}
+use Rattle.rtr_c.specs.Stores.{has_stores, stores_in}
+use Rattle.rtr_c.specs.StoresAnswers.{check_told, wrote_answer}
+use Rattle.rtr_c.specs.declared.stores.RtrStores.{RtrStores}
+use Rattle.rtr_c.specs.declared.stores_answer.RtrStoresAnswer.{RtrStoresAnswer}
+use Rattle.rtr_c.specs.declared.stores_state.RtrStoresState.{RtrStoresState}
+
+-- ---- a start
+
+-- What `Stores::start` promises of a store of this length at the front of the first buffer, where
+-- the index and the buffer have these lengths.
+pub record StartsFrom (size : ℕ) (first : List ℕ) (index buffer : ℕ) (r : Result Stores CheckFault)
+    : Type 0 where
+  pub is : IfOk r (λ m. m ≡ fresh_stores (Some size) None)
+  pub life : IfOk r (λ m. (xs : List Snapshot) (second : List ℕ) →
+      IsLife xs (Some (take size first)) None None → (z : Snapshot)
+      × IsLife (z ∷ xs) (Some (take size first)) (served_store m first second)
+      (taken_store m first second))
+  pub store : IfOk r (λ m. (x : Snapshot) × (ys : List Snapshot)
+      × HoldsStore (take size first) x ys)
+  pub none : IfErr r (λ fault. fault ≡ Malformed → (x : Snapshot) (ys : List Snapshot) →
+      HoldsStore (take size first) x ys → ⊥)
+  pub rooms : IfErr r (λ fault. IsShortForCheck (Err fault) (length (take size first)) index buffer)
+
+-- the struct stands for the stores, or stayed as it was
+abbrev pub TellsStart : Result Stores CheckFault → (before after : RtrStores) → RtrStoresAnswer →
+    Type 0
+TellsStart (Ok m) s s' a = (stores_in s' ≡ m) × (has_stores s' ≡ true) × (a ≡ wrote_answer 0)
+TellsStart (Err fault) s s' a = (s' ≡ s) × (a ≡ check_told fault)
+
+-- ---- newer data
+
+-- What `Stores::take` promises of the stores before and after, where the buffers had f and s
+-- before, and have f' and s' after, and the other two have these lengths.
+pub record TakesNew (since most : ℕ) (new : List ℕ) (buffer spare : ℕ) (m m' : Stores)
+    (f s f' s' : List ℕ) (r : Result ℕ Untaken) : Type 0 where
+  pub after : m' ≡ after_call r m
+  pub held : held_of (numbers_of m).second f' s' ≡ held_of (numbers_of m).second f s
+  pub takes : (z : Snapshot) → HoldsData new z.payloads z.end →
+      TakesData since most r m (served_store m f s) z (other_of (numbers_of m).second f' s')
+  pub flaw : IfErr r (IsFlawOfNew new)
+  pub rooms : IsShortForTaking r (size_of (served_store m f s) + length new) buffer spare
+      (length (other_of (numbers_of m).second f s))
+  pub serves : (numbers_of m).unsaved ≡ None → served_store m' f' s' ≡ served_store m f s
+  pub life : (xs : List Snapshot) (file : Option (List ℕ)) → (numbers_of m).unsaved ≡ None →
+      MayTake xs (served_store m f s) →
+      IsLife xs file (served_store m f s) (taken_store m f s) →
+      IsLife xs file (served_store m' f' s') (taken_store m' f' s')
+  pub unsaved_life : (xs : List Snapshot) (t : ℕ) (z : Snapshot) →
+      (numbers_of m).unsaved ≡ Some t → HoldsData new z.payloads z.end →
+      IsUnsavedLife xs t (served_store m f s) → IsOk r →
+      IsUnsavedLife (z ∷ xs) t (served_store m' f' s')
+
+-- ---- what was taken
+
+-- what `Stores::saved` promises
+pub record SavesStores (m m' : Stores) : Type 0 where
+  pub after : m' ≡ after_saved m
+  pub life : (xs : List Snapshot) (first second b : List ℕ) (z : Snapshot) (ys : List Snapshot) →
+      taken_store m first second ≡ Some b → HoldsStore b z ys →
+      IsLife xs (Some b) (served_store m first second) (Some b) →
+      IsLife (z ∷ xs) (Some b) (served_store m' first second) (taken_store m' first second)
+
+-- what `Stores::give_up` promises
+pub record GivesUpStore (m m' : Stores) : Type 0 where
+  pub after : m' ≡ after_giving_up m
+  pub life : (xs : List Snapshot) (file : Option (List ℕ)) (first second : List ℕ) →
+      IsLife xs file (served_store m first second) (taken_store m first second) →
+      IsLife xs file (served_store m' first second) (taken_store m' first second)
+
+-- ---- what the buffers have
+
+-- Where the history of the store that is served stands, how long the store to save is, and in which
+-- buffers they are.
+pub record StatesStores (m : Stores) (f s : List ℕ) (a : RtrStoresState) : Type 0 where
+  pub serves : a.serves ≡ true → IsSome (served_store m f s)
+  pub at : a.serves ≡ true → (b : List ℕ) → served_store m f s ≡ Some b →
+      drop a.offset b ≡ part_rest b
+  pub size : a.serves ≡ true → (b : List ℕ) → served_store m f s ≡ Some b →
+      a.offset + a.length ≡ length b
+  pub finds : (b : List ℕ) (x : Snapshot) (ys : List Snapshot) → served_store m f s ≡ Some b →
+      HoldsStore b x ys → a.serves ≡ true
+  pub waits : (if a.waits then Some (take a.taken (other_of (numbers_of m).second f s)) else None)
+      ≡ taken_store m f s
+  pub second : a.second ≡ (numbers_of m).second
+
+abbrev pub no_stores_state : RtrStoresState
+no_stores_state = record {
+  offset = 0;
+  length = 0;
+  taken = 0;
+  serves = false;
+  waits = false;
+  second = false;
+}
+
+-- ---- serial queries
+
+-- What `since_into` promises of an answer from a history, where the index and the buffers have
+-- these lengths.
+pub record TellsSince (history : List ℕ) (serial version index buffer spare : ℕ)
+    (before after : List ℕ) (r : Result ℕ SinceFault) : Type 0 where
+  pub writes : (x : Snapshot) (ys : List Snapshot) → HoldsHistory history x ys →
+      WritesChangesSince version r (snapshot_at serial x ys) x before after
+  pub rooms : (x : Snapshot) (ys : List Snapshot) → HoldsHistory history x ys →
+      IsShortForAnswer r (length history) index buffer spare (length before)

@@ -1,0 +1,105 @@
+//! The answers to serial queries, and the head of a saved file.
+
+ghost use Rattle.std.specs.Prelude.{◌≡◌, ◌++◌, ◌↔◌, ℕ, IsSome, IsTrue, List, Result, drop, length};
+ghost use Rattle.std.specs.Prelude.{take};
+ghost use Rattle.rtr_slices.specs.Canonical.{HoldsData};
+ghost use Rattle.rtr_history.specs.Seal.{seal};
+ghost use Rattle.rtr_history.specs.Snapshots.{HoldsHistory, Snapshot, snapshot_at};
+ghost use Rattle.rtr_history.specs.declared.since.SinceFault.{SinceFault};
+ghost use Rattle.rtr_c.specs.StoresAnswers.{since_told};
+ghost use Rattle.rtr_c.specs.StoresCalls.{TellsSince};
+
+use crate::stores_answer::RtrStoresAnswer;
+use rtr_base::state::Serial;
+use rtr_history::{data_at, knows, open_saved, seal_head, since_into};
+
+/// The head of a file that has a store behind it.
+#[repr(C)]
+#[derive(Clone, Copy)]
+pub struct RtrStoreHead {
+    pub bytes: [u8; 24],
+}
+
+const _: () = prove!(size_of::<RtrStoreHead>() == 24);
+
+/// The changes since data of a serial number, as `rtr_history::since_into`.
+#[unsafe(no_mangle)]
+pub extern "C" fn rtr_history_since_nonnull(
+    history: &[u8],
+    serial: u32,
+    version: u8,
+    index: &mut [usize],
+    buffer: &mut [u8],
+    spare: &mut [u8],
+    output: &mut [u8],
+    answer: &mut RtrStoresAnswer,
+) -> u8
+    ensures status { result ≡ answer.new.status }
+    ensures answers { (r : Result ℕ SinceFault) × (answer.new ≡ since_told r)
+        × TellsSince history.now serial version (length index.old) (length buffer.old)
+        (length spare.old) output.old output.new r }
+{
+    let serial = Serial(serial);
+    let written = since_into(history, serial, version, index, buffer, spare, output);
+    *answer = RtrStoresAnswer::of_since(&written);
+    answer.status
+}
+
+/// Where the present data of a history stand in it, as `rtr_history::data_at`: their offset and their
+/// length, or 0.
+#[unsafe(no_mangle)]
+pub extern "C" fn rtr_history_data_nonnull(
+    history: &[u8],
+    offset: &mut usize,
+    length: &mut usize,
+) -> bool
+    ensures holds { IsTrue result → (x : Snapshot) (ys : List Snapshot) →
+        HoldsHistory history.now x ys →
+        HoldsData (take length.new (drop offset.new history.now)) x.payloads x.end }
+    ensures finds { (x : Snapshot) (ys : List Snapshot) → HoldsHistory history.now x ys →
+        IsTrue result }
+{
+    match data_at(history) {
+        Some(at) => {
+            *offset = at.0;
+            *length = at.1;
+            true
+        }
+        None => {
+            *offset = 0;
+            *length = 0;
+            false
+        }
+    }
+}
+
+/// Reports whether a history has data of a serial number, as `rtr_history::knows`.
+#[unsafe(no_mangle)]
+pub extern "C" fn rtr_history_knows_nonnull(history: &[u8], serial: u32) -> bool
+    ensures { (x : Snapshot) (ys : List Snapshot) → HoldsHistory history.now x ys →
+        IsTrue result ↔ IsSome (snapshot_at serial x ys) }
+{
+    knows(history, Serial(serial))
+}
+
+/// Writes the head of a file that has a store behind it, as `rtr_history::seal_head`.
+#[unsafe(no_mangle)]
+pub extern "C" fn rtr_store_seal_nonnull(store: &[u8], head: &mut RtrStoreHead)
+    ensures { head.new.bytes ≡ seal store.now }
+{
+    *head = RtrStoreHead {
+        bytes: seal_head(store),
+    };
+}
+
+/// Reports whether a file's head is that of the bytes behind it, as `rtr_history::open_saved`.
+#[unsafe(no_mangle)]
+pub extern "C" fn rtr_store_open_nonnull(file: &[u8]) -> bool
+    ensures opens { IsTrue result → file.now ≡ seal (drop 24 file.now) ++ drop 24 file.now }
+    ensures finds { (s : List ℕ) → file.now ≡ seal s ++ s → IsTrue result }
+{
+    match open_saved(file) {
+        Some(_) => true,
+        None => false,
+    }
+}

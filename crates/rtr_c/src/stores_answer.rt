@@ -1,0 +1,215 @@
+//! How a call on the stores of a cache ended, in numbers.
+
+ghost use Rattle.std.specs.Prelude.{◌≡◌, Err};
+ghost use Rattle.rtr_c.specs.StoresAnswers.{check_told, flaw_answer, no_room_answer, refused_answer};
+ghost use Rattle.rtr_c.specs.StoresAnswers.{untaken_answer, room_number, since_told, taking_told};
+ghost use Rattle.rtr_c.specs.StoresAnswers.{wrote_answer};
+
+use crate::data_answer::{reason_detail, reason_status};
+use crate::stores::OK;
+use rtr_history::{CheckFault, Refused, Room, SinceFault, Untaken};
+use rtr_slices::Flaw;
+
+/// A store waits to be saved.
+const WAITS: u8 = 3;
+/// The data aren't in canonical form.
+const FLAW: u8 = 4;
+/// The cache doesn't save, and the data are of another session than that of its start.
+const OTHER_SESSION: u8 = 5;
+/// The cache left the session of the data before.
+const SESSION_LEFT: u8 = 6;
+/// The data are of another protocol version than those before.
+const OTHER_VERSION: u8 = 7;
+/// The data are those that are served.
+const SAME_DATA: u8 = 8;
+/// Only the times of the data differ from those that are served.
+const OTHER_TIMES: u8 = 9;
+/// The serial number of the data isn't later than that of the data before.
+const OLD_SERIAL: u8 = 10;
+/// The bytes are no store, or no history.
+const MALFORMED: u8 = 11;
+/// A buffer is too short.
+const NO_ROOM: u8 = 12;
+/// The history has no data of this serial number.
+const UNKNOWN_SERIAL: u8 = 13;
+/// The protocol version is above 2.
+const UNIT_VERSION: u8 = 14;
+
+/// The numbers of the buffers that may be too short.
+const INDEX: u8 = 1;
+
+const BUFFER: u8 = 2;
+
+const SPARE: u8 = 3;
+
+const OUTPUT: u8 = 4;
+
+const FIRST: u8 = 5;
+
+const SECOND: u8 = 6;
+
+/// How a call on the stores of a cache ended.
+#[repr(C)]
+#[derive(Drop)]
+pub struct RtrStoresAnswer {
+    /// The length of what was written. Unless the call succeeded it is 0.
+    pub length: usize,
+    /// With `FLAW`, where the unit at fault begins in the data. Otherwise 0.
+    pub offset: usize,
+    /// With `NO_ROOM`, how long the buffer has to be. Otherwise 0.
+    pub wanted: usize,
+    /// How the call ended.
+    pub status: u8,
+    /// With `NO_ROOM`, which buffer is too short. Otherwise 0.
+    pub room: u8,
+    /// With `FLAW`, the status of the flaw, as in an `RtrDataAnswer`. Otherwise 0.
+    pub flaw: u8,
+    /// With `FLAW` as in an `RtrDataAnswer`, with `OTHER_VERSION` the version of the data.
+    pub detail: u8,
+}
+
+// The fields stand one after the other, and four bytes are left at the end.
+const _: () = prove!(size_of::<RtrStoresAnswer>() == 32);
+
+impl RtrStoresAnswer {
+    /// The call succeeded, and wrote so many bytes.
+    pub(crate) fn wrote(length: usize) -> Self
+        ensures { result ≡ wrote_answer length }
+    {
+        RtrStoresAnswer {
+            length,
+            offset: 0,
+            wanted: 0,
+            status: OK,
+            room: 0,
+            flaw: 0,
+            detail: 0,
+        }
+    }
+
+    /// The call was refused.
+    pub(crate) fn refused(status: u8) -> Self
+        ensures { result ≡ refused_answer status }
+    {
+        RtrStoresAnswer {
+            length: 0,
+            offset: 0,
+            wanted: 0,
+            status,
+            room: 0,
+            flaw: 0,
+            detail: 0,
+        }
+    }
+
+    /// A buffer is too short.
+    fn no_room(room: u8, wanted: usize) -> Self
+        ensures { result ≡ no_room_answer room wanted }
+    {
+        RtrStoresAnswer {
+            length: 0,
+            offset: 0,
+            wanted,
+            status: NO_ROOM,
+            room,
+            flaw: 0,
+            detail: 0,
+        }
+    }
+
+    /// The data have this flaw.
+    fn of_flaw(flaw: &Flaw) -> Self
+        ensures { result ≡ flaw_answer flaw.now }
+    {
+        RtrStoresAnswer {
+            length: 0,
+            offset: flaw.offset,
+            wanted: 0,
+            status: FLAW,
+            room: 0,
+            flaw: reason_status(&flaw.reason),
+            detail: reason_detail(&flaw.reason),
+        }
+    }
+
+    /// Data were taken, or why they weren't, where the store that is served is in the second buffer
+    /// or not.
+    pub(crate) fn of_taking(taken: &Result<usize, Untaken>, second: bool) -> Self
+        ensures { result ≡ taking_told second taken.now }
+    {
+        match taken {
+            Ok(length) => RtrStoresAnswer::wrote(*length),
+            Err(Untaken::Waits) => RtrStoresAnswer::refused(WAITS),
+            Err(Untaken::OtherSession) => RtrStoresAnswer::refused(OTHER_SESSION),
+            Err(Untaken::SessionLeft) => RtrStoresAnswer::refused(SESSION_LEFT),
+            Err(Untaken::Refused(why)) => RtrStoresAnswer::of_refused(why),
+            Err(Untaken::Malformed) => RtrStoresAnswer::refused(MALFORMED),
+            Err(Untaken::NoRoom { wanted }) => {
+                RtrStoresAnswer::no_room(if second { FIRST } else { SECOND }, *wanted)
+            }
+        }
+    }
+
+    /// Why data make no history after the one before. It is written to the spare buffer.
+    fn of_refused(why: &Refused) -> Self
+        ensures { result ≡ untaken_answer why.now }
+    {
+        match why {
+            Refused::Flaw(flaw) => RtrStoresAnswer::of_flaw(flaw),
+            Refused::UnitVersion(version) => {
+                let mut answer = RtrStoresAnswer::refused(OTHER_VERSION);
+                answer.detail = *version;
+                answer
+            }
+            Refused::Same => RtrStoresAnswer::refused(SAME_DATA),
+            Refused::Times => RtrStoresAnswer::refused(OTHER_TIMES),
+            Refused::Serial => RtrStoresAnswer::refused(OLD_SERIAL),
+            Refused::Malformed => RtrStoresAnswer::refused(MALFORMED),
+            Refused::NoRoom { room, wanted } => match room {
+                Room::Index => RtrStoresAnswer::no_room(INDEX, *wanted),
+                Room::Buffer => RtrStoresAnswer::no_room(BUFFER, *wanted),
+                Room::Spare => RtrStoresAnswer::no_room(SPARE, *wanted),
+                Room::Output => RtrStoresAnswer::no_room(SPARE, *wanted),
+            },
+        }
+    }
+
+    /// Changes were written, or why they weren't.
+    pub(crate) fn of_since(written: &Result<usize, SinceFault>) -> Self
+        ensures { result ≡ since_told written.now }
+    {
+        match written {
+            Ok(length) => RtrStoresAnswer::wrote(*length),
+            Err(SinceFault::Unknown) => RtrStoresAnswer::refused(UNKNOWN_SERIAL),
+            Err(SinceFault::UnitVersion) => RtrStoresAnswer::refused(UNIT_VERSION),
+            Err(SinceFault::Malformed) => RtrStoresAnswer::refused(MALFORMED),
+            Err(SinceFault::NoRoom { room, wanted }) => {
+                RtrStoresAnswer::no_room(room_number(*room), *wanted)
+            }
+        }
+    }
+
+    /// Why a store wasn't started from.
+    pub(crate) fn of_check(fault: &CheckFault) -> Self
+        ensures { result ≡ check_told fault.now }
+    {
+        match fault {
+            CheckFault::Malformed => RtrStoresAnswer::refused(MALFORMED),
+            CheckFault::NoRoom { room, wanted } => {
+                RtrStoresAnswer::no_room(room_number(*room), *wanted)
+            }
+        }
+    }
+}
+
+/// The number of a buffer.
+fn room_number(room: Room) -> u8
+    ensures { result ≡ room_number room }
+{
+    match room {
+        Room::Index => INDEX,
+        Room::Buffer => BUFFER,
+        Room::Spare => SPARE,
+        Room::Output => OUTPUT,
+    }
+}
