@@ -125,13 +125,13 @@ struct Message {
 }
 
 /// The sending end of a member's thread. Dropping it reports that the client has ended.
-struct Sender {
+struct Outlet {
     member: usize,
     turn: u64,
     sender: SyncSender<Message>,
 }
 
-impl Sender {
+impl Outlet {
     /// Sends a message; breaks off if nobody receives any more.
     fn tell(&self, step: Option<(Step, Option<Data>)>) -> ControlFlow<()> {
         let (member, turn) = (self.member, self.turn);
@@ -142,7 +142,7 @@ impl Sender {
     }
 }
 
-impl Drop for Sender {
+impl Drop for Outlet {
     fn drop(&mut self) {
         let _ = self.tell(None);
     }
@@ -184,15 +184,14 @@ impl<C: FnMut(usize) -> Arc<Client>> Followed<C> {
         let kept = Arc::clone(&self.kept[member]);
         let thread = thread::Builder::new().name(format!("rtr client {member}"));
         thread.spawn(move || {
-            let member_sender = Sender {
+            let outlet = Outlet {
                 member,
                 turn,
                 sender,
             };
             let mut kept = kept.lock().unwrap_or_else(PoisonError::into_inner);
             let follower = Follower::after(&client, kept.take());
-            let router =
-                follower.steps(|step, data| member_sender.tell(Some((step, data.cloned()))));
+            let router = follower.steps(|step, data| outlet.tell(Some((step, data.cloned()))));
             *kept = Some(router);
         })?;
         Ok(())
