@@ -227,7 +227,9 @@ static void go_on(struct connection *c)
             begin_closing(c);
             return;
         }
-        more = !send_some(c) || (!rtr_served_output(&c->served, parts) && read_some(c));
+        bool had_output = rtr_served_output(&c->served, parts) > 0;
+        more = !send_some(c)
+               || (!rtr_served_output(&c->served, parts) && (had_output || read_some(c)));
     }
     bool sending = rtr_served_output(&c->served, parts) > 0;
     if (sending != c->sending)
