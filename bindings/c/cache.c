@@ -368,11 +368,13 @@ static bool write_to(void *file, const void *bytes, size_t length)
     return fwrite(bytes, 1, length, file) == length;
 }
 
-/* Saves the server's data in a temporary file, which is then renamed. */
+/* Saves the server's data in a temporary file, which is synced and then renamed: without the sync
+ * an error of the disk could come after the name is that of a file without all bytes. */
 static void save(struct watched *w)
 {
     FILE *file = fopen(w->beside, "wbe");
-    bool written = file && rtr_server_save(&server, now(), time_of(CLOCK_REALTIME), write_to, file);
+    bool written = file && rtr_server_save(&server, now(), time_of(CLOCK_REALTIME), write_to, file)
+                   && !fflush(file) && !fsync(fileno(file));
     if (file && fclose(file))
         written = false;
     if (!written || rename(w->beside, w->kept))
