@@ -34,7 +34,7 @@ fn head(numbers: [u64; 2]) -> [u8; HEAD] {
     u128::to_be_bytes(u128::from(numbers[0]) << 64 | u128::from(numbers[1]))
 }
 
-/// Saves an edition: writes a file beside the named one, then renames it.
+/// Saves an edition: writes and syncs a file beside the named one, then renames it.
 pub(crate) fn save(edition: &Edition, path: &Path) -> io::Result<()> {
     let mut new = path.as_os_str().to_os_string();
     new.push(".new");
@@ -52,6 +52,8 @@ pub(crate) fn save(edition: &Edition, path: &Path) -> io::Result<()> {
     }
     file.rewind()?;
     file.write_all(&head([u64::from_be_bytes(*FORM), hash]))?;
+    file.sync_all()?;
+    drop(file);
     rename(new, path)
 }
 

@@ -155,8 +155,8 @@ impl Server {
         Ok(is_new)
     }
 
-    /// Saves the data, and the steps back to earlier ones, to a file: writes one beside it, then
-    /// renames that. Without data it writes nothing.
+    /// Saves the data, and the steps back to earlier ones, to a file: writes and syncs one beside
+    /// it, then renames that. Without data it writes nothing.
     ///
     /// # Errors
     ///
