@@ -1,0 +1,209 @@
+"""A cache program over a file, with faults in its calls, and routers that ask it."""
+import collections
+import os
+import re
+import signal
+import socket
+import struct
+import subprocess
+import time
+
+from units import END, LONG, NOTIFY, RESET, RESET_QUERY, RESPONSE, SERIAL_QUERY, SESSION, Wrong
+from units import end, prefix, size_of, unit
+
+# Errors that end the connection on whose call they are injected.
+ENDING = {"EPIPE", "ECONNRESET", "ETIMEDOUT", "EHOSTUNREACH", "EIO"}
+
+
+class Lost(Exception):
+    """The connection of a router ended."""
+
+
+class Cache:
+    """The program; what it serves is in `path`."""
+
+    def __init__(self, command, faults, library, folder):
+        self.path = os.path.join(folder, "data")
+        self.seen, self.log = os.path.join(folder, "seen"), os.path.join(folder, "log")
+        with open(self.log, "wb") as log:
+            self.process = subprocess.Popen(
+                [*command, self.path, "--listen", "127.0.0.1:0"], stdout=log, stderr=log,
+                env={**os.environ, "LD_PRELOAD": library, "FAULTS": faults,
+                     "FAULTS_SEEN": self.seen})
+        self.port = int(self.says(r"listening on 127\.0\.0\.1:(\d+)")[1])
+
+    def said(self):
+        with open(self.log, encoding="utf-8") as log:
+            return log.read()
+
+    def waits(self, condition, text):
+        """Waits until a condition holds, and returns what it is; `text` is said where it never
+        does."""
+        until = time.monotonic() + LONG
+        while not (found := condition()):
+            if self.process.poll() is not None:
+                raise Wrong(f"it ended with status {self.process.poll()} before: {text}")
+            if time.monotonic() > until:
+                raise Wrong(f"it never happened: {text}")
+            time.sleep(0.02)
+        return found
+
+    def says(self, pattern):
+        return self.waits(lambda: re.search(f"{pattern}$", self.said(), re.MULTILINE), pattern)
+
+    def serves(self, serial):
+        """Waits until it has taken the data of this serial number, or restored them."""
+        return self.says(rf"session {SESSION} serial {serial}: \d+ payloads?")
+
+    def puts(self, content):
+        put(self.path, content)
+
+    def holds(self):
+        """Returns how many descriptors and threads it has, except files in memory, which hold
+        encoded data, and how many of those. That of the list of faults is left out."""
+        folder = f"/proc/{self.process.pid}"
+        links = []
+        for name in os.listdir(f"{folder}/fd"):
+            try:
+                link = os.readlink(f"{folder}/fd/{name}")
+            except FileNotFoundError:
+                continue  # it was closed meanwhile
+            if link != self.seen:
+                links.append(link)
+        memory = sum(link.startswith("/memfd:") for link in links)
+        return len(links) - memory, len(os.listdir(f"{folder}/task")), memory
+
+    def settles(self, first, memory):
+        """Waits until it has these descriptors and threads, and at most so many files in memory."""
+        def is_settled():
+            now = self.holds()
+            return now[:2] == first[:2] and now[2] <= memory
+        try:
+            self.waits(is_settled, "descriptors and threads as at the start")
+        except Wrong as wrong:
+            raise Wrong(f"{wrong}: {self.holds()}, not {first} and {memory}") from None
+
+    def resident(self):
+        """Returns its resident memory in bytes."""
+        with open(f"/proc/{self.process.pid}/statm", encoding="ascii") as file:
+            return int(file.read().split()[1]) * os.sysconf("SC_PAGESIZE")
+
+    def injected(self):
+        """Returns the faults that were injected, as words: the call, its number, the fault."""
+        if not os.path.exists(self.seen):
+            return []
+        with open(self.seen, encoding="ascii") as seen:
+            return [line.split() for line in seen]
+
+    def ends(self):
+        """Ends it by SIGTERM."""
+        self.process.send_signal(signal.SIGTERM)
+        status = self.process.wait(LONG)
+        if status not in (0, -signal.SIGTERM):
+            raise Wrong(f"it ended with status {status} at SIGTERM")
+
+    def kill(self):
+        """Ends it at once, if it runs."""
+        self.process.kill()
+        self.process.wait()
+
+
+def put(path, content):
+    """Replaces a file by renaming another one."""
+    with open(path + ".other", "wb") as file:
+        file.write(content)
+    os.replace(path + ".other", path)
+
+
+class Router:
+    """A connection to a cache, in a version of the protocol."""
+
+    def __init__(self, cache, version=2, buffer=None):
+        self.version, self.held, self.offset = version, b"", 0
+        self.is_notified = False
+        self.socket = socket.socket()
+        if buffer:
+            self.socket.setsockopt(socket.SOL_SOCKET, socket.SO_RCVBUF, buffer)
+        self.socket.settimeout(LONG)
+        self.socket.connect(("127.0.0.1", cache.port))
+
+    def close(self):
+        self.socket.close()
+
+    def resets(self):
+        """Closes the connection by a reset."""
+        self.socket.setsockopt(socket.SOL_SOCKET, socket.SO_LINGER, struct.pack("ii", 1, 0))
+        self.socket.close()
+
+    def unit(self, kind, field=0, body=b""):
+        return unit(kind, field, body, self.version)
+
+    def sends(self, query):
+        try:
+            self.socket.sendall(query)
+        except ConnectionError as error:
+            raise Lost from error
+
+    def asks_all(self):
+        self.sends(self.unit(RESET_QUERY))
+
+    def asks_after(self, serial):
+        self.sends(self.unit(SERIAL_QUERY, SESSION, struct.pack(">I", serial)))
+
+    def reads(self):
+        """Reads one unit."""
+        while True:
+            head = self.held[self.offset:self.offset + 8]
+            after = self.offset + (size_of(head) if len(head) == 8 else 8)
+            if after <= len(self.held):
+                got, self.offset = self.held[self.offset:after], after
+                return got
+            self.held, self.offset = self.held[self.offset:] + self.receives(), 0
+
+    def receives(self):
+        try:
+            came = self.socket.recv(1 << 16)
+        except ConnectionError as error:
+            raise Lost from error
+        except socket.timeout as error:
+            raise Wrong("the cache sent nothing") from error
+        if not came:
+            raise Lost
+        return came
+
+    def gets(self, wanted):
+        """Expects this unit."""
+        got = self.reads()
+        if got != wanted:
+            raise Wrong(f"a router got {got.hex()}, not {wanted.hex()}")
+
+    def notify(self, serial):
+        return self.unit(NOTIFY, SESSION, struct.pack(">I", serial))
+
+    def gets_notify(self, serial):
+        self.gets(self.notify(serial))
+        self.is_notified = True
+
+    def gets_reset(self):
+        self.gets(self.unit(RESET))
+
+    def gets_answer(self, serial, prefixes, withdrawn=()):
+        """Expects a whole answer: these units in any order between a response and an end. The first
+        notify of a connection may come before it."""
+        wanted = collections.Counter(prefix(one, 1, self.version) for one in prefixes)
+        wanted += collections.Counter(prefix(one, 0, self.version) for one in withdrawn)
+        first = self.reads()
+        if first == self.notify(serial) and not self.is_notified:
+            self.is_notified = True
+            first = self.reads()
+        if first != self.unit(RESPONSE, SESSION):
+            raise Wrong(f"a router got {first.hex()}, not a response")
+        got = collections.Counter()
+        while (came := self.reads())[1] != END:
+            got[came] += 1
+        if came != end(serial, self.version):
+            raise Wrong(f"a router got the end {came.hex()}, not {end(serial, self.version).hex()}")
+        if got != wanted:
+            more, less = list(got - wanted), list(wanted - got)
+            raise Wrong(f"a router got {[one.hex() for one in more[:3]]} of {len(more)} too many, "
+                        f"and lacks {[one.hex() for one in less[:3]]} of {len(less)}")

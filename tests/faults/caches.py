@@ -1,0 +1,278 @@
+"""Runs a cache beside routers, with faults in the cache's calls on sockets: each router gets the
+units that RFC 8210 wants, whatever fails; a fault that ends a connection ends that one alone; a
+cache that can't accept serves the others, and accepts later; and at the end it has the descriptors
+and threads that it had at the start.
+"""
+import os
+import time
+
+from cache import ENDING, Cache, Lost, Router, put
+from units import Wrong, end, prefix
+
+FEW = ["10.0.0.0/8", "192.0.2.0/24", "198.51.100.0/24", "2001:db8::/32"]
+# Enough that a cache sends them from a file in memory, and more than it sends at once to a router
+# that doesn't read.
+MANY = [f"10.{i >> 8}.{i & 255}.0/24" for i in range(6_000)]
+MOST = [f"10.{i >> 14}.{i >> 6 & 255}.{(i & 63) << 2}/30" for i in range(60_000)]
+NEW = ["203.0.113.0/24", "2001:db8:1::/48"]
+
+MEMORY = 1 << 18  # bytes by which a cache may grow from one hundred connections to the next
+# The bytes that the system keeps of what a slow router hasn't read: less than its answer, and more
+# than the longest segment of the loopback interface, else a timer decides when each is sent.
+SLOW_BUFFER = 1 << 17
+SOON = 15  # seconds, half of the shortest limit of a connection that waits to send
+PAUSES = 50  # the most failed accepts in a second and a bit
+
+# A fault that is injected, and whether the data are many. The crate tokio waits for edges: the
+# system has to have moved less than a call asked for, or it isn't told when it may go on. So no
+# call may pretend that.
+SESSIONS = {
+    "nothing": ("", False),
+    "many bytes": ("", True),
+    "sends of a byte": ("send:1:0:1", False),
+    "reads of a byte": ("receive:1:0:1", False),
+    "short sends": ("send:1:0:997", True),
+    "sends that end early": ("send:1:0:70000 send:2:0:EAGAIN:3", True),
+    "interrupted sends": ("send:1:0:EINTR:2", False),
+    "interrupted sends of many bytes": ("send:1:0:EINTR:2", True),
+    "sends that would block": ("send:1:0:EAGAIN:2", False),
+    "interrupted reads": ("receive:1:0:EINTR:2", False),
+    "spurious wakes": ("receive:1:0:EAGAIN:2", False),
+    "interrupted waits": ("wait:1:0:EINTR:2", False),
+    "interrupted accepts": ("accept:1:0:EINTR:2", False),
+    "accepts that would block": ("accept:1:0:EAGAIN:2", False),
+    "aborted connections": ("accept:1:3:ECONNABORTED", False),
+    "no descriptors": ("accept:2:4:EMFILE", False),
+    "no files": ("accept:1:2:ENFILE accept:4:4:ENFILE", False),
+    "no memory of the system": ("accept:2:3:ENOBUFS accept:5:5:ENOMEM", False),
+    "a pipe that breaks at an answer": ("send:2:2:EPIPE", False),
+    "pipes that break at changes": ("send:5:5:EPIPE send:8:8:EPIPE", False),
+    "a reset in many bytes": ("send:1:0:50000 send:6:6:ECONNRESET", True),
+    "a failing file in memory": ("send:6:6:EIO send:9:9:EIO", True),
+    "resets at reads": ("receive:2:2:ECONNRESET receive:7:7:ECONNRESET", False),
+    "timeouts of the system": ("receive:3:3:ETIMEDOUT send:4:4:ETIMEDOUT", False),
+    "hosts that can't be reached": ("send:3:3:EHOSTUNREACH send:7:7:EHOSTUNREACH", False),
+    "all at once": ("send:1:0:5 send:2:0:EINTR:3 send:3:0:EAGAIN:7 receive:1:0:3 "
+                    "receive:2:0:EAGAIN:3 wait:1:0:EINTR:3 accept:1:0:EMFILE:3", False),
+}
+LEAVINGS = {
+    "routers that leave": "",
+    "routers that leave under faults": "send:7:0:EPIPE:7 receive:9:0:ECONNRESET:11 "
+                                       "accept:5:0:EMFILE:40 accept:8:0:ECONNABORTED:30",
+}
+SLOW = {
+    "a slow router": "",
+    "a slow router under faults": "send:1:0:EINTR:3 send:2:0:50000:2 send:4:0:EAGAIN:5 "
+                                  "wait:1:0:EINTR:5",
+}
+NO_ACCEPT = {"no descriptors for long": "accept:2:0:EMFILE"}
+
+
+def is_of_edges(faults):
+    """Reports whether the faults are possible where a program waits for edges, as tokio does."""
+    words = [word.split(":") for word in faults.split()]
+    return all(call in ("wait", "accept") and fault != "EAGAIN" or fault in ENDING
+               for call, _, _, fault, *_ in words)
+
+
+def names(program):
+    """Returns the names of the runs of a cache."""
+    faults = {name: faults for name, (faults, _) in SESSIONS.items()}
+    faults = {**SLOW, **LEAVINGS, **NO_ACCEPT, **faults}
+    return [name for name in faults if program != "tokio cache" or is_of_edges(faults[name])]
+
+
+def content(serial, prefixes):
+    """The file of data."""
+    return b"".join(prefix(one, 1) for one in prefixes) + end(serial)
+
+
+class Routers:
+    """Routers that follow a cache, and connect again when they lose it."""
+
+    def __init__(self, cache, versions):
+        self.cache, self.lost = cache, 0
+        self.routers = [Router(cache, version) for version in versions]
+        self.serials = [None for _ in versions]  # of the data that each has
+
+    def each(self, asks, reads, serial, prefixes):
+        """Has each router that hasn't the newest data ask, then each read; one whose connection
+        ends connects again and asks for all data."""
+        places = [place for place, has in enumerate(self.serials) if has != serial]
+        lost = set()
+        for step in asks, reads:
+            for place in places:
+                try:
+                    step(self.routers[place])
+                except Lost:
+                    lost.add(place)
+        for place in places:
+            if place in lost:
+                self.reconnects(place, serial, prefixes)
+            self.serials[place] = serial
+
+    def reconnects(self, place, serial, prefixes):
+        version = self.routers[place].version
+        while True:
+            self.lost += 1
+            self.routers[place].close()
+            self.routers[place] = Router(self.cache, version)
+            try:
+                self.routers[place].asks_all()
+                return self.routers[place].gets_answer(serial, prefixes)
+            except Lost:
+                pass
+
+    def close(self):
+        for router in self.routers:
+            router.close()
+
+
+def play_session(cache, prefixes, first):
+    """Routers of all versions get all data, a notify and changes, and changes without a notify:
+    the next one has a minute's pause (RFC 8210 section 5.2)."""
+    routers = Routers(cache, (2, 1, 0, 2))
+    routers.each(Router.asks_all, lambda router: router.gets_answer(1, prefixes), 1, prefixes)
+
+    second = [*prefixes[2:], NEW[0]]
+    cache.puts(content(2, second))
+    cache.serves(2)
+    changed = ([NEW[0]], prefixes[:2])
+
+    def notified(router):
+        router.gets_notify(2)
+        router.asks_after(1)
+    routers.each(notified, lambda router: router.gets_answer(2, *changed), 2, second)
+
+    third = [NEW[1], *second]
+    cache.puts(content(3, third))
+    cache.serves(3)
+    of_ipv6 = [NEW[1]]
+    routers.each(lambda router: router.asks_after(2),
+                 lambda router: router.gets_answer(3, of_ipv6), 3, third)
+
+    broken = sum(fault in ENDING for _, _, fault in cache.injected())
+    if routers.lost != broken:
+        raise Wrong(f"{routers.lost} connections ended, not {broken}")
+    routers.close()
+    cache.settles(first, 3 if prefixes is MANY else 0)
+
+
+def leaves(cache, number):
+    """Connects a router, and has it leave in one of several ways."""
+    router = Router(cache, number % 3)
+    try:
+        way = number % 6
+        if way in (0, 1):
+            router.asks_all()
+            router.gets_answer(1, MANY)
+        elif way == 2:
+            router.sends(router.unit(0)[:5])
+        elif way in (3, 4):
+            router.asks_all()
+            router.reads()
+        if way in (1, 4):
+            router.resets()
+    except Lost:
+        pass
+    router.close()
+
+
+def play_leavings(cache, faults, first):
+    """Two hundred routers that come and leave, in turn, take no memory, and don't disturb one that
+    stays."""
+    routers = Routers(cache, [1])
+    sizes = []
+    for _ in range(2):
+        for number in range(100):
+            leaves(cache, number)
+        cache.settles((first[0] + len(routers.routers), first[1]), 3)
+        sizes.append(cache.resident())
+    if sizes[1] > sizes[0] + MEMORY:
+        raise Wrong(f"it has {sizes[1]} bytes of memory, and had {sizes[0]}")
+    routers.each(Router.asks_all, lambda router: router.gets_answer(1, MANY), 1, MANY)
+    if routers.lost and not faults:
+        raise Wrong("the connection of a router that stays ended")
+    routers.close()
+    cache.settles(first, 3)
+
+
+def play_slow(cache, first):
+    """A router that doesn't read its answer gets all of it in the end, while others get newer
+    data."""
+    slow = Router(cache, 2, SLOW_BUFFER)
+    slow.asks_all()
+    routers = Routers(cache, (2, 1, 2))
+    routers.each(Router.asks_all, lambda router: router.gets_answer(1, MOST), 1, MOST)
+    second = MOST[1:]
+    cache.puts(content(2, second))
+    cache.serves(2)
+
+    def notified(router):
+        router.gets_notify(2)
+        router.asks_after(1)
+    routers.each(notified, lambda router: router.gets_answer(2, [], MOST[:1]), 2, second)
+    slow.gets_answer(1, MOST)
+    begun = time.monotonic()
+    slow.gets_notify(2)
+    if time.monotonic() - begun > SOON:
+        raise Wrong("the notify didn't come as soon as the answer was sent")
+    slow.asks_after(1)
+    slow.gets_answer(2, [], MOST[:1])
+    slow.close()
+    routers.close()
+    if routers.lost:
+        raise Wrong(f"{routers.lost} connections ended")
+    cache.settles(first, 3)
+
+
+def play_no_accept(cache, _):
+    """While the system has no descriptors, the router that is there is served, and the cache pauses
+    between its tries."""
+    router, other = Router(cache), Router(cache)
+    other.asks_all()
+    until = time.monotonic() + 1
+    while time.monotonic() < until:
+        router.asks_all()
+        router.gets_answer(1, FEW)
+        time.sleep(0.05)
+    if not 1 <= len(cache.injected()) <= PAUSES:
+        raise Wrong(f"it tried {len(cache.injected())} times to accept in a second")
+    router.close()
+    other.close()
+
+
+def scene_of(name):
+    """Returns the faults of a name, the data, and what is played."""
+    if name in SESSIONS:
+        faults, has_many = SESSIONS[name]
+        data = MANY if has_many else FEW
+        return faults, data, lambda cache, first: play_session(cache, data, first)
+    if name in LEAVINGS:
+        faults = LEAVINGS[name]
+        return faults, MANY, lambda cache, first: play_leavings(cache, faults, first)
+    if name in SLOW:
+        return SLOW[name], MOST, play_slow
+    return NO_ACCEPT[name], FEW, play_no_accept
+
+
+def play(command, name, library, folder):
+    """Plays a cache with the faults of this name; returns what was wrong, or nothing."""
+    faults, data, scene = scene_of(name)
+    put(f"{folder}/data", content(1, data))
+    cache = None
+    try:
+        cache = Cache(command, faults, library, folder)
+        cache.serves(1)
+        cache.waits(lambda: os.path.exists(f"{cache.path}.kept"), "it saves its data")
+        scene(cache, cache.holds())
+        if faults and not cache.injected():
+            raise Wrong("the fault wasn't injected")
+        cache.ends()
+        return None
+    except (Wrong, Lost, OSError) as error:
+        said = cache.said()[-4000:] if cache else ""
+        return f"{error!r}\n{said}"
+    finally:
+        if cache:
+            cache.kill()

@@ -1,0 +1,216 @@
+"""Runs a client beside a cache that behaves, with faults in the client's calls on sockets: whatever
+fails, the client prints each change of the cache's data once, in order; it reconnects only after a
+fault that ends a connection; and at the end it has as many descriptors and threads as after its
+first data.
+"""
+import collections
+import ipaddress
+import os
+import select
+import signal
+import socket
+import struct
+import subprocess
+import threading
+import time
+
+from units import AS, LONG, NOTIFY, RESET_QUERY, RESPONSE, SERIAL_QUERY, SESSION, Wrong
+from units import end, prefix, size_of, unit
+
+RECONNECTS = 4
+
+# What is injected: faults that end a connection, or keep one from being opened, and all.
+BREAKING = {
+    "a pipe that breaks at the first query": "send:1:1:EPIPE",
+    "a pipe that breaks at the second query": "send:2:2:EPIPE",
+    "a reset at the first read": "receive:1:1:ECONNRESET",
+    "a reset in the first answer": "receive:1:3:9 receive:4:4:ECONNRESET",
+    "a timeout of the system in a read": "receive:2:2:ETIMEDOUT",
+    "a timeout of the system in a send": "send:2:2:ETIMEDOUT",
+    "refused connections": "connect:1:2:ECONNREFUSED",
+    "a network that can't be reached": "connect:1:1:ENETUNREACH connect:3:3:ETIMEDOUT",
+}
+FAULTS = {
+    "nothing": "",
+    "sends of a byte": "send:1:0:1",
+    "reads of a byte": "receive:1:0:1",
+    "an interrupted send": "send:1:1:EINTR send:3:3:EINTR",
+    "sends that would block": "send:1:2:EAGAIN send:4:4:EAGAIN",
+    "interrupted reads": "receive:1:2:EINTR receive:4:4:EINTR",
+    "spurious wakes": "receive:1:3:EAGAIN receive:5:5:EAGAIN",
+    "interrupted waits": "wait:1:2:EINTR wait:5:6:EINTR",
+    "all at once": "send:1:0:3 receive:1:0:7 wait:2:4:EINTR wait:9:9:EINTR",
+    **BREAKING,
+}
+
+
+def line(text, sign):
+    net = ipaddress.ip_network(text)
+    return f"{sign} IPv{net.version} prefix {net}-{net.prefixlen} AS{AS}"
+
+
+class Cache:
+    """A cache that answers each query by its rules, with data that change."""
+
+    def __init__(self, family):
+        host = "::1" if family == socket.AF_INET6 else "127.0.0.1"
+        self.listener = socket.create_server((host, 0), family=family)
+        self.port = self.listener.getsockname()[1]
+        self.lock = threading.Lock()
+        self.serial, self.had = 1, {1: ["10.0.0.0/8", "192.0.2.0/24", "2001:db8::/32"]}
+        self.connections, self.accepted = [], 0
+        threading.Thread(target=self.accept, daemon=True).start()
+
+    def accept(self):
+        while True:
+            try:
+                connection, _ = self.listener.accept()
+            except OSError:
+                return
+            self.accepted += 1
+            self.connections.append(connection)
+            threading.Thread(target=self.serve, args=(connection,), daemon=True).start()
+
+    def serve(self, connection):
+        """Answers queries until the connection ends."""
+        held = b""
+        try:
+            while came := connection.recv(4096):
+                held += came
+                while len(held) >= 8 and len(held) >= (size := size_of(held)):
+                    query, held = held[:size], held[size:]
+                    with self.lock:
+                        connection.sendall(self.answer(query))
+        except OSError:
+            pass
+        finally:
+            connection.close()
+
+    def answer(self, query):
+        since = struct.unpack(">I", query[8:12])[0] if query[1] == SERIAL_QUERY else None
+        if query[1] not in (SERIAL_QUERY, RESET_QUERY):
+            return b""
+        old, new = self.had.get(since, []), self.had[self.serial]
+        changes = [prefix(one, 1) for one in new if one not in old]
+        changes += [prefix(one, 0) for one in old if one not in new]
+        return unit(RESPONSE, SESSION) + b"".join(changes) + end(self.serial)
+
+    def change(self, data, notifies):
+        """Makes these the data of the next serial number."""
+        with self.lock:
+            self.serial += 1
+            self.had[self.serial] = data
+            if notifies:
+                for connection in self.connections:
+                    try:
+                        connection.sendall(unit(NOTIFY, SESSION, struct.pack(">I", self.serial)))
+                    except OSError:
+                        pass
+
+    def hang_up(self):
+        with self.lock:
+            for connection in self.connections:
+                try:
+                    connection.shutdown(socket.SHUT_RDWR)
+                except OSError:
+                    pass
+            self.connections.clear()
+
+    def end(self):
+        self.listener.close()
+        self.hang_up()
+
+
+class Run:
+    """Runs a client beside a cache, with these faults."""
+
+    def __init__(self, command, faults, library, folder):
+        self.cache = Cache(socket.AF_INET)
+        self.seen = os.path.join(folder, "seen")
+        self.said = open(os.path.join(folder, "said"), "w+b")
+        # The name has two addresses, and the cache is at the second.
+        words = [word.replace("ADDRESS", f"localhost:{self.cache.port}") for word in command]
+        self.process = subprocess.Popen(
+            words, stdout=subprocess.PIPE, stderr=self.said,
+            env={**os.environ, "LD_PRELOAD": library, "FAULTS": faults, "FAULTS_SEEN": self.seen})
+        self.held, self.lines = b"", collections.deque()
+
+    def read(self, wanted):
+        """The client prints these lines next, the signs of one change in any order."""
+        until = time.monotonic() + LONG
+        while len(self.lines) < len(wanted):
+            left = until - time.monotonic()
+            if left <= 0 or not select.select([self.process.stdout], [], [], left)[0]:
+                raise Wrong(f"it printed {list(self.lines)} alone, not {wanted}")
+            came = os.read(self.process.stdout.fileno(), 4096)
+            if not came:
+                raise Wrong(f"it ended with status {self.process.wait()}")
+            self.held += came
+            *whole, self.held = self.held.split(b"\n")
+            self.lines.extend(one.decode() for one in whole)
+        got = [self.lines.popleft() for _ in wanted]
+        if sorted(got) != sorted(wanted):
+            raise Wrong(f"it printed {got}, not {wanted}")
+
+    def holds(self):
+        """Returns how many descriptors and threads the client has."""
+        folder = f"/proc/{self.process.pid}"
+        return len(os.listdir(f"{folder}/fd")), len(os.listdir(f"{folder}/task"))
+
+    def settles(self, wanted):
+        """The client has at most these descriptors and threads, after a while."""
+        until = time.monotonic() + LONG
+        while any(now > most for now, most in zip(self.holds(), wanted)):
+            if time.monotonic() > until:
+                raise Wrong(f"it has {self.holds()} descriptors and threads, and had {wanted}")
+            time.sleep(0.1)
+
+    def play(self, may_break):
+        data = self.cache.had[1]
+        self.read([line(one, "+") for one in data])
+        first = self.holds()
+        for number in range(1 + RECONNECTS):
+            new = [*data[1:], f"198.51.{number}.0/24"]
+            if number:
+                self.cache.hang_up()
+            self.cache.change(new, notifies=not number)
+            self.read([line(data[0], "-"), line(new[-1], "+")])
+            data = new
+        self.settles(first)
+        if not may_break and self.cache.accepted != 1 + RECONNECTS:
+            raise Wrong(f"it connected {self.cache.accepted} times, not {1 + RECONNECTS}")
+        self.process.send_signal(signal.SIGTERM)
+        status = self.process.wait(LONG)
+        if status not in (0, -signal.SIGTERM):
+            raise Wrong(f"it ended with status {status} at SIGTERM")
+        if self.lines or self.held:
+            raise Wrong(f"it printed more: {list(self.lines)}")
+
+    def end(self):
+        self.process.kill()
+        self.process.wait()
+        self.process.stdout.close()
+        self.cache.end()
+        self.said.seek(0)
+        said = self.said.read().decode(errors="replace")
+        self.said.close()
+        return said
+
+
+def play(command, name, library, folder):
+    """Plays a client with the faults of this name; returns what was wrong, or nothing."""
+    run = Run(command, FAULTS[name], library, folder)
+    wrong = None
+    try:
+        run.play(name in BREAKING)
+        if FAULTS[name] and not os.path.exists(run.seen):
+            raise Wrong("the fault wasn't injected")
+    except (Wrong, OSError, subprocess.TimeoutExpired) as error:
+        wrong = error
+    said = run.end()
+    return wrong and f"{wrong}\n{said}"
+
+
+def names(_):
+    """Returns the names of the runs of a client."""
+    return list(FAULTS)

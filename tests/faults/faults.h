@@ -1,0 +1,28 @@
+/* What the parts of the preloaded library share: sockets.c and files.c inject, faults.c decides. */
+#ifndef FAULTS_H
+#define FAULTS_H
+
+#include <stddef.h>
+#include <sys/types.h>
+
+#pragma GCC visibility push(hidden) /* the program may have functions of these names */
+
+/* The calls of which each kind is counted for itself; SAVE counts all those on a file. */
+enum call { CONNECT, ACCEPT, SEND, RECEIVE, WAIT, OPEN, WRITE, SYNC, CLOSE, RENAME, SAVE, CALLS };
+
+/* What fault_of returns where the process is to be killed: no error has this number. */
+enum { KILLED = -1 };
+
+/* The function of this name in the C library. */
+void *real(const char *name);
+
+/* Counts a call, and returns the error to inject, with errno set, or KILLED, or 0; sets `most` to
+ * the most bytes that the call may move. EAGAIN is injected only where `can_block` is 0. */
+int fault_of(enum call call, int can_block, size_t *most);
+
+/* Writes to something else than a socket. */
+ssize_t write_file(int fd, const void *bytes, size_t size);
+
+#pragma GCC visibility pop
+
+#endif

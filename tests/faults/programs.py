@@ -1,0 +1,137 @@
+"""Builds the clients and caches that are run with faults, and the library that injects them.
+
+Each function that builds some yields the name of each, and its command.
+"""
+import glob
+import os
+import shlex
+import shutil
+import subprocess
+import sys
+
+HERE = os.path.dirname(os.path.realpath(__file__))
+TOP = os.path.dirname(os.path.dirname(HERE))
+BINDINGS = os.path.join(TOP, "bindings")
+REGISTRY = "/usr/share/cargo/registry"  # of Debian's crates
+
+# The project of the cache over tokio.
+CARGO_TOML = """[package]
+name = "tokio_cache"
+version = "0.0.0"
+edition = "2021"
+
+[[bin]]
+name = "tokio_cache"
+path = "{source}"
+
+[dependencies]
+rtr-wire = {{ path = "{rust}" }}
+rtr-wire-tokio = {{ path = "{rust}/tokio" }}
+tokio = {{ version = "1", features = ["macros", "net", "rt-multi-thread", "time"] }}
+"""
+CARGO_CONFIG = f"""[source.crates-io]
+replace-with = "debian"
+[source.debian]
+directory = "{REGISTRY}"
+"""
+
+
+def run(words, folder, **more):
+    done = subprocess.run(words, cwd=folder, env={**os.environ, **more}, text=True,
+                          stdout=subprocess.PIPE, stderr=subprocess.STDOUT)
+    if done.returncode:
+        sys.exit(f"faults: {shlex.join(words)}:\n{done.stdout}")
+
+
+def skipped(program, what):
+    print(f"!!! faults: no {program} here: SKIPPED {what}")
+
+
+def in_c(output, sources, folder, *more):
+    compiler = os.environ.get("CC") or shutil.which("gcc") or shutil.which("clang") or "cc"
+    run([*shlex.split(compiler), "-std=c11", "-O1", "-Wall", "-Wextra", "-o", output, *sources,
+         *more], folder)
+
+
+def library(work):
+    """Returns the path of the library that injects faults."""
+    path = os.path.join(work, "faults.so")
+    in_c(path, ["faults.c", "sockets.c", "files.c"], HERE, "-Werror", "-shared", "-fPIC", "-ldl")
+    return path
+
+
+def c_program(name, sources, archives, work):
+    program = os.path.join(work, name)
+    in_c(program, [*sources, os.path.join(archives, "librtr_wire.a")], os.path.join(BINDINGS, "c"))
+    return program
+
+
+def c_clients(archives, work):
+    """The program over rtr_client.h, and the shortest loop over the calls for a router's end."""
+    client = c_program("client", ["client.c", "rtr_client.c"], archives, work)
+    yield "C client", ["stdbuf", "-oL", client, "ADDRESS", "--version", "2"]
+    link = c_program("link", ["link.c"], archives, work)
+    yield "C link", ["stdbuf", "-oL", link, "ADDRESS", "2"]
+
+
+def python_clients(archives, work):
+    shared = os.path.join(work, "librtr_wire.so")
+    run([os.path.join(BINDINGS, "package"), "--archives", os.path.dirname(archives), "--library",
+         shared], TOP)
+    os.environ["RTR_WIRE_LIBRARY"] = shared
+    os.environ["PYTHONPATH"] = os.path.join(BINDINGS, "python", "src")
+    client = [sys.executable, os.path.join(HERE, "follow.py"), "ADDRESS", "--version", "2"]
+    yield "Python", client
+    yield "asyncio", [*client, "--asyncio"]
+
+
+def node_clients(archives, _):
+    node = shutil.which("node")
+    if not node:
+        return skipped("node", "the client in JavaScript")
+    module = os.path.join(os.path.dirname(archives), "wasm32", "rtr_wire.wasm")
+    if not os.path.exists(module):
+        module = os.path.join(TOP, "prebuilt", "wasm32", "rtr_wire.wasm")
+    yield "Node", [node, os.path.join(HERE, "follow.js"), "ADDRESS", module]
+
+
+def rust_example(name, archives, work):
+    target = os.path.join(work, "rust")
+    run([shutil.which("cargo"), "build", "--offline", "--quiet", "--example", name, "--target-dir",
+         target], os.path.join(BINDINGS, "rust"), RTR_LIB_DIR=archives,
+        CARGO_PROFILE_DEV_DEBUG="0")
+    return os.path.join(target, "debug", "examples", name)
+
+
+def rust_clients(archives, work):
+    if not shutil.which("cargo"):
+        return skipped("cargo", "the client in Rust")
+    yield "Rust", [rust_example("client", archives, work), "ADDRESS", "--version", "2"]
+
+
+def c_caches(archives, work):
+    yield "C cache", [c_program("cache", ["cache.c", "rtr_cache.c"], archives, work)]
+
+
+def rust_caches(archives, work):
+    if not shutil.which("cargo"):
+        return skipped("cargo", "the cache in Rust")
+    yield "Rust cache", [rust_example("cache", archives, work)]
+
+
+def tokio_caches(archives, work):
+    """A cache over the crate for tokio, which is built in a project of its own."""
+    cargo = shutil.which("cargo")
+    if not cargo or not glob.glob(f"{REGISTRY}/tokio-[0-9]*"):
+        return skipped("crate tokio (librust-tokio-dev)", "the cache with tokio")
+    project = os.path.join(work, "tokio_cache")
+    rust = os.path.join(project, "rust")
+    shutil.copytree(os.path.join(BINDINGS, "rust"), rust, ignore=shutil.ignore_patterns("target"))
+    os.mkdir(os.path.join(project, ".cargo"))
+    for path, text in ((".cargo/config.toml", CARGO_CONFIG), ("Cargo.toml", CARGO_TOML)):
+        with open(os.path.join(project, path), "w", encoding="utf-8") as file:
+            file.write(text.format(source=os.path.join(HERE, "tokio_cache.rs"), rust=rust))
+    target = os.path.join(work, "rust")
+    run([cargo, "build", "--offline", "--quiet", "--target-dir", target], project,
+        RTR_LIB_DIR=archives, CARGO_PROFILE_DEV_DEBUG="0")
+    yield "tokio cache", [os.path.join(target, "debug", "tokio_cache")]

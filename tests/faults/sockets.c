@@ -1,0 +1,172 @@
+/* Calls on sockets in which faults are injected, as faults.c says. */
+#define _GNU_SOURCE
+#include <errno.h>
+#include <fcntl.h>
+#include <poll.h>
+#include <sys/epoll.h>
+#include <sys/sendfile.h>
+#include <sys/socket.h>
+#include <sys/uio.h>
+#include "faults.h"
+
+/* Reports whether this is a socket of a connection, or one that listens, and not one of a pair by
+ * which a program wakes itself. */
+static int is_socket(int fd)
+{
+    struct sockaddr_storage address;
+    socklen_t length = sizeof address;
+    int error_before = errno;
+    int failed = getsockname(fd, (struct sockaddr *)&address, &length);
+    errno = error_before;
+    return !failed && (address.ss_family == AF_INET || address.ss_family == AF_INET6);
+}
+
+static int is_nonblocking(int fd, int flags)
+{
+    return (flags & MSG_DONTWAIT) || (fcntl(fd, F_GETFL) & O_NONBLOCK);
+}
+
+/* ---- new connections: one that isn't accepted stays in the queue */
+
+int connect(int fd, const struct sockaddr *address, socklen_t length)
+{
+    int (*next)(int, const struct sockaddr *, socklen_t) = real("connect");
+    int family = address ? address->sa_family : AF_UNSPEC;
+    if ((family == AF_INET || family == AF_INET6) && fault_of(CONNECT, 1, NULL))
+        return -1;
+    return next(fd, address, length);
+}
+
+int accept(int fd, struct sockaddr *address, socklen_t *length)
+{
+    int (*next)(int, struct sockaddr *, socklen_t *) = real("accept");
+    if (is_socket(fd) && fault_of(ACCEPT, !is_nonblocking(fd, 0), NULL))
+        return -1;
+    return next(fd, address, length);
+}
+
+int accept4(int fd, struct sockaddr *address, socklen_t *length, int flags)
+{
+    int (*next)(int, struct sockaddr *, socklen_t *, int) = real("accept4");
+    if (is_socket(fd) && fault_of(ACCEPT, !is_nonblocking(fd, 0), NULL))
+        return -1;
+    return next(fd, address, length, flags);
+}
+
+/* ---- calls on one buffer */
+
+ssize_t send(int fd, const void *bytes, size_t size, int flags)
+{
+    ssize_t (*next)(int, const void *, size_t, int) = real("send");
+    if (is_socket(fd) && fault_of(SEND, !is_nonblocking(fd, flags), &size))
+        return -1;
+    return next(fd, bytes, size, flags);
+}
+
+ssize_t sendto(int fd, const void *bytes, size_t size, int flags, const struct sockaddr *address,
+               socklen_t length)
+{
+    ssize_t (*next)(int, const void *, size_t, int, const struct sockaddr *, socklen_t) =
+        real("sendto");
+    if (!address && is_socket(fd) && fault_of(SEND, !is_nonblocking(fd, flags), &size))
+        return -1;
+    return next(fd, bytes, size, flags, address, length);
+}
+
+ssize_t write(int fd, const void *bytes, size_t size)
+{
+    ssize_t (*next)(int, const void *, size_t) = real("write");
+    if (!is_socket(fd))
+        return write_file(fd, bytes, size);
+    if (fault_of(SEND, !is_nonblocking(fd, 0), &size))
+        return -1;
+    return next(fd, bytes, size);
+}
+
+ssize_t sendfile(int to, int from, off_t *offset, size_t size)
+{
+    ssize_t (*next)(int, int, off_t *, size_t) = real("sendfile");
+    if (is_socket(to) && fault_of(SEND, !is_nonblocking(to, 0), &size))
+        return -1;
+    return next(to, from, offset, size);
+}
+
+ssize_t recv(int fd, void *bytes, size_t size, int flags)
+{
+    ssize_t (*next)(int, void *, size_t, int) = real("recv");
+    if (is_socket(fd) && fault_of(RECEIVE, !is_nonblocking(fd, flags), &size))
+        return -1;
+    return next(fd, bytes, size, flags);
+}
+
+ssize_t recvfrom(int fd, void *bytes, size_t size, int flags, struct sockaddr *address,
+                 socklen_t *length)
+{
+    ssize_t (*next)(int, void *, size_t, int, struct sockaddr *, socklen_t *) = real("recvfrom");
+    if (!address && is_socket(fd) && fault_of(RECEIVE, !is_nonblocking(fd, flags), &size))
+        return -1;
+    return next(fd, bytes, size, flags, address, length);
+}
+
+ssize_t read(int fd, void *bytes, size_t size)
+{
+    ssize_t (*next)(int, void *, size_t) = real("read");
+    if (is_socket(fd) && fault_of(RECEIVE, !is_nonblocking(fd, 0), &size))
+        return -1;
+    return next(fd, bytes, size);
+}
+
+/* ---- calls on several buffers: a short one moves some of the first */
+
+ssize_t writev(int fd, const struct iovec *parts, int count)
+{
+    ssize_t (*next)(int, const struct iovec *, int) = real("writev");
+    size_t size = count > 0 ? parts[0].iov_len : 0, most = size;
+    if (!is_socket(fd))
+        return next(fd, parts, count);
+    if (fault_of(SEND, !is_nonblocking(fd, 0), &most))
+        return -1;
+    struct iovec first = {count > 0 ? parts[0].iov_base : NULL, most};
+    return most < size ? next(fd, &first, 1) : next(fd, parts, count);
+}
+
+ssize_t sendmsg(int fd, const struct msghdr *message, int flags)
+{
+    ssize_t (*next)(int, const struct msghdr *, int) = real("sendmsg");
+    size_t size = message->msg_iovlen ? message->msg_iov[0].iov_len : 0, most = size;
+    if (message->msg_name || !is_socket(fd))
+        return next(fd, message, flags);
+    if (fault_of(SEND, !is_nonblocking(fd, flags), &most))
+        return -1;
+    struct msghdr shorter = *message;
+    struct iovec first = {size ? message->msg_iov[0].iov_base : NULL, most};
+    shorter.msg_iov = &first;
+    shorter.msg_iovlen = 1;
+    return next(fd, most < size ? &shorter : message, flags);
+}
+
+/* ---- waits: a signal interrupts them */
+
+int poll(struct pollfd *waits, nfds_t count, int limit)
+{
+    int (*next)(struct pollfd *, nfds_t, int) = real("poll");
+    return count && fault_of(WAIT, 1, NULL) ? -1 : next(waits, count, limit);
+}
+
+int ppoll(struct pollfd *waits, nfds_t count, const struct timespec *limit, const sigset_t *mask)
+{
+    int (*next)(struct pollfd *, nfds_t, const struct timespec *, const sigset_t *) = real("ppoll");
+    return count && fault_of(WAIT, 1, NULL) ? -1 : next(waits, count, limit, mask);
+}
+
+int epoll_wait(int fd, struct epoll_event *events, int most, int limit)
+{
+    int (*next)(int, struct epoll_event *, int, int) = real("epoll_wait");
+    return fault_of(WAIT, 1, NULL) ? -1 : next(fd, events, most, limit);
+}
+
+int epoll_pwait(int fd, struct epoll_event *events, int most, int limit, const sigset_t *mask)
+{
+    int (*next)(int, struct epoll_event *, int, int, const sigset_t *) = real("epoll_pwait");
+    return fault_of(WAIT, 1, NULL) ? -1 : next(fd, events, most, limit, mask);
+}

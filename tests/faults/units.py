@@ -1,0 +1,39 @@
+"""Units of RFC 8210 section 5, and what the tests of this folder share."""
+import functools
+import ipaddress
+import struct
+
+SESSION = 4660
+TIMINGS = (3600, 600, 7200)
+AS = 64496
+LONG = 300  # seconds for what has to happen
+
+# The types of units.
+NOTIFY, SERIAL_QUERY, RESET_QUERY, RESPONSE, IPV4, IPV6, END, RESET = 0, 1, 2, 3, 4, 6, 7, 8
+
+
+class Wrong(Exception):
+    """A program did what it must not."""
+
+
+def unit(kind, field, body=b"", version=2):
+    return struct.pack(">BBHI", version, kind, field, 8 + len(body)) + body
+
+
+@functools.lru_cache(maxsize=None)
+def prefix(text, announce, version=2):
+    net = ipaddress.ip_network(text)
+    head = struct.pack(">BBBB", announce, net.prefixlen, net.prefixlen, 0)
+    return unit(IPV4 if net.version == 4 else IPV6, 0,
+                head + net.network_address.packed + struct.pack(">I", AS), version)
+
+
+def end(serial, version=2):
+    """An end of data; that of version 0 has no timings (RFC 6810 section 5.8)."""
+    timings = struct.pack(">III", *TIMINGS) if version else b""
+    return unit(END, SESSION, struct.pack(">I", serial) + timings, version)
+
+
+def size_of(head):
+    """Returns the size of the unit that begins with these eight bytes."""
+    return struct.unpack(">I", head[4:8])[0]
