@@ -8,8 +8,8 @@ import struct
 import subprocess
 import time
 
-from units import END, LONG, NOTIFY, RESET, RESET_QUERY, RESPONSE, SERIAL_QUERY, SESSION, Wrong
-from units import end, prefix, size_of, unit
+from units import END, LONG, NOTIFY, REPORT, RESET_QUERY, RESPONSE, SERIAL_QUERY, SESSION
+from units import Wrong, end, prefix, size_of, unit
 
 # Errors that end the connection on whose call they are injected.
 ENDING = {"EPIPE", "ECONNRESET", "ETIMEDOUT", "EHOSTUNREACH", "EIO"}
@@ -160,9 +160,9 @@ class Router:
                 return got
             self.held, self.offset = self.held[self.offset:] + self.receives(), 0
 
-    def receives(self):
+    def receives(self, most=1 << 16):
         try:
-            came = self.socket.recv(1 << 16)
+            came = self.socket.recv(most)
         except ConnectionError as error:
             raise Lost from error
         except socket.timeout as error:
@@ -170,6 +170,14 @@ class Router:
         if not came:
             raise Lost
         return came
+
+    def trickles(self, most, pause, ended):
+        """Keeps few bytes at a time, with a pause in seconds after each, until an event."""
+        try:
+            while not ended.wait(pause):
+                self.held += self.receives(most)
+        except (Lost, Wrong):
+            pass  # the next reading sees it too
 
     def gets(self, wanted):
         """Expects this unit."""
@@ -184,8 +192,20 @@ class Router:
         self.gets(self.notify(serial))
         self.is_notified = True
 
-    def gets_reset(self):
-        self.gets(self.unit(RESET))
+    def gets_report(self, code, about):
+        """Expects a report of this code about this unit, and then the end of the connection, not a
+        reset, by which a system may drop what wasn't read yet."""
+        got = self.reads()
+        size = struct.unpack(">I", got[8:12])[0]
+        head = struct.pack(">BBH", self.version, REPORT, code)
+        if got[:4] != head or got[12:12 + size] != about:
+            raise Wrong(f"a router got {got.hex()}, not a report of code {code}")
+        try:
+            rest = self.held[self.offset:] + self.socket.recv(1)
+        except ConnectionError as error:
+            raise Wrong(f"after a report: {error}") from error
+        if rest:
+            raise Wrong(f"after a report a router got {rest.hex()}")
 
     def gets_answer(self, serial, prefixes, withdrawn=()):
         """Expects a whole answer: these units in any order between a response and an end. The first

@@ -4,22 +4,26 @@ cache that can't accept serves the others, and accepts later; and at the end it 
 and threads that it had at the start.
 """
 import os
+import threading
 import time
 
 from cache import ENDING, Cache, Lost, Router, put
-from units import Wrong, end, prefix
+from units import INVALID_REQUEST, RESPONSE, SESSION, Wrong, end, prefix, unit
 
 FEW = ["10.0.0.0/8", "192.0.2.0/24", "198.51.100.0/24", "2001:db8::/32"]
 # Enough that a cache sends them from a file in memory, and more than it sends at once to a router
 # that doesn't read.
 MANY = [f"10.{i >> 8}.{i & 255}.0/24" for i in range(6_000)]
-MOST = [f"10.{i >> 14}.{i >> 6 & 255}.{(i & 63) << 2}/30" for i in range(60_000)]
+MOST = [f"10.{i >> 14}.{i >> 6 & 255}.{(i & 63) << 2}/30" for i in range(40_000)]
 NEW = ["203.0.113.0/24", "2001:db8:1::/48"]
 
+MOST_LOST = 30  # connections that a session loses
+BEHIND = 8_000  # bytes behind a unit that is refused, which come with it
 MEMORY = 1 << 18  # bytes by which a cache may grow from one hundred connections to the next
 # The bytes that the system keeps of what a slow router hasn't read: less than its answer, and more
 # than the longest segment of the loopback interface, else a timer decides when each is sent.
 SLOW_BUFFER = 1 << 17
+SLOW_READS = (3_000, 0.1)  # bytes and a pause in seconds: a cache closes if it can send none
 SOON = 15  # seconds, half of the shortest limit of a connection that waits to send
 PAUSES = 50  # the most failed accepts in a second and a bit
 
@@ -115,6 +119,8 @@ class Routers:
         version = self.routers[place].version
         while True:
             self.lost += 1
+            if self.lost > MOST_LOST:
+                raise Wrong(f"{self.lost} connections ended")
             self.routers[place].close()
             self.routers[place] = Router(self.cache, version)
             try:
@@ -128,9 +134,28 @@ class Routers:
             router.close()
 
 
+def refused(cache):
+    """A router that sends what only caches send, and more, gets a report. Returns how often its
+    connection ended before."""
+    about = unit(RESPONSE, SESSION)
+    count = 0
+    while True:
+        router = Router(cache)
+        try:
+            router.sends(about + bytes(BEHIND))
+            router.gets_report(INVALID_REQUEST, about)
+            return count
+        except Lost:
+            count += 1
+            if count > MOST_LOST:
+                raise Wrong("no router gets a report") from None
+        finally:
+            router.close()
+
+
 def play_session(cache, prefixes, first):
     """Routers of all versions get all data, a notify and changes, and changes without a notify:
-    the next one has a minute's pause (RFC 8210 section 5.2)."""
+    the next one has a minute's pause (RFC 8210 section 5.2). One gets a report."""
     routers = Routers(cache, (2, 1, 0, 2))
     routers.each(Router.asks_all, lambda router: router.gets_answer(1, prefixes), 1, prefixes)
 
@@ -151,9 +176,10 @@ def play_session(cache, prefixes, first):
     routers.each(lambda router: router.asks_after(2),
                  lambda router: router.gets_answer(3, of_ipv6), 3, third)
 
+    lost = routers.lost + refused(cache)
     broken = sum(fault in ENDING for _, _, fault in cache.injected())
-    if routers.lost != broken:
-        raise Wrong(f"{routers.lost} connections ended, not {broken}")
+    if lost != broken:
+        raise Wrong(f"{lost} connections ended, not {broken}")
     routers.close()
     cache.settles(first, 3 if prefixes is MANY else 0)
 
@@ -198,10 +224,11 @@ def play_leavings(cache, faults, first):
 
 
 def play_slow(cache, first):
-    """A router that doesn't read its answer gets all of it in the end, while others get newer
-    data."""
-    slow = Router(cache, 2, SLOW_BUFFER)
+    """A router that reads slowly gets all of its answer in the end, while others get newer data."""
+    slow, ended = Router(cache, 2, SLOW_BUFFER), threading.Event()
     slow.asks_all()
+    trickle = threading.Thread(target=slow.trickles, args=(*SLOW_READS, ended), daemon=True)
+    trickle.start()
     routers = Routers(cache, (2, 1, 2))
     routers.each(Router.asks_all, lambda router: router.gets_answer(1, MOST), 1, MOST)
     second = MOST[1:]
@@ -212,6 +239,10 @@ def play_slow(cache, first):
         router.gets_notify(2)
         router.asks_after(1)
     routers.each(notified, lambda router: router.gets_answer(2, [], MOST[:1]), 2, second)
+    if routers.lost:
+        raise Wrong(f"{routers.lost} connections ended")
+    ended.set()
+    trickle.join()
     slow.gets_answer(1, MOST)
     begun = time.monotonic()
     slow.gets_notify(2)
@@ -221,8 +252,6 @@ def play_slow(cache, first):
     slow.gets_answer(2, [], MOST[:1])
     slow.close()
     routers.close()
-    if routers.lost:
-        raise Wrong(f"{routers.lost} connections ended")
     cache.settles(first, 3)
 
 

@@ -9,7 +9,9 @@ AS = 64496
 LONG = 300  # seconds for what has to happen
 
 # The types of units.
-NOTIFY, SERIAL_QUERY, RESET_QUERY, RESPONSE, IPV4, IPV6, END, RESET = 0, 1, 2, 3, 4, 6, 7, 8
+NOTIFY, SERIAL_QUERY, RESET_QUERY, RESPONSE, IPV4, IPV6, END, REPORT = 0, 1, 2, 3, 4, 6, 7, 10
+
+INVALID_REQUEST = 3  # the code of a report about a unit that a router doesn't send (section 12)
 
 
 class Wrong(Exception):
