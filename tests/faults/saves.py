@@ -7,10 +7,11 @@ import os
 import re
 import shutil
 import signal
+import time
 
 from cache import Cache, Lost, Router, put
 from caches import NEW, content
-from units import Wrong
+from units import LONG, Wrong
 
 # What is injected into the first saving, and the error that the cache says; none where it saves.
 FAULTS = {
@@ -149,8 +150,11 @@ def play_kills(saved):
             cache.serves(1)
             before = inode(cache)
             cache.puts(content(2, DATA[2]))
+            until = time.monotonic() + LONG
             while cache.process.poll() is None and inode(cache) == before:
-                pass
+                if time.monotonic() > until:
+                    raise Wrong("it neither ended nor renamed a file")
+                time.sleep(0.01)
             is_killed = bool(cache.injected()) and cache.process.wait() == -signal.SIGKILL
             saved.finds(cache, (1, 2) if is_killed else (2,))
             count += is_killed
