@@ -5,7 +5,7 @@ from __future__ import annotations
 import asyncio
 import ssl as tls
 from typing import (Any, AsyncGenerator, AsyncIterator, Awaitable, Callable, List, NamedTuple,
-                    Optional, Sequence, Tuple, Union)
+                    Optional, Sequence, Tuple, TypeVar, Union)
 
 from ._library import number
 from ._rtr import Cause
@@ -18,6 +18,34 @@ Streams = Tuple[asyncio.StreamReader, asyncio.StreamWriter]
 
 # Seconds without an answer after which the next address of a host name is tried too.
 _NEXT_ADDRESS = 0.25
+
+_Result = TypeVar("_Result")
+
+
+async def _within(seconds: Optional[float], awaited: Awaitable[_Result],
+                  unused: Callable[[_Result], Any] = lambda result: None) -> _Result:
+    """Awaits something for at most this time, and else raises asyncio.TimeoutError. If the caller
+    is cancelled, a result that is there already is passed to `unused`: asyncio.wait_for returns
+    it, before Python 3.12, and forgets that it was cancelled."""
+    task = asyncio.ensure_future(awaited)
+    try:
+        await asyncio.wait([task], timeout=seconds)
+    except asyncio.CancelledError:
+        await _end(task)
+        if not task.cancelled() and task.exception() is None:
+            unused(task.result())
+        raise
+    await _end(task)
+    if task.cancelled():
+        raise asyncio.TimeoutError
+    return task.result()
+
+
+async def _end(task: asyncio.Future[Any]) -> None:
+    """Cancels a task, unless it is done, and waits for its end."""
+    if not task.done():
+        task.cancel()
+        await asyncio.wait([task])
 
 
 class AsyncClient(Asking):
@@ -96,7 +124,7 @@ class AsyncClient(Asking):
                     yield step
         finally:
             if streams is not None:
-                streams[1].transport.abort()
+                _abort(streams)
 
     async def _over_tcp(self) -> Streams:
         return await asyncio.open_connection(self.host, self.port, ssl=self._ssl,
@@ -106,13 +134,18 @@ class AsyncClient(Asking):
         """Opens the streams that the router asks for, and reports them or their failure to the
         router."""
         try:
-            streams = await asyncio.wait_for(self._connect(), clock.until(router.wakes))
+            streams = await _within(clock.until(router.wakes), self._connect(), _abort)
         except (OSError, asyncio.TimeoutError) as error:
             if not clock.is_at(router.wakes):
                 router.lost(error)
             return None
         router.connected()
         return streams
+
+
+def _abort(streams: Streams) -> None:
+    """Closes the connection at once."""
+    streams[1].transport.abort()
 
 
 async def _wait(router: Router, clock: Clock, streams: Optional[Streams]) -> None:
@@ -127,7 +160,7 @@ async def _wait(router: Router, clock: Clock, streams: Optional[Streams]) -> Non
         if output:
             writer.write(output)
             router.sent(len(output))
-        router.received(await asyncio.wait_for(reader.read(CHUNK), seconds))
+        router.received(await _within(seconds, reader.read(CHUNK)))
     except MemoryError as error:
         router.lost(error)
     except (OSError, asyncio.TimeoutError) as error:
@@ -143,11 +176,11 @@ async def _close_streams(streams: Optional[Streams], last: bytes) -> None:
     reader, writer = streams
     try:
         if last:
-            await asyncio.wait_for(_last(reader, writer, last), REPORT_SECONDS)
+            await _within(REPORT_SECONDS, _last(reader, writer, last))
     except (OSError, asyncio.TimeoutError):
         pass  # the connection is closing anyway
     finally:
-        writer.transport.abort()
+        _abort(streams)
 
 
 async def _last(reader: asyncio.StreamReader, writer: asyncio.StreamWriter, last: bytes) -> None:
@@ -232,7 +265,7 @@ class _Following:
         wakes = self._group.wakes
         seconds = None if wakes is None else self._clock.until(wakes)
         try:
-            news = await asyncio.wait_for(self._news.get(), seconds)
+            news = await _within(seconds, self._news.get())
         except asyncio.TimeoutError:
             return self._group.ticks(self._clock.now())
         if news.run.is_stopped:

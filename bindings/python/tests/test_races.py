@@ -1,0 +1,81 @@
+"""What may happen at the same time: a cancellation and bytes or a connection."""
+import asyncio
+import contextlib
+import unittest
+
+from rtr_wire import AsyncClient, CacheResponse
+
+from .test_client import SOON
+
+# How many turns of the event loop a test lets pass at most between two things.
+TURNS = 8
+
+
+class Streams:
+    """A pair of streams without a socket."""
+
+    def __init__(self):
+        self.reader, self.is_aborted = asyncio.StreamReader(), False
+        self.transport = self
+
+    def write(self, data):
+        pass
+
+    def abort(self):
+        self.is_aborted = True
+
+
+async def turns(count):
+    for _ in range(count):
+        await asyncio.sleep(0)
+
+
+class Cancelled(unittest.TestCase):
+    """A task ends when it is cancelled, and its connection is closed."""
+
+    async def ends(self, follow, happens, count):
+        """Cancels a task so many turns after something happens."""
+        task = asyncio.ensure_future(follow)
+        await turns(TURNS)
+        happens()
+        await turns(count)
+        task.cancel()
+        await asyncio.wait([task], timeout=5)
+        has_ended = task.done()
+        while not task.done():
+            task.cancel()
+            await asyncio.sleep(0.1)
+        self.assertTrue(has_ended, f"cancelled after {count} turns")
+        with contextlib.suppress(asyncio.CancelledError):
+            await task
+
+    def client(self, streams, connects=None):
+        async def connect():
+            if connects is not None:
+                await connects.wait()
+            return streams.reader, streams
+
+        return AsyncClient(settings=SOON, connect=connect)
+
+    async def at_bytes(self, count):
+        streams = Streams()
+        happens = lambda: streams.reader.feed_data(bytes(CacheResponse(7)))  # noqa: E731
+        await self.ends(self.client(streams).fetch(), happens, count)
+        self.assertTrue(streams.is_aborted)
+
+    async def at_connection(self, count):
+        streams, connects = Streams(), asyncio.Event()
+        await self.ends(self.client(streams, connects).fetch(), connects.set, count)
+        self.assertTrue(streams.is_aborted or count == 0)
+
+    def test_bytes(self):
+        for count in range(TURNS):
+            asyncio.run(self.at_bytes(count))
+
+    def test_connection(self):
+        for count in range(TURNS):
+            asyncio.run(self.at_connection(count))
+
+
+if __name__ == "__main__":
+    unittest.main()
