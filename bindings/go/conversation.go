@@ -26,10 +26,10 @@ type follower struct {
 
 // run performs the link's actions until the follower is stopped.
 func (f *follower) run() error {
+	defer f.peer.close(nil, false) // also if the caller's function panics
 	for f.stopped == nil {
 		f.perform(f.next())
 	}
-	f.peer.close(nil, false)
 	return f.stopped
 }
 
@@ -90,13 +90,13 @@ func (f *follower) connect(until uint64) {
 	}
 }
 
-// send sends some of the unsent bytes.
+// send sends some of the unsent bytes. TLS that once timed out does so at each later write, at once.
 func (f *follower) send(until uint64) {
 	f.logQueries()
 	count, err := f.peer.write(f.link.unsent(f.peer.now()), until)
 	f.link.sent(count)
 	f.logged -= count
-	if err != nil && !isTimeout(err) {
+	if err != nil && (!isTimeout(err) || count == 0 && f.peer.now() < until) {
 		f.lost(err)
 	}
 }

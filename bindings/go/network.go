@@ -78,6 +78,12 @@ func (n *network) connect(until uint64) error {
 	ctx, cancel := context.WithDeadline(n.ctx, n.at(until))
 	defer cancel()
 	connection, err := n.dial(ctx, "tcp", n.address)
+	if s, ok := connection.(shaker); ok && err == nil {
+		// A read or write that begins a handshake isn't bounded by its own deadline alone.
+		if err = s.HandshakeContext(ctx); err != nil {
+			connection.Close()
+		}
+	}
 	switch {
 	case err != nil && ctx.Err() == context.DeadlineExceeded && n.ctx.Err() == nil:
 		return os.ErrDeadlineExceeded

@@ -1,0 +1,101 @@
+//go:build cgo && linux
+
+package rtr
+
+import (
+	"context"
+	"crypto/tls"
+	"errors"
+	"net"
+	"os"
+	"testing"
+	"time"
+)
+
+// TLS whose handshake isn't done when Dial returns it is within the time limit for connecting too,
+// which a cache that says nothing lets pass.
+func TestStalledHandshakeAfterDial(t *testing.T) {
+	noLeaks(t)
+	listener := listen(t, "127.0.0.1:0")
+	defer listener.Close()
+	client := NewClient(listener.Addr().String())
+	client.Limits.Dial = 50 * time.Millisecond
+	client.Dial = func(ctx context.Context, network, address string) (net.Conn, error) {
+		connection, err := new(net.Dialer).DialContext(ctx, network, address)
+		if err != nil {
+			return nil, err
+		}
+		return tls.Client(connection, &tls.Config{ServerName: "cache.example"}), nil
+	}
+	ctx, cancel := context.WithTimeout(context.Background(), 10*time.Second)
+	defer cancel()
+	if _, err := client.Fetch(ctx); !errors.Is(err, ErrTooSlow) {
+		t.Error(err)
+	}
+}
+
+// stuck is a connection that can't write any more, as one of TLS once a write took too long.
+type stuck struct {
+	net.Conn
+	writes int
+}
+
+func (s *stuck) Write([]byte) (int, error) {
+	s.writes++
+	return 0, os.ErrDeadlineExceeded
+}
+
+// A connection whose writes time out before their deadline is lost.
+func TestStuckWrites(t *testing.T) {
+	noLeaks(t)
+	near, far := net.Pipe()
+	defer far.Close()
+	connection := &stuck{Conn: near}
+	ctx, cancel := context.WithTimeout(context.Background(), 2*time.Second)
+	defer cancel()
+	client := NewClientConn(connection)
+	client.AskIn(0) // there is no lower version to fall to
+	_, err := client.Fetch(ctx)
+	if !errors.Is(err, os.ErrDeadlineExceeded) || connection.writes > 2 {
+		t.Errorf("%d writes, %v", connection.writes, err)
+	}
+}
+
+// The connection is closed if the caller's function panics, of the data or of a failure.
+func TestPanicOfTheCaller(t *testing.T) {
+	for _, fails := range []bool{false, true} {
+		noLeaks(t)
+		near, far := net.Pipe()
+		go func() {
+			far.Read(make([]byte, 8)) // a reset query (RFC 8210 section 5.4)
+			if fails {
+				far.Write([]byte{1, 10, 0, 2, 0, 0, 0, 16, 0, 0, 0, 0, 0, 0, 0, 0})
+				return
+			}
+			far.Write([]byte{1, 3, 0, 7, 0, 0, 0, 8})
+			far.Write([]byte{1, 7, 0, 7, 0, 0, 0, 24, 0, 0, 0, 1,
+				0, 0, 14, 16, 0, 0, 2, 88, 0, 0, 28, 32})
+		}()
+		client := NewClient("")
+		client.Dial = func(context.Context, string, string) (net.Conn, error) { return near, nil }
+		client.Failed = func(error) { panic("failed") }
+		panics(t, func() {
+			client.Run(context.Background(), func(Update) error { panic("changed") })
+		})
+		far.SetReadDeadline(time.Now().Add(10 * time.Second))
+		if _, err := far.Read(make([]byte, 1)); errors.Is(err, os.ErrDeadlineExceeded) {
+			t.Error("the connection is still open")
+		}
+	}
+}
+
+// panics runs a function that has to panic.
+func panics(t *testing.T, run func()) {
+	t.Helper()
+	defer func() {
+		if recover() == nil {
+			t.Error("no panic")
+		}
+	}()
+	run()
+}
