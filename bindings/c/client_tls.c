@@ -77,15 +77,18 @@ static void unfinished(struct member *m)
     rtr_client_lost(&m->client, closed ? NULL : why);
 }
 
-/* Sends some of the unsent bytes; returns whether the connection is still open. */
+/* Sends some of the unsent bytes; returns whether the connection is still open. After a failure it
+ * isn't, even if the cache had closed its side before. */
 static bool send_some(struct member *m)
 {
     size_t length, count;
     const uint8_t *output = rtr_client_output(&m->client, &length);
-    if (length && BIO_write_ex(m->connection, output, length, &count))
+    if (length && BIO_write_ex(m->connection, output, length, &count)) {
         rtr_client_sent(&m->client, count);
-    else if (length)
+    } else if (length) {
         unfinished(m);
+        m->open = m->open && BIO_should_retry(m->connection);
+    }
     return m->open;
 }
 
@@ -146,7 +149,8 @@ static void hang_up(struct member *m)
 static void wait_for_all(void)
 {
     struct pollfd ready[RTR_MOST_MEMBERS];
-    int64_t wakes = (int64_t)rtr_group_wakes(&group);
+    uint64_t group_wakes = rtr_group_wakes(&group);
+    int64_t wakes = group_wakes < INT64_MAX ? (int64_t)group_wakes : INT64_MAX;
     for (size_t i = 0; i < group.runs; i++) {
         size_t length;
         struct member *m = &members[i];
@@ -188,6 +192,7 @@ static void obey(const struct rtr_group_answer *answer)
         close_connection(&members[i]);
         rtr_client_free(&members[i].client);
         rtr_client_again(&members[i].client);
+        members[i].dropped = false;
     }
 }
 

@@ -11,10 +11,12 @@ import os
 import shutil
 import socket
 import ssl
+import struct
 import subprocess
 import sys
 import tempfile
 import threading
+import time
 
 sys.dont_write_bytecode = True
 
@@ -229,6 +231,45 @@ def test_nobody():
                                  ((CERTIFICATES.path("ca"), "/none", "a:1"), 1, "/none: ")]:
         done = subprocess.run([PROGRAM, *words], capture_output=True, text=True, timeout=PATIENCE)
         assert done.returncode == status and error in done.stderr, done.stderr
+
+
+def test_idle():
+    """A client with nothing to do sleeps."""
+    def script(run):
+        peer = run.asked(reset_query(1))
+        peer.sendall(answer([ONE], 1))
+        is_taken(peer, 1)
+        for _ in range(50):
+            time.sleep(0.02)
+            with open(f"/proc/{run.process.pid}/stat", encoding="ascii") as file:
+                states.append(file.read().rpartition(") ")[2][0])
+
+    states = []
+    run = Run(script)
+    assert run.lines == ["+ " + ONE_LINE] and states.count("S") > 25, (run.lines, states)
+
+
+def test_reset():
+    """A cache that ends TLS inside a unit, which is a fault, and then resets the connection, takes
+    no report. The client connects again."""
+    def script(run):
+        peer = run.accept()
+        expect(peer, reset_query(1))
+        peer.sendall(response(1, 4660) + ONE[:7])
+        time.sleep(0.3)  # the client takes it
+        peer.settimeout(0)
+        try:
+            peer.unwrap()
+        except ssl.SSLError:
+            pass  # the client hasn't closed
+        peer.setsockopt(socket.SOL_SOCKET, socket.SO_LINGER, struct.pack("ii", 1, 0))
+        peer.close()
+        peer = run.asked(reset_query(1))
+        peer.sendall(answer([ONE], 1))
+        is_taken(peer, 1)
+
+    run = Run(script)
+    assert run.lines == ["+ " + ONE_LINE], (run.lines, run.said)
 
 
 def main():
