@@ -90,7 +90,8 @@ func (f *follower) connect(until uint64) {
 	}
 }
 
-// send sends some of the unsent bytes. TLS that once timed out does so at each later write, at once.
+// send sends some of the unsent bytes. TLS whose write timed out refuses each later one at once, by
+// the same error.
 func (f *follower) send(until uint64) {
 	f.logQueries()
 	count, err := f.peer.write(f.link.unsent(f.peer.now()), until)
