@@ -37,6 +37,8 @@ const TCP = 6;
 const FRAGMENT = 44;
 const EXTENSIONS = new Set([0, 43, 60]);
 const SYN = 2;
+const RST = 4;
+const ACK = 16;
 
 /** A file that isn't a capture, or is truncated: the text says what is wrong, and at which byte. */
 export class BadCapture extends Error {
@@ -197,8 +199,8 @@ function ofIpv6(data, view, start) {
     return next === TCP ? ofTcp(data, view, at, end, [start + 8, start + 24, 16]) : null;
 }
 
-/** A segment: both ends, its sequence number, whether it opens the connection, its bytes, and how
- * many more it has that the capture left out. */
+/** A segment: both ends, its sequence number, what it acknowledges or null, whether it opens the
+ * connection or resets it, its bytes, and how many more it has that the capture left out. */
 function ofTcp(data, view, start, end, [source, destination, width]) {
     if (start + 20 > data.length) {
         return "cut off inside a header";
@@ -207,12 +209,14 @@ function ofTcp(data, view, start, end, [source, destination, width]) {
     const side = (address, port) => ({
         address: data.slice(address, address + width), port: view.getUint16(port),
     });
-    const isFirst = (data[start + 13] & SYN) !== 0;
+    const has = (flag) => (data[start + 13] & flag) !== 0;
     return {
         source: side(source, start),
         destination: side(destination, start + 2),
-        sequence: (view.getUint32(start + 4) + (isFirst ? 1 : 0)) >>> 0,
-        isFirst,
+        sequence: (view.getUint32(start + 4) + (has(SYN) ? 1 : 0)) >>> 0,
+        acknowledged: has(ACK) ? view.getUint32(start + 8) : null,
+        isFirst: has(SYN),
+        isReset: has(RST),
         bytes: data.subarray(Math.min(from, data.length), Math.min(end, data.length)),
         leftOut: Math.max(0, end - Math.max(from, data.length)),
     };

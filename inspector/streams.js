@@ -7,14 +7,17 @@ import { Column } from "./recording.js";
 // The packets that are read before the page may draw.
 const TURN = 20000;
 
-/** The stream of one side of a connection, as the other side could read it. */
+/** The stream of one side of a connection, as the other side could read it. Sequence numbers have
+ * as many bits here as they need, so that they never wrap around. */
 export class Stream {
     from; // the sender's address and port
     gap = null; // the missing bytes: after how many bytes, and how many
-    #pieces = [];
-    #length = 0;
-    #next = null; // the sequence number of the byte that is expected
-    #early = []; // segments after that byte
+    #segments = []; // those with bytes, in the capture's order
+    #last = null; // the last sequence number
+    #begin = null; // that of the first byte
+    #isOpened = false; // its SYN is in the capture
+    #end = -Infinity; // the sequence number after the last byte, by its own segments
+    #acknowledged = -Infinity; // the highest that the other side acknowledged
     #ends = new Column(Float64Array); // how many bytes there were after each arrival
     #times = new Column(Float64Array); // when
 
@@ -22,69 +25,115 @@ export class Stream {
         this.from = from;
     }
 
-    get length() {
-        return this.#length;
+    get isEmpty() {
+        return this.#segments.length === 0;
     }
 
-    /** Adds a segment. Of retransmitted bytes the first ones count, as a receiver reads them
-     * once. */
-    take(segment, time) {
-        this.#next ??= segment.sequence;
-        this.#early.push(segment);
-        let isLeft = true;
-        while (isLeft) {
-            const ready = this.#early.findIndex((segment) => this.#distance(segment) <= 0);
-            isLeft = ready >= 0;
-            if (isLeft) {
-                this.#append(this.#early.splice(ready, 1)[0], time);
-            }
+    /** Reports whether its first byte has this sequence number, as far as is known. */
+    beginsAt(sequence) {
+        return this.#begin !== null && this.#near(sequence) === this.#begin;
+    }
+
+    /** Returns the sequence number with these low 32 bits that is nearest to the last one. */
+    #near(sequence) {
+        return this.#last + ((sequence - this.#last) | 0);
+    }
+
+    /** Adds a segment. A side whose SYN isn't in the capture begins with its first captured byte; a
+     * segment of at most one byte may be a probe (RFC 9293 section 3.8.4), which begins before
+     * that. */
+    take({ sequence, isFirst, bytes, leftOut }, time) {
+        this.#last ??= sequence;
+        const from = this.#near(sequence);
+        this.#last = from;
+        const length = bytes.length + leftOut;
+        if (isFirst) {
+            [this.#isOpened, this.#begin] = [true, from];
+        } else if (length > 1 && !this.#isOpened) {
+            this.#begin = Math.min(this.#begin ?? from, from);
+        }
+        this.#end = Math.max(this.#end, from + length);
+        if (bytes.length > 0) {
+            this.#segments.push({ from, bytes, time });
         }
     }
 
-    /** Returns how far after the expected byte a segment begins; if negative, how many bytes came
-     * before. */
-    #distance({ sequence }) {
-        return (sequence - this.#next) | 0;
-    }
-
-    #append(segment, time) {
-        const { bytes } = segment;
-        const piece = bytes.subarray(Math.min(-this.#distance(segment), bytes.length));
-        if (piece.length > 0) {
-            this.#pieces.push(piece);
-            this.#length += piece.length;
-            this.#next = (this.#next + piece.length) >>> 0;
-            this.#ends.push(this.#length);
-            this.#times.push(time);
-        }
-        const end = segment.sequence + segment.bytes.length + segment.leftOut;
-        const missing = (end - this.#next) | 0;
-        if (segment.leftOut > 0 && missing > 0) {
-            this.#early.push({ sequence: end >>> 0, bytes: new Uint8Array(0), leftOut: 0 });
+    /** Records what the other side has received. */
+    acknowledge(sequence) {
+        if (this.#last !== null) {
+            this.#acknowledged = Math.max(this.#acknowledged, this.#near(sequence));
         }
     }
 
-    /** Returns its bytes up to the first missing one. */
+    /** Returns its bytes up to the first missing one. Of retransmitted bytes the first ones count,
+     * as a receiver reads them once. */
     finish() {
-        const distances = this.#early.map((segment) => this.#distance(segment))
-            .filter((distance) => distance > 0);
-        if (distances.length > 0) {
-            this.gap = { after: this.#length, missing: Math.min(...distances) };
+        const begin = this.#begin ?? this.#segments[0]?.from;
+        if (begin === undefined) {
+            return new Uint8Array(0);
         }
-        const all = new Uint8Array(this.#length);
-        let at = 0;
-        for (const piece of this.#pieces) {
-            all.set(piece, at);
-            at += piece.length;
+        const pieces = [];
+        const early = []; // the segments after a missing byte, in order
+        let next = begin;
+        const join = ({ from, bytes }, time) => {
+            const piece = bytes.subarray(Math.min(next - from, bytes.length));
+            if (piece.length > 0) {
+                pieces.push(piece);
+                next += piece.length;
+                this.#ends.push(next - begin);
+                this.#times.push(time);
+            }
+        };
+        for (const segment of this.#segments) {
+            if (segment.from > next) {
+                insert(early, segment);
+                continue;
+            }
+            join(segment, segment.time);
+            let joined = 0;
+            for (; joined < early.length && early[joined].from <= next; joined += 1) {
+                join(early[joined], segment.time);
+            }
+            early.splice(0, joined);
         }
-        this.#pieces = [];
-        return all;
+        this.#segments = [];
+        this.#missing(begin, next, early[0]?.from);
+        return concatenated(pieces, next - begin);
+    }
+
+    /** Records how many bytes are missing. After the last byte that was acknowledged the next
+     * number may be that of a FIN. */
+    #missing(begin, next, early) {
+        const isLost = this.#acknowledged > this.#end + 1;
+        const missing = (early ?? (isLost ? this.#acknowledged : this.#end)) - next;
+        if (missing > 0) {
+            this.gap = { after: next - begin, missing };
+        }
     }
 
     /** Returns when the byte before this offset came, in seconds. */
     timeOf(end) {
         return this.#times.at(Math.min(this.#ends.placeOf(end), this.#ends.length - 1));
     }
+}
+
+/** Inserts a segment into a list that is sorted by sequence numbers. Most come last. */
+function insert(sorted, segment) {
+    let place = sorted.length;
+    while (place > 0 && sorted[place - 1].from > segment.from) {
+        place -= 1;
+    }
+    sorted.splice(place, 0, segment);
+}
+
+function concatenated(pieces, length) {
+    const all = new Uint8Array(length);
+    let at = 0;
+    for (const piece of pieces) {
+        all.set(piece, at);
+        at += piece.length;
+    }
+    return all;
 }
 
 /** A TCP connection. The first stream is that of its client, which opened it. */
@@ -95,6 +144,12 @@ class Connection {
     constructor({ source, destination, isFirst }) {
         this.streams = [new Stream(nameOf(source)), new Stream(nameOf(destination))];
         this.isKnown = isFirst;
+    }
+
+    /** Returns the stream of this sender, and the other one. */
+    sides(from) {
+        const [one, other] = this.streams;
+        return one.from === from ? [one, other] : [other, one];
     }
 }
 
@@ -130,12 +185,19 @@ class Connections {
             this.#open.delete(`${to} ${from}`);
             this.#open.set(`${from} ${to}`, connection);
         }
-        connection.streams.find((stream) => stream.from === from).take(segment, time);
+        if (!segment.isReset) {
+            const [sender, receiver] = connection.sides(from);
+            sender.take(segment, time);
+            if (segment.acknowledged !== null) {
+                receiver.acknowledge(segment.acknowledged);
+            }
+        }
     }
 
     /** Reports whether a segment opens another connection between the same ends. */
-    #beginsAnew({ streams }, { isFirst }, from) {
-        return isFirst && streams.find((stream) => stream.from === from).length > 0;
+    #beginsAnew(connection, { isFirst, sequence }, from) {
+        const [sender] = connection.sides(from);
+        return isFirst && !sender.isEmpty && !sender.beginsAt(sequence);
     }
 }
 

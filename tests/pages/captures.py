@@ -18,17 +18,17 @@ SAMPLE = os.path.join(TOP, "inspector", "sample.pcap")
 
 # Link types, and flags of TCP.
 ETHERNET, RAW, COOKED, COOKED_2 = 1, 101, 113, 276
-FIN, SYN, ACK = 1, 2, 16
+FIN, SYN, RST, ACK = 1, 2, 4, 16
 
 # When the sample begins: 2026-11-02 08:00 UTC.
 BEGAN = 1793606400
 
 
-def segment(source, destination, sequence, payload=b"", flags=ACK):
+def segment(source, destination, sequence, payload=b"", flags=ACK, acknowledged=0):
     """An IP packet with a TCP segment. Ends are pairs of an address and a port."""
     (from_host, from_port), (to_host, to_port) = source, destination
-    tcp = struct.pack(">HHIIBBHHH", from_port, to_port, sequence % 2 ** 32, 0, 5 << 4, flags,
-                      65535, 0, 0) + payload
+    tcp = struct.pack(">HHIIBBHHH", from_port, to_port, sequence % 2 ** 32,
+                      acknowledged % 2 ** 32, 5 << 4, flags, 65535, 0, 0) + payload
     one, other = ipaddress.ip_address(from_host), ipaddress.ip_address(to_host)
     if one.version == 4:
         front = struct.pack(">BBHHHBBH", 0x45, 0, 20 + len(tcp), 1, 0x4000, 64, 6, 0)
