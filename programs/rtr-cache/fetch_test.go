@@ -211,6 +211,9 @@ func TestFailedFetches(t *testing.T) {
 		{"chunks without the last", "cut", "the body was cut off", hijacked(fmt.Sprintf(
 			"HTTP/1.1 200 OK\r\nTransfer-Encoding: chunked\r\n\r\n%x\r\n%s\r\n", len(whole), whole))},
 		{"no length", "cut", "the answer has no length", hijacked("HTTP/1.1 200 OK\r\n\r\n" + whole)},
+		{"gzip without a length", "cut", "the answer has no length",
+			hijacked("HTTP/1.1 200 OK\r\nContent-Encoding: gzip\r\n\r\n" + gzipped(t, whole))},
+		{"gzip without a byte", "cut", "the body was cut off", encoded("gzip", "")},
 		{"nothing", "cut", "EOF", hijacked("")},
 		{"a long body", "size", "larger than 1000000 bytes",
 			hijacked("HTTP/1.1 200 OK\r\nContent-Length: 1000001\r\n\r\n")},
@@ -253,6 +256,8 @@ func TestFailedFetches(t *testing.T) {
 	process.Says("serial 2: 1 payload, 0 announced, 1 withdrawn", 1)
 	server.answers(encoded("gzip", gzipped(t, rows(4))))
 	process.Says("serial 3: 4 payloads", 1)
+	server.answers(encoded("X-GZIP", gzipped(t, rows(3))+gzipped(t, rows(5))))
+	process.Says("serial 4: 5 payloads", 1)
 	server.answers(text("AS64496,10.0.0.0/33,33\n"))
 	process.Says(url+": line 1: prefix", 1)
 	if status, says := read(t, metrics+"/health"); status != 503 ||

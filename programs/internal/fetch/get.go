@@ -1,6 +1,7 @@
 package fetch
 
 import (
+	"compress/gzip"
 	"context"
 	"crypto/sha256"
 	"fmt"
@@ -73,6 +74,8 @@ func (f *Fetcher) ask(ctx context.Context, anew bool) (*list, error) {
 		return nil, err
 	}
 	request.Header.Set("User-Agent", "fishreef/"+words.Version)
+	// With this the body isn't decompressed by net/http, which hides its length then.
+	request.Header.Set("Accept-Encoding", "gzip")
 	conditional := !anew && f.known.tag+f.known.modified != ""
 	if conditional && f.known.tag != "" {
 		request.Header.Set("If-None-Match", f.known.tag)
@@ -96,21 +99,27 @@ func (f *Fetcher) ask(ctx context.Context, anew bool) (*list, error) {
 
 // check returns an error if the body of an answer can't be read.
 func (f *Fetcher) check(answer *http.Response) error {
-	encoding := answer.Header.Get("Content-Encoding")
+	encoding, length := answer.Header.Get("Content-Encoding"), answer.ContentLength
 	switch {
 	case answer.StatusCode != http.StatusOK:
 		text := fmt.Sprintf("the server answered %d %s", answer.StatusCode,
 			http.StatusText(answer.StatusCode))
 		return &Failure{Reason: Status, Text: strings.TrimSpace(text), After: after(answer)}
-	case encoding != "" && encoding != "identity":
+	case encoding != "" && encoding != "identity" && !isGzip(answer):
 		return &Failure{Reason: Encoding, Text: fmt.Sprintf("the unknown encoding %q", encoding)}
-	case answer.ContentLength > f.settings.Bytes:
+	case length > f.settings.Bytes && !isGzip(answer):
 		return f.tooLong()
-	case answer.ContentLength < 0 && len(answer.TransferEncoding) == 0 && !answer.Uncompressed:
+	case length < 0 && len(answer.TransferEncoding) == 0:
 		return &Failure{Reason: Cut,
 			Text: "the answer has no length, so a truncated one could go unnoticed"}
 	}
 	return nil
+}
+
+// isGzip reports whether the body is compressed by gzip (RFC 9110 section 8.4.1.3).
+func isGzip(answer *http.Response) bool {
+	encoding := strings.ToLower(answer.Header.Get("Content-Encoding"))
+	return encoding == "gzip" || encoding == "x-gzip"
 }
 
 // tooLong returns the failure for a list above the limit.
@@ -154,7 +163,7 @@ func (f *Fetcher) read(answer *http.Response) (*list, error) {
 	if err != nil {
 		return nil, &Failure{Reason: Disk, Text: "it can't be stored: " + err.Error()}
 	}
-	size, err := f.copy(file, &got.condition, answer.Body)
+	size, err := f.copy(file, &got.condition, bodyOf(answer))
 	if err != nil || got.sum == f.known.sum {
 		file.Close()
 		return got, err
@@ -164,6 +173,34 @@ func (f *Fetcher) read(answer *http.Response) (*list, error) {
 		Inode: f.bodies, Size: size, Modified: syscall.NsecToTimespec(got.written.UnixNano()),
 	}}
 	return got, nil
+}
+
+// bodyOf returns the decompressed body of an answer.
+func bodyOf(answer *http.Response) io.Reader {
+	if isGzip(answer) {
+		return &unzipped{body: answer.Body}
+	}
+	return answer.Body
+}
+
+// unzipped is a body that is decompressed.
+type unzipped struct {
+	body   io.Reader
+	reader *gzip.Reader // nil before its header was read
+}
+
+// Read reads decompressed bytes. A body without a header of gzip was cut off.
+func (u *unzipped) Read(buffer []byte) (n int, err error) {
+	if u.reader == nil {
+		u.reader, err = gzip.NewReader(u.body)
+	}
+	switch {
+	case err == io.EOF:
+		return 0, io.ErrUnexpectedEOF
+	case err != nil:
+		return 0, err
+	}
+	return u.reader.Read(buffer)
 }
 
 // unnamed creates a file without a name, which is removed when it is closed.
