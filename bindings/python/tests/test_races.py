@@ -1,9 +1,11 @@
-"""What may happen at the same time: a cancellation and bytes or a connection."""
+"""What may happen at the same time: a cancellation and bytes or a connection, and a request while a
+loop looks for one."""
 import asyncio
 import contextlib
 import unittest
 
 from rtr_wire import AsyncClient, CacheResponse
+from rtr_wire.loops import Asking
 
 from .test_client import SOON
 
@@ -75,6 +77,35 @@ class Cancelled(unittest.TestCase):
     def test_connection(self):
         for count in range(TURNS):
             asyncio.run(self.at_connection(count))
+
+
+class Asked(unittest.TestCase):
+    def test_while_a_loop_looks(self):
+        """A request that comes while a loop looks for one is found when it looks again."""
+        class Told:
+            count = 0
+
+            def asked(self):
+                self.count += 1
+
+        class Raced(Asking):
+            """Another thread asks when the loop has looked once."""
+
+            looks = 0
+
+            @property
+            def _asked(self):
+                self.looks += 1
+                return 0 if self.looks == 1 else 1
+
+            @_asked.setter
+            def _asked(self, count):
+                pass
+
+        client, router = Raced(), Told()
+        asked = client._told(router, 0)
+        client._told(router, asked)
+        self.assertEqual(router.count, 1)
 
 
 if __name__ == "__main__":

@@ -54,6 +54,7 @@ class Asking:
 
     def _pass_requests(self, router: Router, before: int) -> int:
         """Tells the router of requests since `before`, and returns the number of all requests."""
-        if self._asked != before:
+        asked = self._asked  # read once: another thread may ask meanwhile
+        if asked != before:
             router.asked()
-        return self._asked
+        return asked
