@@ -1,13 +1,14 @@
 """What may happen at the same time: a cancellation and bytes or a connection, and a request while a
-loop looks for one."""
+loop looks for one. And whose failure a group tells."""
 import asyncio
 import contextlib
 import unittest
 
-from rtr_wire import AsyncClient, CacheResponse
+from rtr_wire import AsyncClient, CacheResponse, Data, EndOfData, Failed, NoPayloads, Update
+from rtr_wire.group import Group
 from rtr_wire.loops import Asking
 
-from .test_client import SOON
+from .test_client import FIRST, SECOND, SOON
 
 # How many turns of the event loop a test lets pass at most between two things.
 TURNS = 8
@@ -106,6 +107,29 @@ class Asked(unittest.TestCase):
         asked = client._told(router, 0)
         client._told(router, asked)
         self.assertEqual(router.count, 1)
+
+
+class Groups(unittest.TestCase):
+    def test_whose_failure(self):
+        """An empty answer of the cache that is used is its failure, also if the data of another one
+        are shown then."""
+        group, error = Group(2, None, None), ConnectionResetError()
+        self.assertEqual(group.happens(0, 0, Update(FIRST, None)).update.data, FIRST)
+        self.assertEqual(group.happens(1, 0, Failed(error))[:2], (error, 0))
+        decision = group.happens(2, 1, Update(SECOND, None))
+        self.assertEqual((decision.source, decision.update.data), (1, SECOND))
+        decision = group.happens(3, 1, Update(Data((), EndOfData(7, 3)), None))
+        self.assertEqual((type(decision.error), decision.place), (NoPayloads, 1))
+        self.assertEqual((decision.source, decision.update.data), (0, FIRST))
+
+    def test_whose_loss(self):
+        """The failure that comes with a loss of data is that of the cache which had them."""
+        group, error, lost = Group(2, None, None), ConnectionResetError(), ConnectionAbortedError()
+        group.happens(0, 0, Failed(error))
+        group.happens(1, 1, Update(FIRST, None))
+        decision = group.happens(2, 1, Update(None, None))
+        self.assertEqual((decision.source, decision.update.data), (1, None))
+        self.assertEqual(group.happens(2, 1, Failed(lost))[:2], (lost, 1))
 
 
 if __name__ == "__main__":

@@ -83,7 +83,7 @@ class _Following:
                 if decision.start is not None:
                     self._start(decision.start)
                 if decision.update is not None:
-                    yield self._clients[decision.member], decision.update
+                    yield self._clients[decision.source], decision.update
         finally:
             for member in range(len(self._clients)):
                 self._stop(member)

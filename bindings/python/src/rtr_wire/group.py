@@ -24,9 +24,9 @@ class Decision(NamedTuple):
     """What a loop does, in this order.
 
     Attributes:
-        error: a failure of `member` to report, or None
-        member, update: new data to yield, and the member that has them; the update is None if the
-            data in use stay
+        error, member: a failure to report, or None, and the member that failed
+        update, source: new data to yield, and the member that has them, or that lost the last ones;
+            the update is None if the data in use stay
         stop: the members to stop, if they are running
         start: the member to start, or None
     """
@@ -34,6 +34,7 @@ class Decision(NamedTuple):
     error: Optional[Exception] = None
     member: int = 0
     update: Optional[Update] = None
+    source: int = 0
     stop: Sequence[int] = ()
     start: Optional[int] = None
 
@@ -88,7 +89,7 @@ class Group:
         dropped, self._dropped[member] = self._dropped[member], False
         if isinstance(step, Failed):
             if dropped:  # part of the event before
-                return Decision(step.error)
+                return Decision(step.error, member)
             error = step.error
             CALLS.rtr_group_fails(group, now, member, answer)
         elif step.data is None:
@@ -104,16 +105,17 @@ class Group:
     def _decided(self, member: int, error: Optional[Exception]) -> Decision:
         """Returns the group's decision on an event of a member, and drops the data of the members
         that stop."""
-        answer, update = self._answer, None
+        answer, update, source = self._answer, None, member
         if answer.shown == GroupShown.DATA:
-            member = answer.member
-            update = self._show(self._data[member])
+            source = answer.member
+            update = self._show(self._data[source])
         elif answer.shown == GroupShown.NOTHING:
             update = self._show(None)
         stop = range(answer.stop, len(self._data)) if answer.stops else range(0)
         for stopped in stop:
             self._data[stopped], self._dropped[stopped] = None, False
-        return Decision(error, member, update, stop, answer.start if answer.starts else None)
+        start = answer.start if answer.starts else None
+        return Decision(error, member, update, source, stop, start)
 
     def _show(self, data: Optional[Data]) -> Optional[Update]:
         """Replaces the data in use, perhaps by none, and returns the update."""
