@@ -262,7 +262,12 @@ func TestImpossibleCounts(t *testing.T) {
 	noLeaks(t)
 	for _, row := range []miscounting{{read: 1 << 20}, {read: -1 << 20}, {written: 1}, {written: -20}} {
 		row := row
-		client := quick(fakeCache(t, play(t, nil, scene{reset0, all0})))
+		client := quick(fakeCache(t, func(connection *net.TCPConn) {
+			// The client may have left, and the test ended, before the query is read.
+			if readUnit(NewReader(connection)) != nil {
+				connection.Write(all0)
+			}
+		}))
 		client.Dial = func(ctx context.Context, network, address string) (net.Conn, error) {
 			connection, err := new(net.Dialer).DialContext(ctx, network, address)
 			return miscounting{connection, row.read, row.written}, err

@@ -27,7 +27,7 @@ func TestStalledHandshakeAfterDial(t *testing.T) {
 		}
 		return tls.Client(connection, &tls.Config{ServerName: "cache.example"}), nil
 	}
-	ctx, cancel := context.WithTimeout(context.Background(), 10*time.Second)
+	ctx, cancel := limited(t)
 	defer cancel()
 	if _, err := client.Fetch(ctx); !errors.Is(err, ErrTooSlow) {
 		t.Error(err)
@@ -51,7 +51,7 @@ func TestStuckWrites(t *testing.T) {
 	near, far := net.Pipe()
 	defer far.Close()
 	connection := &stuck{Conn: near}
-	ctx, cancel := context.WithTimeout(context.Background(), 2*time.Second)
+	ctx, cancel := limited(t)
 	defer cancel()
 	client := NewClientConn(connection)
 	client.AskIn(0) // there is no lower version to fall to
@@ -82,7 +82,7 @@ func TestPanicOfTheCaller(t *testing.T) {
 		panics(t, func() {
 			client.Run(context.Background(), func(Update) error { panic("changed") })
 		})
-		far.SetReadDeadline(time.Now().Add(10 * time.Second))
+		far.SetReadDeadline(time.Now().Add(patience))
 		if _, err := far.Read(make([]byte, 1)); errors.Is(err, os.ErrDeadlineExceeded) {
 			t.Error("the connection is still open")
 		}
