@@ -8,6 +8,9 @@ import { connect as connectTls } from "node:tls";
 // The most bytes of the cache that are read while it gets a last report.
 const LAST_BYTES = 1 << 20;
 
+// The most milliseconds that a timer of Node takes: for more it is over at once.
+const LONGEST_TIMER = 2 ** 31 - 1;
+
 /** Opens a connection to the first address of a host that answers, by TCP or, with options of
  * tls.connect, TLS. Each address but the last gets its share of the remaining milliseconds; the
  * signal ends the last attempt.
@@ -45,7 +48,7 @@ async function tried({ address, host, port, tls }, signal, milliseconds) {
     const attempt = new AbortController();
     const aborted = () => attempt.abort(signal.reason);
     const timer = milliseconds === null ? null
-        : setTimeout(() => attempt.abort(tooSlow(address, port)), milliseconds);
+        : timerOf(() => attempt.abort(tooSlow(address, port)), milliseconds);
     signal.addEventListener("abort", aborted);
     let stream = guarded(connectTcp({ host: address, port, allowHalfOpen: true }));
     try {
@@ -62,6 +65,10 @@ async function tried({ address, host, port, tls }, signal, milliseconds) {
         clearTimeout(timer);
         signal.removeEventListener("abort", aborted);
     }
+}
+
+function timerOf(call, milliseconds) {
+    return setTimeout(call, Math.min(milliseconds, LONGEST_TIMER));
 }
 
 /** Prevents an error of a stream without listeners from ending the process. */
@@ -136,7 +143,7 @@ export class Connection {
         const stream = this.#stream;
         let left = LAST_BYTES;
         return new Promise((resolve) => {
-            const timer = setTimeout(resolve, milliseconds);
+            const timer = timerOf(resolve, milliseconds);
             const done = () => {
                 clearTimeout(timer);
                 resolve();

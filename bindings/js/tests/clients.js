@@ -280,6 +280,30 @@ export const TESTS = {
         });
     },
 
+    /** A time limit above that of a timer isn't over at once: to connect to an address that isn't
+     * the last, and for a report. */
+    async takesLongLimits(rtr) {
+        const warnings = [];
+        const warned = ({ name }) => warnings.push(name);
+        let isEarly = null;
+        const script = async (peer) => {
+            await peer.next();
+            peer.send(end(1)); // out of place
+            peer.socket.resume();
+            const closed = once(peer.socket, "close").then(() => true);
+            isEarly = await Promise.race([closed, sleep(100).then(() => false)]);
+            peer.socket.destroy();
+        };
+        process.on("warning", warned);
+        await withCache([script], ({ port }) => resolved([HOST, "127.0.0.2"], async () => {
+            const error = await failureOf(clientOf(rtr, port, { host: "cache.example",
+                reportLimit: 0xffffffff, settings: { connectLimit: 0xffffffff } }));
+            assert.equal(error.reason, Cause.OUT_OF_PLACE);
+        }));
+        process.off("warning", warned);
+        assert.deepEqual([isEarly, warnings], [false, []]);
+    },
+
     /** A cache without data yet is asked again; `fetch` throws. */
     async hasNoData(rtr) {
         const script = async (peer) => {
