@@ -314,6 +314,32 @@ func TestHoldsFetched(t *testing.T) {
 	}
 }
 
+// --force is about the first list of each file, which comes later from a server than from a folder.
+func TestForcesFetched(t *testing.T) {
+	t.Parallel()
+	folder, server, other := t.TempDir(), newWeb(t, text(rows(10))), newWeb(t, status(500))
+	line := []string{"--state", "state", "--fetch", "1s", "--guard-time", "1h", "--csv", server.URL}
+	process, _ := started(t, folder, line...)
+	process.Says("serial 1: 10 payloads", 1)
+	process.End()
+	server.answers(text(rows(1)))
+	process, _ = started(t, folder, line...)
+	process.Says("it would withdraw 9 of 10 payloads", 1)
+	process.End()
+	process, _ = started(t, folder, append(line, "--force")...)
+	process.Says("serial 2: 1 payload, 0 announced, 9 withdrawn", 1)
+	server.answers(text(rows(10)))
+	process.Says("serial 3: 10 payloads", 1)
+	server.answers(text(rows(1)))
+	process.Says("it would withdraw 9 of 10 payloads", 1)
+	process.End()
+	process, _ = started(t, folder, append(line, "--csv", other.URL, "--force")...)
+	process.Says("1 payload, waiting for "+other.URL, 1)
+	process.Says("the server answered 500", 1)
+	other.answers(text(rows(2)))
+	process.Says("serial 4: 2 payloads, 0 announced, 8 withdrawn", 1)
+}
+
 // Certificates are checked, by the authorities of --fetch-ca or those of the system.
 func TestFetchesByHTTPS(t *testing.T) {
 	t.Parallel()

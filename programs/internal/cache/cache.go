@@ -50,7 +50,7 @@ type Cache struct {
 func New(settings Settings, log *logrus.Logger) (*Cache, error) {
 	c := &Cache{
 		settings: settings, log: log, metrics: metrics.New(), clients: clients.New(),
-		server: rtr.NewServer(), time: systemTime(), confirmed: settings.Force,
+		server: rtr.NewServer(), time: systemTime(),
 		fetched: make(chan struct{}, 1),
 	}
 	c.server.Limits.Connections = settings.Clients

@@ -205,7 +205,7 @@ func (c *Cache) judge(
 	offer := trust.Offer{
 		Had: size.Had, Withdrawn: size.Withdrawn, Expiry: expires,
 		Anchors:   file.lost(list.Anchors),
-		Confirmed: c.confirmed && (same || !file.looked),
+		Confirmed: c.confirmed && same || c.settings.Force && !file.looked,
 	}
 	if same {
 		offer.Same = running - file.held.since
