@@ -107,6 +107,49 @@ func TestContradiction(t *testing.T) {
 	}
 }
 
+// provided is JSON of an ASPA with this provider, and of so many prefixes.
+func provided(provider, prefixes int) string {
+	var items []string
+	for i := 0; i < prefixes; i++ {
+		items = append(items, fmt.Sprintf(`{"asn": 64496, "prefix": "10.0.%d.0/24"}`, i))
+	}
+	return fmt.Sprintf(`{"roas": [%s], "aspas": [{"customer_asid": 64496, "providers": [%d]}]}`,
+		strings.Join(items, ", "), provider)
+}
+
+// Two validators see a change of an ASPA one after the other: once their files agree again they are
+// served, whichever was refused; a wrong file in between doesn't count.
+func TestAgreesAgain(t *testing.T) {
+	folder := t.TempDir()
+	a, b := folder+"/a", folder+"/b"
+	trial.Write(t, a, provided(64510, 1))
+	trial.Write(t, b, provided(64511, 2))
+	process, address := started(t, folder, "--json", "a", "--json", "b", "--metrics", "127.0.0.1:0")
+	health := strings.TrimSuffix(process.After("metrics are at "), "/metrics") + "/health"
+	good := func() bool { status, _ := read(t, health); return status == 200 }
+	process.Says("b: ASPA AS64496 providers AS64511: another file has other providers", 1)
+	trial.Write(t, a, provided(64511, 1))
+	process.Says("serial 1: 3 payloads", 1)
+	process.Await("good", good)
+	trial.Write(t, a, provided(64512, 3))
+	process.Says("a: ASPA AS64496 providers ", 1)
+	if data := fetched(t, address, 2); data.Len() != 3 || good() {
+		t.Error(lines(data))
+	}
+	trial.Write(t, b, provided(64512, 4))
+	process.Says("serial 2: 5 payloads", 1)
+	process.Await("good", good)
+	trial.Write(t, a, provided(64513, 5))
+	process.Says("a: ASPA AS64496 providers ", 2)
+	trial.Write(t, a, "x")
+	process.Says("a: offset 0: no JSON", 1)
+	trial.Write(t, b, provided(64513, 6))
+	process.Says("b: ASPA AS64496 providers ", 2)
+	trial.Write(t, a, provided(64513, 1))
+	process.Says("serial 3: 7 payloads", 1)
+	process.Await("good", good)
+}
+
 // change is an update of a client, with the numbers of its changes.
 type change struct {
 	data               rtr.Data

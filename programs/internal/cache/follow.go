@@ -27,8 +27,9 @@ type followed struct {
 	data    rtr.Data // its payloads when it was last accepted, if there are other files
 	taken   int      // their number
 	anchors payloads.Anchors
-	held    *held // its held list; nil for none
-	problem error // why it wasn't accepted at the last check
+	held    *held          // its held list; nil for none
+	offered *payloads.List // its list that is held or contradicted, if there are other files
+	problem error          // why it wasn't accepted at the last check
 	expired payloads.Expired
 }
 
@@ -144,51 +145,97 @@ func (c *Cache) nextExpiry() (next time.Time) {
 	return next
 }
 
-// take serves the new payloads of a file, unless they withdraw more than the guard allows.
+// take serves the new payloads of a file, unless they withdraw more than the guard allows, or
+// contradict another file.
 func (c *Cache) take(
 	file *followed, list payloads.List, expires bool, running time.Duration,
 ) error {
-	var all []rtr.Data
 	for _, other := range c.files {
-		switch {
-		case other == file:
-			all = append(all, list.Data)
-		case other.data.IsZero():
+		if other != file && other.data.IsZero() && other.offered == nil {
 			c.recordAccepted(file, list)
 			c.log.Infof("%s: %s, waiting for %s", file.Path,
 				words.Number(list.Data.Len(), "payload"), other.Path)
 			return nil
-		default:
-			all = append(all, other.data)
 		}
 	}
-	merged, err := payloads.Merged(all...)
-	if err != nil {
-		return err
-	}
-	if c.same(merged) {
-		c.recordAccepted(file, list)
+	merged, others, err := c.merged(file, list)
+	if err == nil && c.same(merged) {
 		c.log.Infof("%s: nothing changed", file.Path)
-		return nil
+	} else if err == nil {
+		err = c.replace(merged, file, list, others, expires, running)
 	}
+	if err == nil {
+		c.recordAccepted(file, list)
+		c.acceptOffered(others)
+	} else if isOffer(err) && len(c.files) > 1 {
+		file.offered = &list
+	}
+	return err
+}
+
+// merged returns the payloads of all files with a new list of one, and the other files whose
+// offered lists are among them: those without other data; and all of them, if the data that were
+// taken contradict each other. So files that change one after the other can agree again.
+func (c *Cache) merged(
+	file *followed, list payloads.List,
+) (merged rtr.Data, others []*followed, err error) {
+	for _, first := range []bool{true, false} {
+		var all []rtr.Data
+		others = nil
+		for _, other := range c.files {
+			switch {
+			case other == file:
+				all = append(all, list.Data)
+			case other.offered != nil && (!first || other.data.IsZero()):
+				all, others = append(all, other.offered.Data), append(others, other)
+			default:
+				all = append(all, other.data)
+			}
+		}
+		merged, err = payloads.Merged(all...)
+		if !errors.As(err, new(*payloads.Contradiction)) {
+			break
+		}
+	}
+	return merged, others, err
+}
+
+// isOffer reports whether a list is refused only because of what is served, or of another file.
+func isOffer(err error) bool {
+	return errors.As(err, new(*trust.Held)) || errors.As(err, new(*payloads.Contradiction))
+}
+
+// replace serves merged payloads instead of the present ones, unless they withdraw too much.
+func (c *Cache) replace(
+	merged rtr.Data, file *followed, list payloads.List, others []*followed, expires bool,
+	running time.Duration,
+) error {
 	size, err := payloads.Changed(c.present, merged)
 	if err == nil {
-		err = c.judge(file, list, size, expires, running)
+		err = c.judge(file, list, size, others, expires, running)
 	}
 	if err == nil {
 		err = c.update(merged, file.Path, size)
 	}
-	if err == nil {
-		c.recordAccepted(file, list)
-	}
 	return err
+}
+
+// acceptOffered records that the offered lists of files were taken.
+func (c *Cache) acceptOffered(files []*followed) {
+	for _, file := range files {
+		list := *file.offered
+		c.recordAccepted(file, list)
+		c.note(file, list, nil, false)
+		c.log.Infof("%s: %s accepted", file.Path, words.Number(list.Data.Len(), "payload"))
+	}
 }
 
 // recordAccepted records that a list was accepted.
 func (c *Cache) recordAccepted(file *followed, list payloads.List) {
 	c.lock.Lock()
 	defer c.lock.Unlock()
-	file.held, file.taken, file.expired = nil, list.Data.Len(), list.Expired
+	file.held, file.offered = nil, nil
+	file.taken, file.expired = list.Data.Len(), list.Expired
 	file.anchors = list.Anchors
 	if len(c.files) > 1 {
 		file.data = list.Data
@@ -196,9 +243,11 @@ func (c *Cache) recordAccepted(file *followed, list payloads.List) {
 	c.metrics.Expired(file.Path, list.Expired.LeftOut)
 }
 
-// judge holds a list that would withdraw more than the guard allows.
+// judge holds a list that would withdraw more than the guard allows, together with the offered
+// lists of others.
 func (c *Cache) judge(
-	file *followed, list payloads.List, size payloads.Size, expires bool, running time.Duration,
+	file *followed, list payloads.List, size payloads.Size, others []*followed, expires bool,
+	running time.Duration,
 ) error {
 	sum := sha256.Sum256(list.Data.Bytes())
 	same := file.held != nil && (file.held.sum == sum || file.held.state.SameContent(list.State))
@@ -206,6 +255,9 @@ func (c *Cache) judge(
 		Had: size.Had, Withdrawn: size.Withdrawn, Expiry: expires,
 		Anchors:   file.lost(list.Anchors),
 		Confirmed: c.confirmed && same || c.settings.Force && !file.looked,
+	}
+	for _, other := range others {
+		offer.Anchors = append(offer.Anchors, other.lost(other.offered.Anchors)...)
 	}
 	if same {
 		offer.Same = running - file.held.since
@@ -232,6 +284,9 @@ func (f *followed) lost(has payloads.Anchors) (all []trust.Anchor) {
 func (c *Cache) note(file *followed, list payloads.List, err error, asked bool) {
 	if !errors.As(err, new(*trust.Held)) {
 		file.held = nil
+	}
+	if !isOffer(err) {
+		file.offered = nil
 	}
 	c.lock.Lock()
 	before := file.problem
