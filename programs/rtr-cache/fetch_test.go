@@ -11,6 +11,7 @@ import (
 	"net/http/httptest"
 	"os"
 	"os/exec"
+	"strconv"
 	"strings"
 	"sync"
 	"testing"
@@ -184,6 +185,38 @@ func TestFetches(t *testing.T) {
 	})
 	if status := process.End(); status != 0 {
 		t.Error(status)
+	}
+}
+
+// The age of a list is that of the server's last Last-Modified, also of one without a new body (RFC
+// 9111 section 4.3.4); a metric has that of the accepted list.
+func TestLastModified(t *testing.T) {
+	t.Parallel()
+	format := func(at time.Time) string { return at.UTC().Format(http.TimeFormat) }
+	metric := func(at time.Time) string {
+		return `/f"} ` + strconv.FormatFloat(float64(at.Unix()), 'g', -1, 64) + "\n"
+	}
+	now, old := time.Now(), time.Now().Add(-3*time.Hour)
+	server := newWeb(t, conditional(`"one"`, format(old), rows(2)))
+	process, _, metrics := fetching(t, "--csv", server.URL+"/f")
+	process.Says("serial 1: 2 payloads", 1)
+	process.Await("stale", func() bool {
+		_, says := read(t, metrics+"/health")
+		return strings.Contains(says, "/f: it was written 3h")
+	})
+	server.answers(func(answer http.ResponseWriter, ask *http.Request) {
+		answer.Header().Set("Last-Modified", format(now))
+		answer.WriteHeader(http.StatusNotModified)
+	})
+	process.Await("good", func() bool { status, _ := read(t, metrics+"/health"); return status == 200 })
+	_, says := read(t, metrics+"/metrics")
+	if !strings.Contains(says, "rtr_cache_file_modified_timestamp_seconds{file=") || !strings.Contains(says, metric(now)) {
+		t.Error(says)
+	}
+	server.answers(conditional(`"two"`, format(now.Add(time.Minute)), "AS64496,10.0.0.0/33,33\n"))
+	process.Says("f: line 1: prefix", 1)
+	if _, says := read(t, metrics+"/metrics"); !strings.Contains(says, metric(now)) {
+		t.Error(says)
 	}
 }
 

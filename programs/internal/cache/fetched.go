@@ -128,7 +128,7 @@ func (c *Cache) takeFetches(file *followed) {
 	}
 	if !news.At.IsZero() {
 		c.metrics.Confirmed(file.Path, news.At)
-		if file.looked && file.problem == nil {
+		if news.Body == nil && file.looked && file.problem == nil {
 			c.metrics.Written(file.Path, news.Written)
 		}
 	}

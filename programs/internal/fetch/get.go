@@ -89,7 +89,11 @@ func (f *Fetcher) ask(ctx context.Context, anew bool) (*list, error) {
 	}
 	defer answer.Body.Close()
 	if answer.StatusCode == http.StatusNotModified && conditional {
-		return &list{condition: f.known, written: f.written(f.known.modified)}, nil
+		known := f.known
+		if modified := answer.Header.Get("Last-Modified"); modified != "" {
+			known.modified = modified // RFC 9111 section 4.3.4
+		}
+		return &list{condition: known, written: f.written(known.modified)}, nil
 	}
 	if err := f.check(answer); err != nil {
 		return nil, err
