@@ -3,6 +3,7 @@ package main
 import (
 	"bytes"
 	"compress/gzip"
+	"crypto/tls"
 	"fmt"
 	"io"
 	"log"
@@ -409,6 +410,32 @@ func TestFetchesByHTTPS(t *testing.T) {
 	spoken := strings.Replace(plain.URL, "http:", "https:", 1)
 	process, _, _ = fetching(t, "--csv", spoken, "--fetch-ca", folder+"/ca")
 	process.Says("server gave HTTP response to HTTPS client", 1)
+	process.Says("reason=certificate", 1)
+}
+
+// A handshake of TLS that fails isn't a body that was cut off: of a server that requires a
+// certificate, or speaks only a version without security.
+func TestFailedTLS(t *testing.T) {
+	t.Parallel()
+	folder, authority := t.TempDir(), trial.NewAuthority(t)
+	authority.Save(folder + "/ca")
+	for name, change := range map[string]func(*tls.Config){
+		"a certificate": func(c *tls.Config) { c.ClientAuth, c.MaxVersion = tls.RequireAnyClientCert, tls.VersionTLS12 },
+		"TLS 1.0":       func(c *tls.Config) { c.MinVersion, c.MaxVersion = tls.VersionTLS10, tls.VersionTLS10 },
+	} {
+		server := httptest.NewUnstartedServer(text(rows(2)))
+		server.Config.ErrorLog = log.New(io.Discard, "", 0)
+		server.TLS = authority.ServerConfig("127.0.0.1")
+		change(server.TLS)
+		server.StartTLS()
+		process, _, _ := fetching(t, "--csv", server.URL, "--fetch-ca", folder+"/ca")
+		process.Says("it can't be fetched: ", 1)
+		if process.Lines("reason=certificate") != process.Lines("it can't be fetched: ") {
+			t.Errorf("%s: %s", name, process.Said())
+		}
+		process.End()
+		server.Close()
+	}
 }
 
 // overHTTPS starts a server with a certificate for this address or name.

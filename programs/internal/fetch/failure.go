@@ -4,8 +4,6 @@ import (
 	"compress/flate"
 	"compress/gzip"
 	"context"
-	"crypto/tls"
-	"crypto/x509"
 	"errors"
 	"io"
 	"net"
@@ -70,7 +68,7 @@ func reasonOf(err error) Reason {
 		return Timeout
 	case errors.As(err, new(*net.DNSError)):
 		return Name
-	case isOfCertificates(err):
+	case errors.As(err, &operation) && isOfTLS(operation):
 		return Certificate
 	case errors.As(err, &operation) && (operation.Op == "dial" || operation.Op == "proxyconnect"):
 		return Connect
@@ -83,10 +81,7 @@ func reasonOf(err error) Reason {
 	return Other
 }
 
-// isOfCertificates reports whether an error is one of TLS.
-func isOfCertificates(err error) bool {
-	return errors.As(err, new(x509.UnknownAuthorityError)) ||
-		errors.As(err, new(x509.HostnameError)) ||
-		errors.As(err, new(x509.CertificateInvalidError)) ||
-		errors.As(err, new(x509.SystemRootsError)) || errors.As(err, new(tls.RecordHeaderError))
+// isOfTLS reports whether an error is one of TLS after its handshake: an alert.
+func isOfTLS(operation *net.OpError) bool {
+	return operation.Op == "remote error" || operation.Op == "local error"
 }

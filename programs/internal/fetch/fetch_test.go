@@ -2,8 +2,11 @@ package fetch
 
 import (
 	"context"
+	"errors"
+	"net"
 	"net/http"
 	"net/http/httptest"
+	"net/url"
 	"testing"
 	"time"
 )
@@ -80,6 +83,20 @@ func TestIsURL(t *testing.T) {
 	} {
 		if IsURL(word) != isURL {
 			t.Error(word)
+		}
+	}
+}
+
+// In TLS 1.3 a server that requires a certificate reports that after the handshake (RFC 8446 section
+// 4.4.2.4): an alert is a failure of TLS, a reset connection a body that was cut off.
+func TestReasons(t *testing.T) {
+	for operation, reason := range map[string]Reason{
+		"remote error": Certificate, "local error": Certificate, "read": Cut, "dial": Connect,
+		"proxyconnect": Connect,
+	} {
+		err := &url.Error{Op: "Get", Err: &net.OpError{Op: operation, Err: errors.New("alert")}}
+		if got := failureOf(err).Reason; got != reason {
+			t.Errorf("%s: %s", operation, got)
 		}
 	}
 }

@@ -4,12 +4,15 @@ import (
 	"compress/gzip"
 	"context"
 	"crypto/sha256"
+	"crypto/tls"
 	"fmt"
 	"io"
 	"net/http"
+	"net/http/httptrace"
 	"os"
 	"strconv"
 	"strings"
+	"sync/atomic"
 	"syscall"
 	"time"
 
@@ -83,7 +86,7 @@ func (f *Fetcher) ask(ctx context.Context, anew bool) (*list, error) {
 	if conditional && f.known.modified != "" {
 		request.Header.Set("If-Modified-Since", f.known.modified)
 	}
-	answer, err := f.client.Load().Do(request)
+	answer, err := f.do(request)
 	if err != nil {
 		return nil, err
 	}
@@ -99,6 +102,19 @@ func (f *Fetcher) ask(ctx context.Context, anew bool) (*list, error) {
 		return nil, err
 	}
 	return f.read(answer)
+}
+
+// do sends a request. A failure of TLS has no type of its own in net/http.
+func (f *Fetcher) do(request *http.Request) (*http.Response, error) {
+	var hasTLSFailed atomic.Bool
+	traced := httptrace.WithClientTrace(request.Context(), &httptrace.ClientTrace{
+		TLSHandshakeDone: func(_ tls.ConnectionState, err error) { hasTLSFailed.Store(err != nil) },
+	})
+	answer, err := f.client.Load().Do(request.WithContext(traced))
+	if err != nil && hasTLSFailed.Load() {
+		return nil, &Failure{Reason: Certificate, Text: failureOf(err).Text}
+	}
+	return answer, err
 }
 
 // check returns an error if the body of an answer can't be read.
