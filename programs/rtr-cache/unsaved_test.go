@@ -3,6 +3,7 @@ package main
 import (
 	"net/http"
 	"os"
+	"os/exec"
 	"strings"
 	"testing"
 
@@ -110,4 +111,35 @@ func TestStateThatStays(t *testing.T) {
 		t.Fatal(err)
 	}
 	saved(t, folder, process, address, metrics)
+}
+
+// A file isn't wrong because the system ended rtr_make, as one without memory does: it is read
+// again, and what is served stays until then.
+func TestEndedReader(t *testing.T) {
+	folder := t.TempDir()
+	reader, err := exec.LookPath("rtr_make")
+	if err != nil {
+		t.Skip("no rtr_make here")
+	}
+	script := "#!/bin/sh\nif [ -e " + folder + "/ends ]; then echo some text >&2; kill -9 $$; fi\nexec " + reader + ` "$@"` + "\n"
+	if err := os.MkdirAll(folder+"/bin", 0o700); err != nil {
+		t.Fatal(err)
+	}
+	if err := os.WriteFile(folder+"/bin/rtr_make", []byte(script), 0o700); err != nil {
+		t.Fatal(err)
+	}
+	trial.Write(t, folder+"/f", rows(3))
+	run := exec.Command(os.Args[0], "--csv", "f", "--look", "1s", "--listen", "127.0.0.1:0")
+	process := trial.StartBy(t, folder, []string{"PATH=" + folder + "/bin:" + os.Getenv("PATH")}, run)
+	process.Says("serial 1: 3 payloads", 1)
+	trial.Write(t, folder+"/ends", "")
+	trial.Write(t, folder+"/f", rows(4))
+	process.Says("f: rtr_make: signal: killed", 1)
+	if err := os.Remove(folder + "/ends"); err != nil {
+		t.Fatal(err)
+	}
+	process.Says("serial 2: 4 payloads", 1)
+	if process.Lines("level=warning") != 1 {
+		t.Error(process.Said())
+	}
 }

@@ -63,7 +63,7 @@ func (p Program) Run(
 	switch {
 	case ctx.Err() != nil:
 		return nil, nil, fmt.Errorf("%s: %w", name, ctx.Err())
-	case err != nil && text != "":
+	case err != nil && text != "" && run.ProcessState.Exited():
 		return nil, nil, errors.New(text)
 	case err != nil:
 		return nil, nil, fmt.Errorf("%s: %w", name, err)

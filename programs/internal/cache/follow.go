@@ -6,7 +6,6 @@ import (
 	"errors"
 	"sort"
 	"strings"
-	"syscall"
 	"time"
 
 	"fishreef/programs/internal/payloads"
@@ -294,7 +293,7 @@ func (c *Cache) note(file *followed, list payloads.List, err error, asked bool) 
 	file.looked, file.seen, file.problem = true, list.State, err
 	file.when = c.clock.Now()
 	c.lock.Unlock()
-	file.again = errors.As(err, new(syscall.Errno)) && !errors.Is(err, syscall.ENOENT)
+	file.again = payloads.IsTransient(err)
 	if list.Notes != "" && (asked || !sameState) {
 		c.log.Warnf("%s: %s", file.Path, strings.ReplaceAll(list.Notes, "\n", "; "))
 	}

@@ -109,7 +109,7 @@ func (f *follower) read(ctx context.Context, l *list, body *payloads.Body) {
 	if errors.Is(err, payloads.ErrChanged) || ctx.Err() != nil {
 		return
 	}
-	*l = list{got.State, true, got.Expired}
+	*l = list{got.State, !payloads.IsTransient(err), got.Expired}
 	if err != nil {
 		f.sendFailure(ctx, err)
 		return

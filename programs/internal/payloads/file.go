@@ -8,6 +8,7 @@ import (
 	"io"
 	"net/url"
 	"os"
+	"os/exec"
 	"strconv"
 	"strings"
 	"syscall"
@@ -229,9 +230,22 @@ func openFile(path string) (input, error) {
 	return nil, err
 }
 
+// IsTransient reports whether a file that couldn't be read has to be read again although it doesn't
+// change: the system had no memory or no descriptors, or ended rtr_make.
+func IsTransient(err error) bool {
+	var ended *exec.ExitError
+	if errors.As(err, &ended) {
+		return !ended.Exited()
+	}
+	return errors.As(err, new(syscall.Errno)) && !errors.Is(err, syscall.ENOENT)
+}
+
 // runMaker returns the data that rtr_make makes of an input.
 func (r *Reader) runMaker(ctx context.Context, input io.Reader, line []string) (list List, err error) {
 	output, messages, err := r.Maker.Run(ctx, input, line...)
+	if IsTransient(err) {
+		return List{}, err
+	}
 	if err != nil {
 		return List{}, errors.New(r.Maker.Unnamed(err.Error()))
 	}
