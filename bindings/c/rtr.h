@@ -1161,7 +1161,8 @@ static inline const char *rtr_cause_text(uint8_t cause)
  *   RTR_TODO_OUTPUT_ROOM
  *                       make this buffer at least `room` long, and keep what it holds; of the
  *                       output, sending helps too. Without memory for it, call
- *                       rtr_link_give_up. Nothing has happened
+ *                       rtr_link_give_up. Nothing has happened: a data buffer and the index have
+ *                       to fit any result of a whole answer before it is sorted
  *
  * After any of these but RTR_TODO_WAIT it calls rtr_link_next again. Unlike other calls, these take
  * any bytes as their struct, and any length, time and order: a wrong call has an rtr_link_status,

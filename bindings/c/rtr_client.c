@@ -186,18 +186,12 @@ static uint8_t write_changes(struct rtr_client *c, struct bytes old, const struc
     return status;
 }
 
-/* Grows the buffers for the data after a whole answer and for the changes to them, before the
- * answer is applied: without memory it isn't sorted in vain, and the present data stay. Returns
- * false without memory. */
-static bool reserve(struct rtr_client *c, const struct rtr_link_state *held)
+/* Grows the buffer for the changes to the data that fit the other buffer, before a whole answer is
+ * applied: without memory the present data stay. Returns false without memory. */
+static bool reserve_changes(struct rtr_client *c, bool second)
 {
-    struct rtr_link_buffers *b = &c->buffers;
-    uint8_t **buffer = held->second ? &b->first : &b->second;
-    size_t *length = held->second ? &b->first_length : &b->second_length;
-    size_t before = held->since ? c->data_length : RTR_LONGEST_END;
-    size_t after = before + held->answer + RTR_LONGEST_END;
-    return (after <= *length || resize(buffer, length, after))
-        && (!c->data || grow_changes(c, size_of_changes(c->data_length, after)));
+    size_t length = second ? c->buffers.first_length : c->buffers.second_length;
+    return !c->data || grow_changes(c, size_of_changes(c->data_length, length));
 }
 
 /* Sets `payloads` and `end` from the data. */
@@ -340,7 +334,7 @@ static void ask_link(struct rtr_client *c, const struct rtr_link_state *held, st
 {
     uint64_t now = (uint64_t)c->now;
     bool asks = c->wished && !held->answers && held->wakes > now;
-    c->starved = held->answers && !reserve(c, held);
+    c->starved = held->answers && !reserve_changes(c, held->second);
     if (!c->starved) {
         must(asks ? rtr_link_ask_now(&c->link, &c->buffers, now, todo)
                   : rtr_link_next(&c->link, &c->buffers, now, todo));

@@ -190,11 +190,7 @@ func (l *link) giveUp(now uint64) todo {
 
 // step repeats a call until every buffer is long enough, or one can't grow.
 func (l *link) step(now uint64, call func() C.struct_link_step) todo {
-	held := l.state(now)
-	l.filled = int(held.filled)
-	if held.answers {
-		l.reserve(held)
-	}
+	l.filled = int(l.state(now).filled)
 	for {
 		result := call()
 		must(result.status)
@@ -204,21 +200,6 @@ func (l *link) step(now uint64, call func() C.struct_link_step) todo {
 		if !l.grow(result.todo) {
 			return todo{kind: todoGrow}
 		}
-	}
-}
-
-// reserve allocates the buffer for the data of a whole answer in advance: the link checks the size
-// of that buffer only after it has sorted the payload units.
-func (l *link) reserve(held C.struct_rtr_link_state) {
-	size, other := uint64(held.answer)+2*longestEnd, 1
-	if held.since {
-		size += uint64(held.shown)
-	}
-	if held.second {
-		other = 0
-	}
-	if size <= l.most && size > uint64(len(l.data[other])) {
-		l.data[other] = make([]byte, size)
 	}
 }
 
@@ -233,9 +214,9 @@ func (l *link) grow(t todo) bool {
 	case C.RTR_TODO_INPUT_ROOM:
 		l.input = resized(l.input, l.doubled(l.input, size))
 	case C.RTR_TODO_FIRST_ROOM:
-		l.data[0] = resized(l.data[0], size)
+		l.data[0] = make([]byte, size)
 	case C.RTR_TODO_SECOND_ROOM:
-		l.data[1] = resized(l.data[1], size)
+		l.data[1] = make([]byte, size)
 	case C.RTR_TODO_INDEX_ROOM:
 		l.index = make([]C.size_t, size)
 	case C.RTR_TODO_OUTPUT_ROOM:

@@ -2,7 +2,7 @@
 //! of the archive, and the buffers that it works in.
 
 use crate::abi::{self, link_status, todo_kind, LinkState, Todo};
-use crate::abi::{LONGEST_END, LONGEST_UNIT, SERIAL_SIZE, SHORTEST_PAYLOAD};
+use crate::abi::{LONGEST_UNIT, SERIAL_SIZE};
 use crate::options::ClientOptions;
 use crate::owned_data::Data;
 use alloc::collections::TryReserveError;
@@ -252,11 +252,7 @@ impl Link {
 
     /// Lets the client take its next step.
     fn turn(&mut self, now: u64) -> Todo {
-        let state = self.state(self.now);
-        if state.answers {
-            self.make_room(&state);
-        }
-        self.filled_before = state.filled;
+        self.filled_before = self.filled();
         self.now = now;
         let mut todo = Todo::default();
         let held = self.data.as_ref().map_or(&[][..], Data::as_bytes);
@@ -306,17 +302,6 @@ impl Link {
             self.next_data = Vec::new();
             self.index = Vec::new();
         }
-    }
-
-    /// Grows the buffers for any answer of this length, so that the client needn't try smaller
-    /// sizes. Without memory for that, it asks for the sizes that it needs.
-    fn make_room(&mut self, state: &LinkState) {
-        let base = if state.since { state.shown } else { 0 };
-        let most = base + state.answer + 2 * LONGEST_END;
-        let _ = self.next_data.try_reserve_exact(most);
-        let _ = self
-            .index
-            .try_reserve_exact(state.answer / SHORTEST_PAYLOAD);
     }
 
     /// Grows the buffer that the client asks for, if memory allows.

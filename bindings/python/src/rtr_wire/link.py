@@ -200,18 +200,11 @@ class Link:
                 _library.lengthen(self._output, needed)
             elif kind == TodoKind.INDEX_ROOM:
                 self._index = memory(_ENTRY * needed)
-                self._next_data = memory(self._size_of_data())
             else:
                 self._next_data = memory(needed)
         except MemoryError:
             return False
         return True
-
-    def _size_of_data(self) -> int:
-        """Returns the most bytes that the data after the present answer can have. A shorter buffer
-        might make the link sort the answer twice."""
-        held = self._state.shown if self._state.since else _rtr.LONGEST_END
-        return int(held + self._state.answer + _rtr.LONGEST_END)
 
     def _lengthen_input(self, needed: int) -> None:
         """Grows the input to twice its size or at least the needed one, if memory allows."""
