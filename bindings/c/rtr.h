@@ -1610,8 +1610,8 @@ static inline bool rtr_cache_report(const struct rtr_serving *serving,
  *   query       rtr_stores_served. It stays there until new data are served
  *
  * Then a cache never serves two data under one session and serial number, over any number of starts
- * and power cuts. These calls take any bytes as their struct: a wrong call has an rtr_stores_status,
- * and changes nothing. Times are in milliseconds since 1970. */
+ * and power cuts. These calls take any bytes as their struct: a wrong call has an
+ * rtr_stores_status, and changes nothing. Times are in milliseconds since 1970. */
 
 /* How a call on stores or on a history ended. RTR_STORES_NOT_MADE is checked first, and then
  * RTR_STORES_SHORT_BUFFER. */

@@ -1,12 +1,13 @@
-/* Tests of the calls for what a cache serves and saves: lives played by hand, whose data and answers
- * are units of RFC 8210 section 5 and RFC 6810 section 5, with each buffer as short as it may be and
- * between inaccessible pages; and calls that can't be, which are refused and change nothing.
+/* Tests of the calls for what a cache serves and saves: lives played by hand, whose data and
+ * answers are units of RFC 8210 section 5 and RFC 6810 section 5, with each buffer as short as it
+ * may be and between inaccessible pages; and calls that can't be, which are refused and change
+ * nothing.
  *
  * usage: stores_tests [COUNT]   with the number of random structs; 100,000 if left out */
 #include "testing.h"
 
-/* Data and changes of version 1, in hexadecimal: 192.0.2.0/24, 198.51.100.0/24 and 203.0.113.0/24 of
- * AS64496, announced and withdrawn. */
+/* Data and changes of version 1, in hexadecimal: 192.0.2.0/24, 198.51.100.0/24 and 203.0.113.0/24
+ * of AS64496, announced and withdrawn. */
 #define FIRST "0104000000000014" "01181800" "c0000200" "0000fbf0"
 #define SECOND "0104000000000014" "01181800" "c6336400" "0000fbf0"
 #define THIRD "0104000000000014" "01181800" "cb007100" "0000fbf0"
@@ -504,7 +505,8 @@ static void check_random(struct cache *k, long count)
             seed ^= seed >> 7;
             seed ^= seed << 17;
             size_t at = seed % sizeof k->stores;
-            if (at < offsetof(struct rtr_stores, mark) || at >= offsetof(struct rtr_stores, session))
+            if (at < offsetof(struct rtr_stores, mark)
+                || at >= offsetof(struct rtr_stores, session))
                 bytes[at] = (uint8_t)(seed >> 32) >> ((seed >> 40) % 8);
         }
         const uint8_t *data = bytes_of(k, FIRST END("9"), &length);

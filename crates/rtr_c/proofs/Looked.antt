@@ -31,7 +31,8 @@ pub first_by_data : (input : List ℕ) (l : RtrLookup) (d : List Payload) (e : E
     (p : PrefixParts) (asn from : ℕ) (shown : RtrCovering) (code : ℕ) → IsLookup input l →
     HoldsData input d e →
     TellsCovering (is_sealed input l) (Some p) input l.tables asn from shown code →
-    (found : Option CoveringVrp) × ShowsFound found p asn shown code × IsFirstCovering d p from found
+    (found : Option CoveringVrp) × ShowsFound found p asn shown code
+    × IsFirstCovering d p from found
 first_by_data input l d e p asn from shown code h holds s =
     let t = subst (λ (b : Bool). TellsCovering b (Some p) input l.tables asn from shown code)
     (sealed input l h) s in

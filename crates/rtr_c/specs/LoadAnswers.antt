@@ -91,11 +91,12 @@ data_loaded l = end_loaded (end_meaning l.end) (record (nothing_loaded rtr_ok) {
 })
 
 abbrev pub load_refused : LoadFault → (input : List ℕ) → RtrLoaded
-load_refused (faults.Refused offset reason) input = record (nothing_loaded (load_fault_status reason)) {
-  offset = offset;
-  wanted = load_fault_wanted reason (drop offset input);
-  detail = load_fault_detail reason;
-}
+load_refused (faults.Refused offset reason) input =
+    record (nothing_loaded (load_fault_status reason)) {
+      offset = offset;
+      wanted = load_fault_wanted reason (drop offset input);
+      detail = load_fault_detail reason;
+    }
 load_refused (faults.NoIndex places) input =
     record (nothing_loaded rtr_no_index) { wanted = places }
 load_refused faults.NoRoom input = nothing_loaded rtr_no_room

@@ -10,8 +10,8 @@ use Rattle.rtr_history.specs.Since.{IsShortForAnswer, WritesChangesSince}
 use Rattle.rtr_history.specs.Snapshots.{HoldsHistory, Snapshot, snapshot_at}
 use Rattle.rtr_history.specs.Store.{HoldsStore}
 use Rattle.rtr_history.specs.Stores.{IsFlawOfNew, IsShortForTaking, TakesData, after_call}
-use Rattle.rtr_history.specs.Stores.{after_giving_up, after_saved, fresh_stores, held_of, numbers_of}
-use Rattle.rtr_history.specs.Stores.{other_of, served_store, size_of, taken_store}
+use Rattle.rtr_history.specs.Stores.{after_giving_up, after_saved, fresh_stores, held_of}
+use Rattle.rtr_history.specs.Stores.{numbers_of, other_of, served_store, size_of, taken_store}
 use Rattle.rtr_history.specs.declared.check.CheckFault.{CheckFault}
 use Rattle.rtr_history.specs.declared.check.CheckFault.TheVariants.{Malformed}
 use Rattle.rtr_history.specs.declared.newer.Untaken.{Untaken}

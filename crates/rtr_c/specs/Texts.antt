@@ -87,8 +87,8 @@ cause_name n = if nat_lt n 16 then Some (cause_text (numbered_cause n)) else Non
 abbrev pub reason_name : ℕ → Option (List ℕ)
 reason_name n = if nat_lt n 10 then Some (reason_text (numbered_reason n)) else None
 
--- the name of this number: of a status, a kind, a cause, a reason or an error code, or the text of a
--- rule on times
+-- the name of this number: of a status, a kind, a cause, a reason or an error code, or the text of
+-- a rule on times
 abbrev pub name_said : (named number : ℕ) → List ℕ
 name_said named n =
     if named == 0 then name_or (status_name n) (codes "unknown status ") n

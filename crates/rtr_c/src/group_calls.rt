@@ -109,7 +109,8 @@ pub extern "C" fn rtr_group_shows(
     payloads: usize,
     answer: &mut RtrGroupAnswer,
 )
-    ensures { IsGroupStep group.old (clock now) member (events.Shows payloads) answer.new group.new }
+    ensures { IsGroupStep group.old (clock now) member (events.Shows payloads) answer.new
+        group.new }
 {
     *answer = step(group, now, member, Event::Shows(payloads));
 }

@@ -45,8 +45,8 @@ pub extern "C" fn rtr_history_since_nonnull(
     answer.status
 }
 
-/// Where the present data of a history stand in it, as `rtr_history::data_at`: their offset and their
-/// length, or 0.
+/// Where the present data of a history stand in it, as `rtr_history::data_at`: their offset and
+/// their length, or 0.
 #[unsafe(no_mangle)]
 pub extern "C" fn rtr_history_data_nonnull(
     history: &[u8],

@@ -6,8 +6,8 @@ ghost use Rattle.rtr_load.specs.declared.fault.LoadFault.{LoadFault};
 ghost use Rattle.rtr_load.specs.declared.recording.Loaded.{Loaded};
 ghost use Rattle.rtr_c.specs.Answers.{rtr_no_index, rtr_no_room};
 ghost use Rattle.rtr_c.specs.LoadAnswers.{AnswersLoad, change_status, data_loaded, load_answer};
-ghost use Rattle.rtr_c.specs.LoadAnswers.{load_fault_detail, load_refused, load_fault_status, load_fault_wanted};
-ghost use Rattle.rtr_c.specs.LoadAnswers.{nothing_loaded, recorded_status};
+ghost use Rattle.rtr_c.specs.LoadAnswers.{load_fault_detail, load_refused, load_fault_status};
+ghost use Rattle.rtr_c.specs.LoadAnswers.{load_fault_wanted, nothing_loaded, recorded_status};
 
 use crate::answer::{
     ACCEPTED, DUPLICATE, EMPTY_PROVIDERS, NO_INDEX, NO_ROOM, OLD_SERIAL, OTHER_SESSION,

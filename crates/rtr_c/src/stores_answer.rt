@@ -1,9 +1,9 @@
 //! How a call on the stores of a cache ended, in numbers.
 
 ghost use Rattle.std.specs.Prelude.{◌≡◌, Err};
-ghost use Rattle.rtr_c.specs.StoresAnswers.{check_told, flaw_answer, no_room_answer, refused_answer};
-ghost use Rattle.rtr_c.specs.StoresAnswers.{untaken_answer, room_number, since_told, taking_told};
-ghost use Rattle.rtr_c.specs.StoresAnswers.{wrote_answer};
+ghost use Rattle.rtr_c.specs.StoresAnswers.{check_told, flaw_answer, no_room_answer};
+ghost use Rattle.rtr_c.specs.StoresAnswers.{refused_answer, room_number, since_told, taking_told};
+ghost use Rattle.rtr_c.specs.StoresAnswers.{untaken_answer, wrote_answer};
 
 use crate::data_answer::{reason_detail, reason_status};
 use crate::stores::OK;

@@ -47,7 +47,8 @@ no_keep r r' n (events.Faulty f) says rule = rule
 no_keep r r' n events.Applied says rule = absurd says
 no_keep r r' n (events.NotApplied code) says rule = rule
 
-no_apply : (r r' : Router) (n : ℕ) (e : Event) (on : Bool) → SaysItself r e → Rule r n e (actions.Apply on) r' → ⊥
+no_apply : (r r' : Router) (n : ℕ) (e : Event) (on : Bool) → SaysItself r e →
+    Rule r n e (actions.Apply on) r' → ⊥
 no_apply r r' n events.Tick on says rule = rule
 no_apply r r' n events.Asked on says rule = rule
 no_apply r r' n events.Connected on says rule = rule

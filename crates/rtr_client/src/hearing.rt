@@ -317,7 +317,8 @@ impl Client {
             (untold self.old input.old) (untold self.new input.new) }
         ensures holding { self.new.holding ≡ follows action.now self.old.holding }
         ensures ends { EndsConnection action.now → untold self.new input.new ≡ [] }
-        ensures waits { action.now ≡ actions.Wait → (self.new ≡ self.old) × (input.new ≡ input.old) }
+        ensures waits { action.now ≡ actions.Wait →
+            (self.new ≡ self.old) × (input.new ≡ input.old) }
         ensures same { SameCalls self.old self.new }
         ensures router { self.new.router ≡ self.old.router }
         ensures unsent { self.new.unsent ≡ self.old.unsent }

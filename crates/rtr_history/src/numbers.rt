@@ -3,8 +3,8 @@
 ghost use Rattle.std.specs.Prelude.{◌≡◌};
 ghost use Rattle.rtr_history.specs.Stores.{are_of_stores};
 
-/// The numbers of a `Stores`: `Stores::numbers` returns them, and `Stores::of_numbers` makes the same
-/// `Stores` of them.
+/// The numbers of a `Stores`: `Stores::numbers` returns them, and `Stores::of_numbers` makes the
+/// same `Stores` of them.
 #[derive(Clone, Copy, Debug, PartialEq, Eq)]
 pub struct Numbers {
     /// The length of the store that is served, if there is one.

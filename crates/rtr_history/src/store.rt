@@ -51,8 +51,8 @@ pub fn take_into(
     history: &[u8],
     output: &mut [u8],
 ) -> Result<usize, TakeFault>
-    ensures takes { (x z : Snapshot) (ys zs : List Snapshot) → WritesStore result store.now present next
-        history.now x z ys zs output.new }
+    ensures takes { (x z : Snapshot) (ys zs : List Snapshot) → WritesStore result store.now present
+        next history.now x z ys zs output.new }
     ensures history { IfOk result (λ n. part_rest (take n output.new) ≡ history.now) }
     ensures room { WantsOutput result (18 + length store.now + length history.now)
         (length output.old) }

@@ -12,8 +12,8 @@ use Rattle.rtr_c.proofs.link.client_from.Goals as goal
 pub returns-clause-step : goal.returns-clause-step
 returns-clause-step c = λ e.
     let l = c.args.link.now in
-    let phase = ap (λ (r : Router). r.phase) (c.router_from.ensures ∙ ap router_of c.router_in.ensures)
-    in
+    let phase =
+    ap (λ (r : Router). r.phase) (c.router_from.ensures ∙ ap router_of c.router_in.ensures) in
     let suits = in_phase l.phase l.holding l.end_size c.flag_from.result (begun_suits l e) in
     subst (λ (p : Phase). InPhase p c.holding_from.result) (sym phase)
     (subst (λ (m : Holding). InPhase (phase_of l.phase) m) (sym c.holding_from.ensures) suits)

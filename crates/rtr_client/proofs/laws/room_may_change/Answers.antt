@@ -9,5 +9,6 @@ returns c s k input input' buffer buffer' fits same x = record {
   stands = λ caller settings makes.
       runs_still caller k.router k.holding k.kept k.filled k.shown input input' buffer buffer'
       fits.due same.front same.shown (x.stands caller settings makes);
-  counts = counts_still k.router k.holding k.kept k.filled input input' fits.due same.front x.counts;
+  counts =
+      counts_still k.router k.holding k.kept k.filled input input' fits.due same.front x.counts;
 }

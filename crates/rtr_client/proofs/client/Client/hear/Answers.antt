@@ -155,8 +155,9 @@ returns-in-Kept-clause-turns c = λ talks acts.
     let heard = c.in-Kept.ensures.hears in
     let rest = drop s.kept (take s.filled input) in
     let kept = same_kept c.args.now s.router (take size rest) after heard.kept in
-    subst (λ (new : Client). turns_left (record new { router = after; kept = new.kept + size }) input
-    < turns_left s input) (sym c.told.ensures.same)
+    subst (λ (new : Client).
+    turns_left (record new { router = after; kept = new.kept + size }) input < turns_left s input)
+    (sym c.told.ensures.same)
     (kept_turns s after size input c.requires.hears heard.some heard.within
     (turns_same s.router after kept.0 kept.1))
 
@@ -278,8 +279,8 @@ returns-in-Refused-clause-names c = λ held.
           ends_over now s.router told.router after.router s.holding s.kept s.filled s.shown input
           held s.unsent told.unsent c.put-in-Refused.new.unsent after.unsent output
           c.put-in-Refused.new.output x.action refusal s.kept rest y is
-          (subst (λ o. IsOver now s.router s.holding s.kept s.filled s.shown input held y told.router
-          o s.kept rest) (sym c.of-refusal.ensures)
+          (subst (λ o. IsOver now s.router s.holding s.kept s.filled s.shown input held y
+          told.router o s.kept rest) (sym c.of-refusal.ensures)
           (over_refused c.args.closed x.fault
           (subst (λ a. HearsRefused s.router now rest c.args.closed x.fault a told.router) is
           x.ensures.hears)))
@@ -362,8 +363,8 @@ returns-in-Acted-clause-counts c = λ x.
     let input = c.args.input.now in
     let u = c.in-Acted in
     c.act.ensures.counts c.args.now s.router
-    (subst (λ (new : Client). Acts s.router c.args.now (drop new.kept (take new.filled input)) u.start
-    u.end u.action c.told.new.self.router) (sym c.told.ensures.same) u.ensures.hears)
+    (subst (λ (new : Client). Acts s.router c.args.now (drop new.kept (take new.filled input))
+    u.start u.end u.action c.told.new.self.router) (sym c.told.ensures.same) u.ensures.hears)
     (subst (λ (new : Client). IsKeptCount new.holding s.router new.kept input)
     (sym c.told.ensures.same) x)
 

@@ -62,7 +62,8 @@ pub returns-in-Err-Unknown-clause-names : goal.returns-in-Err-Unknown-clause-nam
 returns-in-Err-Unknown-clause-names c =
     let s = c.args.self.now in
     let x = c.in-Err-Unknown in
-    c.refuse-in-Err-Unknown.ensures.names c.args.held.now c.args.since c.args.size (length c.args.index.now)
+    c.refuse-in-Err-Unknown.ensures.names c.args.held.now c.args.since c.args.size
+    (length c.args.index.now)
     c.requires.due
     (unknown_at x.field-0 x.offset
     (onto c.args.since s.shown c.args.held.now (take c.args.size (drop s.kept c.args.input.now)))
