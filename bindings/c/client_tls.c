@@ -8,6 +8,7 @@
 #include <errno.h>
 #include <openssl/err.h>
 #include <openssl/ssl.h>
+#include <openssl/x509v3.h>
 #include <poll.h>
 #include <signal.h>
 #include <stdio.h>
@@ -117,6 +118,7 @@ static void dial(struct member *m)
     must(m->connection && BIO_get_ssl(m->connection, &tls) && BIO_set_nbio(m->connection, 1)
              && BIO_set_conn_hostname(m->connection, m->address)
              && SSL_set1_host(tls, BIO_get_conn_hostname(m->connection)), m->address);
+    SSL_set_hostflags(tls, X509_CHECK_FLAG_NEVER_CHECK_SUBJECT); /* RFC 8210 section 9.2 */
     go_on(m);
 }
 

@@ -41,7 +41,8 @@ class Certificates:
                      "-nodes", "-days", "2", "-subj", "/CN=authority", "-keyout",
                      self.path("ca.key"), "-out", self.path("ca"))
         for name, names in (("cache", "IP:127.0.0.1"), ("other", "DNS:cache.example"),
-                            ("client", "DNS:router.example")):
+                            ("client", "DNS:router.example"), ("named", "DNS:localhost"),
+                            ("localhost", "email:cache@cache.example")):
             self.sign(name, names)
 
     def path(self, name):
@@ -77,10 +78,10 @@ class Certificates:
 class Run:
     """A client that ran with caches by preference, which a script plays."""
 
-    def __init__(self, script, caches=1, certificates=("cache", "cache")):
+    def __init__(self, script, caches=1, certificates=("cache", "cache"), host="127.0.0.1"):
         self.contexts = [CERTIFICATES.context(name) for name in certificates]
         self.listeners = [socket.create_server(("127.0.0.1", 0)) for _ in range(caches)]
-        addresses = [f"127.0.0.1:{listener.getsockname()[1]}" for listener in self.listeners]
+        addresses = [f"{host}:{listener.getsockname()[1]}" for listener in self.listeners]
         for listener in self.listeners:
             listener.settimeout(PATIENCE)
         self.failed, self.peers = None, []
@@ -215,6 +216,24 @@ def test_refused():
 
     run = Run(plain, 2)
     assert (run.lines, run.log) == (["+ " + ONE_LINE], ["0: wrong version number"]), run.log
+
+
+def test_common_name():
+    """A name counts among the certificate's alternative names, and not as its subject's common
+    name (RFC 8210 section 9.2)."""
+    def script(run):
+        try:
+            with run.accept() as best:
+                assert received(best) == b""
+        except ssl.SSLError:
+            pass
+        other = run.asked(reset_query(1), 1)
+        other.sendall(answer([ONE], 7))
+        is_taken(other, 7)
+
+    run = Run(script, 2, ("localhost", "named"), "localhost")
+    assert run.lines == ["+ " + ONE_LINE], (run.lines, run.said)
+    assert run.said == ["0: hostname mismatch"], run.said
 
 
 def test_nobody():
