@@ -3,7 +3,7 @@
 import { lookup } from "node:dns/promises";
 import { once } from "node:events";
 import { connect as connectTcp, isIP } from "node:net";
-import { connect as connectTls } from "node:tls";
+import { checkServerIdentity, connect as connectTls } from "node:tls";
 
 // The most bytes of the cache that are read while it gets a last report.
 const LAST_BYTES = 1 << 20;
@@ -78,7 +78,14 @@ function guarded(stream) {
 
 /** Returns the options of TLS for a cache whose certificate has to name this host. */
 function nameOf(host) {
-    return isIP(host) ? { host } : { host, servername: host };
+    const checked = { host, checkServerIdentity: checkNames };
+    return isIP(host) ? checked : { ...checked, servername: host };
+}
+
+/** Checks the alternative names of a certificate. The common name of its subject, which Node takes
+ * if there are none, doesn't count (RFC 8210 section 9.2). */
+function checkNames(host, certificate) {
+    return checkServerIdentity(host, { ...certificate, subject: {} });
 }
 
 /** Returns the error for an address that doesn't answer in time, like the system's. */

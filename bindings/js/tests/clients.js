@@ -448,15 +448,17 @@ export const TESTS = {
         });
     },
 
-    /** Over TLS the certificate has to have the cache's host name or address. */
+    /** Over TLS the certificate has to have the cache's host name or address: as an alternative
+     * name, not as the common name of its subject (RFC 8210 section 9.2). */
     async provesNames(rtr, _, t) {
-        const [named, addressed] = [certified("DNS:cache.example"), certified(`IP:${HOST}`)];
+        const [named, addressed, common] = ["DNS:cache.example", `IP:${HOST}`,
+            "email:cache@cache.example"].map(certified);
         if (named === null) {
             t.skip(NO_OPENSSL);
             return;
         }
         for (const [tls, host, isRight] of [[named, "cache.example", true], [addressed, HOST, true],
-            [named, "other.example", false], [named, HOST, false]]) {
+            [named, "other.example", false], [named, HOST, false], [common, "cache", false]]) {
             await withCache([gives(answer(1, prefix(1)))], ({ port }) => (
                 resolved([HOST], async () => {
                     const client = clientOf(rtr, port, { host, tls: { ca: tls.cert } });
