@@ -273,6 +273,21 @@ class Following:
         with Cache(waits, context=server) as cache, self.assertRaises(ssl.SSLError):
             self.fetch(cache, context=ssl.create_default_context())
 
+    def test_common_name(self):
+        """A name counts among the certificate's alternative names, and not as its subject's common
+        name (RFC 8210 section 9.2)."""
+        for name, is_right in (("DNS:cache", True), ("email:cache@cache.example", False)):
+            with tempfile.TemporaryDirectory() as folder:
+                server, certificate = certified(folder, name)
+                trusting = ssl.create_default_context(cafile=certificate)
+            with Cache(says(RESET, answer(FIRST)), context=server) as cache, \
+                    resolved(cache.port, "127.0.0.1"):
+                if is_right:
+                    self.assertEqual(self.fetch(cache, context=trusting, host="cache"), FIRST)
+                    continue
+                with self.assertRaises(ssl.SSLError):
+                    self.fetch(cache, context=trusting, host="cache")
+
 
 class Blocking(Following, unittest.TestCase):
     """Client."""
@@ -297,8 +312,8 @@ class Blocking(Following, unittest.TestCase):
                 self.assertRaises(ConnectionRefusedError):
             Client("cache.example", port, SOON).fetch()
 
-    def fetch(self, cache, settings=SOON, context=None):
-        return Client("127.0.0.1", cache.port, settings, ssl=context).fetch()
+    def fetch(self, cache, settings=SOON, context=None, host="127.0.0.1"):
+        return Client(host, cache.port, settings, ssl=context).fetch()
 
     def updates(self, cache, count, failed=None, settings=SOON, context=None):
         client = Client("127.0.0.1", cache.port, settings, failed=patient(failed),
@@ -381,8 +396,8 @@ class Blocking(Following, unittest.TestCase):
 class ForAsyncio(Following, unittest.TestCase):
     """AsyncClient."""
 
-    def fetch(self, cache, settings=SOON, context=None):
-        client = AsyncClient("127.0.0.1", cache.port, settings, ssl=context)
+    def fetch(self, cache, settings=SOON, context=None, host="127.0.0.1"):
+        client = AsyncClient(host, cache.port, settings, ssl=context)
         return asyncio.run(client.fetch())
 
     def updates(self, cache, count, failed=None, settings=SOON, context=None):

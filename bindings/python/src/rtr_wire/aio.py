@@ -11,7 +11,8 @@ from ._library import number
 from ._rtr import Cause
 from .data import Data
 from .group import Decision, Group
-from .loops import CHUNK, LAST_BYTES, LOOK, REPORT_SECONDS, Asking, Clock, OnFailure, new_router
+from .loops import (CHUNK, LAST_BYTES, LOOK, REPORT_SECONDS, Asking, Clock, OnFailure, new_router,
+                    strict_names)
 from .router import Close, Connect, Failed, Router, SessionError, Settings, Update
 
 Streams = Tuple[asyncio.StreamReader, asyncio.StreamWriter]
@@ -60,7 +61,8 @@ class AsyncClient(Asking):
     Args:
         host, port: the address of the cache
         settings: limits and times; by default those of `Settings()`, in version 1
-        ssl: a context for TLS; the cache's certificate is checked against `host`
+        ssl: a context for TLS; the cache's certificate is checked against `host`. The context is
+            set to take its alternative names alone (RFC 8210 section 9.2)
         failed: is called with the reason when a connection ends or there is no answer yet; may
             raise
         connect: opens the pair of streams, instead of TCP and TLS
@@ -71,7 +73,7 @@ class AsyncClient(Asking):
                  connect: Optional[Callable[[], Awaitable[Streams]]] = None) -> None:
         super().__init__()
         self.host, self.port, self.settings = host, number("port", port, 16), settings
-        self._ssl, self._failed = ssl, failed
+        self._ssl, self._failed = strict_names(ssl), failed
         self._connect = connect if connect is not None else self._over_tcp
 
     async def fetch(self) -> Data:

@@ -10,7 +10,8 @@ from typing import Callable, Generator, Iterator, Optional, Union
 from ._library import number
 from ._rtr import Cause
 from .data import Data
-from .loops import CHUNK, LAST_BYTES, LOOK, REPORT_SECONDS, Asking, Clock, OnFailure, new_router
+from .loops import (CHUNK, LAST_BYTES, LOOK, REPORT_SECONDS, Asking, Clock, OnFailure, new_router,
+                    strict_names)
 from .router import Close, Connect, Failed, Router, SessionError, Settings, Update
 
 
@@ -29,7 +30,8 @@ class Client(Asking):
     Args:
         host, port: the address of the cache
         settings: limits and times; by default those of `Settings()`, in version 1
-        ssl: a context for TLS; the cache's certificate is checked against `host`
+        ssl: a context for TLS; the cache's certificate is checked against `host`. The context is
+            set to take its alternative names alone (RFC 8210 section 9.2)
         failed: is called with the reason when a connection ends or there is no answer yet; may
             raise
         connect: opens the connection, instead of TCP and TLS: it gets the seconds that it may take,
@@ -41,7 +43,7 @@ class Client(Asking):
                  connect: Optional[Callable[[float], socket.socket]] = None) -> None:
         super().__init__()
         self.host, self.port, self.settings = host, number("port", port, 16), settings
-        self._ssl, self._failed = ssl, failed
+        self._ssl, self._failed = strict_names(ssl), failed
         self._connect = connect if connect is not None else self._over_tcp
 
     def fetch(self) -> Data:

@@ -2,8 +2,9 @@
 from __future__ import annotations
 
 import random
+import ssl as tls
 import time
-from typing import Any, Callable
+from typing import Any, Callable, Optional
 
 from .router import Router, Settings
 
@@ -39,6 +40,14 @@ class Clock:
 def new_router(settings: Settings) -> Router:
     """Returns a router whose waits are spread by a random number."""
     return Router(settings, chance=random.SystemRandom().getrandbits(16))
+
+
+def strict_names(context: Optional[tls.SSLContext]) -> Optional[tls.SSLContext]:
+    """Returns a context for TLS, which takes no common name of a certificate from now on: RFC 8210
+    section 9.2 forbids it, and OpenSSL takes it if there are no alternative names."""
+    if context is not None and tls.HAS_NEVER_CHECK_COMMON_NAME:
+        context.hostname_checks_common_name = False
+    return context
 
 
 class Asking:
