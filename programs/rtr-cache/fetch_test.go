@@ -431,7 +431,7 @@ func TestFailedTLS(t *testing.T) {
 		process, _, _ := fetching(t, "--csv", server.URL, "--fetch-ca", folder+"/ca")
 		process.Says("it can't be fetched: ", 1)
 		if process.Lines("reason=certificate") != process.Lines("it can't be fetched: ") {
-			t.Errorf("%s: %s", name, process.Said())
+			t.Errorf("%s: %s", name, process.Stderr())
 		}
 		process.End()
 		server.Close()

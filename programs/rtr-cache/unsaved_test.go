@@ -140,6 +140,6 @@ func TestEndedReader(t *testing.T) {
 	}
 	process.Says("serial 2: 4 payloads", 1)
 	if process.Lines("level=warning") != 1 {
-		t.Error(process.Said())
+		t.Error(process.Stderr())
 	}
 }
