@@ -104,8 +104,8 @@ class Asked(unittest.TestCase):
                 pass
 
         client, router = Raced(), Told()
-        asked = client._told(router, 0)
-        client._told(router, asked)
+        asked = client._pass_requests(router, 0)
+        client._pass_requests(router, asked)
         self.assertEqual(router.count, 1)
 
 
