@@ -117,7 +117,7 @@ def contents():
 
 
 def readme():
-    """Returns the README without the comments of .ci/shown."""
+    """Returns the README without the comments that name the files shown."""
     return re.sub(r"(?m)^<!-- shown: .* -->\n", "", (HERE / "README.md").read_text())
 
 
