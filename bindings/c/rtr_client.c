@@ -186,12 +186,12 @@ static uint8_t write_changes(struct rtr_client *c, struct bytes old, const struc
     return status;
 }
 
-/* Grows the buffer for the changes to the data that fit the other buffer, before a whole answer is
- * applied: without memory the present data stay. Returns false without memory. */
+/* Grows the buffer for the changes to data that fill the other buffer, once that is there, before a
+ * whole answer is applied: without memory the present data stay. Returns false without memory. */
 static bool reserve_changes(struct rtr_client *c, bool second)
 {
     size_t length = second ? c->buffers.first_length : c->buffers.second_length;
-    return !c->data || grow_changes(c, size_of_changes(c->data_length, length));
+    return !c->data || !length || grow_changes(c, size_of_changes(c->data_length, length));
 }
 
 /* Sets `payloads` and `end` from the data. */

@@ -29,7 +29,7 @@ struct cache {
     struct rtr_work work;
     struct rtr_history_limits limits;
     struct rtr_stores_answer answer;
-    struct place place;
+    struct arena arena;
     struct fenced buffer, spare;
     uint64_t now;
     uint8_t file[4096];
@@ -46,56 +46,56 @@ static const uint8_t *bytes_of(const struct cache *k, const char *digits, size_t
         CHECK(sscanf(digits + 2 * i, "%2x", &byte) == 1);
         bytes[i] = (uint8_t)byte;
     }
-    return copied(&k->place, k->place.input, bytes, *length);
+    return copied(&k->arena, k->arena.input, bytes, *length);
 }
 
 /* Memory for the last pointer, filled with bytes that no call returns. */
 static void *filled(const struct cache *k, size_t size)
 {
-    return memset(lie(&k->place, k->place.unit, size), 0xa5, size);
+    return memset(lie(&k->arena, k->arena.unit, size), 0xa5, size);
 }
 
 /* Makes a buffer this long, with the bytes that it holds. */
-static uint8_t *longer(const struct place *place, struct fenced fenced, const uint8_t *bytes,
+static uint8_t *longer(const struct arena *arena, struct fenced fenced, const uint8_t *bytes,
                        size_t length, size_t room)
 {
     static uint8_t held[MOST];
     size_t same = length < room ? length : room;
     if (same)
         memcpy(held, bytes, same);
-    uint8_t *lies = memset(lie(place, fenced, room), 0xa5, room);
+    uint8_t *lies = memset(lie(arena, fenced, room), 0xa5, room);
     return memcpy(lies, held, same);
 }
 
 static void first_room(struct cache *k, size_t room)
 {
     k->buffers.first =
-        longer(&k->place, k->place.other, k->buffers.first, k->buffers.first_length, room);
+        longer(&k->arena, k->arena.other, k->buffers.first, k->buffers.first_length, room);
     k->buffers.first_length = room;
 }
 
 static void second_room(struct cache *k, size_t room)
 {
     k->buffers.second =
-        longer(&k->place, k->place.told, k->buffers.second, k->buffers.second_length, room);
+        longer(&k->arena, k->arena.answer, k->buffers.second, k->buffers.second_length, room);
     k->buffers.second_length = room;
 }
 
 static void index_room(struct cache *k, size_t room)
 {
-    k->work.index = lie(&k->place, k->place.index, room * sizeof(size_t));
+    k->work.index = lie(&k->arena, k->arena.index, room * sizeof(size_t));
     k->work.index_length = room;
 }
 
 static void buffer_room(struct cache *k, size_t room)
 {
-    k->work.buffer = lie(&k->place, k->buffer, room);
+    k->work.buffer = lie(&k->arena, k->buffer, room);
     k->work.buffer_length = room;
 }
 
 static void spare_room(struct cache *k, size_t room)
 {
-    k->work.spare = lie(&k->place, k->spare, room);
+    k->work.spare = lie(&k->arena, k->spare, room);
     k->work.spare_length = room;
 }
 
@@ -120,14 +120,14 @@ static void give_room(struct cache *k)
 static void begin(struct cache *k, bool at_end)
 {
     static struct cache fences;
-    if (!fences.place.input.front) {
-        fences.place = new_place();
-        fences.place.told = fence(MOST);
+    if (!fences.arena.input.front) {
+        fences.arena = new_arena();
+        fences.arena.answer = fence(MOST);
         fences.buffer = fence(MOST);
         fences.spare = fence(MOST);
     }
     *k = fences;
-    k->place.at_end = at_end;
+    k->arena.at_end = at_end;
     k->limits = (struct rtr_history_limits){3600000, 100000};
     k->now = 1700000000000;
     memset(&k->stores, 0xa5, sizeof k->stores);
@@ -195,7 +195,7 @@ static uint8_t since(struct cache *k, uint32_t serial, uint8_t version)
     size_t length, output_length = 0;
     const uint8_t *history = served(k, &length);
     for (int turn = 0; turn < 8; turn++) {
-        uint8_t *written = lie(&k->place, k->place.output, output_length);
+        uint8_t *written = lie(&k->arena, k->arena.output, output_length);
         memset(&k->answer, 0xa5, sizeof k->answer);
         uint8_t status = rtr_history_since(history, length, serial, version, &k->work, written,
                                            output_length, &k->answer);
@@ -273,11 +273,11 @@ static void take_and_save(struct cache *k, const char *digits)
 static uint8_t restart(struct cache *k)
 {
     struct cache was = *k;
-    begin(k, was.place.at_end);
+    begin(k, was.arena.at_end);
     memcpy(k->file, was.file, was.file_length);
     k->file_length = was.file_length;
     k->now = was.now + 60000;
-    const uint8_t *file = copied(&k->place, k->place.input, k->file, k->file_length);
+    const uint8_t *file = copied(&k->arena, k->arena.input, k->file, k->file_length);
     if (!rtr_store_open(file, k->file_length))
         return RTR_STORES_MALFORMED;
     size_t length = k->file_length - sizeof(struct rtr_store_head);
@@ -365,7 +365,7 @@ static void check_files(struct cache *k)
         k->file[i] ^= 0x10;
     }
     for (k->file_length = 0; k->file_length < length; k->file_length++)
-        CHECK(!rtr_store_open(copied(&k->place, k->place.input, k->file, k->file_length),
+        CHECK(!rtr_store_open(copied(&k->arena, k->arena.input, k->file, k->file_length),
                               k->file_length));
     CHECK(!rtr_store_open(NULL, 0));
     /* The store without its last byte, and more than the buffer has. */
