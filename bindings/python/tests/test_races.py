@@ -119,7 +119,7 @@ class Groups(unittest.TestCase):
         decision = group.happens(2, 1, Update(SECOND, None))
         self.assertEqual((decision.source, decision.update.data), (1, SECOND))
         decision = group.happens(3, 1, Update(Data((), EndOfData(7, 3)), None))
-        self.assertEqual((type(decision.error), decision.place), (NoPayloads, 1))
+        self.assertEqual((type(decision.error), decision.member), (NoPayloads, 1))
         self.assertEqual((decision.source, decision.update.data), (0, FIRST))
 
     def test_whose_loss(self):
