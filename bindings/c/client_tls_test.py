@@ -232,8 +232,8 @@ def test_common_name():
         is_taken(other, 7)
 
     run = Run(script, 2, ("localhost", "named"), "localhost")
-    assert run.lines == ["+ " + ONE_LINE], (run.lines, run.said)
-    assert run.said == ["0: hostname mismatch"], run.said
+    assert run.lines == ["+ " + ONE_LINE], (run.lines, run.log)
+    assert run.log == ["0: hostname mismatch"], run.log
 
 
 def test_nobody():
@@ -288,7 +288,7 @@ def test_reset():
         is_taken(peer, 1)
 
     run = Run(script)
-    assert run.lines == ["+ " + ONE_LINE], (run.lines, run.said)
+    assert run.lines == ["+ " + ONE_LINE], (run.lines, run.log)
 
 
 def main():
