@@ -10,8 +10,8 @@ use Rattle.rtr_units.specs.End.{EndMeaning, end_list}
 use Rattle.rtr_payload.specs.Payloads.{Meaning}
 use Rattle.rtr_payload.proofs.Apart.{begins_apart}
 use Rattle.rtr_payload.proofs.Fields.{units_same}
-use Rattle.rtr_views.specs.declared.fault.ViewFault.{ViewFault}
-use Rattle.rtr_views.specs.declared.fault.ViewFault.TheVariants as faults
+use Rattle.unit_views.specs.declared.fault.ViewFault.{ViewFault}
+use Rattle.unit_views.specs.declared.fault.ViewFault.TheVariants as faults
 use Rattle.rtr_wire.specs.Into.{NormalisesInto, RefusesVersion}
 use Rattle.rtr_wire.specs.Run.{Run}
 use Rattle.rtr_wire.specs.Sequences.{AreUnits, Accepts, Output, forms, sequence_form}

@@ -10,11 +10,11 @@ use Rattle.rtr_base.specs.declared.timing.Timing.{Timing}
 use Rattle.rtr_units.specs.End.{HasTimingOf, end_list}
 use Rattle.rtr_units.specs.Header.{version_field, session_field}
 use Rattle.rtr_units.specs.Report.{report}
-use Rattle.rtr_session.specs.AnyFields.{AnyFields, HasAnyFields, serial_notify, serial_query}
-use Rattle.rtr_session.specs.AnyFields.{reset_query, cache_response, payload, end_of_data}
-use Rattle.rtr_session.specs.AnyFields.{cache_reset, error_report}
-use Rattle.rtr_session.specs.SessionForms.{session_form}
-use Rattle.rtr_session.specs.Reports.{HasParts}
+use Rattle.unit_any.specs.AnyFields.{AnyFields, HasAnyFields, serial_notify, serial_query}
+use Rattle.unit_any.specs.AnyFields.{reset_query, cache_response, payload, end_of_data}
+use Rattle.unit_any.specs.AnyFields.{cache_reset, error_report}
+use Rattle.unit_any.specs.SessionForms.{session_form}
+use Rattle.unit_any.specs.Reports.{HasParts}
 use Rattle.rtr_c.proofs.AgainPayload.{payload_again}
 use Rattle.rtr_c.specs.WrittenUnits.{said, session_said, piece_said, report_said}
 use Rattle.rtr_c.specs.ShownUnits.{CallShows, IsWrittenAgain}

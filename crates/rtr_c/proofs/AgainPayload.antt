@@ -17,7 +17,7 @@ use Rattle.rtr_units.specs.PrefixUnits.{PrefixFields, prefix_type}
 use Rattle.rtr_payload.specs.FirstFault.{broken_rule}
 use Rattle.rtr_payload.specs.RouteOrigins.{meant_origin}
 use Rattle.rtr_payload.proofs.Fields.{meaning_fits}
-use Rattle.rtr_session.specs.AnyFields.{HasAnyFields, payload}
+use Rattle.unit_any.specs.AnyFields.{HasAnyFields, payload}
 use Rattle.rtr_payload.specs.AspaUnits.{AspaFields, aspa_list, HasProviders, meant_aspa}
 use Rattle.rtr_payload.specs.KeyUnits.{KeyFields, key_list}
 use Rattle.rtr_payload.specs.Payloads.{IsOrigin, IsKey, IsAspa, origin, key, aspa}

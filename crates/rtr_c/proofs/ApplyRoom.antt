@@ -1,10 +1,10 @@
 -- Where what changes make of data doesn't lack room, no answer says so.
 use Rattle.std.proofs.Common.{◌≡◌, ◌≢◌, ◌+◌, ◌≤◌, ℕ, List, length, Result, Ok, Err, refl, sym, ap}
 use Rattle.std.proofs.Common.{◌∙◌, arith}
-use Rattle.rtr_slices.specs.Apply.{AppliesChanges}
-use Rattle.rtr_slices.specs.declared.fault.ApplyFault.{ApplyFault}
-use Rattle.rtr_slices.specs.declared.fault.ApplyFault.TheVariants as faults
-use Rattle.rtr_slices.proofs.ApplyRoom as applied
+use Rattle.data_slices.specs.Apply.{AppliesChanges}
+use Rattle.data_slices.specs.declared.fault.ApplyFault.{ApplyFault}
+use Rattle.data_slices.specs.declared.fault.ApplyFault.TheVariants as faults
+use Rattle.data_slices.proofs.ApplyRoom as applied
 use Rattle.rtr_c.specs.DataAnswers.{apply_told}
 use Rattle.rtr_c.specs.declared.data_answer.RtrDataAnswer.{RtrDataAnswer}
 use Rattle.rtr_c.proofs.DeltaRoom.{reason_else}

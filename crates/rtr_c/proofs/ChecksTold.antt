@@ -6,9 +6,9 @@ use Rattle.std.proofs.lemmas.Bool.Decides.{nat_tests}
 use Rattle.std.proofs.lemmas.List.{get_or-take}
 use Rattle.rtr_units.specs.Header.{length_field, type_field, version_field}
 use Rattle.rtr_payload.specs.FirstFault.{header_fault}
-use Rattle.rtr_session.specs.SessionKinds.{any_header_fault}
-use Rattle.rtr_session.proofs.Lengths.{said_bounded}
-use Rattle.rtr_findings.specs.declared.finding.Finding.{Finding}
+use Rattle.unit_any.specs.SessionKinds.{any_header_fault}
+use Rattle.unit_any.proofs.Lengths.{said_bounded}
+use Rattle.text_findings.specs.declared.finding.Finding.{Finding}
 use Rattle.rtr_c.specs.Checks.{LooksAt, is_bare_aspa, numbered_finding}
 use Rattle.rtr_c.specs.declared.check.RtrFinding.{RtrFinding}
 

@@ -1,15 +1,15 @@
 -- Where a delta doesn't lack room, no answer says so.
 use Rattle.std.proofs.Common.{◌≡◌, ◌≢◌, ◌+◌, ◌≤◌, ℕ, List, length, Result, Ok, Err, refl, sym, ap}
 use Rattle.std.proofs.Common.{◌∙◌, arith}
-use Rattle.rtr_views.specs.declared.fault.ViewFault.{ViewFault}
-use Rattle.rtr_views.specs.declared.fault.ViewFault.TheVariants as faults
-use Rattle.rtr_slices.specs.Delta.{Deltas}
-use Rattle.rtr_slices.specs.declared.fault.DeltaFault.{DeltaFault}
-use Rattle.rtr_slices.specs.declared.fault.DeltaFault.TheVariants.{Old, New, UnitVersion, Session}
-use Rattle.rtr_slices.specs.declared.fault.DeltaFault.TheVariants.{NoRoom}
-use Rattle.rtr_slices.specs.declared.fault.Reason.{Reason}
-use Rattle.rtr_slices.specs.declared.fault.Reason.TheVariants.{Refused, NotCanonical}
-use Rattle.rtr_slices.proofs.DeltaRoom as deltas
+use Rattle.unit_views.specs.declared.fault.ViewFault.{ViewFault}
+use Rattle.unit_views.specs.declared.fault.ViewFault.TheVariants as faults
+use Rattle.data_slices.specs.Delta.{Deltas}
+use Rattle.data_slices.specs.declared.fault.DeltaFault.{DeltaFault}
+use Rattle.data_slices.specs.declared.fault.DeltaFault.TheVariants.{Old, New, UnitVersion, Session}
+use Rattle.data_slices.specs.declared.fault.DeltaFault.TheVariants.{NoRoom}
+use Rattle.data_slices.specs.declared.fault.Reason.{Reason}
+use Rattle.data_slices.specs.declared.fault.Reason.TheVariants.{Refused, NotCanonical}
+use Rattle.data_slices.proofs.DeltaRoom as deltas
 use Rattle.rtr_c.specs.Answers.{fault_status}
 use Rattle.rtr_c.specs.DataAnswers.{delta_told, reason_status}
 use Rattle.rtr_c.specs.declared.data_answer.RtrDataAnswer.{RtrDataAnswer}

@@ -7,10 +7,10 @@ use Rattle.std.proofs.lemmas.List.{take-append-drop, take-set, drop-set, take_mo
 use Rattle.std.proofs.lemmas.List.{take_all, drop_all}
 use Rattle.rtr_base.specs.declared.timing.Timing.{Timing}
 use Rattle.rtr_payload.specs.UnitFields.{prefix_unit, key_unit, aspa_unit}
-use Rattle.rtr_views.specs.declared.fault.ViewFault.{ViewFault}
-use Rattle.rtr_session.specs.AnyFields.{AnyFields, serial_notify, serial_query, reset_query}
-use Rattle.rtr_session.specs.AnyFields.{cache_response, payload, end_of_data, cache_reset}
-use Rattle.rtr_session.specs.AnyFields.{error_report}
+use Rattle.unit_views.specs.declared.fault.ViewFault.{ViewFault}
+use Rattle.unit_any.specs.AnyFields.{AnyFields, serial_notify, serial_query, reset_query}
+use Rattle.unit_any.specs.AnyFields.{cache_response, payload, end_of_data, cache_reset}
+use Rattle.unit_any.specs.AnyFields.{error_report}
 use Rattle.rtr_c.specs.Answers.{rtr_ok}
 use Rattle.rtr_c.proofs.Accepted.{fault_some}
 use Rattle.rtr_c.specs.ManyShown.{ShowsMany, no_place_left, fault_shown, unit_shown}

@@ -14,7 +14,7 @@ use Rattle.rtr_payload.specs.Providers.{words_of}
 use Rattle.rtr_payload.specs.Units.{form}
 use Rattle.rtr_payload.proofs.ProviderBytes.{provider_bytes_of, provider_count}
 use Rattle.rtr_units.specs.Report.{report}
-use Rattle.rtr_session.specs.HeldReports.{held_report}
+use Rattle.unit_any.specs.HeldReports.{held_report}
 use Rattle.rtr_c.specs.WrittenUnits.{part_said, text_said, key_said, aspa_said, report_said}
 use Rattle.rtr_c.specs.declared.unit.RtrUnit.{RtrUnit}
 

@@ -5,14 +5,14 @@ use Rattle.std.specs.Prelude.{true, false, nat_le}
 use Rattle.std.proofs.lemmas.Bool.Decides.{nat_tests}
 use Rattle.std.proofs.lemmas.List.{get_or-take, length-take-le}
 use Rattle.rtr_units.specs.Header.{type_field, version_field}
-use Rattle.rtr_views.specs.declared.fault.ViewFault.{ViewFault}
-use Rattle.rtr_session.specs.AnyFields.{AnyFields}
-use Rattle.rtr_session.specs.Lengths.{IsBounded, SaysLength}
-use Rattle.rtr_session.proofs.Lengths.{said_bounded}
-use Rattle.rtr_texts.specs.Laying.{Lays}
-use Rattle.rtr_texts.specs.ListedUnits.{fields_at}
-use Rattle.rtr_texts.proofs.Laid.{lays_said}
-use Rattle.rtr_texts.proofs.ReadBack.{read_back}
+use Rattle.unit_views.specs.declared.fault.ViewFault.{ViewFault}
+use Rattle.unit_any.specs.AnyFields.{AnyFields}
+use Rattle.unit_any.specs.Lengths.{IsBounded, SaysLength}
+use Rattle.unit_any.proofs.Lengths.{said_bounded}
+use Rattle.text_lines.specs.Laying.{Lays}
+use Rattle.text_lines.specs.ListedUnits.{fields_at}
+use Rattle.text_lines.proofs.Laid.{lays_said}
+use Rattle.text_lines.proofs.ReadBack.{read_back}
 use Rattle.rtr_c.specs.LineAnswers.{HasNoLine, TellsLine, TellsNone, TellsLaid, line_status}
 use Rattle.rtr_c.specs.PrivateLines.{IsUnitOf, TellsRefusal}
 use Rattle.rtr_c.specs.declared.lines.RtrLine.{RtrLine}

@@ -6,12 +6,12 @@ use Rattle.std.specs.Cmp.Derive.{both_true}
 use Rattle.std.specs.Prelude.{◌&&◌, ◌==◌, nat_le, if◌then◌else◌}
 use Rattle.std.proofs.lemmas.Bool.{and_parts, cases_eq}
 use Rattle.std.proofs.lemmas.Bool.Decides.{nat_tests}
-use Rattle.rtr_router.specs.declared.router.Phase.{Phase}
-use Rattle.rtr_router.specs.declared.router.Phase.TheVariants as phases
-use Rattle.rtr_client.specs.Holding.{due_size}
-use Rattle.rtr_client.specs.Turning.{InPhase}
-use Rattle.rtr_client.specs.declared.client.Holding.{Holding}
-use Rattle.rtr_client.specs.declared.client.Holding.TheVariants as holdings
+use Rattle.session_router.specs.declared.router.Phase.{Phase}
+use Rattle.session_router.specs.declared.router.Phase.TheVariants as phases
+use Rattle.session_client.specs.Holding.{due_size}
+use Rattle.session_client.specs.Turning.{InPhase}
+use Rattle.session_client.specs.declared.client.Holding.{Holding}
+use Rattle.session_client.specs.declared.client.Holding.TheVariants as holdings
 use Rattle.rtr_c.specs.Links.{are_flags, has_flags, holding_number, is_begun}
 use Rattle.rtr_c.specs.Links.{numbered_holding, suits_phase}
 use Rattle.rtr_c.specs.Routers.{phase_number, phase_of}

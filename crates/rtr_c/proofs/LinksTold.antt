@@ -1,9 +1,9 @@
 -- What calls for a router's end promise, of the structs that stand for clients.
 use Rattle.std.proofs.Common.{◌≡◌, ◌≤◌, ℕ, List, length, true, sym, subst}
-use Rattle.rtr_router.specs.Pace.{wakes_at}
-use Rattle.rtr_client.specs.Holding.{Fits}
-use Rattle.rtr_client.specs.declared.client.Client.{Client}
-use Rattle.rtr_client.specs.declared.next.Todo.{Todo}
+use Rattle.session_router.specs.Pace.{wakes_at}
+use Rattle.session_client.specs.Holding.{Fits}
+use Rattle.session_client.specs.declared.client.Client.{Client}
+use Rattle.session_client.specs.declared.next.Todo.{Todo}
 use Rattle.rtr_c.specs.LinkTodos.{TellsTodo, todo_told}
 use Rattle.rtr_c.specs.Links.{client_of, is_begun}
 use Rattle.rtr_c.specs.declared.link.RtrLink.{RtrLink}

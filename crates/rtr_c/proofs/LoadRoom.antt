@@ -2,17 +2,17 @@
 use Rattle.std.proofs.Common.{◌≡◌, ◌≢◌, ℕ, List, Option, Some, None, Result, Ok, Err, refl, arith}
 use Rattle.rtr_base.specs.declared.timing.Timing.{Timing}
 use Rattle.rtr_units.specs.AnyEnd.{end_meaning}
-use Rattle.rtr_views.specs.declared.fault.ViewFault.{ViewFault}
-use Rattle.rtr_views.specs.declared.fault.ViewFault.TheVariants as views
-use Rattle.rtr_data.specs.declared.change_error.ChangeError.{ChangeError}
-use Rattle.rtr_data.specs.declared.change_error.ChangeError.TheVariants as changes
-use Rattle.rtr_recordings.specs.declared.stop.Refusal.{Refusal}
-use Rattle.rtr_recordings.specs.declared.stop.Refusal.TheVariants as refusals
-use Rattle.rtr_load.specs.declared.fault.LoadFault.{LoadFault}
-use Rattle.rtr_load.specs.declared.fault.LoadFault.TheVariants as faults
-use Rattle.rtr_load.specs.declared.fault.LoadReason.{LoadReason}
-use Rattle.rtr_load.specs.declared.fault.LoadReason.TheVariants as reasons
-use Rattle.rtr_load.specs.declared.recording.Loaded.{Loaded}
+use Rattle.unit_views.specs.declared.fault.ViewFault.{ViewFault}
+use Rattle.unit_views.specs.declared.fault.ViewFault.TheVariants as views
+use Rattle.data_memory.specs.declared.change_error.ChangeError.{ChangeError}
+use Rattle.data_memory.specs.declared.change_error.ChangeError.TheVariants as changes
+use Rattle.data_recordings.specs.declared.stop.Refusal.{Refusal}
+use Rattle.data_recordings.specs.declared.stop.Refusal.TheVariants as refusals
+use Rattle.data_loading.specs.declared.fault.LoadFault.{LoadFault}
+use Rattle.data_loading.specs.declared.fault.LoadFault.TheVariants as faults
+use Rattle.data_loading.specs.declared.fault.LoadReason.{LoadReason}
+use Rattle.data_loading.specs.declared.fault.LoadReason.TheVariants as reasons
+use Rattle.data_loading.specs.declared.recording.Loaded.{Loaded}
 use Rattle.rtr_c.specs.Answers.{fault_status}
 use Rattle.rtr_c.specs.LoadAnswers.{change_status, data_loaded, load_answer, load_fault_status}
 use Rattle.rtr_c.specs.LoadAnswers.{recorded_status, times_loaded}

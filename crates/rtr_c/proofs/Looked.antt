@@ -5,11 +5,11 @@ use Rattle.std.proofs.lemmas.Bool.Decides.{nat_tests}
 use Rattle.rtr_base.specs.Addresses.{PrefixParts}
 use Rattle.rtr_units.specs.End.{EndMeaning}
 use Rattle.rtr_payload.specs.Payloads.{Payload}
-use Rattle.rtr_slices.specs.Canonical.{HoldsData}
-use Rattle.rtr_validation.specs.Covering.{IsFirstCovering}
-use Rattle.rtr_validation.specs.Validity.{IsValidity}
-use Rattle.rtr_validation.specs.declared.finding.CoveringVrp.{CoveringVrp}
-use Rattle.rtr_validation.specs.declared.validity.Validity.{Validity}
+use Rattle.data_slices.specs.Canonical.{HoldsData}
+use Rattle.data_validation.specs.Covering.{IsFirstCovering}
+use Rattle.data_validation.specs.Validity.{IsValidity}
+use Rattle.data_validation.specs.declared.finding.CoveringVrp.{CoveringVrp}
+use Rattle.data_validation.specs.declared.validity.Validity.{Validity}
 use Rattle.rtr_c.specs.Lookups.{IsLookup, is_sealed, unsealed}
 use Rattle.rtr_c.specs.Routes.{ShowsFound, TellsCovering, TellsValidity, validity_number}
 use Rattle.rtr_c.specs.declared.lookup.RtrLookup.{RtrLookup}

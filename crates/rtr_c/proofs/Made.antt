@@ -4,15 +4,15 @@ use Rattle.std.proofs.Common.{Result, Ok, Err, sym, ap, subst, ◌∙◌, arith}
 use Rattle.std.proofs.lemmas.Bool.Decides.{nat_tests}
 use Rattle.std.proofs.lemmas.Option.{none-some}
 use Rattle.rtr_payload.specs.FaultSteps.{first_unit}
-use Rattle.rtr_views.specs.Faults.{NamesRefusal}
-use Rattle.rtr_views.specs.declared.fault.ViewFault.{ViewFault}
-use Rattle.rtr_views.specs.declared.fault.ViewFault.TheVariants as faults
+use Rattle.unit_views.specs.Faults.{NamesRefusal}
+use Rattle.unit_views.specs.declared.fault.ViewFault.{ViewFault}
+use Rattle.unit_views.specs.declared.fault.ViewFault.TheVariants as faults
 use Rattle.rtr_units.specs.StopCauses.{Refusal}
-use Rattle.rtr_session.specs.AnyFields.{AnyFields, HasAnyFields}
-use Rattle.rtr_session.specs.SessionViews.{session_fault}
-use Rattle.rtr_session.proofs.Viewed.{whole_bounded}
-use Rattle.rtr_session.proofs.Wholes.{any_whole, any_one}
-use Rattle.rtr_conversation.proofs.OneList.{one_list}
+use Rattle.unit_any.specs.AnyFields.{AnyFields, HasAnyFields}
+use Rattle.unit_any.specs.SessionViews.{session_fault}
+use Rattle.unit_any.proofs.Viewed.{whole_bounded}
+use Rattle.unit_any.proofs.Wholes.{any_whole, any_one}
+use Rattle.session_bytes.proofs.OneList.{one_list}
 use Rattle.rtr_c.specs.Kept.{kept, kept_part, kept_text, IsShownAgain}
 use Rattle.rtr_c.specs.WrittenUnits.{piece_said, part_said, text_said}
 use Rattle.rtr_c.specs.ShownUnits.{CallShows, ShowsFirst}

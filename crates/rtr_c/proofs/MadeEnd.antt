@@ -9,9 +9,9 @@ use Rattle.rtr_units.specs.End.{EndMeaning, HasTimingOf, IsEnd, timed_list}
 use Rattle.rtr_units.specs.Header.{type_field}
 use Rattle.rtr_payload.specs.FirstFault.{is_payload_or_end}
 use Rattle.rtr_payload.proofs.Frames.{end_fault}
-use Rattle.rtr_session.specs.AnyFields.{end_of_data}
-use Rattle.rtr_session.proofs.Agreement.{same_faults}
-use Rattle.rtr_session.proofs.Units.{end_has}
+use Rattle.unit_any.specs.AnyFields.{end_of_data}
+use Rattle.unit_any.proofs.Agreement.{same_faults}
+use Rattle.unit_any.proofs.Units.{end_has}
 use Rattle.rtr_c.proofs.Made.{Made, no_piece}
 use Rattle.rtr_c.specs.Kept.{end_kept}
 use Rattle.rtr_c.specs.PrivateRanges.{IsRanged}

@@ -25,10 +25,10 @@ use Rattle.rtr_payload.proofs.ByFields.{fields_unit}
 use Rattle.rtr_payload.proofs.Fields.{meaning_fits}
 use Rattle.rtr_payload.proofs.ProviderBytes.{provider_bytes_of, provider_count}
 use Rattle.rtr_payload.proofs.Rests.{begins_unit_none}
-use Rattle.rtr_session.specs.AnyFields.{payload}
-use Rattle.rtr_session.specs.SessionViews.{session_fault}
-use Rattle.rtr_session.proofs.Agreement.{same_faults}
-use Rattle.rtr_session.proofs.Units.{payload_has}
+use Rattle.unit_any.specs.AnyFields.{payload}
+use Rattle.unit_any.specs.SessionViews.{session_fault}
+use Rattle.unit_any.proofs.Agreement.{same_faults}
+use Rattle.unit_any.proofs.Units.{payload_has}
 use Rattle.rtr_c.proofs.AgainPayload.{cleared_once, info_back, providers_back}
 use Rattle.rtr_c.proofs.Made.{Made, no_piece}
 use Rattle.rtr_c.specs.Kept.{prefix_kept, key_kept, aspa_kept}

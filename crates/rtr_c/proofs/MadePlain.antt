@@ -5,11 +5,11 @@ use Rattle.rtr_base.specs.Bytes.{be, IsBytes}
 use Rattle.rtr_base.proofs.Numbers.{IsBytes-be}
 use Rattle.rtr_units.specs.Queries.{bare_list, serial_list}
 use Rattle.rtr_units.proofs.Headers.{header_bytes}
-use Rattle.rtr_session.specs.AnyFields.{AnyFields, HasAnyFields, serial_notify, serial_query}
-use Rattle.rtr_session.specs.AnyFields.{reset_query, cache_response, cache_reset}
-use Rattle.rtr_session.specs.PrivateHeaders.{IsPlainType}
-use Rattle.rtr_session.proofs.Forms.{plain_shown}
-use Rattle.rtr_session.proofs.Wholes.{any_whole}
+use Rattle.unit_any.specs.AnyFields.{AnyFields, HasAnyFields, serial_notify, serial_query}
+use Rattle.unit_any.specs.AnyFields.{reset_query, cache_response, cache_reset}
+use Rattle.unit_any.specs.PrivateHeaders.{IsPlainType}
+use Rattle.unit_any.proofs.Forms.{plain_shown}
+use Rattle.unit_any.proofs.Wholes.{any_whole}
 use Rattle.rtr_c.proofs.Made.{Made, no_piece}
 use Rattle.rtr_c.specs.ShownUnits.{serial_shown, bare_shown, CallShows}
 use Rattle.rtr_c.specs.declared.unit.RtrUnit.{RtrUnit}

@@ -5,13 +5,13 @@ use Rattle.rtr_base.specs.Bytes.{IsBytes}
 use Rattle.rtr_base.proofs.Numbers.{value-be}
 use Rattle.rtr_units.specs.Header.{version_field, session_field}
 use Rattle.rtr_units.specs.Report.{report}
-use Rattle.rtr_session.specs.AnyFields.{error_report}
-use Rattle.rtr_session.specs.Reports.{IsReport, HasParts}
-use Rattle.rtr_session.proofs.Forms.{plain_shown}
-use Rattle.rtr_session.proofs.Held.{held_is}
-use Rattle.rtr_session.proofs.Parts.{parts_one}
-use Rattle.rtr_session.proofs.Units.{report_has}
-use Rattle.rtr_session.proofs.Wholes.{any_whole}
+use Rattle.unit_any.specs.AnyFields.{error_report}
+use Rattle.unit_any.specs.Reports.{IsReport, HasParts}
+use Rattle.unit_any.proofs.Forms.{plain_shown}
+use Rattle.unit_any.proofs.Held.{held_is}
+use Rattle.unit_any.proofs.Parts.{parts_one}
+use Rattle.unit_any.proofs.Units.{report_has}
+use Rattle.unit_any.proofs.Wholes.{any_whole}
 use Rattle.rtr_c.proofs.Again.{size, part_back, text_back}
 use Rattle.rtr_c.proofs.Forms.{held_whole}
 use Rattle.rtr_c.proofs.Made.{Made}

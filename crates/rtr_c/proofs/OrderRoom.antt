@@ -1,10 +1,10 @@
 -- Where changes in canonical form don't lack room, no answer says so.
 use Rattle.std.proofs.Common.{◌≡◌, ◌≢◌, ◌≤◌, ℕ, List, length, Result, Ok, Err, refl, sym, ap}
 use Rattle.std.proofs.Common.{◌∙◌, arith}
-use Rattle.rtr_slices.specs.Order.{Orders}
-use Rattle.rtr_slices.specs.declared.order_fault.OrderFault.{OrderFault}
-use Rattle.rtr_slices.specs.declared.order_fault.OrderFault.TheVariants as faults
-use Rattle.rtr_slices.proofs.OrderRoom as ordered
+use Rattle.data_slices.specs.Order.{Orders}
+use Rattle.data_slices.specs.declared.order_fault.OrderFault.{OrderFault}
+use Rattle.data_slices.specs.declared.order_fault.OrderFault.TheVariants as faults
+use Rattle.data_slices.proofs.OrderRoom as ordered
 use Rattle.rtr_c.specs.DataAnswers.{order_told}
 use Rattle.rtr_c.specs.declared.data_answer.RtrDataAnswer.{RtrDataAnswer}
 use Rattle.rtr_c.proofs.DeltaRoom.{reason_else}

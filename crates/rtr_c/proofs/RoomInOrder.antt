@@ -1,10 +1,10 @@
 -- Where what changes make of data in their order doesn't lack room, no answer says so.
 use Rattle.std.proofs.Common.{◌≡◌, ◌≢◌, ◌+◌, ◌≤◌, ℕ, List, length, Result, Ok, Err, refl, sym, ap}
 use Rattle.std.proofs.Common.{◌∙◌, arith}
-use Rattle.rtr_slices.specs.InOrder.{AppliesInOrder}
-use Rattle.rtr_slices.specs.declared.in_order_fault.InOrderFault.{InOrderFault}
-use Rattle.rtr_slices.specs.declared.in_order_fault.InOrderFault.TheVariants as faults
-use Rattle.rtr_slices.proofs.RoomInOrder as in_order
+use Rattle.data_slices.specs.InOrder.{AppliesInOrder}
+use Rattle.data_slices.specs.declared.in_order_fault.InOrderFault.{InOrderFault}
+use Rattle.data_slices.specs.declared.in_order_fault.InOrderFault.TheVariants as faults
+use Rattle.data_slices.proofs.RoomInOrder as in_order
 use Rattle.rtr_c.specs.DataAnswers.{in_order_told}
 use Rattle.rtr_c.specs.declared.data_answer.RtrDataAnswer.{RtrDataAnswer}
 use Rattle.rtr_c.proofs.DeltaRoom.{reason_else}

@@ -14,19 +14,19 @@ use Rattle.rtr_payload.specs.RouteOrigins.{meant_origin}
 use Rattle.rtr_payload.specs.UnitFields.{Fields, prefix_unit, key_unit, aspa_unit, Fit}
 use Rattle.rtr_payload.specs.UnitFields.{WithinLimits}
 use Rattle.rtr_payload.specs.declared.pdu.prefix_rule.PrefixRule.{PrefixRule}
-use Rattle.rtr_session.specs.AnyFields.{AnyFields, AnyFit, HasAnyFields, serial_notify}
-use Rattle.rtr_session.specs.AnyFields.{serial_query}
-use Rattle.rtr_session.specs.AnyFields.{reset_query, cache_response, payload, end_of_data}
-use Rattle.rtr_session.specs.AnyFields.{cache_reset, error_report}
-use Rattle.rtr_findings.specs.FindingTexts.{finding_text, finding_of as finding_line, layout_text}
-use Rattle.rtr_findings.specs.PayloadNames.{option_name, payload_name, unit_name}
-use Rattle.rtr_findings.specs.SequenceSoFar.{origin_under, payload_named}
-use Rattle.rtr_findings.specs.declared.finding.Finding.{Finding}
-use Rattle.rtr_findings.specs.declared.finding.Finding.TheVariants as rules
-use Rattle.rtr_findings.specs.declared.finding.Layout.{Layout}
-use Rattle.rtr_findings.specs.declared.finding.Layout.TheVariants.{AsRead, LikeOlderDraft}
-use Rattle.rtr_times.specs.declared.times.TimeRule.{TimeRule}
-use Rattle.rtr_times.specs.declared.times.TimeRule.TheVariants as times
+use Rattle.unit_any.specs.AnyFields.{AnyFields, AnyFit, HasAnyFields, serial_notify}
+use Rattle.unit_any.specs.AnyFields.{serial_query}
+use Rattle.unit_any.specs.AnyFields.{reset_query, cache_response, payload, end_of_data}
+use Rattle.unit_any.specs.AnyFields.{cache_reset, error_report}
+use Rattle.text_findings.specs.FindingTexts.{finding_text, finding_of as finding_line, layout_text}
+use Rattle.text_findings.specs.PayloadNames.{option_name, payload_name, unit_name}
+use Rattle.text_findings.specs.SequenceSoFar.{origin_under, payload_named}
+use Rattle.text_findings.specs.declared.finding.Finding.{Finding}
+use Rattle.text_findings.specs.declared.finding.Finding.TheVariants as rules
+use Rattle.text_findings.specs.declared.finding.Layout.{Layout}
+use Rattle.text_findings.specs.declared.finding.Layout.TheVariants.{AsRead, LikeOlderDraft}
+use Rattle.session_times.specs.declared.times.TimeRule.{TimeRule}
+use Rattle.session_times.specs.declared.times.TimeRule.TheVariants as times
 use Rattle.rtr_c.specs.Checks.{numbered_finding, numbered_layout, numbered_rule, told_line}
 use Rattle.rtr_c.specs.Checks.{numbered_time_rule}
 use Rattle.rtr_c.specs.declared.check.RtrFinding.{RtrFinding}

@@ -5,14 +5,14 @@ use Rattle.std.specs.Option.{option_map}
 use Rattle.rtr_base.specs.Addresses.{PrefixParts}
 use Rattle.rtr_units.specs.End.{EndMeaning}
 use Rattle.rtr_payload.specs.Payloads.{Payload}
-use Rattle.rtr_slices.specs.Canonical.{HoldsData}
-use Rattle.rtr_validation.specs.Covering.{IsFirstCovering}
-use Rattle.rtr_validation.specs.Tables.{AreTables}
-use Rattle.rtr_validation.specs.Validity.{IsValidity}
-use Rattle.rtr_validation.specs.declared.finding.CoveringVrp.{CoveringVrp}
-use Rattle.rtr_validation.specs.declared.tables.Tables.{Tables}
-use Rattle.rtr_validation.specs.declared.validation.Route.{Route}
-use Rattle.rtr_validation.specs.declared.validity.Validity.{Validity}
+use Rattle.data_slices.specs.Canonical.{HoldsData}
+use Rattle.data_validation.specs.Covering.{IsFirstCovering}
+use Rattle.data_validation.specs.Tables.{AreTables}
+use Rattle.data_validation.specs.Validity.{IsValidity}
+use Rattle.data_validation.specs.declared.finding.CoveringVrp.{CoveringVrp}
+use Rattle.data_validation.specs.declared.tables.Tables.{Tables}
+use Rattle.data_validation.specs.declared.validation.Route.{Route}
+use Rattle.data_validation.specs.declared.validity.Validity.{Validity}
 use Rattle.rtr_c.specs.Routes.{ShowsOne, ShowsCovering, ShowsFound, ShowsNone}
 use Rattle.rtr_c.specs.Routes.{TellsCovering, TellsValidity, validity_number}
 use Rattle.rtr_c.specs.declared.validation.RtrCovering.{RtrCovering}

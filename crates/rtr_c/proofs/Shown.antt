@@ -12,16 +12,16 @@ use Rattle.rtr_units.specs.PrefixUnits.{prefix_type, prefix_at}
 use Rattle.rtr_payload.specs.AspaUnits.{aspa_at}
 use Rattle.rtr_payload.specs.KeyUnits.{key_at}
 use Rattle.rtr_payload.specs.UnitFields.{prefix_unit, key_unit, aspa_unit}
-use Rattle.rtr_views.specs.declared.fault.ViewFault.{ViewFault}
-use Rattle.rtr_views.specs.declared.view.UnitView.TheVariants as views
-use Rattle.rtr_session.specs.AnyFields.{AnyFields, HasAnyFields, serial_notify, serial_query}
-use Rattle.rtr_session.specs.AnyFields.{reset_query, cache_response, payload, end_of_data}
-use Rattle.rtr_session.specs.AnyFields.{cache_reset, error_report}
-use Rattle.rtr_session.specs.AnyUnits.{serial_of, bare_of}
-use Rattle.rtr_session.specs.SessionViews.{ShowsUnit, IsSessionFault}
-use Rattle.rtr_session.specs.declared.session_view.SessionView.{SessionView}
-use Rattle.rtr_session.specs.declared.session_view.SessionView.TheVariants as session
-use Rattle.rtr_session.proofs.Units.{payload_has, end_has, report_has}
+use Rattle.unit_views.specs.declared.fault.ViewFault.{ViewFault}
+use Rattle.unit_views.specs.declared.view.UnitView.TheVariants as views
+use Rattle.unit_any.specs.AnyFields.{AnyFields, HasAnyFields, serial_notify, serial_query}
+use Rattle.unit_any.specs.AnyFields.{reset_query, cache_response, payload, end_of_data}
+use Rattle.unit_any.specs.AnyFields.{cache_reset, error_report}
+use Rattle.unit_any.specs.AnyUnits.{serial_of, bare_of}
+use Rattle.unit_any.specs.SessionViews.{ShowsUnit, IsSessionFault}
+use Rattle.unit_any.specs.declared.session_view.SessionView.{SessionView}
+use Rattle.unit_any.specs.declared.session_view.SessionView.TheVariants as session
+use Rattle.unit_any.proofs.Units.{payload_has, end_has, report_has}
 use Rattle.rtr_c.specs.PrivateShown.{ShowsView, IsOfSize, serial_at, CallRefuses}
 use Rattle.rtr_c.specs.ShownUnits.{none, bare_shown, address_shown, key_shown, aspa_shown, InOrder}
 use Rattle.rtr_c.specs.ShownUnits.{CallShows, ShowsReport, ShowsFirst}

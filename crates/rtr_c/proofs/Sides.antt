@@ -15,9 +15,9 @@ use Rattle.rtr_payload.specs.declared.pdu.prefix_rule.PrefixRule.{PrefixRule}
 use Rattle.rtr_payload.specs.declared.pdu.prefix_rule.PrefixRule.TheVariants.{LenOverflow}
 use Rattle.rtr_payload.specs.declared.pdu.prefix_rule.PrefixRule.TheVariants.{MaxOverflow}
 use Rattle.rtr_payload.specs.declared.pdu.prefix_rule.PrefixRule.TheVariants.{MaxUnderflow}
-use Rattle.rtr_views.specs.Faults.{IsWriterFault}
-use Rattle.rtr_views.specs.declared.fault.ViewFault.{ViewFault}
-use Rattle.rtr_views.specs.declared.fault.ViewFault.TheVariants as faults
+use Rattle.unit_views.specs.Faults.{IsWriterFault}
+use Rattle.unit_views.specs.declared.fault.ViewFault.{ViewFault}
+use Rattle.unit_views.specs.declared.fault.ViewFault.TheVariants as faults
 use Rattle.rtr_wire.specs.Comparison.{IsAccepted, IsViewFaultAt, IsFaultOn, ComparesMeanings}
 use Rattle.rtr_wire.specs.Into.{NormalisesInto, into_answer}
 use Rattle.rtr_wire.specs.Run.{Run, HasRun, BlamesNobody}

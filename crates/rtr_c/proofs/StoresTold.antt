@@ -1,7 +1,7 @@
 -- What calls on the stores of a cache promise, of the stores that the struct stands for.
 use Rattle.std.proofs.Common.{◌≡◌, ℕ, List, refl, subst, sym}
 use Rattle.std.specs.Prelude.{Result, Ok, Err, IfOk, IfErr}
-use Rattle.rtr_history.specs.declared.stores.Stores.{Stores}
+use Rattle.data_history.specs.declared.stores.Stores.{Stores}
 use Rattle.rtr_c.specs.declared.stores.RtrStores.{RtrStores}
 use Rattle.rtr_c.specs.declared.stores_answer.RtrStoresAnswer.{RtrStoresAnswer}
 

@@ -12,12 +12,12 @@ use Rattle.rtr_units.specs.Reading.{exact_length, least_length}
 use Rattle.rtr_payload.specs.FirstFault.{first_fault, header_fault}
 use Rattle.rtr_payload.specs.declared.pdu.prefix_rule.PrefixRule.{PrefixRule}
 use Rattle.rtr_payload.proofs.Reading.{never_short}
-use Rattle.rtr_views.specs.declared.fault.ViewFault.{ViewFault}
-use Rattle.rtr_views.specs.declared.fault.ViewFault.TheVariants as faults
-use Rattle.rtr_session.specs.AnyFields.{AnyFields}
-use Rattle.rtr_session.specs.SessionKinds.{any_header_fault}
-use Rattle.rtr_session.specs.SessionViews.{session_fault}
-use Rattle.rtr_session.proofs.Lengths.{bounded}
+use Rattle.unit_views.specs.declared.fault.ViewFault.{ViewFault}
+use Rattle.unit_views.specs.declared.fault.ViewFault.TheVariants as faults
+use Rattle.unit_any.specs.AnyFields.{AnyFields}
+use Rattle.unit_any.specs.SessionKinds.{any_header_fault}
+use Rattle.unit_any.specs.SessionViews.{session_fault}
+use Rattle.unit_any.proofs.Lengths.{bounded}
 use Rattle.rtr_wire.specs.Comparison.{IsViewFaultAt, IsFaultOn, ComparesMeanings}
 use Rattle.rtr_wire.specs.Into.{NormalisesInto}
 use Rattle.rtr_wire.specs.Sequences.{Output}

@@ -1,7 +1,7 @@
 -- The structs of C as a cache's machine (this library's own).
-use Rattle.rtr_cache.specs.declared.cache.Cache.{Cache}
-use Rattle.rtr_cache.specs.declared.event.Present.{Present}
-use Rattle.rtr_cache.specs.declared.settings.CacheSettings.{CacheSettings}
+use Rattle.session_cache.specs.declared.cache.Cache.{Cache}
+use Rattle.session_cache.specs.declared.event.Present.{Present}
+use Rattle.session_cache.specs.declared.settings.CacheSettings.{CacheSettings}
 use Rattle.rtr_c.specs.declared.cache.RtrCache.{RtrCache}
 use Rattle.rtr_c.specs.declared.cache.RtrCacheSettings.{RtrCacheSettings}
 use Rattle.rtr_c.specs.declared.cache.RtrPresent.{RtrPresent}

@@ -3,25 +3,25 @@ use Rattle.std.specs.Prelude.{◌≡◌, ℕ, ◌%◌, ◌≤◌, ◌==◌, ◌&
 use Rattle.std.specs.Prelude.{Bool, true, false, Option, Some, None, Result, Ok, Err, replicate}
 use Rattle.std.specs.Prelude.{◌∷◌, slice_index, if◌then◌else◌}
 use Rattle.rtr_units.specs.Header.{type_field}
-use Rattle.rtr_views.specs.declared.fault.ViewFault.{ViewFault}
-use Rattle.rtr_session.specs.AnyFields.{AnyFields, HasAnyFields}
-use Rattle.rtr_session.specs.Lengths.{SaysLength}
-use Rattle.rtr_texts.specs.Laying.{Lays}
-use Rattle.rtr_times.specs.declared.times.TimeRule.{TimeRule}
-use Rattle.rtr_times.specs.declared.times.TimeRule.TheVariants as times
-use Rattle.rtr_findings.specs.CheckedUnits.{found_list, known_after}
-use Rattle.rtr_findings.specs.FindingTexts.{finding_of as finding_line}
-use Rattle.rtr_findings.specs.KeptNames.{IsAnnouncedAs, begins_sequence}
-use Rattle.rtr_findings.specs.PayloadNames.{unit_name}
-use Rattle.rtr_findings.specs.Rules.{findings}
-use Rattle.rtr_findings.specs.SequenceSoFar.{announces, named_by, sequence}
-use Rattle.rtr_findings.specs.declared.finding.Finding.{Finding}
-use Rattle.rtr_findings.specs.declared.finding.Finding.TheVariants as rules
-use Rattle.rtr_findings.specs.declared.finding.Layout.{Layout}
-use Rattle.rtr_findings.specs.declared.finding.Layout.TheVariants.{AsRead, LikeOlderDraft}
-use Rattle.rtr_findings.specs.declared.sequence.SequenceState.{SequenceState}
-use Rattle.rtr_findings.specs.declared.sequence.Stage.{Stage}
-use Rattle.rtr_findings.specs.declared.sequence.Stage.TheVariants.{Before, Asked, Open, Whole}
+use Rattle.unit_views.specs.declared.fault.ViewFault.{ViewFault}
+use Rattle.unit_any.specs.AnyFields.{AnyFields, HasAnyFields}
+use Rattle.unit_any.specs.Lengths.{SaysLength}
+use Rattle.text_lines.specs.Laying.{Lays}
+use Rattle.session_times.specs.declared.times.TimeRule.{TimeRule}
+use Rattle.session_times.specs.declared.times.TimeRule.TheVariants as times
+use Rattle.text_findings.specs.CheckedUnits.{found_list, known_after}
+use Rattle.text_findings.specs.FindingTexts.{finding_of as finding_line}
+use Rattle.text_findings.specs.KeptNames.{IsAnnouncedAs, begins_sequence}
+use Rattle.text_findings.specs.PayloadNames.{unit_name}
+use Rattle.text_findings.specs.Rules.{findings}
+use Rattle.text_findings.specs.SequenceSoFar.{announces, named_by, sequence}
+use Rattle.text_findings.specs.declared.finding.Finding.{Finding}
+use Rattle.text_findings.specs.declared.finding.Finding.TheVariants as rules
+use Rattle.text_findings.specs.declared.finding.Layout.{Layout}
+use Rattle.text_findings.specs.declared.finding.Layout.TheVariants.{AsRead, LikeOlderDraft}
+use Rattle.text_findings.specs.declared.sequence.SequenceState.{SequenceState}
+use Rattle.text_findings.specs.declared.sequence.Stage.{Stage}
+use Rattle.text_findings.specs.declared.sequence.Stage.TheVariants.{Before, Asked, Open, Whole}
 use Rattle.rtr_c.specs.Answers.{rtr_ok}
 use Rattle.rtr_c.specs.LineAnswers.{HasNoLine, line_status}
 use Rattle.rtr_c.specs.declared.check.RtrCheck.{RtrCheck}

@@ -1,7 +1,7 @@
 -- What C gets of a comparison (this library's own).
 use Rattle.std.specs.Prelude.{◌≡◌, ◌⊎◌, ℕ, Bool, false, List, drop, Result, Ok, Err}
-use Rattle.rtr_views.specs.declared.fault.ViewFault.{ViewFault}
-use Rattle.rtr_views.specs.declared.fault.ViewFault.TheVariants.{Short}
+use Rattle.unit_views.specs.declared.fault.ViewFault.{ViewFault}
+use Rattle.unit_views.specs.declared.fault.ViewFault.TheVariants.{Short}
 use Rattle.rtr_wire.specs.declared.compare_slices.ComparisonFault.{ComparisonFault}
 use Rattle.rtr_wire.specs.declared.compare_slices.Side.{Side}
 use Rattle.rtr_wire.specs.declared.compare_slices.Side.TheVariants.{Left, Right}

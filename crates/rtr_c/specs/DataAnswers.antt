@@ -1,17 +1,17 @@
 -- What C gets of a call on data and changes (this library's own).
 use Rattle.std.specs.Prelude.{◌≡◌, ℕ, Result, Ok, Err}
-use Rattle.rtr_slices.specs.declared.fault.ApplyFault.{ApplyFault}
-use Rattle.rtr_slices.specs.declared.fault.ApplyFault.TheVariants as applied
-use Rattle.rtr_slices.specs.declared.fault.DeltaFault.{DeltaFault}
-use Rattle.rtr_slices.specs.declared.fault.DeltaFault.TheVariants.{Old, New, UnitVersion, Session}
-use Rattle.rtr_slices.specs.declared.fault.DeltaFault.TheVariants.{NoRoom}
-use Rattle.rtr_slices.specs.declared.fault.Flaw.{Flaw}
-use Rattle.rtr_slices.specs.declared.fault.Reason.{Reason}
-use Rattle.rtr_slices.specs.declared.fault.Reason.TheVariants.{Refused, NotCanonical}
-use Rattle.rtr_slices.specs.declared.in_order_fault.InOrderFault.{InOrderFault}
-use Rattle.rtr_slices.specs.declared.in_order_fault.InOrderFault.TheVariants as in_order
-use Rattle.rtr_slices.specs.declared.order_fault.OrderFault.{OrderFault}
-use Rattle.rtr_slices.specs.declared.order_fault.OrderFault.TheVariants as ordered
+use Rattle.data_slices.specs.declared.fault.ApplyFault.{ApplyFault}
+use Rattle.data_slices.specs.declared.fault.ApplyFault.TheVariants as applied
+use Rattle.data_slices.specs.declared.fault.DeltaFault.{DeltaFault}
+use Rattle.data_slices.specs.declared.fault.DeltaFault.TheVariants.{Old, New, UnitVersion, Session}
+use Rattle.data_slices.specs.declared.fault.DeltaFault.TheVariants.{NoRoom}
+use Rattle.data_slices.specs.declared.fault.Flaw.{Flaw}
+use Rattle.data_slices.specs.declared.fault.Reason.{Reason}
+use Rattle.data_slices.specs.declared.fault.Reason.TheVariants.{Refused, NotCanonical}
+use Rattle.data_slices.specs.declared.in_order_fault.InOrderFault.{InOrderFault}
+use Rattle.data_slices.specs.declared.in_order_fault.InOrderFault.TheVariants as in_order
+use Rattle.data_slices.specs.declared.order_fault.OrderFault.{OrderFault}
+use Rattle.data_slices.specs.declared.order_fault.OrderFault.TheVariants as ordered
 use Rattle.rtr_c.specs.Answers.{rtr_duplicate, rtr_unknown, rtr_undecided, rtr_no_index}
 use Rattle.rtr_c.specs.Answers.{rtr_ok, rtr_unit_version, rtr_no_room, rtr_not_canonical}
 use Rattle.rtr_c.specs.Answers.{rtr_other_session, fault_status, fault_detail}

@@ -1,14 +1,14 @@
 -- The structs of C as a group of caches by preference (this library's own).
 use Rattle.std.specs.Prelude.{◌≡◌, ℕ, is_some, nat_lt, if◌then◌else◌}
 use Rattle.std.specs.Option.{unwrap_or}
-use Rattle.rtr_group.specs.declared.event.Answer.{Answer}
-use Rattle.rtr_group.specs.declared.event.Event.{Event}
-use Rattle.rtr_group.specs.declared.event.Shown.{Shown}
-use Rattle.rtr_group.specs.declared.event.Shown.TheVariants as shows
-use Rattle.rtr_group.specs.declared.group.Group.{Group}
-use Rattle.rtr_group.specs.declared.settings.Settings.{Settings}
-use Rattle.rtr_group.specs.Groups.{answer, group_after, group_ticked, tick_answer}
-use Rattle.rtr_group.specs.Runs.{IsNewGroup}
+use Rattle.session_group.specs.declared.event.Answer.{Answer}
+use Rattle.session_group.specs.declared.event.Event.{Event}
+use Rattle.session_group.specs.declared.event.Shown.{Shown}
+use Rattle.session_group.specs.declared.event.Shown.TheVariants as shows
+use Rattle.session_group.specs.declared.group.Group.{Group}
+use Rattle.session_group.specs.declared.settings.Settings.{Settings}
+use Rattle.session_group.specs.Groups.{answer, group_after, group_ticked, tick_answer}
+use Rattle.session_group.specs.Runs.{IsNewGroup}
 use Rattle.rtr_c.specs.Answers.{rtr_ok, rtr_too_many_members}
 use Rattle.rtr_c.specs.declared.group.RtrGroup.{RtrGroup}
 use Rattle.rtr_c.specs.declared.group.RtrGroupAnswer.{RtrGroupAnswer}

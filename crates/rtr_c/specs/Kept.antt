@@ -6,8 +6,8 @@ use Rattle.rtr_base.specs.Addresses.{Family, v4, v6, width, cleared, ip_version}
 use Rattle.rtr_base.specs.Bytes.{value}
 use Rattle.rtr_units.specs.AnyEnd.{end_length}
 use Rattle.rtr_units.specs.PrefixUnits.{prefix_type, prefix_size, address_bytes}
-use Rattle.rtr_views.specs.declared.fault.ViewFault.{ViewFault}
-use Rattle.rtr_session.specs.AnyFields.{AnyFields, HasAnyFields}
+use Rattle.unit_views.specs.declared.fault.ViewFault.{ViewFault}
+use Rattle.unit_any.specs.AnyFields.{AnyFields, HasAnyFields}
 use Rattle.rtr_c.specs.Answers.{rtr_ok}
 use Rattle.rtr_c.specs.WrittenUnits.{part_said, text_said, timing_said}
 use Rattle.rtr_c.specs.ShownUnits.{none, serial_shown, bare_shown, end_shown, address_shown}

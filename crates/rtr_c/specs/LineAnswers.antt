@@ -1,9 +1,9 @@
 -- What C gets of the line of a unit (this library's own).
 use Rattle.std.specs.Prelude.{◌≡◌, ◌<◌, ℕ, List, length, take, nat_le, if◌then◌else◌}
 use Rattle.std.specs.Prelude.{Bool, true, false, Option, Some, None, Result, Ok, Err}
-use Rattle.rtr_views.specs.declared.fault.ViewFault.{ViewFault}
-use Rattle.rtr_session.specs.AnyFields.{AnyFields, HasAnyFields}
-use Rattle.rtr_texts.specs.Laying.{Lays}
+use Rattle.unit_views.specs.declared.fault.ViewFault.{ViewFault}
+use Rattle.unit_any.specs.AnyFields.{AnyFields, HasAnyFields}
+use Rattle.text_lines.specs.Laying.{Lays}
 use Rattle.rtr_c.specs.Answers.{rtr_ok, rtr_short, rtr_no_room, fault_status, fault_detail}
 use Rattle.rtr_c.specs.declared.lines.RtrLine.{RtrLine}
 

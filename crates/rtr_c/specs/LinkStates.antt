@@ -2,10 +2,10 @@
 use Rattle.std.specs.Prelude.{ℕ, Bool, false, ◌&&◌, is_some}
 use Rattle.std.specs.Prelude.{if◌then◌else◌}
 use Rattle.std.specs.Option.{unwrap_or}
-use Rattle.rtr_router.specs.After.{has_data_at}
-use Rattle.rtr_router.specs.Pace.{wakes_at}
-use Rattle.rtr_client.specs.Holding.{whole_answer}
-use Rattle.rtr_client.specs.declared.client.Client.{Client}
+use Rattle.session_router.specs.After.{has_data_at}
+use Rattle.session_router.specs.Pace.{wakes_at}
+use Rattle.session_client.specs.Holding.{whole_answer}
+use Rattle.session_client.specs.declared.client.Client.{Client}
 use Rattle.rtr_c.specs.declared.link_state.RtrLinkState.{RtrLinkState}
 
 -- there are data, which haven't expired

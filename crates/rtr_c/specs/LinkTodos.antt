@@ -3,25 +3,25 @@ use Rattle.std.specs.Prelude.{◌≡◌, ℕ, ◌+◌, ◌≤◌, ◌<◌, Bool,
 use Rattle.std.specs.Prelude.{Option, Some, None, if◌then◌else◌}
 use Rattle.std.specs.Option.{is_some, unwrap_or}
 use Rattle.rtr_payload.specs.declared.pdu.prefix_rule.PrefixRule.{PrefixRule}
-use Rattle.rtr_router.specs.Pace.{wakes_at}
-use Rattle.rtr_router.specs.Step.{IsStep}
-use Rattle.rtr_router.specs.declared.event.Action.{Action}
-use Rattle.rtr_router.specs.declared.event.Ending.{Ending}
-use Rattle.rtr_router.specs.declared.event.Event.TheVariants as events
-use Rattle.rtr_router.specs.declared.settings.Settings.{Settings}
-use Rattle.rtr_conversation.specs.declared.refusal.Refusal.{Refusal}
-use Rattle.rtr_conversation.specs.declared.refusal.Refusal.TheVariants as refusals
-use Rattle.rtr_client.specs.Counting.{CountsKept}
-use Rattle.rtr_client.specs.Holding.{Fits, IsClient, data_in, room_at}
-use Rattle.rtr_client.specs.Makings.{Octets}
-use Rattle.rtr_client.specs.Next.{IsDataRoom, IsIndexRoom, IsRoom, IsTodoOf, IsWait, NamesRoom}
-use Rattle.rtr_client.specs.Next.{RestsNow, Turns}
-use Rattle.rtr_client.specs.Over.{IfNamed, none_of, over_of}
-use Rattle.rtr_client.specs.Said.{given_up, with_room}
-use Rattle.rtr_client.specs.Turning.{IsTurn, turns_left}
-use Rattle.rtr_client.specs.declared.client.Client.{Client}
-use Rattle.rtr_client.specs.declared.next.Todo.{Todo}
-use Rattle.rtr_client.specs.declared.next.Todo.TheVariants as todos
+use Rattle.session_router.specs.Pace.{wakes_at}
+use Rattle.session_router.specs.Step.{IsStep}
+use Rattle.session_router.specs.declared.event.Action.{Action}
+use Rattle.session_router.specs.declared.event.Ending.{Ending}
+use Rattle.session_router.specs.declared.event.Event.TheVariants as events
+use Rattle.session_router.specs.declared.settings.Settings.{Settings}
+use Rattle.session_bytes.specs.declared.refusal.Refusal.{Refusal}
+use Rattle.session_bytes.specs.declared.refusal.Refusal.TheVariants as refusals
+use Rattle.session_client.specs.Counting.{CountsKept}
+use Rattle.session_client.specs.Holding.{Fits, IsClient, data_in, room_at}
+use Rattle.session_client.specs.Makings.{Octets}
+use Rattle.session_client.specs.Next.{IsDataRoom, IsIndexRoom, IsRoom, IsTodoOf, IsWait, NamesRoom}
+use Rattle.session_client.specs.Next.{RestsNow, Turns}
+use Rattle.session_client.specs.Over.{IfNamed, none_of, over_of}
+use Rattle.session_client.specs.Said.{given_up, with_room}
+use Rattle.session_client.specs.Turning.{IsTurn, turns_left}
+use Rattle.session_client.specs.declared.client.Client.{Client}
+use Rattle.session_client.specs.declared.next.Todo.{Todo}
+use Rattle.session_client.specs.declared.next.Todo.TheVariants as todos
 use Rattle.rtr_c.specs.Answers.{rtr_duplicate, rtr_empty_providers, rtr_prefix, rtr_short}
 use Rattle.rtr_c.specs.Answers.{rtr_too_long, rtr_unit_length, rtr_unit_type, rtr_unit_version}
 use Rattle.rtr_c.specs.Answers.{rtr_ok, rtr_unknown, rule_number}

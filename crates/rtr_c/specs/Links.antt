@@ -1,9 +1,9 @@
 -- The struct of C as a router's end with its bytes and its data (this library's own).
 use Rattle.std.specs.Prelude.{ℕ, ◌+◌, ◌^◌, ◌==◌, ◌&&◌, ◌||◌, Bool, not, nat_le, nat_lt}
 use Rattle.std.specs.Prelude.{Some, None, if◌then◌else◌}
-use Rattle.rtr_client.specs.declared.client.Client.{Client}
-use Rattle.rtr_client.specs.declared.client.Holding.{Holding}
-use Rattle.rtr_client.specs.declared.client.Holding.TheVariants as holdings
+use Rattle.session_client.specs.declared.client.Client.{Client}
+use Rattle.session_client.specs.declared.client.Holding.{Holding}
+use Rattle.session_client.specs.declared.client.Holding.TheVariants as holdings
 use Rattle.rtr_c.specs.Routers.{router_of}
 use Rattle.rtr_c.specs.declared.router.RtrRouter.{RtrRouter}
 use Rattle.rtr_c.specs.declared.link.RtrLink.{RtrLink}

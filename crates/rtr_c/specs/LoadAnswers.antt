@@ -3,16 +3,16 @@ use Rattle.std.specs.Prelude.{◌≡◌, ℕ, false, List, drop, Option, Some, N
 use Rattle.rtr_base.specs.declared.timing.Timing.{Timing}
 use Rattle.rtr_units.specs.AnyEnd.{end_meaning}
 use Rattle.rtr_units.specs.End.{EndMeaning}
-use Rattle.rtr_views.specs.declared.fault.ViewFault.TheVariants.{Short}
-use Rattle.rtr_data.specs.declared.change_error.ChangeError.{ChangeError}
-use Rattle.rtr_data.specs.declared.change_error.ChangeError.TheVariants as changes
-use Rattle.rtr_recordings.specs.declared.stop.Refusal.{Refusal}
-use Rattle.rtr_recordings.specs.declared.stop.Refusal.TheVariants as refusals
-use Rattle.rtr_load.specs.declared.fault.LoadFault.{LoadFault}
-use Rattle.rtr_load.specs.declared.fault.LoadFault.TheVariants as faults
-use Rattle.rtr_load.specs.declared.fault.LoadReason.{LoadReason}
-use Rattle.rtr_load.specs.declared.fault.LoadReason.TheVariants as reasons
-use Rattle.rtr_load.specs.declared.recording.Loaded.{Loaded}
+use Rattle.unit_views.specs.declared.fault.ViewFault.TheVariants.{Short}
+use Rattle.data_memory.specs.declared.change_error.ChangeError.{ChangeError}
+use Rattle.data_memory.specs.declared.change_error.ChangeError.TheVariants as changes
+use Rattle.data_recordings.specs.declared.stop.Refusal.{Refusal}
+use Rattle.data_recordings.specs.declared.stop.Refusal.TheVariants as refusals
+use Rattle.data_loading.specs.declared.fault.LoadFault.{LoadFault}
+use Rattle.data_loading.specs.declared.fault.LoadFault.TheVariants as faults
+use Rattle.data_loading.specs.declared.fault.LoadReason.{LoadReason}
+use Rattle.data_loading.specs.declared.fault.LoadReason.TheVariants as reasons
+use Rattle.data_loading.specs.declared.recording.Loaded.{Loaded}
 use Rattle.rtr_c.specs.Answers.{rtr_ok, rtr_too_long, rtr_empty_providers, rtr_no_room}
 use Rattle.rtr_c.specs.Answers.{rtr_other_session, rtr_duplicate, rtr_unknown, rtr_no_index}
 use Rattle.rtr_c.specs.Answers.{rtr_other_version, rtr_old_serial, rtr_reset_inside}

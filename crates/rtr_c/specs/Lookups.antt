@@ -1,10 +1,10 @@
 -- What a check leaves of data for lookups of routes (this library's own).
 use Rattle.std.specs.Prelude.{◌≡◌, ◌-◌, ◌^◌, ◌==◌, ◌&&◌, ℕ, Bool, List, length}
 use Rattle.std.specs.Prelude.{Option, Some, None}
-use Rattle.rtr_slices.specs.Canonical.{HasData}
-use Rattle.rtr_slices.specs.Flaws.{IsFlawOfData}
-use Rattle.rtr_slices.specs.declared.fault.Flaw.{Flaw}
-use Rattle.rtr_validation.specs.Tables.{AreTables}
+use Rattle.data_slices.specs.Canonical.{HasData}
+use Rattle.data_slices.specs.Flaws.{IsFlawOfData}
+use Rattle.data_slices.specs.declared.fault.Flaw.{Flaw}
+use Rattle.data_validation.specs.Tables.{AreTables}
 use Rattle.rtr_c.specs.DataAnswers.{TellsData, flaw_told, written_told}
 use Rattle.rtr_c.specs.declared.data_answer.RtrDataAnswer.{RtrDataAnswer}
 use Rattle.rtr_c.specs.declared.lookup.RtrLookup.{RtrLookup}

@@ -1,7 +1,7 @@
 -- What C gets of the units that follow one another in the input (this library's own).
 use Rattle.std.specs.Prelude.{ℕ, ◌+◌, List, [], ◌∷◌, ◌++◌, length, Ok, Err}
-use Rattle.rtr_views.specs.declared.fault.ViewFault.{ViewFault}
-use Rattle.rtr_session.specs.AnyFields.{AnyFields}
+use Rattle.unit_views.specs.declared.fault.ViewFault.{ViewFault}
+use Rattle.unit_any.specs.AnyFields.{AnyFields}
 use Rattle.rtr_c.specs.Answers.{rtr_ok}
 use Rattle.rtr_c.specs.ShownUnits.{ShowsFirst}
 use Rattle.rtr_c.specs.declared.unit.RtrUnit.{RtrUnit}

@@ -4,7 +4,7 @@ use Rattle.std.specs.Prelude.{nat_lt, nat_le, ◌==◌, ◌&&◌, ◌||◌, if�
 use Rattle.std.specs.declared.cmp.Ordering.{Ordering}
 use Rattle.std.specs.declared.cmp.Ordering.TheVariants.{Less, Equal, Greater}
 use Rattle.rtr_units.specs.Header.{type_field}
-use Rattle.rtr_views.specs.OwedCodes.{owed}
+use Rattle.unit_views.specs.OwedCodes.{owed}
 
 -- the order of two serial numbers (RFC 1982 section 3.2)
 abbrev pub order_number : Option Ordering → ℕ

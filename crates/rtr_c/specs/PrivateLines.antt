@@ -2,8 +2,8 @@
 -- private functions cite these.
 use Rattle.std.specs.Prelude.{◌≡◌, ℕ, ◌≤◌, List, length, take, Option, Some, Result, Ok}
 use Rattle.rtr_units.specs.Header.{type_field, version_field}
-use Rattle.rtr_views.specs.declared.fault.ViewFault.{ViewFault}
-use Rattle.rtr_session.specs.Lengths.{IsBounded, SaysLength}
+use Rattle.unit_views.specs.declared.fault.ViewFault.{ViewFault}
+use Rattle.unit_any.specs.Lengths.{IsBounded, SaysLength}
 use Rattle.rtr_c.specs.LineAnswers.{HasNoLine}
 use Rattle.rtr_c.specs.declared.lines.RtrLine.{RtrLine}
 

@@ -9,11 +9,11 @@ use Rattle.rtr_units.specs.Queries.{serial_field}
 use Rattle.rtr_payload.specs.AspaUnits.{aspa_at}
 use Rattle.rtr_payload.specs.KeyUnits.{key_at}
 use Rattle.rtr_payload.specs.declared.payload.RouteOrigin.{RouteOrigin}
-use Rattle.rtr_views.specs.declared.fault.ViewFault.{ViewFault}
-use Rattle.rtr_views.specs.declared.view.UnitView.{UnitView}
-use Rattle.rtr_views.specs.declared.view.UnitView.TheVariants as views
-use Rattle.rtr_session.specs.declared.session_view.SessionView.{SessionView}
-use Rattle.rtr_session.specs.declared.session_view.SessionView.TheVariants as session
+use Rattle.unit_views.specs.declared.fault.ViewFault.{ViewFault}
+use Rattle.unit_views.specs.declared.view.UnitView.{UnitView}
+use Rattle.unit_views.specs.declared.view.UnitView.TheVariants as views
+use Rattle.unit_any.specs.declared.session_view.SessionView.{SessionView}
+use Rattle.unit_any.specs.declared.session_view.SessionView.TheVariants as session
 use Rattle.rtr_c.specs.Answers.{fault_status}
 use Rattle.rtr_c.specs.ShownUnits.{none, serial_shown, bare_shown, address_shown, key_shown}
 use Rattle.rtr_c.specs.ShownUnits.{aspa_shown, end_shown, ShowsReport, refused_shown}

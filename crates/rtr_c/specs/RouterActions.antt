@@ -6,19 +6,19 @@ use Rattle.rtr_payload.specs.declared.pdu.prefix_rule.PrefixRule.{PrefixRule}
 use Rattle.rtr_payload.specs.declared.pdu.prefix_rule.PrefixRule.TheVariants.{LenOverflow}
 use Rattle.rtr_payload.specs.declared.pdu.prefix_rule.PrefixRule.TheVariants.{MaxOverflow}
 use Rattle.rtr_payload.specs.declared.pdu.prefix_rule.PrefixRule.TheVariants.{MaxUnderflow}
-use Rattle.rtr_router.specs.declared.event.Action.{Action}
-use Rattle.rtr_router.specs.declared.event.Action.TheVariants as actions
-use Rattle.rtr_router.specs.declared.event.Cause.{Cause}
-use Rattle.rtr_router.specs.declared.event.Cause.TheVariants as causes
-use Rattle.rtr_router.specs.declared.event.Ending.{Ending}
-use Rattle.rtr_router.specs.declared.event.Event.{Event}
-use Rattle.rtr_router.specs.declared.head.Query.{Query}
-use Rattle.rtr_router.specs.Step.{IsStep}
-use Rattle.rtr_conversation.specs.Sent.{PlacesEnding}
-use Rattle.rtr_conversation.specs.declared.refusal.Refusal.{Refusal}
-use Rattle.rtr_conversation.specs.declared.refusal.Refusal.TheVariants as refusals
-use Rattle.rtr_conversation.specs.declared.telling.Told.{Told}
-use Rattle.rtr_conversation.specs.declared.telling.Told.TheVariants as told
+use Rattle.session_router.specs.declared.event.Action.{Action}
+use Rattle.session_router.specs.declared.event.Action.TheVariants as actions
+use Rattle.session_router.specs.declared.event.Cause.{Cause}
+use Rattle.session_router.specs.declared.event.Cause.TheVariants as causes
+use Rattle.session_router.specs.declared.event.Ending.{Ending}
+use Rattle.session_router.specs.declared.event.Event.{Event}
+use Rattle.session_router.specs.declared.head.Query.{Query}
+use Rattle.session_router.specs.Step.{IsStep}
+use Rattle.session_bytes.specs.Sent.{PlacesEnding}
+use Rattle.session_bytes.specs.declared.refusal.Refusal.{Refusal}
+use Rattle.session_bytes.specs.declared.refusal.Refusal.TheVariants as refusals
+use Rattle.session_bytes.specs.declared.telling.Told.{Told}
+use Rattle.session_bytes.specs.declared.telling.Told.TheVariants as told
 use Rattle.rtr_c.specs.Answers.{fault_status, fault_detail, wanted}
 use Rattle.rtr_c.specs.Routers.{router_of}
 use Rattle.rtr_c.specs.declared.router.RtrRouter.{RtrRouter}

@@ -1,10 +1,10 @@
 -- The structs of C as a router's machine (this library's own).
 use Rattle.std.specs.Prelude.{ℕ, ◌-◌, ◌^◌, min, ◌==◌, if◌then◌else◌}
-use Rattle.rtr_router.specs.declared.head.Known.{Known}
-use Rattle.rtr_router.specs.declared.settings.Settings.{Settings}
-use Rattle.rtr_router.specs.declared.router.Router.{Router}
-use Rattle.rtr_router.specs.declared.router.Phase.{Phase}
-use Rattle.rtr_router.specs.declared.router.Phase.TheVariants as phases
+use Rattle.session_router.specs.declared.head.Known.{Known}
+use Rattle.session_router.specs.declared.settings.Settings.{Settings}
+use Rattle.session_router.specs.declared.router.Router.{Router}
+use Rattle.session_router.specs.declared.router.Phase.{Phase}
+use Rattle.session_router.specs.declared.router.Phase.TheVariants as phases
 use Rattle.rtr_c.specs.declared.router.RtrKnown.{RtrKnown}
 use Rattle.rtr_c.specs.declared.router.RtrRouter.{RtrRouter}
 use Rattle.rtr_c.specs.declared.router.RtrSettings.{RtrSettings}

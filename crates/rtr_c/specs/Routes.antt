@@ -7,16 +7,16 @@ use Rattle.rtr_base.specs.Bytes.{value}
 use Rattle.rtr_units.specs.End.{EndMeaning}
 use Rattle.rtr_units.specs.PrefixUnits.{address_bytes}
 use Rattle.rtr_payload.specs.Payloads.{Payload}
-use Rattle.rtr_slices.specs.Canonical.{HoldsData}
-use Rattle.rtr_validation.specs.Covering.{IsFirstCovering, IsMismatch, vrp}
-use Rattle.rtr_validation.specs.Tables.{AreTables}
-use Rattle.rtr_validation.specs.Validity.{IsValidity}
-use Rattle.rtr_validation.specs.declared.finding.CoveringVrp.{CoveringVrp}
-use Rattle.rtr_validation.specs.declared.mismatch.Mismatch.{Mismatch}
-use Rattle.rtr_validation.specs.declared.mismatch.Mismatch.TheVariants.{AsZero, OtherAs, TooLong}
-use Rattle.rtr_validation.specs.declared.tables.Tables.{Tables}
-use Rattle.rtr_validation.specs.declared.validity.Validity.{Validity}
-use Rattle.rtr_validation.specs.declared.validity.Validity.TheVariants.{NotFound, Valid, Invalid}
+use Rattle.data_slices.specs.Canonical.{HoldsData}
+use Rattle.data_validation.specs.Covering.{IsFirstCovering, IsMismatch, vrp}
+use Rattle.data_validation.specs.Tables.{AreTables}
+use Rattle.data_validation.specs.Validity.{IsValidity}
+use Rattle.data_validation.specs.declared.finding.CoveringVrp.{CoveringVrp}
+use Rattle.data_validation.specs.declared.mismatch.Mismatch.{Mismatch}
+use Rattle.data_validation.specs.declared.mismatch.Mismatch.TheVariants.{AsZero, OtherAs, TooLong}
+use Rattle.data_validation.specs.declared.tables.Tables.{Tables}
+use Rattle.data_validation.specs.declared.validity.Validity.{Validity}
+use Rattle.data_validation.specs.declared.validity.Validity.TheVariants.{NotFound, Valid, Invalid}
 use Rattle.rtr_c.specs.declared.validation.RtrCovering.{RtrCovering}
 use Rattle.rtr_c.specs.declared.validation.RtrRoute.{RtrRoute}
 

@@ -2,18 +2,18 @@
 use Rattle.std.specs.Prelude.{◌≡◌, ℕ, Bool, true, false, List, Option, Some, None, ◌==◌}
 use Rattle.std.specs.Prelude.{if◌then◌else◌}
 use Rattle.std.specs.Option.{is_some, unwrap_or}
-use Rattle.rtr_cache.specs.declared.event.Answer.{Answer}
-use Rattle.rtr_cache.specs.declared.event.Answer.TheVariants as answers
-use Rattle.rtr_cache.specs.declared.event.CacheEvent.{CacheEvent}
-use Rattle.rtr_cache.specs.declared.event.Closing.{Closing}
-use Rattle.rtr_cache.specs.declared.event.OwedReport.{OwedReport}
-use Rattle.rtr_cache.specs.declared.event.Present.{Present}
-use Rattle.rtr_cache.specs.declared.event.Reason.{Reason}
-use Rattle.rtr_cache.specs.declared.event.Reason.TheVariants as reasons
-use Rattle.rtr_cache.specs.CacheSteps.{IsCacheStep}
-use Rattle.rtr_conversation.specs.Answered.{PlacesServed}
-use Rattle.rtr_conversation.specs.declared.serving.Served.{Served}
-use Rattle.rtr_conversation.specs.declared.serving.Served.TheVariants as served
+use Rattle.session_cache.specs.declared.event.Answer.{Answer}
+use Rattle.session_cache.specs.declared.event.Answer.TheVariants as answers
+use Rattle.session_cache.specs.declared.event.CacheEvent.{CacheEvent}
+use Rattle.session_cache.specs.declared.event.Closing.{Closing}
+use Rattle.session_cache.specs.declared.event.OwedReport.{OwedReport}
+use Rattle.session_cache.specs.declared.event.Present.{Present}
+use Rattle.session_cache.specs.declared.event.Reason.{Reason}
+use Rattle.session_cache.specs.declared.event.Reason.TheVariants as reasons
+use Rattle.session_cache.specs.CacheSteps.{IsCacheStep}
+use Rattle.session_bytes.specs.Answered.{PlacesServed}
+use Rattle.session_bytes.specs.declared.serving.Served.{Served}
+use Rattle.session_bytes.specs.declared.serving.Served.TheVariants as served
 use Rattle.rtr_c.specs.Answers.{fault_status, fault_detail, wanted}
 use Rattle.rtr_c.specs.Caches.{cache_of, present_of}
 use Rattle.rtr_c.specs.RouterActions.{refusal_at}

@@ -12,13 +12,13 @@ use Rattle.rtr_payload.specs.AspaUnits.{AspaFields}
 use Rattle.rtr_payload.specs.KeyUnits.{KeyFields}
 use Rattle.rtr_payload.specs.RouteOrigins.{meant_origin}
 use Rattle.rtr_payload.specs.UnitFields.{Fields, prefix_unit, key_unit, aspa_unit, LengthsAgree}
-use Rattle.rtr_views.specs.declared.fault.ViewFault.{ViewFault}
-use Rattle.rtr_views.specs.declared.fault.ViewFault.TheVariants.{Short, Prefix}
-use Rattle.rtr_session.specs.AnyFields.{AnyFields, HasAnyFields, serial_notify, serial_query}
-use Rattle.rtr_session.specs.AnyFields.{reset_query, cache_response, payload, end_of_data}
-use Rattle.rtr_session.specs.AnyFields.{cache_reset, error_report}
-use Rattle.rtr_session.specs.Reports.{HasParts}
-use Rattle.rtr_session.specs.SessionViews.{IsSessionFault}
+use Rattle.unit_views.specs.declared.fault.ViewFault.{ViewFault}
+use Rattle.unit_views.specs.declared.fault.ViewFault.TheVariants.{Short, Prefix}
+use Rattle.unit_any.specs.AnyFields.{AnyFields, HasAnyFields, serial_notify, serial_query}
+use Rattle.unit_any.specs.AnyFields.{reset_query, cache_response, payload, end_of_data}
+use Rattle.unit_any.specs.AnyFields.{cache_reset, error_report}
+use Rattle.unit_any.specs.Reports.{HasParts}
+use Rattle.unit_any.specs.SessionViews.{IsSessionFault}
 use Rattle.rtr_c.specs.Answers.{rtr_ok, fault_status, fault_detail, wanted}
 use Rattle.rtr_c.specs.declared.unit.RtrUnit.{RtrUnit}
 

@@ -1,6 +1,6 @@
 -- What C gets of the length that a header says (this library's own).
 use Rattle.std.specs.Prelude.{◌≡◌, ℕ, Option, Some, None, Result, Ok, Err}
-use Rattle.rtr_views.specs.declared.fault.ViewFault.{ViewFault}
+use Rattle.unit_views.specs.declared.fault.ViewFault.{ViewFault}
 use Rattle.rtr_c.specs.Answers.{rtr_ok, rtr_short, fault_status, fault_detail}
 
 -- the length of the unit; or the 8 bytes of a header, which are wanted; or the fault of the header

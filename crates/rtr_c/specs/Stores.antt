@@ -1,9 +1,9 @@
 -- The struct of C as what a cache serves and what it took (this library's own).
 use Rattle.std.specs.Prelude.{ℕ, ◌==◌, ◌&&◌, ◌||◌, Bool, not, nat_le, Option, Some, None}
 use Rattle.std.specs.Prelude.{Result, Ok, Err, if◌then◌else◌}
-use Rattle.rtr_history.specs.Stores.{are_of_stores, stores_of}
-use Rattle.rtr_history.specs.declared.numbers.Numbers.{Numbers}
-use Rattle.rtr_history.specs.declared.stores.Stores.{Stores}
+use Rattle.data_history.specs.Stores.{are_of_stores, stores_of}
+use Rattle.data_history.specs.declared.numbers.Numbers.{Numbers}
+use Rattle.data_history.specs.declared.stores.Stores.{Stores}
 use Rattle.rtr_c.specs.Links.{are_flags, flag_set}
 use Rattle.rtr_c.specs.declared.stores.RtrStores.{RtrStores}
 

@@ -1,16 +1,16 @@
 -- What C gets of a call on the stores of a cache (this library's own).
 use Rattle.std.specs.Prelude.{ℕ, Bool, Result, Ok, Err, if◌then◌else◌}
-use Rattle.rtr_slices.specs.declared.fault.Flaw.{Flaw}
-use Rattle.rtr_history.specs.declared.check.CheckFault.{CheckFault}
-use Rattle.rtr_history.specs.declared.check.CheckFault.TheVariants as checks
-use Rattle.rtr_history.specs.declared.newer.Untaken.{Untaken}
-use Rattle.rtr_history.specs.declared.newer.Untaken.TheVariants as untaken
-use Rattle.rtr_history.specs.declared.next.Refused.{Refused}
-use Rattle.rtr_history.specs.declared.next.Refused.TheVariants as refusals
-use Rattle.rtr_history.specs.declared.room.Room.{Room}
-use Rattle.rtr_history.specs.declared.room.Room.TheVariants.{Index, Buffer, Spare, Output}
-use Rattle.rtr_history.specs.declared.since.SinceFault.{SinceFault}
-use Rattle.rtr_history.specs.declared.since.SinceFault.TheVariants as since
+use Rattle.data_slices.specs.declared.fault.Flaw.{Flaw}
+use Rattle.data_history.specs.declared.check.CheckFault.{CheckFault}
+use Rattle.data_history.specs.declared.check.CheckFault.TheVariants as checks
+use Rattle.data_history.specs.declared.newer.Untaken.{Untaken}
+use Rattle.data_history.specs.declared.newer.Untaken.TheVariants as untaken
+use Rattle.data_history.specs.declared.next.Refused.{Refused}
+use Rattle.data_history.specs.declared.next.Refused.TheVariants as refusals
+use Rattle.data_history.specs.declared.room.Room.{Room}
+use Rattle.data_history.specs.declared.room.Room.TheVariants.{Index, Buffer, Spare, Output}
+use Rattle.data_history.specs.declared.since.SinceFault.{SinceFault}
+use Rattle.data_history.specs.declared.since.SinceFault.TheVariants as since
 use Rattle.rtr_c.specs.DataAnswers.{reason_detail, reason_status}
 use Rattle.rtr_c.specs.Stores.{stores_flaw, stores_malformed, stores_no_room, stores_ok}
 use Rattle.rtr_c.specs.Stores.{stores_old_serial, stores_other_session, stores_other_times}

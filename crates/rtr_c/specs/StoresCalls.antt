@@ -2,21 +2,21 @@
 use Rattle.std.specs.Prelude.{◌≡◌, ◌+◌, ◌∷◌, ℕ, true, false, List, length, take}
 use Rattle.std.specs.Prelude.{drop, Option, Some, None, IsSome, Result, Ok, Err, IsOk, IfOk, IfErr}
 use Rattle.std.specs.Prelude.{if◌then◌else◌}
-use Rattle.rtr_slices.specs.Canonical.{HoldsData}
-use Rattle.rtr_history.specs.Checks.{IsShortForCheck}
-use Rattle.rtr_history.specs.Life.{IsLife, IsUnsavedLife, MayTake}
-use Rattle.rtr_history.specs.Parts.{part_rest}
-use Rattle.rtr_history.specs.Since.{IsShortForAnswer, WritesChangesSince}
-use Rattle.rtr_history.specs.Snapshots.{HoldsHistory, Snapshot, snapshot_at}
-use Rattle.rtr_history.specs.Store.{HoldsStore}
-use Rattle.rtr_history.specs.Stores.{IsFlawOfNew, IsShortForTaking, TakesData, after_call}
-use Rattle.rtr_history.specs.Stores.{after_giving_up, after_saved, fresh_stores, held_of}
-use Rattle.rtr_history.specs.Stores.{numbers_of, other_of, served_store, size_of, taken_store}
-use Rattle.rtr_history.specs.declared.check.CheckFault.{CheckFault}
-use Rattle.rtr_history.specs.declared.check.CheckFault.TheVariants.{Malformed}
-use Rattle.rtr_history.specs.declared.newer.Untaken.{Untaken}
-use Rattle.rtr_history.specs.declared.since.SinceFault.{SinceFault}
-use Rattle.rtr_history.specs.declared.stores.Stores.{Stores}
+use Rattle.data_slices.specs.Canonical.{HoldsData}
+use Rattle.data_history.specs.Checks.{IsShortForCheck}
+use Rattle.data_history.specs.Life.{IsLife, IsUnsavedLife, MayTake}
+use Rattle.data_history.specs.Parts.{part_rest}
+use Rattle.data_history.specs.Since.{IsShortForAnswer, WritesChangesSince}
+use Rattle.data_history.specs.Snapshots.{HoldsHistory, Snapshot, snapshot_at}
+use Rattle.data_history.specs.Store.{HoldsStore}
+use Rattle.data_history.specs.Stores.{IsFlawOfNew, IsShortForTaking, TakesData, after_call}
+use Rattle.data_history.specs.Stores.{after_giving_up, after_saved, fresh_stores, held_of}
+use Rattle.data_history.specs.Stores.{numbers_of, other_of, served_store, size_of, taken_store}
+use Rattle.data_history.specs.declared.check.CheckFault.{CheckFault}
+use Rattle.data_history.specs.declared.check.CheckFault.TheVariants.{Malformed}
+use Rattle.data_history.specs.declared.newer.Untaken.{Untaken}
+use Rattle.data_history.specs.declared.since.SinceFault.{SinceFault}
+use Rattle.data_history.specs.declared.stores.Stores.{Stores}
 use Rattle.rtr_c.specs.Stores.{has_stores, stores_in}
 use Rattle.rtr_c.specs.StoresAnswers.{check_told, wrote_answer}
 use Rattle.rtr_c.specs.declared.stores.RtrStores.{RtrStores}

@@ -4,12 +4,12 @@
 use Rattle.std.specs.Prelude.{◌≡◌, ℕ, List, [], ◌++◌, length, codes, decimal, Option, Some, None}
 use Rattle.std.specs.Prelude.{◌==◌, nat_lt, if◌then◌else◌}
 use Rattle.rtr_base.specs.PlainTexts.{code_name}
-use Rattle.rtr_router.specs.Texts.{cause_text}
-use Rattle.rtr_cache.specs.ReasonTexts.{reason_text}
-use Rattle.rtr_conversation.specs.Sent.{refusal_name, refusal_text}
-use Rattle.rtr_conversation.specs.declared.refusal.Refusal.{Refusal}
-use Rattle.rtr_conversation.specs.declared.refusal.Refusal.TheVariants as refusals
-use Rattle.rtr_texts.specs.Laying.{Lays}
+use Rattle.session_router.specs.Texts.{cause_text}
+use Rattle.session_cache.specs.ReasonTexts.{reason_text}
+use Rattle.session_bytes.specs.Sent.{refusal_name, refusal_text}
+use Rattle.session_bytes.specs.declared.refusal.Refusal.{Refusal}
+use Rattle.session_bytes.specs.declared.refusal.Refusal.TheVariants as refusals
+use Rattle.text_lines.specs.Laying.{Lays}
 use Rattle.rtr_c.specs.Answers.{rtr_ok, rtr_short, rtr_unit_type, rtr_unit_version, rtr_too_long}
 use Rattle.rtr_c.specs.Answers.{rtr_unit_length, rtr_empty_providers, rtr_prefix, rtr_too_many}
 use Rattle.rtr_c.specs.Answers.{rtr_no_room, rtr_no_form, rtr_not_canonical, rtr_other_session}

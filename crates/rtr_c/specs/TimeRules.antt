@@ -1,8 +1,8 @@
 -- The rules on the times that a cache names, as C is told of them (this library's own).
 use Rattle.std.specs.Prelude.{ℕ, List, Option, Some, None, ◌==◌, if◌then◌else◌}
-use Rattle.rtr_times.specs.AllowedTimes.{rule_text}
-use Rattle.rtr_times.specs.declared.times.TimeRule.{TimeRule}
-use Rattle.rtr_times.specs.declared.times.TimeRule.TheVariants as rules
+use Rattle.session_times.specs.AllowedTimes.{rule_text}
+use Rattle.session_times.specs.declared.times.TimeRule.{TimeRule}
+use Rattle.session_times.specs.declared.times.TimeRule.TheVariants as rules
 
 -- 0 where none is broken
 abbrev pub time_rule_number : Option TimeRule → ℕ

@@ -16,7 +16,7 @@ use Rattle.rtr_payload.specs.Providers.{words_of}
 use Rattle.rtr_payload.specs.FirstFault.{broken_rule}
 use Rattle.rtr_payload.specs.declared.pdu.prefix_rule.PrefixRule.{PrefixRule}
 use Rattle.rtr_payload.specs.Units.{form}
-use Rattle.rtr_views.specs.Placing.{Places}
+use Rattle.unit_views.specs.Placing.{Places}
 use Rattle.rtr_c.specs.Answers.{rtr_ok, rtr_unit_type, rtr_unit_version, rtr_too_long}
 use Rattle.rtr_c.specs.Answers.{rtr_unit_length, rtr_empty_providers, rtr_prefix, rtr_no_room}
 use Rattle.rtr_c.specs.Answers.{rtr_no_form}

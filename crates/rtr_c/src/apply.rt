@@ -1,16 +1,16 @@
 //! What changes make of data.
 
 ghost use Rattle.std.specs.Prelude.{◌≡◌, ◌≢◌, ◌+◌, ◌≤◌, ℕ, Result, length};
-ghost use Rattle.rtr_slices.specs.Apply.{AppliesChanges};
-ghost use Rattle.rtr_slices.specs.declared.fault.ApplyFault.{ApplyFault};
+ghost use Rattle.data_slices.specs.Apply.{AppliesChanges};
+ghost use Rattle.data_slices.specs.declared.fault.ApplyFault.{ApplyFault};
 ghost use Rattle.rtr_c.specs.Answers.{rtr_no_room};
 ghost use Rattle.rtr_c.specs.DataAnswers.{TellsData, apply_told};
 
 use crate::answer::{DUPLICATE, NO_ROOM, OTHER_SESSION, UNIT_VERSION, UNKNOWN};
 use crate::data_answer::{FIRST, RtrDataAnswer, SECOND};
-use rtr_slices::ApplyFault;
+use data_slices::ApplyFault;
 
-/// As `rtr_slices::apply_into`.
+/// As `data_slices::apply_into`.
 #[unsafe(no_mangle)]
 pub extern "C" fn rtr_apply_nonnull(
     data: &[u8],
@@ -24,7 +24,7 @@ pub extern "C" fn rtr_apply_nonnull(
     ensures room { length «data».now + length changes.now ≤ length output.old →
         result ≢ rtr_no_room }
 {
-    *answer = match rtr_slices::apply_into(data, changes, output) {
+    *answer = match data_slices::apply_into(data, changes, output) {
         Ok(written) => RtrDataAnswer::wrote(written),
         Err(fault) => answer_of(&fault),
     };

@@ -3,11 +3,11 @@
 ghost use Rattle.std.specs.Prelude.{◌≡◌};
 ghost use Rattle.rtr_c.specs.Caches.{cache_of, cache_settings_of, present_of};
 
-use rtr_cache::cache::Cache;
-use rtr_cache::event::Present;
-use rtr_cache::settings::CacheSettings;
+use session_cache::cache::Cache;
+use session_cache::event::Present;
+use session_cache::settings::CacheSettings;
 
-/// What names the newest data of a cache: as `rtr_cache::event::Present`.
+/// What names the newest data of a cache: as `session_cache::event::Present`.
 #[repr(C)]
 #[derive(Clone, Copy)]
 pub struct RtrPresent {
@@ -19,7 +19,7 @@ pub struct RtrPresent {
 // The fields stand one after the other, and one byte is left at the end.
 const _: () = prove!(size_of::<RtrPresent>() == 8);
 
-/// What a caller sets: as `rtr_cache::settings::CacheSettings`.
+/// What a caller sets: as `session_cache::settings::CacheSettings`.
 #[repr(C)]
 #[derive(Clone, Copy)]
 pub struct RtrCacheSettings {
@@ -32,7 +32,7 @@ pub struct RtrCacheSettings {
 // The fields stand one after the other, and three bytes are left at the end.
 const _: () = prove!(size_of::<RtrCacheSettings>() == 16);
 
-/// A cache's end of a connection: as `rtr_cache::cache::Cache`.
+/// A cache's end of a connection: as `session_cache::cache::Cache`.
 #[repr(C)]
 #[derive(Clone, Copy)]
 pub struct RtrCache {

@@ -2,11 +2,11 @@
 
 ghost use Rattle.std.specs.Prelude.{◌≡◌, ◌+◌, ℕ, Option, true, false};
 ghost use Rattle.std.specs.Option.{unwrap_or};
-ghost use Rattle.rtr_cache.specs.CacheSteps.{cache_wakes_at};
-ghost use Rattle.rtr_cache.specs.declared.event.CacheEvent.TheVariants as events;
-ghost use Rattle.rtr_conversation.specs.Answered.{PlacesOpening};
-ghost use Rattle.rtr_conversation.specs.Serving.{HearsRouter};
-ghost use Rattle.rtr_conversation.specs.declared.serving.Served.{Served};
+ghost use Rattle.session_cache.specs.CacheSteps.{cache_wakes_at};
+ghost use Rattle.session_cache.specs.declared.event.CacheEvent.TheVariants as events;
+ghost use Rattle.session_bytes.specs.Answered.{PlacesOpening};
+ghost use Rattle.session_bytes.specs.Serving.{HearsRouter};
+ghost use Rattle.session_bytes.specs.declared.serving.Served.{Served};
 ghost use Rattle.rtr_c.specs.Caches.{cache_of, cache_settings_of, present_of};
 ghost use Rattle.rtr_c.specs.Routers.{clock};
 ghost use Rattle.rtr_c.specs.Servings.{IsServingStep, PlacesAnswer, served_of, state_of, unit_told};
@@ -20,12 +20,12 @@ use crate::next::wanted;
 use crate::numbers::clock;
 use crate::router_action::refusal_from;
 use crate::serving::{RtrServing, answer_from, serving_to, state_from, waiting};
-use rtr_cache::cache::Cache;
-use rtr_cache::event::{CacheEvent, Present};
-use rtr_cache::settings::CacheSettings;
-use rtr_conversation::{Served, place_opening, place_owed, serve};
+use session_cache::cache::Cache;
+use session_cache::event::{CacheEvent, Present};
+use session_cache::settings::CacheSettings;
+use session_bytes::{Served, place_opening, place_owed, serve};
 
-/// The usual settings, as `rtr_cache::settings::CacheSettings::usual`.
+/// The usual settings, as `session_cache::settings::CacheSettings::usual`.
 #[unsafe(no_mangle)]
 pub extern "C" fn rtr_cache_settings_usual(settings: &mut RtrCacheSettings)
     ensures first_limit { settings.new.first_limit ≡ 30000 }
@@ -37,7 +37,7 @@ pub extern "C" fn rtr_cache_settings_usual(settings: &mut RtrCacheSettings)
 }
 
 /// Begins a connection that was made at this time, whatever the struct holds, as
-/// `rtr_cache::cache::Cache::new`.
+/// `session_cache::cache::Cache::new`.
 #[unsafe(no_mangle)]
 pub extern "C" fn rtr_cache_init(cache: &mut RtrCache, now: u64, settings: &RtrCacheSettings)
     ensures settings { cache_settings_of cache.new.settings ≡ cache_settings_of settings.now }
@@ -114,7 +114,7 @@ pub extern "C" fn rtr_cache_lost(
     *serving = step(cache, now, present, CacheEvent::Lost);
 }
 
-/// Tells the cache of the unit that the input begins with, as `rtr_conversation::serve`.
+/// Tells the cache of the unit that the input begins with, as `session_bytes::serve`.
 #[unsafe(no_mangle)]
 pub extern "C" fn rtr_cache_read_nonnull(
     cache: &mut RtrCache,
@@ -158,7 +158,7 @@ fn served_to(came: &Served, input: &[u8], version: u8, present: &Present) -> Rtr
     }
 }
 
-/// Writes the unit that an answer begins with, as `rtr_conversation::place_opening`. Answers its
+/// Writes the unit that an answer begins with, as `session_bytes::place_opening`. Answers its
 /// length in bytes, 8 or 12, or 0 if it begins with none or the output is shorter.
 #[unsafe(no_mangle)]
 pub extern "C" fn rtr_cache_unit_nonnull(serving: &RtrServing, output: &mut [u8]) -> usize
@@ -171,7 +171,7 @@ pub extern "C" fn rtr_cache_unit_nonnull(serving: &RtrServing, output: &mut [u8]
 }
 
 /// Writes the report that an answer owes about the unit that the input begins with, as
-/// `rtr_conversation::place_owed`. Answers whether it is written.
+/// `session_bytes::place_owed`. Answers whether it is written.
 #[unsafe(no_mangle)]
 pub extern "C" fn rtr_cache_report_nonnull(
     serving: &RtrServing,

@@ -4,10 +4,10 @@ ghost use Rattle.std.specs.Prelude.{◌≡◌, map};
 ghost use Rattle.rtr_c.specs.Checks.{no_checked, no_named, numbered_finding, numbered_stage};
 ghost use Rattle.rtr_c.specs.Checks.{numbered_layout, numbered_time_rule, check_state};
 
-use rtr_findings::{Finding, Layout, SequenceState, Stage};
-use rtr_times::TimeRule;
+use text_findings::{Finding, Layout, SequenceState, Stage};
+use session_times::TimeRule;
 
-/// What is known of the sequence that is read: as `rtr_findings::SequenceState`. All zero before
+/// What is known of the sequence that is read: as `text_findings::SequenceState`. All zero before
 /// the first unit.
 #[repr(C)]
 #[derive(Clone, Copy)]
@@ -22,7 +22,7 @@ pub struct RtrCheck {
 // The fields stand one after the other.
 const _: () = prove!(size_of::<RtrCheck>() == 6);
 
-/// A rule that a unit breaks: as `rtr_findings::Finding`. Rule 0 is none.
+/// A rule that a unit breaks: as `text_findings::Finding`. Rule 0 is none.
 #[repr(C)]
 #[derive(Clone, Copy)]
 pub struct RtrFinding {

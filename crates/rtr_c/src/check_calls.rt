@@ -1,10 +1,10 @@
 //! The rules that units break, for callers that keep the names of the payloads that are announced.
 
 ghost use Rattle.std.specs.Prelude.{◌≡◌, ℕ, List, Result};
-ghost use Rattle.rtr_session.specs.AnyFields.{AnyFields};
-ghost use Rattle.rtr_texts.specs.Laying.{Lays};
-ghost use Rattle.rtr_findings.specs.CheckedUnits.{found_in, known_after};
-ghost use Rattle.rtr_findings.specs.Rules.{end_findings};
+ghost use Rattle.unit_any.specs.AnyFields.{AnyFields};
+ghost use Rattle.text_lines.specs.Laying.{Lays};
+ghost use Rattle.text_findings.specs.CheckedUnits.{found_in, known_after};
+ghost use Rattle.text_findings.specs.Rules.{end_findings};
 ghost use Rattle.rtr_c.specs.Checks.{Checks, LooksAt, NamesTold, check_state, numbered_finding};
 ghost use Rattle.rtr_c.specs.Checks.{told_line};
 ghost use Rattle.rtr_c.specs.declared.lines.RtrLine.{RtrLine};
@@ -15,11 +15,11 @@ use crate::check::{
     findings_to, none_checked, none_named,
 };
 use crate::lines::{first_unit, room_status};
-use rtr_findings::{announces, begins, describe_finding, lay_name};
-use rtr_texts::listed_unit;
+use text_findings::{announces, begins, describe_finding, lay_name};
+use text_lines::listed_unit;
 
 /// Which payload the unit announces or withdraws that the input begins with, as
-/// `rtr_findings::lay_name`, and what the caller does with its name.
+/// `text_findings::lay_name`, and what the caller does with its name.
 ///
 /// Statuses: those of `rtr_unit_size`, `SHORT` if not all of the unit is there, and `NO_ROOM` if
 /// the output is too short.
@@ -55,7 +55,7 @@ pub extern "C" fn rtr_check_name_nonnull(
     status
 }
 
-/// What the unit breaks that the input begins with, as `rtr_findings::SequenceState::check`, where
+/// What the unit breaks that the input begins with, as `text_findings::SequenceState::check`, where
 /// the caller says whether the name of its payload was in its set. Statuses: as
 /// `rtr_check_name_nonnull`, but `NO_ROOM`; with one the state stays.
 #[unsafe(no_mangle)]
@@ -89,7 +89,7 @@ pub extern "C" fn rtr_check_unit_nonnull(
     ACCEPTED
 }
 
-/// What is missing where the input ends, as `rtr_findings::SequenceState::missing`.
+/// What is missing where the input ends, as `text_findings::SequenceState::missing`.
 #[unsafe(no_mangle)]
 pub extern "C" fn rtr_check_end(check: &RtrCheck, finding: &mut RtrFinding)
     ensures { (history : List AnyFields) → check_state check.now ≡ known_after history →

@@ -5,7 +5,7 @@ ghost use Rattle.rtr_c.specs.DataAnswers.{flaw_told, reason_detail, reason_statu
 ghost use Rattle.rtr_c.specs.DataAnswers.{side_told, written_told};
 
 use crate::answer::{ACCEPTED, NOT_CANONICAL, fault_detail, fault_status};
-use rtr_slices::{Flaw, Reason};
+use data_slices::{Flaw, Reason};
 
 /// The first of two inputs.
 pub(crate) const FIRST: u8 = 1;

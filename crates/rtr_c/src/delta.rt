@@ -1,16 +1,16 @@
 //! The delta between two data.
 
 ghost use Rattle.std.specs.Prelude.{◌≡◌, ◌≢◌, ◌+◌, ◌≤◌, ℕ, Result, length};
-ghost use Rattle.rtr_slices.specs.Delta.{Deltas};
-ghost use Rattle.rtr_slices.specs.declared.fault.DeltaFault.{DeltaFault};
+ghost use Rattle.data_slices.specs.Delta.{Deltas};
+ghost use Rattle.data_slices.specs.declared.fault.DeltaFault.{DeltaFault};
 ghost use Rattle.rtr_c.specs.Answers.{rtr_no_room};
 ghost use Rattle.rtr_c.specs.DataAnswers.{TellsData, delta_told};
 
 use crate::answer::{NO_ROOM, OTHER_SESSION, UNIT_VERSION};
 use crate::data_answer::{FIRST, RtrDataAnswer, SECOND};
-use rtr_slices::DeltaFault;
+use data_slices::DeltaFault;
 
-/// As `rtr_slices::delta_into`.
+/// As `data_slices::delta_into`.
 #[unsafe(no_mangle)]
 pub extern "C" fn rtr_delta_nonnull(
     old_data: &[u8],
@@ -24,7 +24,7 @@ pub extern "C" fn rtr_delta_nonnull(
     ensures room { length old_data.now + length new_data.now ≤ length output.old →
         result ≢ rtr_no_room }
 {
-    *answer = match rtr_slices::delta_into(old_data, new_data, output) {
+    *answer = match data_slices::delta_into(old_data, new_data, output) {
         Ok(written) => RtrDataAnswer::wrote(written),
         Err(fault) => answer_of(&fault),
     };

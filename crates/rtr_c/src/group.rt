@@ -4,11 +4,11 @@ ghost use Rattle.std.specs.Prelude.{◌≡◌};
 ghost use Rattle.rtr_c.specs.GroupsShown.{answer_shown, group_of, group_settings_of, member_shown};
 ghost use Rattle.rtr_c.specs.GroupsShown.{shown_number};
 
-use rtr_group::event::{Answer, Shown};
-use rtr_group::group::Group;
-use rtr_group::settings::Settings;
+use session_group::event::{Answer, Shown};
+use session_group::group::Group;
+use session_group::settings::Settings;
 
-/// What a caller sets for a group: as `rtr_group::settings::Settings`.
+/// What a caller sets for a group: as `session_group::settings::Settings`.
 #[repr(C)]
 #[derive(Clone, Copy)]
 pub struct RtrGroupSettings {
@@ -19,7 +19,7 @@ pub struct RtrGroupSettings {
 // The fields stand one after the other, and three bytes are left at the end.
 const _: () = prove!(size_of::<RtrGroupSettings>() == 8);
 
-/// A group: as `rtr_group::group::Group`.
+/// A group: as `session_group::group::Group`.
 #[repr(C)]
 #[derive(Clone, Copy)]
 pub struct RtrGroup {
@@ -34,7 +34,7 @@ pub struct RtrGroup {
 // The fields stand one after the other, and seven bytes are left at the end.
 const _: () = prove!(size_of::<RtrGroup>() == 56);
 
-/// What its caller does: as `rtr_group::event::Answer`. Fields that an answer doesn't have are 0.
+/// What its caller does: as `session_group::event::Answer`. Fields that an answer doesn't have are 0.
 #[repr(C)]
 #[derive(Clone, Copy)]
 pub struct RtrGroupAnswer {

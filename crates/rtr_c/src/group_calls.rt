@@ -3,8 +3,8 @@
 
 ghost use Rattle.std.specs.Prelude.{◌≡◌, false, is_some};
 ghost use Rattle.std.specs.Option.{unwrap_or};
-ghost use Rattle.rtr_group.specs.Groups.{best_of, group_wakes};
-ghost use Rattle.rtr_group.specs.declared.event.Event.TheVariants as events;
+ghost use Rattle.session_group.specs.Groups.{best_of, group_wakes};
+ghost use Rattle.session_group.specs.declared.event.Event.TheVariants as events;
 ghost use Rattle.rtr_c.specs.GroupsShown.{IsGroupStep, IsGroupTick, IsInitialGroup, group_of};
 ghost use Rattle.rtr_c.specs.Routers.{clock};
 
@@ -14,11 +14,11 @@ use crate::group::{
     group_settings_to, group_to,
 };
 use crate::numbers::clock;
-use rtr_group::event::Event;
-use rtr_group::group::{Group, GroupError};
-use rtr_group::settings::Settings;
+use session_group::event::Event;
+use session_group::group::{Group, GroupError};
+use session_group::settings::Settings;
 
-/// The usual settings, as `rtr_group::settings::Settings::usual`.
+/// The usual settings, as `session_group::settings::Settings::usual`.
 #[unsafe(no_mangle)]
 pub extern "C" fn rtr_group_usual(settings: &mut RtrGroupSettings)
     ensures patience { settings.new.patience ≡ 5000 }
@@ -28,7 +28,7 @@ pub extern "C" fn rtr_group_usual(settings: &mut RtrGroupSettings)
 }
 
 /// Begins a group of this number of members, whatever the struct holds, as
-/// `rtr_group::group::Group::new`. If there are more than 16, it returns a status that says so, and
+/// `session_group::group::Group::new`. If there are more than 16, it returns a status that says so, and
 /// the group has no members.
 #[unsafe(no_mangle)]
 pub extern "C" fn rtr_group_init(
@@ -59,7 +59,7 @@ pub extern "C" fn rtr_group_init(
     }
 }
 
-/// The member whose data are shown, as `rtr_group::group::Group::best`: returns whether there is
+/// The member whose data are shown, as `session_group::group::Group::best`: returns whether there is
 /// one, and 0 if there is none.
 #[unsafe(no_mangle)]
 pub extern "C" fn rtr_group_best(group: &RtrGroup, member: &mut usize) -> bool

@@ -2,16 +2,16 @@
 
 ghost use Rattle.std.specs.Prelude.{◌≡◌, ◌++◌, ◌↔◌, ℕ, IsSome, IsTrue, List, Result, drop, length};
 ghost use Rattle.std.specs.Prelude.{take};
-ghost use Rattle.rtr_slices.specs.Canonical.{HoldsData};
-ghost use Rattle.rtr_history.specs.Seal.{seal};
-ghost use Rattle.rtr_history.specs.Snapshots.{HoldsHistory, Snapshot, snapshot_at};
-ghost use Rattle.rtr_history.specs.declared.since.SinceFault.{SinceFault};
+ghost use Rattle.data_slices.specs.Canonical.{HoldsData};
+ghost use Rattle.data_history.specs.Seal.{seal};
+ghost use Rattle.data_history.specs.Snapshots.{HoldsHistory, Snapshot, snapshot_at};
+ghost use Rattle.data_history.specs.declared.since.SinceFault.{SinceFault};
 ghost use Rattle.rtr_c.specs.StoresAnswers.{since_told};
 ghost use Rattle.rtr_c.specs.StoresCalls.{TellsSince};
 
 use crate::stores_answer::RtrStoresAnswer;
 use rtr_base::state::Serial;
-use rtr_history::{data_at, knows, open_saved, seal_head, since_into};
+use data_history::{data_at, knows, open_saved, seal_head, since_into};
 
 /// The head of a file that has a store behind it.
 #[repr(C)]
@@ -22,7 +22,7 @@ pub struct RtrStoreHead {
 
 const _: () = prove!(size_of::<RtrStoreHead>() == 24);
 
-/// The changes since data of a serial number, as `rtr_history::since_into`.
+/// The changes since data of a serial number, as `data_history::since_into`.
 #[unsafe(no_mangle)]
 pub extern "C" fn rtr_history_since_nonnull(
     history: &[u8],
@@ -45,7 +45,7 @@ pub extern "C" fn rtr_history_since_nonnull(
     answer.status
 }
 
-/// Where the present data of a history stand in it, as `rtr_history::data_at`: their offset and
+/// Where the present data of a history stand in it, as `data_history::data_at`: their offset and
 /// their length, or 0.
 #[unsafe(no_mangle)]
 pub extern "C" fn rtr_history_data_nonnull(
@@ -73,7 +73,7 @@ pub extern "C" fn rtr_history_data_nonnull(
     }
 }
 
-/// Reports whether a history has data of a serial number, as `rtr_history::knows`.
+/// Reports whether a history has data of a serial number, as `data_history::knows`.
 #[unsafe(no_mangle)]
 pub extern "C" fn rtr_history_knows_nonnull(history: &[u8], serial: u32) -> bool
     ensures { (x : Snapshot) (ys : List Snapshot) → HoldsHistory history.now x ys →
@@ -82,7 +82,7 @@ pub extern "C" fn rtr_history_knows_nonnull(history: &[u8], serial: u32) -> bool
     knows(history, Serial(serial))
 }
 
-/// Writes the head of a file that has a store behind it, as `rtr_history::seal_head`.
+/// Writes the head of a file that has a store behind it, as `data_history::seal_head`.
 #[unsafe(no_mangle)]
 pub extern "C" fn rtr_store_seal_nonnull(store: &[u8], head: &mut RtrStoreHead)
     ensures { head.new.bytes ≡ seal store.now }
@@ -92,7 +92,7 @@ pub extern "C" fn rtr_store_seal_nonnull(store: &[u8], head: &mut RtrStoreHead)
     };
 }
 
-/// Reports whether a file's head is that of the bytes behind it, as `rtr_history::open_saved`.
+/// Reports whether a file's head is that of the bytes behind it, as `data_history::open_saved`.
 #[unsafe(no_mangle)]
 pub extern "C" fn rtr_store_open_nonnull(file: &[u8]) -> bool
     ensures opens { IsTrue result → file.now ≡ seal (drop 24 file.now) ++ drop 24 file.now }

@@ -1,16 +1,16 @@
 //! What changes make of data, in the order in which they came.
 
 ghost use Rattle.std.specs.Prelude.{◌≡◌, ◌≢◌, ◌+◌, ◌≤◌, ℕ, Result, length};
-ghost use Rattle.rtr_slices.specs.InOrder.{AppliesInOrder};
-ghost use Rattle.rtr_slices.specs.declared.in_order_fault.InOrderFault.{InOrderFault};
+ghost use Rattle.data_slices.specs.InOrder.{AppliesInOrder};
+ghost use Rattle.data_slices.specs.declared.in_order_fault.InOrderFault.{InOrderFault};
 ghost use Rattle.rtr_c.specs.Answers.{rtr_no_room};
 ghost use Rattle.rtr_c.specs.DataAnswers.{TellsData, in_order_told};
 
 use crate::answer::{DUPLICATE, NO_INDEX, NO_ROOM, OTHER_SESSION, UNIT_VERSION, UNKNOWN};
 use crate::data_answer::{FIRST, RtrDataAnswer, SECOND};
-use rtr_slices::InOrderFault;
+use data_slices::InOrderFault;
 
-/// As `rtr_slices::apply_in_order`.
+/// As `data_slices::apply_in_order`.
 #[unsafe(no_mangle)]
 pub extern "C" fn rtr_apply_in_order_nonnull(
     data: &[u8],
@@ -25,7 +25,7 @@ pub extern "C" fn rtr_apply_in_order_nonnull(
     ensures room { length «data».now + length changes.now ≤ length output.old →
         result ≢ rtr_no_room }
 {
-    *answer = match rtr_slices::apply_in_order(data, changes, index, output) {
+    *answer = match data_slices::apply_in_order(data, changes, index, output) {
         Ok(written) => RtrDataAnswer::wrote(written),
         Err(fault) => answer_of(&fault),
     };

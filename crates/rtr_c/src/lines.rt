@@ -2,17 +2,17 @@
 
 ghost use Rattle.std.specs.Prelude.{◌≡◌, ◌≤◌, ℕ, List, Option, Some, Ok, Result, IfOk, IfErr};
 ghost use Rattle.std.specs.Prelude.{length, take};
-ghost use Rattle.rtr_views.specs.declared.fault.ViewFault.{ViewFault};
-ghost use Rattle.rtr_session.specs.Lengths.{SaysLength};
-ghost use Rattle.rtr_texts.specs.JsonLines.{unit_json};
-ghost use Rattle.rtr_texts.specs.PayloadLines.{change_json};
-ghost use Rattle.rtr_texts.specs.TextLines.{change_text, unit_text};
+ghost use Rattle.unit_views.specs.declared.fault.ViewFault.{ViewFault};
+ghost use Rattle.unit_any.specs.Lengths.{SaysLength};
+ghost use Rattle.text_lines.specs.JsonLines.{unit_json};
+ghost use Rattle.text_lines.specs.PayloadLines.{change_json};
+ghost use Rattle.text_lines.specs.TextLines.{change_text, unit_text};
 ghost use Rattle.rtr_c.specs.LineAnswers.{TellsLine, line_status, no_line};
 ghost use Rattle.rtr_c.specs.PrivateLines.{IsUnitOf, TellsRefusal};
 
 use crate::answer::{ACCEPTED, NO_ROOM, SHORT, fault_detail, fault_status};
-use rtr_session::length::unit_length;
-use rtr_texts::{describe, describe_change, describe_change_json, describe_json, listed_unit};
+use unit_any::length::unit_length;
+use text_lines::{describe, describe_change, describe_change_json, describe_json, listed_unit};
 
 /// The bytes of a header.
 const HEADER: usize = 8;

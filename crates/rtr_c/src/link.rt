@@ -1,14 +1,14 @@
 //! A router's end with its bytes and its data, in numbers.
 
 ghost use Rattle.std.specs.Prelude.{◌≡◌, ◌≤◌, ◌+◌, true};
-ghost use Rattle.rtr_client.specs.Holding.{due_size};
-ghost use Rattle.rtr_client.specs.Turning.{IsInStep, flag};
+ghost use Rattle.session_client.specs.Holding.{due_size};
+ghost use Rattle.session_client.specs.Turning.{IsInStep, flag};
 ghost use Rattle.rtr_c.specs.Links.{are_flags, client_of, flag_set, has_flags, holding_number};
 ghost use Rattle.rtr_c.specs.Links.{is_begun, link_router, numbered_holding, suits_phase};
 ghost use Rattle.rtr_c.specs.Routers.{router_of};
 
 use crate::router::{RtrKnown, RtrRouter, RtrSettings, router_from, router_to};
-use rtr_client::client::{Client, Holding};
+use session_client::client::{Client, Holding};
 
 /// The mark of a struct that was begun.
 const MARK: u32 = 1_280_461_387;
@@ -20,7 +20,7 @@ const UNITS: u8 = 1;
 
 const ANSWER: u8 = 2;
 
-/// A router's end of a session: as `rtr_client::Client`. All fields are numbers, so that each call
+/// A router's end of a session: as `session_client::Client`. All fields are numbers, so that each call
 /// reads any bytes; a flag is 0 or 1.
 #[repr(C)]
 #[derive(Clone, Copy)]

@@ -3,10 +3,10 @@
 
 ghost use Rattle.std.specs.Prelude.{◌≡◌, ◌≢◌, ◌≤◌, ◌+◌, ◌-◌, ◌^◌, ◌<◌, ℕ, List, length, take, drop};
 ghost use Rattle.std.specs.Prelude.{true};
-ghost use Rattle.rtr_router.specs.declared.settings.Settings.{Settings};
-ghost use Rattle.rtr_client.specs.Holding.{IsClient, client_again, data_in, new_client};
-ghost use Rattle.rtr_client.specs.Makings.{Octets};
-ghost use Rattle.rtr_client.specs.declared.next.Todo.{Todo};
+ghost use Rattle.session_router.specs.declared.settings.Settings.{Settings};
+ghost use Rattle.session_client.specs.Holding.{IsClient, client_again, data_in, new_client};
+ghost use Rattle.session_client.specs.Makings.{Octets};
+ghost use Rattle.session_client.specs.declared.next.Todo.{Todo};
 ghost use Rattle.rtr_c.specs.LinkTodos.{AsksNow, GivesUpRoom, TakesTurn, TellsTodo, refused_todo};
 ghost use Rattle.rtr_c.specs.Links.{again_status, client_of, giving_up_status, is_begun, link_ok};
 ghost use Rattle.rtr_c.specs.Links.{lost_status};
@@ -21,9 +21,9 @@ use crate::link_status::{
 };
 use crate::link_todo::{RtrTodo, refused, todo_to};
 use crate::router::{RtrSettings, settings_from};
-use rtr_client::client::Client;
+use session_client::client::Client;
 
-/// Begins a client without data, whatever the struct holds, as `rtr_client::Client::new`.
+/// Begins a client without data, whatever the struct holds, as `session_client::Client::new`.
 #[unsafe(no_mangle)]
 pub extern "C" fn rtr_link_init(link: &mut RtrLink, settings: &RtrSettings)
     ensures client { client_of link.new ≡ new_client (settings_of settings.now) }
@@ -34,7 +34,7 @@ pub extern "C" fn rtr_link_init(link: &mut RtrLink, settings: &RtrSettings)
 }
 
 /// Begins a client without data again, which goes on with its cache, as
-/// `rtr_client::Client::again`.
+/// `session_client::Client::again`.
 #[unsafe(no_mangle)]
 pub extern "C" fn rtr_link_again(link: &mut RtrLink) -> u8
     ensures status { result ≡ again_status link.old }
@@ -50,7 +50,7 @@ pub extern "C" fn rtr_link_again(link: &mut RtrLink) -> u8
     status
 }
 
-/// A connection was opened, as `rtr_client::Client::opened`.
+/// A connection was opened, as `session_client::Client::opened`.
 #[unsafe(no_mangle)]
 pub extern "C" fn rtr_link_opened(link: &mut RtrLink) -> u8
     ensures status { result ≡ opened_status link.old }
@@ -65,7 +65,7 @@ pub extern "C" fn rtr_link_opened(link: &mut RtrLink) -> u8
     status
 }
 
-/// No connection could be opened, or the peer closed it, as `rtr_client::Client::closed`.
+/// No connection could be opened, or the peer closed it, as `session_client::Client::closed`.
 #[unsafe(no_mangle)]
 pub extern "C" fn rtr_link_lost(link: &mut RtrLink) -> u8
     ensures status { result ≡ lost_status link.old }
@@ -80,7 +80,7 @@ pub extern "C" fn rtr_link_lost(link: &mut RtrLink) -> u8
     status
 }
 
-/// So many bytes were read into the input, as `rtr_client::Client::received`.
+/// So many bytes were read into the input, as `session_client::Client::received`.
 #[unsafe(no_mangle)]
 pub extern "C" fn rtr_link_received_nonnull(link: &mut RtrLink, input: &[u8], size: usize) -> u8
     ensures status { result ≡ received_status link.old (length input.now) size }
@@ -102,7 +102,7 @@ pub extern "C" fn rtr_link_received_nonnull(link: &mut RtrLink, input: &[u8], si
     status
 }
 
-/// So many bytes of the output were sent, as `rtr_client::Client::sent`.
+/// So many bytes of the output were sent, as `session_client::Client::sent`.
 #[unsafe(no_mangle)]
 pub extern "C" fn rtr_link_sent_nonnull(link: &mut RtrLink, output: &mut [u8], size: usize) -> u8
     ensures status { result ≡ sent_status link.old (length output.old) size }
@@ -122,7 +122,7 @@ pub extern "C" fn rtr_link_sent_nonnull(link: &mut RtrLink, output: &mut [u8], s
     status
 }
 
-/// What the caller has to do next, as `rtr_client::Client::next`.
+/// What the caller has to do next, as `session_client::Client::next`.
 #[unsafe(no_mangle)]
 pub extern "C" fn rtr_link_next_nonnull(
     link: &mut RtrLink,
@@ -184,7 +184,7 @@ fn take_turn(
     todo_to(&todo, client.second, client.router.wakes())
 }
 
-/// The caller wants the present data, as `rtr_client::Client::ask_now`.
+/// The caller wants the present data, as `session_client::Client::ask_now`.
 #[unsafe(no_mangle)]
 pub extern "C" fn rtr_link_ask_now_nonnull(
     link: &mut RtrLink,
@@ -226,7 +226,7 @@ fn ask_now(link: &mut RtrLink, now: u64, input: &mut [u8], output: &mut [u8]) ->
     todo_to(&todo, client.second, client.router.wakes())
 }
 
-/// The caller gives a buffer no more room, as `rtr_client::Client::give_up`.
+/// The caller gives a buffer no more room, as `session_client::Client::give_up`.
 #[unsafe(no_mangle)]
 pub extern "C" fn rtr_link_give_up_nonnull(
     link: &mut RtrLink,

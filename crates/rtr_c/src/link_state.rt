@@ -6,7 +6,7 @@ ghost use Rattle.rtr_c.specs.Links.{client_of, data_length, link_ok, next_status
 
 use crate::link::{RtrLink, client_from};
 use crate::link_status::{OK, next_status};
-use rtr_client::client::Client;
+use session_client::client::Client;
 
 /// What the buffers hold at a time.
 #[repr(C)]

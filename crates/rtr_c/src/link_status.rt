@@ -1,7 +1,7 @@
 //! How a call for a router's end ends, in numbers.
 
 ghost use Rattle.std.specs.Prelude.{◌≡◌, ◌≤◌, ◌<◌, ◌+◌, ◌^◌, true, List, length, ℕ};
-ghost use Rattle.rtr_client.specs.Holding.{Fits};
+ghost use Rattle.session_client.specs.Holding.{Fits};
 ghost use Rattle.rtr_c.specs.Links.{again_status, client_of, data_length, giving_up_status};
 ghost use Rattle.rtr_c.specs.Links.{is_begun, is_linked};
 ghost use Rattle.rtr_c.specs.Links.{link_ok, lost_status, next_status, opened_status};

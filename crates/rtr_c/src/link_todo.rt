@@ -9,9 +9,9 @@ use crate::answer::{
     UNIT_VERSION, UNKNOWN, rule_number,
 };
 use crate::router_action::cause_to;
-use rtr_client::next::Todo;
-use rtr_conversation::Refusal;
-use rtr_router::event::Ending;
+use session_client::next::Todo;
+use session_bytes::Refusal;
+use session_router::event::Ending;
 
 const NOTHING: u8 = 0;
 
@@ -39,7 +39,7 @@ const INDEX_ROOM: u8 = 11;
 
 const OUTPUT_ROOM: u8 = 12;
 
-/// What a caller has to do next: as `rtr_client::Todo`. Fields that it doesn't have are zero.
+/// What a caller has to do next: as `session_client::Todo`. Fields that it doesn't have are zero.
 #[repr(C)]
 #[derive(Clone, Copy)]
 pub struct RtrTodo {

@@ -1,9 +1,9 @@
 //! A recording or a list, loaded as data.
 
 ghost use Rattle.std.specs.Prelude.{◌≡◌, ◌≢◌, ◌≤◌, ◌/◌, ℕ, Result, length, min};
-ghost use Rattle.rtr_load.specs.Loading.{LoadsFrom, RefusesLoad};
-ghost use Rattle.rtr_load.specs.declared.fault.LoadFault.{LoadFault};
-ghost use Rattle.rtr_load.specs.declared.recording.Loaded.{Loaded};
+ghost use Rattle.data_loading.specs.Loading.{LoadsFrom, RefusesLoad};
+ghost use Rattle.data_loading.specs.declared.fault.LoadFault.{LoadFault};
+ghost use Rattle.data_loading.specs.declared.recording.Loaded.{Loaded};
 ghost use Rattle.rtr_c.specs.Answers.{rtr_no_index, rtr_no_room};
 ghost use Rattle.rtr_c.specs.LoadAnswers.{AnswersLoad, change_status, data_loaded, load_answer};
 ghost use Rattle.rtr_c.specs.LoadAnswers.{load_fault_detail, load_refused, load_fault_status};
@@ -15,9 +15,9 @@ use crate::answer::{
     fault_status,
 };
 use crate::next::wanted;
-use rtr_data::ChangeError;
-use rtr_load::{LoadFault, LoadReason, Loaded};
-use rtr_recordings::Refusal;
+use data_memory::ChangeError;
+use data_loading::{LoadFault, LoadReason, Loaded};
+use data_recordings::Refusal;
 use rtr_wire::pdu::ViewFault;
 
 /// What was loaded, or why nothing was.
@@ -54,7 +54,7 @@ pub struct RtrLoaded {
 // The fields stand one after the other, and two bytes are left at the end.
 const _: () = prove!(size_of::<RtrLoaded>() == 48);
 
-/// As `rtr_load::load`.
+/// As `data_loading::load`.
 #[unsafe(no_mangle)]
 pub extern "C" fn rtr_load_nonnull(
     input: &[u8],
@@ -71,7 +71,7 @@ pub extern "C" fn rtr_load_nonnull(
     ensures room { length input.now ≤ min (length work.old) (length output.old) →
         result ≢ rtr_no_room }
 {
-    *loaded = match rtr_load::load(input, index, work, output) {
+    *loaded = match data_loading::load(input, index, work, output) {
         Ok(whole) => RtrLoaded::of(&whole),
         Err(fault) => RtrLoaded::refused(&fault, input),
     };

@@ -1,12 +1,12 @@
 //! What lookups of routes need of data: made of data that are checked.
 
 ghost use Rattle.std.specs.Prelude.{◌≡◌, Option};
-ghost use Rattle.rtr_slices.specs.declared.fault.Flaw.{Flaw};
+ghost use Rattle.data_slices.specs.declared.fault.Flaw.{Flaw};
 ghost use Rattle.rtr_c.specs.Lookups.{ChecksData, IsLookup, is_sealed};
 
 use crate::data_answer::{FIRST, RtrDataAnswer};
-use rtr_slices::check_data;
-use rtr_validation::Tables;
+use data_slices::check_data;
+use data_validation::Tables;
 
 /// Where the prefixes of data lie that were checked. One that no check filled isn't sealed.
 #[repr(C)]
@@ -44,7 +44,7 @@ impl RtrLookup {
     }
 }
 
-/// As `rtr_slices::check_data`: where the input begins with data, the lookup is theirs, and else it
+/// As `data_slices::check_data`: where the input begins with data, the lookup is theirs, and else it
 /// is of none.
 #[unsafe(no_mangle)]
 pub extern "C" fn rtr_check_data_nonnull(

@@ -4,17 +4,17 @@ ghost use Rattle.std.specs.Prelude.{◌≡◌, ℕ, List, Result, length};
 ghost use Rattle.rtr_units.specs.AnyEnd.{end_meaning};
 ghost use Rattle.rtr_units.specs.FixedUnits.{fixed_bytes};
 ghost use Rattle.rtr_units.specs.Header.{version_field};
-ghost use Rattle.rtr_views.specs.declared.fault.ViewFault.{ViewFault};
-ghost use Rattle.rtr_views.specs.declared.view.UnitView.TheVariants as views;
-ghost use Rattle.rtr_session.specs.AnyFields.{AnyFields};
-ghost use Rattle.rtr_session.specs.SessionViews.{IsSessionFault};
+ghost use Rattle.unit_views.specs.declared.fault.ViewFault.{ViewFault};
+ghost use Rattle.unit_views.specs.declared.view.UnitView.TheVariants as views;
+ghost use Rattle.unit_any.specs.AnyFields.{AnyFields};
+ghost use Rattle.unit_any.specs.SessionViews.{IsSessionFault};
 ghost use Rattle.rtr_c.specs.Answers.{wanted};
 ghost use Rattle.rtr_c.specs.PrivateShown.{ShowsView, IsOfSize, shown, serial_at, CallRefuses};
 ghost use Rattle.rtr_c.specs.ShownUnits.{ShowsFirst, ShowsReport, none, bare_shown, end_shown};
 
 use crate::answer::{ACCEPTED, fault_detail, fault_status};
 use crate::unit::RtrUnit;
-use rtr_session::{ReportView, SessionFault, SessionView};
+use unit_any::{ReportView, SessionFault, SessionView};
 use rtr_units::fixed_unit::FixedUnit;
 use rtr_units::numbers::{u32_at, u128_bytes};
 use rtr_wire::payload::Action;
@@ -28,7 +28,7 @@ pub(crate) const REPORT_FIXED: usize = 16;
 /// Where the unit begins that a report is about.
 const PART_OF_REPORT: usize = 12;
 
-/// The unit that the input begins with, as `rtr_session::SessionView::first`.
+/// The unit that the input begins with, as `unit_any::SessionView::first`.
 #[unsafe(no_mangle)]
 pub extern "C" fn rtr_next_nonnull(input: &[u8], unit: &mut RtrUnit) -> u8
     ensures { (r : Result (List ℕ × AnyFields) ViewFault) ×

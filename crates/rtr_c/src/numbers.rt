@@ -66,7 +66,7 @@ pub extern "C" fn rtr_version_has(version: u8, kind: u8) -> bool
 }
 
 /// Whether a report is owed to the peer for this status of the unit that the input begins with, as
-/// `rtr_views::fault::owed_code`: none for an error report. The error code is put into `code`, or 0
+/// `unit_views::fault::owed_code`: none for an error report. The error code is put into `code`, or 0
 /// if none is owed.
 #[unsafe(no_mangle)]
 pub extern "C" fn rtr_error_code_nonnull(status: u8, input: &[u8], code: &mut u16) -> bool
@@ -86,7 +86,7 @@ pub extern "C" fn rtr_error_code_nonnull(status: u8, input: &[u8], code: &mut u1
 }
 
 /// The error code of a status (RFC 8210 section 12), as `ViewFault::code`, and as
-/// `ChangeError::code` of rtr_data.
+/// `ChangeError::code` of data_memory.
 pub(crate) fn code_of(status: u8) -> Option<ErrorCode>
     ensures { option_map (λ c. c.0) result ≡ status_code status }
 {

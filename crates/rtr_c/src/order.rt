@@ -1,16 +1,16 @@
 //! Changes put in canonical form.
 
 ghost use Rattle.std.specs.Prelude.{◌≡◌, ◌≢◌, ◌≤◌, ℕ, Result, length};
-ghost use Rattle.rtr_slices.specs.Order.{Orders};
-ghost use Rattle.rtr_slices.specs.declared.order_fault.OrderFault.{OrderFault};
+ghost use Rattle.data_slices.specs.Order.{Orders};
+ghost use Rattle.data_slices.specs.declared.order_fault.OrderFault.{OrderFault};
 ghost use Rattle.rtr_c.specs.Answers.{rtr_no_room};
 ghost use Rattle.rtr_c.specs.DataAnswers.{TellsData, order_told};
 
 use crate::answer::{DUPLICATE, NO_INDEX, NO_ROOM, UNDECIDED, UNKNOWN};
 use crate::data_answer::{FIRST, RtrDataAnswer};
-use rtr_slices::OrderFault;
+use data_slices::OrderFault;
 
-/// As `rtr_slices::order_into`.
+/// As `data_slices::order_into`.
 #[unsafe(no_mangle)]
 pub extern "C" fn rtr_order_nonnull(
     input: &[u8],
@@ -23,7 +23,7 @@ pub extern "C" fn rtr_order_nonnull(
         × TellsData (order_told r) answer.new result }
     ensures room { length input.now ≤ length output.old → result ≢ rtr_no_room }
 {
-    *answer = match rtr_slices::order_into(input, index, output) {
+    *answer = match data_slices::order_into(input, index, output) {
         Ok(written) => RtrDataAnswer::wrote(written),
         Err(fault) => answer_of(&fault),
     };

@@ -3,11 +3,11 @@
 ghost use Rattle.std.specs.Prelude.{◌≡◌};
 ghost use Rattle.rtr_c.specs.Routers.{shown_known, phase_number, phase_of, router_of, settings_of};
 
-use rtr_router::head::Known;
-use rtr_router::router::{Phase, Router};
-use rtr_router::settings::Settings;
+use session_router::head::Known;
+use session_router::router::{Phase, Router};
+use session_router::settings::Settings;
 
-/// What a caller sets: as `rtr_router::settings::Settings`.
+/// What a caller sets: as `session_router::settings::Settings`.
 #[repr(C)]
 #[derive(Clone, Copy)]
 pub struct RtrSettings {
@@ -26,7 +26,7 @@ pub struct RtrSettings {
 // The fields stand one after the other, and one byte is left at the end.
 const _: () = prove!(size_of::<RtrSettings>() == 40);
 
-/// What names data, and their times in seconds: as `rtr_router::head::Known`.
+/// What names data, and their times in seconds: as `session_router::head::Known`.
 #[repr(C)]
 #[derive(Clone, Copy)]
 pub struct RtrKnown {
@@ -41,7 +41,7 @@ pub struct RtrKnown {
 // The fields stand one after the other, and one byte is left at the end.
 const _: () = prove!(size_of::<RtrKnown>() == 20);
 
-/// A router's end of a session: as `rtr_router::router::Router`, with a number for the phase.
+/// A router's end of a session: as `session_router::router::Router`, with a number for the phase.
 #[repr(C)]
 #[derive(Clone, Copy)]
 pub struct RtrRouter {

@@ -9,9 +9,9 @@ use crate::answer::{
     DUPLICATE, EMPTY_PROVIDERS, PREFIX, SHORT, TOO_LONG, UNIT_LENGTH, UNIT_TYPE, UNIT_VERSION,
     UNKNOWN,
 };
-use rtr_conversation::Refusal;
-use rtr_router::event::{Action, Cause, Ending};
-use rtr_router::head::Query;
+use session_bytes::Refusal;
+use session_router::event::{Action, Cause, Ending};
+use session_router::head::Query;
 use rtr_wire::pdu::PrefixRule;
 
 const WAIT: u8 = 0;
@@ -37,7 +37,7 @@ const END: u8 = 9;
 /// The number of the cause that the data have expired.
 const EXPIRED: u8 = 13;
 
-/// What the machine wants done: as `rtr_router::event::Action`, and where in the input the unit
+/// What the machine wants done: as `session_router::event::Action`, and where in the input the unit
 /// lies that it is about. Fields that an action doesn't have are zero.
 #[repr(C)]
 #[derive(Clone, Copy)]

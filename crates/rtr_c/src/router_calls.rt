@@ -2,13 +2,13 @@
 
 ghost use Rattle.std.specs.Prelude.{◌≡◌, ℕ, Option, min};
 ghost use Rattle.std.specs.Option.{unwrap_or};
-ghost use Rattle.rtr_views.specs.Placing.{Places};
-ghost use Rattle.rtr_router.specs.After.{has_data_at, new_router};
-ghost use Rattle.rtr_router.specs.Pace.{wakes_at};
-ghost use Rattle.rtr_router.specs.declared.event.Event.TheVariants as events;
-ghost use Rattle.rtr_conversation.specs.Reading.{Hears};
-ghost use Rattle.rtr_conversation.specs.Sent.{query_bytes};
-ghost use Rattle.rtr_conversation.specs.declared.telling.Told.{Told};
+ghost use Rattle.unit_views.specs.Placing.{Places};
+ghost use Rattle.session_router.specs.After.{has_data_at, new_router};
+ghost use Rattle.session_router.specs.Pace.{wakes_at};
+ghost use Rattle.session_router.specs.declared.event.Event.TheVariants as events;
+ghost use Rattle.session_bytes.specs.Reading.{Hears};
+ghost use Rattle.session_bytes.specs.Sent.{query_bytes};
+ghost use Rattle.session_bytes.specs.declared.telling.Told.{Told};
 ghost use Rattle.rtr_c.specs.Numbers.{status_code};
 ghost use Rattle.rtr_c.specs.RouterActions.{IsRouterStep, PlacesReport, query_of, read_told};
 ghost use Rattle.rtr_c.specs.RouterActions.{with_status};
@@ -22,12 +22,12 @@ use crate::router::{RtrRouter, RtrSettings, router_from, router_to, settings_fro
 use crate::router_action::{
     KEEP, RtrAction, action_to, ending_from, plain, query_from, refusal_from,
 };
-use rtr_conversation::{Told, place_ending, place_query, tell};
-use rtr_router::event::Event;
-use rtr_router::router::Router;
-use rtr_router::settings::Settings;
+use session_bytes::{Told, place_ending, place_query, tell};
+use session_router::event::Event;
+use session_router::router::Router;
+use session_router::settings::Settings;
 
-/// The usual settings, as `rtr_router::settings::Settings::usual`.
+/// The usual settings, as `session_router::settings::Settings::usual`.
 #[unsafe(no_mangle)]
 pub extern "C" fn rtr_settings_usual(settings: &mut RtrSettings, highest: u8)
     ensures highest { settings.new.highest ≡ min highest 2 }
@@ -43,7 +43,7 @@ pub extern "C" fn rtr_settings_usual(settings: &mut RtrSettings, highest: u8)
     *settings = settings_to(&Settings::usual(highest));
 }
 
-/// Begins a router without data, whatever the struct holds, as `rtr_router::router::Router::new`.
+/// Begins a router without data, whatever the struct holds, as `session_router::router::Router::new`.
 #[unsafe(no_mangle)]
 pub extern "C" fn rtr_router_init(router: &mut RtrRouter, settings: &RtrSettings)
     ensures { router_of router.new ≡ new_router (settings_of settings.now) }
@@ -52,7 +52,7 @@ pub extern "C" fn rtr_router_init(router: &mut RtrRouter, settings: &RtrSettings
 }
 
 /// Begins a router without data again, which goes on with its cache, as
-/// `rtr_router::router::Router::again`.
+/// `session_router::router::Router::again`.
 #[unsafe(no_mangle)]
 pub extern "C" fn rtr_router_again(router: &mut RtrRouter)
     ensures { router_of router.new ≡
@@ -149,7 +149,7 @@ pub extern "C" fn rtr_router_not_applied(
     };
 }
 
-/// Tells the router of the units that the input begins with, as `rtr_conversation::tell`.
+/// Tells the router of the units that the input begins with, as `session_bytes::tell`.
 #[unsafe(no_mangle)]
 pub extern "C" fn rtr_router_read_nonnull(
     router: &mut RtrRouter,
@@ -194,7 +194,7 @@ fn told_to(told: &Told, input: &[u8], version: u8) -> RtrAction
     }
 }
 
-/// Writes the query that an action tells of, as `rtr_conversation::place_query`. Answers its length
+/// Writes the query that an action tells of, as `session_bytes::place_query`. Answers its length
 /// in bytes, 8 or 12, or 0 if the output is shorter.
 #[unsafe(no_mangle)]
 pub extern "C" fn rtr_router_query_nonnull(action: &RtrAction, output: &mut [u8]) -> usize
@@ -205,7 +205,7 @@ pub extern "C" fn rtr_router_query_nonnull(action: &RtrAction, output: &mut [u8]
 }
 
 /// Writes the report that an action owes about the unit that the input begins with, as
-/// `rtr_conversation::place_ending`. Answers whether it is written.
+/// `session_bytes::place_ending`. Answers whether it is written.
 #[unsafe(no_mangle)]
 pub extern "C" fn rtr_router_report_nonnull(
     action: &RtrAction,

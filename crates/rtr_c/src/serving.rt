@@ -4,7 +4,7 @@ ghost use Rattle.std.specs.Prelude.{◌≡◌};
 ghost use Rattle.rtr_c.specs.Servings.{answer_told, bare_serving, closing_of, closing_told};
 ghost use Rattle.rtr_c.specs.Servings.{numbered_reason, reason_number, served_of, state_of};
 
-use rtr_cache::event::{Answer, Closing, OwedReport, Present, Reason};
+use session_cache::event::{Answer, Closing, OwedReport, Present, Reason};
 
 const WAIT: u8 = 0;
 
@@ -23,7 +23,7 @@ const END: u8 = 6;
 /// The code of a report that there are no data yet (RFC 8210 section 12).
 const NO_DATA_CODE: u16 = 2;
 
-/// What the machine answers: as `rtr_cache::event::Answer`, with what is needed to send it. Fields
+/// What the machine answers: as `session_cache::event::Answer`, with what is needed to send it. Fields
 /// that an answer doesn't have are zero.
 #[repr(C)]
 #[derive(Clone, Copy)]

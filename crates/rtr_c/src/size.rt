@@ -2,17 +2,17 @@
 
 ghost use Rattle.std.specs.Prelude.{◌≡◌, ℕ, Option, Result};
 ghost use Rattle.rtr_units.specs.Header.{version_field, type_field};
-ghost use Rattle.rtr_views.specs.declared.fault.ViewFault.{ViewFault};
-ghost use Rattle.rtr_session.specs.Lengths.{SaysLength, IsBounded};
+ghost use Rattle.unit_views.specs.declared.fault.ViewFault.{ViewFault};
+ghost use Rattle.unit_any.specs.Lengths.{SaysLength, IsBounded};
 ghost use Rattle.rtr_c.specs.Sizes.{TellsSize};
 
 use crate::answer::{ACCEPTED, SHORT, fault_detail, fault_status};
-use rtr_session::length::unit_length;
+use unit_any::length::unit_length;
 
 /// The bytes of a header.
 const HEADER: usize = 8;
 
-/// As `rtr_session::length::unit_length`. If fewer bytes than a header's are there, `size` is how
+/// As `unit_any::length::unit_length`. If fewer bytes than a header's are there, `size` is how
 /// many are wanted.
 #[unsafe(no_mangle)]
 pub extern "C" fn rtr_unit_size_nonnull(input: &[u8], size: &mut usize, detail: &mut u8) -> u8

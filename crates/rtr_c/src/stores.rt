@@ -1,12 +1,12 @@
 //! What a cache serves, and what it took and has to save first, in numbers.
 
 ghost use Rattle.std.specs.Prelude.{◌≡◌, true, IfOk};
-ghost use Rattle.rtr_history.specs.Stores.{are_of_stores, numbers_of};
+ghost use Rattle.data_history.specs.Stores.{are_of_stores, numbers_of};
 ghost use Rattle.rtr_c.specs.Stores.{has_stores, fits_buffers, numbers_in, made_stores, stores_in};
 ghost use Rattle.rtr_c.specs.Stores.{stores_within};
 
 use crate::link::{are_flags, flag_from, flag_to};
-use rtr_history::{Numbers, Stores};
+use data_history::{Numbers, Stores};
 
 /// The mark of a struct that a call made.
 const MARK: u32 = 1_398_034_258;
@@ -18,7 +18,7 @@ pub(crate) const NOT_MADE: u8 = 1;
 /// A buffer is shorter than the store in it.
 pub(crate) const SHORT_BUFFER: u8 = 2;
 
-/// The two stores of a cache: as `rtr_history::Stores`. All fields are numbers, so that each call
+/// The two stores of a cache: as `data_history::Stores`. All fields are numbers, so that each call
 /// reads any bytes; a flag is 0 or 1.
 #[repr(C)]
 #[derive(Clone, Copy)]

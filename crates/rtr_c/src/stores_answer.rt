@@ -7,8 +7,8 @@ ghost use Rattle.rtr_c.specs.StoresAnswers.{untaken_answer, wrote_answer};
 
 use crate::data_answer::{reason_detail, reason_status};
 use crate::stores::OK;
-use rtr_history::{CheckFault, Refused, Room, SinceFault, Untaken};
-use rtr_slices::Flaw;
+use data_history::{CheckFault, Refused, Room, SinceFault, Untaken};
+use data_slices::Flaw;
 
 /// A store waits to be saved.
 const WAITS: u8 = 3;

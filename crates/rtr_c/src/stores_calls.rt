@@ -3,13 +3,13 @@
 
 ghost use Rattle.std.specs.Prelude.{◌≡◌, ◌-◌, ◌<◌, ◌≤◌, ℕ, List, [], None, Some, Result, Ok, Err};
 ghost use Rattle.std.specs.Prelude.{length, true};
-ghost use Rattle.rtr_history.specs.Life.{IsLife};
-ghost use Rattle.rtr_history.specs.Stores.{are_of_stores, fresh_stores, numbers_of};
-ghost use Rattle.rtr_history.specs.Stores.{served_store, taken_store};
-ghost use Rattle.rtr_history.specs.declared.check.CheckFault.{CheckFault};
-ghost use Rattle.rtr_history.specs.declared.newer.Untaken.{Untaken};
-ghost use Rattle.rtr_history.specs.declared.next.Limits.{Limits};
-ghost use Rattle.rtr_history.specs.declared.stores.Stores.{Stores};
+ghost use Rattle.data_history.specs.Life.{IsLife};
+ghost use Rattle.data_history.specs.Stores.{are_of_stores, fresh_stores, numbers_of};
+ghost use Rattle.data_history.specs.Stores.{served_store, taken_store};
+ghost use Rattle.data_history.specs.declared.check.CheckFault.{CheckFault};
+ghost use Rattle.data_history.specs.declared.newer.Untaken.{Untaken};
+ghost use Rattle.data_history.specs.declared.next.Limits.{Limits};
+ghost use Rattle.data_history.specs.declared.stores.Stores.{Stores};
 ghost use Rattle.rtr_c.specs.Stores.{has_stores, made_stores, stores_in, stores_not_made};
 ghost use Rattle.rtr_c.specs.Stores.{stores_ok, stores_short_buffer, stores_within};
 ghost use Rattle.rtr_c.specs.StoresAnswers.{refused_answer, taking_told};
@@ -18,9 +18,9 @@ ghost use Rattle.rtr_c.specs.StoresCalls.{TellsStart};
 
 use crate::stores::{NOT_MADE, OK, RtrStores, SHORT_BUFFER, stores_from, stores_to, stores_within};
 use crate::stores_answer::RtrStoresAnswer;
-use rtr_history::{Limits, Stores};
+use data_history::{Limits, Stores};
 
-/// Limits of the steps back that a history keeps: as `rtr_history::Limits`.
+/// Limits of the steps back that a history keeps: as `data_history::Limits`.
 #[repr(C)]
 #[derive(Clone, Copy)]
 pub struct RtrHistoryLimits {
@@ -44,7 +44,7 @@ fn limits_from(limits: &RtrHistoryLimits) -> Limits
     }
 }
 
-/// The stores of a new cache, as `rtr_history::Stores::new`.
+/// The stores of a new cache, as `data_history::Stores::new`.
 #[unsafe(no_mangle)]
 pub extern "C" fn rtr_stores_new(stores: &mut RtrStores)
     ensures stores { stores_in stores.new ≡ fresh_stores None None }
@@ -56,7 +56,7 @@ pub extern "C" fn rtr_stores_new(stores: &mut RtrStores)
     *stores = stores_to(&Stores::new());
 }
 
-/// Those of a cache that doesn't save, at a start, as `rtr_history::Stores::unsaved`.
+/// Those of a cache that doesn't save, at a start, as `data_history::Stores::unsaved`.
 #[unsafe(no_mangle)]
 pub extern "C" fn rtr_stores_unsaved(stores: &mut RtrStores, session: u16)
     ensures stores { stores_in stores.new ≡ fresh_stores None (Some session) }
@@ -65,7 +65,7 @@ pub extern "C" fn rtr_stores_unsaved(stores: &mut RtrStores, session: u16)
     *stores = stores_to(&Stores::unsaved(session));
 }
 
-/// Those of a cache that saves, at a start, as `rtr_history::Stores::start`. If it is refused, the
+/// Those of a cache that saves, at a start, as `data_history::Stores::start`. If it is refused, the
 /// struct stays as it was.
 #[unsafe(no_mangle)]
 pub extern "C" fn rtr_stores_start_nonnull(
@@ -112,7 +112,7 @@ fn start(
     }
 }
 
-/// Takes newer data, as `rtr_history::Stores::take`.
+/// Takes newer data, as `data_history::Stores::take`.
 #[unsafe(no_mangle)]
 pub extern "C" fn rtr_stores_take_nonnull(
     stores: &mut RtrStores,
@@ -172,7 +172,7 @@ fn take(
     RtrStoresAnswer::of_taking(&taken, found.numbers().second)
 }
 
-/// Says that the file has the store that was taken, as `rtr_history::Stores::saved`.
+/// Says that the file has the store that was taken, as `data_history::Stores::saved`.
 #[unsafe(no_mangle)]
 pub extern "C" fn rtr_stores_saved(stores: &mut RtrStores) -> u8
     ensures refused { made_stores stores.old ≡ None →
@@ -192,7 +192,7 @@ pub extern "C" fn rtr_stores_saved(stores: &mut RtrStores) -> u8
     }
 }
 
-/// Gives up the store that was taken, as `rtr_history::Stores::give_up`.
+/// Gives up the store that was taken, as `data_history::Stores::give_up`.
 #[unsafe(no_mangle)]
 pub extern "C" fn rtr_stores_give_up(stores: &mut RtrStores) -> u8
     ensures refused { made_stores stores.old ≡ None →

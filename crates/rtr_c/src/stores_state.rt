@@ -1,12 +1,12 @@
 //! What the buffers of a cache's stores have, in numbers.
 
 ghost use Rattle.std.specs.Prelude.{◌≡◌, ℕ, Ok, Err, length};
-ghost use Rattle.rtr_history.specs.declared.stores.Stores.{Stores};
+ghost use Rattle.data_history.specs.declared.stores.Stores.{Stores};
 ghost use Rattle.rtr_c.specs.Stores.{stores_ok, stores_within};
 ghost use Rattle.rtr_c.specs.StoresCalls.{StatesStores, no_stores_state};
 
 use crate::stores::{OK, RtrStores, stores_within};
-use rtr_history::Stores;
+use data_history::Stores;
 
 /// What the buffers have.
 #[repr(C)]
@@ -60,8 +60,8 @@ fn none() -> RtrStoresState
     }
 }
 
-/// Where the history that is served stands, as `rtr_history::Stores::history_at`, and how long the
-/// store to save is, as `rtr_history::Stores::to_save`.
+/// Where the history that is served stands, as `data_history::Stores::history_at`, and how long the
+/// store to save is, as `data_history::Stores::to_save`.
 #[unsafe(no_mangle)]
 pub extern "C" fn rtr_stores_state_nonnull(
     stores: &RtrStores,

@@ -4,7 +4,7 @@
 ghost use Rattle.std.specs.Prelude.{◌≡◌, codes};
 ghost use Rattle.std.specs.Option.{option_copied};
 ghost use Rattle.rtr_base.specs.PlainTexts.{code_name};
-ghost use Rattle.rtr_texts.specs.Laying.{Lays};
+ghost use Rattle.text_lines.specs.Laying.{Lays};
 ghost use Rattle.rtr_c.specs.Texts.{AnswersText, cause_name, name_or, name_said, type_name};
 ghost use Rattle.rtr_c.specs.Texts.{reason_name, status_name, status_said};
 
@@ -18,8 +18,8 @@ use crate::router_action::{cause_from, refusal_from};
 use crate::serving::reason_from;
 use crate::times::time_rule;
 use rtr_base::error_code::ErrorCode;
-use rtr_conversation::Refusal;
-use rtr_texts::laying;
+use session_bytes::Refusal;
+use text_lines::laying;
 
 /// How a call ended.
 const STATUS: u8 = 0;

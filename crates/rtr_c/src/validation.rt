@@ -8,7 +8,7 @@ ghost use Rattle.rtr_c.specs.Routes.{TellsValidity, mismatch_number, route_prefi
 
 use crate::lookup::RtrLookup;
 use rtr_units::numbers::{u32_at, u128_at};
-use rtr_validation::{CoveringVrp, Mismatch, Route, Tables, Validity, first_covering, validate};
+use data_validation::{CoveringVrp, Mismatch, Route, Tables, Validity, first_covering, validate};
 use rtr_wire::base::{Asn, Prefix};
 
 /// The family or the prefix length of a route is none.
@@ -61,7 +61,7 @@ pub struct RtrCovering {
 // The fields stand one after the other, and a byte is left at the end.
 const _: () = prove!(size_of::<RtrCovering>() == 16);
 
-/// As `rtr_validation::validate`: 0 not found, 1 valid, 2 invalid; 3 where the family or the prefix
+/// As `data_validation::validate`: 0 not found, 1 valid, 2 invalid; 3 where the family or the prefix
 /// length is none; 4 where these aren't the data that the lookup was made of.
 #[unsafe(no_mangle)]
 pub extern "C" fn rtr_validate_nonnull(data: &[u8], lookup: &RtrLookup, route: &RtrRoute) -> u8
@@ -86,7 +86,7 @@ fn checked_validity(data: &[u8], tables: &Tables, route: &RtrRoute) -> u8
     }
 }
 
-/// As `rtr_validation::first_covering`: 0 none, 1 one; 2 where the family or the prefix length is
+/// As `data_validation::first_covering`: 0 none, 1 one; 2 where the family or the prefix length is
 /// none; 3 where these aren't the data that the lookup was made of. Without one all of `covering`
 /// is 0.
 #[unsafe(no_mangle)]

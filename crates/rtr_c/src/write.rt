@@ -8,7 +8,7 @@ ghost use Rattle.rtr_c.specs.WrittenUnits.{Writes, TellsWritten, said, part_said
 ghost use Rattle.rtr_c.specs.WrittenUnits.{prefix_said, key_said, aspa_said, end_said};
 ghost use Rattle.rtr_c.specs.WrittenUnits.{plain_said, report_said, session_said, text_said};
 ghost use Rattle.rtr_c.specs.WrittenUnits.{piece_said};
-ghost use Rattle.rtr_session.specs.HeldReports.{held_report};
+ghost use Rattle.unit_any.specs.HeldReports.{held_report};
 
 use crate::answer::{
     ACCEPTED, EMPTY_PROVIDERS, NO_FORM, NO_ROOM, PREFIX, TOO_LONG, UNIT_LENGTH, UNIT_TYPE,
@@ -17,9 +17,9 @@ use crate::answer::{
 use crate::next::REPORT_FIXED;
 use crate::unit::RtrUnit;
 use rtr_payload::pdu::{PrefixUnit, flagged_header};
-use rtr_session::placing::place_report;
+use unit_any::placing::place_report;
 use rtr_units::header::{LAST_VERSION, MAX_SIZE};
-use rtr_views::placing::place;
+use unit_views::placing::place;
 use rtr_wire::base::Asn;
 use rtr_wire::payload::{RouteOrigin, Timing};
 use rtr_wire::pdu::{

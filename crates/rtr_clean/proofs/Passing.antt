@@ -10,11 +10,11 @@ use Rattle.rtr_units.specs.StopCauses.{Cause, by_reader, by_writer, too_many, no
 use Rattle.rtr_units.specs.StopCauses.{cause_of}
 use Rattle.rtr_units.specs.Reading.{Takes}
 use Rattle.rtr_units.specs.Stream.{StopsWriting, WritesPart}
-use Rattle.rtr_session.specs.AnyFields.{HasAnyFields}
-use Rattle.rtr_session.specs.AnyReading.{HasEnded, StopsInAny}
-use Rattle.rtr_session.specs.AnyUnits.{any_bytes, any_fields}
-use Rattle.rtr_session.specs.declared.any_unit.AnyUnit.{AnyUnit}
-use Rattle.rtr_session.specs.declared.any_unit.AnyUnit.TheVariants as units
+use Rattle.unit_any.specs.AnyFields.{HasAnyFields}
+use Rattle.unit_any.specs.AnyReading.{HasEnded, StopsInAny}
+use Rattle.unit_any.specs.AnyUnits.{any_bytes, any_fields}
+use Rattle.unit_any.specs.declared.any_unit.AnyUnit.{AnyUnit}
+use Rattle.unit_any.specs.declared.any_unit.AnyUnit.TheVariants as units
 use Rattle.rtr_wire.specs.Sequences.{Output}
 use Rattle.rtr_clean.specs.CleanForms.{IsPassed, KeepsRule, clean_form, ends_answer}
 use Rattle.rtr_clean.specs.Cleaning.{StopsAt}

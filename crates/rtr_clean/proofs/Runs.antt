@@ -11,7 +11,7 @@ use Rattle.rtr_units.specs.declared.fault.Fault.TheVariants.{TooMany}
 use Rattle.rtr_units.specs.StopCauses.{Cause, by_reader, by_writer, too_many, no_memory, wrong}
 use Rattle.rtr_units.specs.StopCauses.{cause_of}
 use Rattle.rtr_units.specs.StopCauses.{ReaderState, WriterState, reader_count, writer_count}
-use Rattle.rtr_session.specs.AnyFields.{AnyFields, any_list}
+use Rattle.unit_any.specs.AnyFields.{AnyFields, any_list}
 use Rattle.rtr_wire.specs.Sequences.{Output}
 use Rattle.rtr_clean.specs.CleanForms.{IsPassed, ArePassed, clean_form, clean_stream}
 use Rattle.rtr_clean.specs.CleanForms.{stream_bytes}

@@ -4,9 +4,9 @@ use Rattle.std.specs.Prelude.{ℕ, List, [], ◌∷◌, Bool, true, false, ⊤}
 use Rattle.std.specs.List.{flat_map, AllByRecursion}
 use Rattle.rtr_units.specs.End.{end_list}
 use Rattle.rtr_payload.specs.UnitFields.{LengthsAgree, meaning}
-use Rattle.rtr_session.specs.AnyFields.{AnyFields, cache_response, payload, end_of_data}
-use Rattle.rtr_session.specs.AnyFields.{HasAnyFields, any_list}
-use Rattle.rtr_session.specs.SessionForms.{session_form}
+use Rattle.unit_any.specs.AnyFields.{AnyFields, cache_response, payload, end_of_data}
+use Rattle.unit_any.specs.AnyFields.{HasAnyFields, any_list}
+use Rattle.unit_any.specs.SessionForms.{session_form}
 use Rattle.rtr_wire.specs.Sequences.{Output, forms, written_units}
 
 -- The bytes that are written for a unit: of a payload unit what is asked for, in its written form,

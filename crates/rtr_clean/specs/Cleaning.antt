@@ -11,8 +11,8 @@ use Rattle.rtr_units.specs.StopCauses.{Cause, by_writer, too_many, by_cause}
 use Rattle.rtr_units.specs.StopCauses.{ReaderState, WriterState, reader_count, writer_count}
 use Rattle.rtr_payload.specs.declared.pdu.payload.Payload.{Payload}
 use Rattle.rtr_payload.specs.UnitBytes.{unit_bytes, HasNoPayload}
-use Rattle.rtr_session.specs.AnyFields.{AnyFields, any_list}
-use Rattle.rtr_session.specs.AnyReading.{StopsInAny}
+use Rattle.unit_any.specs.AnyFields.{AnyFields, any_list}
+use Rattle.unit_any.specs.AnyReading.{StopsInAny}
 use Rattle.rtr_wire.specs.Sequences.{Output}
 use Rattle.rtr_clean.specs.CleanForms.{IsPassed, ArePassed, clean_form, clean_stream}
 use Rattle.rtr_clean.specs.CleanForms.{ends_answer, stream_bytes}

@@ -6,10 +6,10 @@ use Rattle.rtr_units.specs.declared.fault.Fault.{Fault}
 use Rattle.rtr_units.specs.StopCauses.{Cause, by_cause, WriterState, writer_count}
 use Rattle.rtr_units.specs.Stream.{StopsWriting}
 use Rattle.rtr_payload.specs.UnitBytes.{HasNoPayload}
-use Rattle.rtr_session.specs.AnyFields.{AnyFields, any_list}
-use Rattle.rtr_session.specs.AnyUnits.{any_bytes}
-use Rattle.rtr_session.specs.declared.any_unit.AnyUnit.{AnyUnit}
-use Rattle.rtr_session.specs.declared.any_unit.AnyUnit.TheVariants as units
+use Rattle.unit_any.specs.AnyFields.{AnyFields, any_list}
+use Rattle.unit_any.specs.AnyUnits.{any_bytes}
+use Rattle.unit_any.specs.declared.any_unit.AnyUnit.{AnyUnit}
+use Rattle.unit_any.specs.declared.any_unit.AnyUnit.TheVariants as units
 use Rattle.rtr_wire.specs.Sequences.{Output, everything, for_version}
 use Rattle.rtr_clean.specs.CleanForms.{IsPassed, clean_form, ends_answer}
 use Rattle.rtr_clean.specs.Cleaning.{StopsAt}

@@ -7,8 +7,8 @@ mod flushing;
 mod run;
 mod wanted;
 
-use rtr_files::{Input, file_after};
-use rtr_program::{Escaped, Front, Manual, Watched, hint, usage, words_after_name};
+use program_files::{Input, file_after};
+use program_frame::{Escaped, Front, Manual, Watched, hint, usage, words_after_name};
 use rtr_units::buffered::{BufferedSink, BufferedSource};
 use std::cell::Cell;
 use std::io::{BufReader, BufWriter, Stderr, Stdout, Write};

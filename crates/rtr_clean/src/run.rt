@@ -2,14 +2,14 @@
 
 ghost use Rattle.std.specs.Prelude.{◌≡◌, drop, true, IsNone, IfSome, None, Err};
 ghost use Rattle.rtr_units.specs.StopCauses.{cause_of};
-ghost use Rattle.rtr_program.specs.Questions.{WritesText, asked_of, manual_text};
+ghost use Rattle.program_frame.specs.Questions.{WritesText, asked_of, manual_text};
 ghost use Rattle.rtr_clean.specs.CleanStatus.{CleansAndFlushes, clean_status};
 ghost use Rattle.rtr_clean.specs.CleanWords.{form_asked};
 ghost use Rattle.rtr_clean.specs.PrivateClean.{form_held};
 
 use crate::clean::clean;
 use crate::wanted::{WantedForm, form_wanted};
-use rtr_program::{Manual, about, report, usage, words_after_name};
+use program_frame::{Manual, about, report, usage, words_after_name};
 use rtr_units::fault::Fault;
 use rtr_units::source::{Sink, Source};
 use std::alloc::Global;

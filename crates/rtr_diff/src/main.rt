@@ -1,9 +1,9 @@
 //! Prints what differs between the data of two recordings.
 #![tactic(auto)]
 
-use rtr_differences::{Form, Request, asked, run};
-use rtr_files::{Painted, wants_colours};
-use rtr_program::{Escaped, Front, Manual, Watched, about, hint, usage, words_after_name};
+use diff_work::{Form, Request, asked, run};
+use program_files::{Painted, wants_colours};
+use program_frame::{Escaped, Front, Manual, Watched, about, hint, usage, words_after_name};
 use rtr_units::buffered::BufferedSource;
 use rtr_units::source::Counted;
 use std::cell::Cell;

@@ -2,9 +2,9 @@
 //! or prints their summary or the payloads that it leaves.
 #![tactic(auto)]
 
-use rtr_files::{Input, Painted, file_after, wants_colours};
-use rtr_lists::{program, reads_input};
-use rtr_program::{Escaped, Front, Manual, Prompt, Shared, hint, usage, words_after_name};
+use program_files::{Input, Painted, file_after, wants_colours};
+use list_work::{program, reads_input};
+use program_frame::{Escaped, Front, Manual, Prompt, Shared, hint, usage, words_after_name};
 use rtr_units::buffered::BufferedSource;
 use rtr_units::source::Counted;
 use std::cell::{Cell, RefCell};

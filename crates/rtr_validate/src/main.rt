@@ -4,10 +4,10 @@
 mod progress;
 
 use progress::{Counting, Screen};
-use rtr_exceptions::{read_files, split_words};
-use rtr_program::{Escaped, Front, Manual, Prompt, Shared, about, usage, words_after_name};
-use rtr_routes::{Named, Request, asked, can_compare, run, run_against};
-use rtr_slurm::Slurm;
+use program_exceptions::{read_files, split_words};
+use program_frame::{Escaped, Front, Manual, Prompt, Shared, about, usage, words_after_name};
+use validate_work::{Named, Request, asked, can_compare, run, run_against};
+use data_slurm::Slurm;
 use rtr_units::buffered::BufferedSource;
 use rtr_units::source::Counted;
 use std::cell::{Cell, RefCell};

@@ -13,17 +13,17 @@ use Rattle.rtr_payload.specs.Units.{IsUnit}
 use Rattle.rtr_payload.proofs.Apart.{unit_or_end}
 use Rattle.rtr_payload.proofs.Fields.{units_same}
 use Rattle.rtr_payload.proofs.Rests.{begins_unit_none, begins_end_none}
-use Rattle.rtr_views.specs.Faults.{IsFirstFault}
-use Rattle.rtr_views.specs.Origins.{origin_meaning}
-use Rattle.rtr_views.specs.Views.{IsViewOf}
-use Rattle.rtr_views.specs.declared.fault.ViewFault.{ViewFault}
-use Rattle.rtr_views.specs.declared.fault.ViewFault.TheVariants.{Writer, Short, UnitType}
-use Rattle.rtr_views.specs.declared.fault.ViewFault.TheVariants.{UnitLength, TooLong}
-use Rattle.rtr_views.specs.declared.fault.ViewFault.TheVariants.{EmptyProviders, UnitVersion}
-use Rattle.rtr_views.specs.declared.fault.ViewFault.TheVariants.{Prefix, TooMany}
-use Rattle.rtr_views.specs.declared.view.UnitView.{UnitView}
-use Rattle.rtr_views.specs.declared.view.UnitView.TheVariants as views
-use Rattle.rtr_views.proofs.Agreement.{view_means}
+use Rattle.unit_views.specs.Faults.{IsFirstFault}
+use Rattle.unit_views.specs.Origins.{origin_meaning}
+use Rattle.unit_views.specs.Views.{IsViewOf}
+use Rattle.unit_views.specs.declared.fault.ViewFault.{ViewFault}
+use Rattle.unit_views.specs.declared.fault.ViewFault.TheVariants.{Writer, Short, UnitType}
+use Rattle.unit_views.specs.declared.fault.ViewFault.TheVariants.{UnitLength, TooLong}
+use Rattle.unit_views.specs.declared.fault.ViewFault.TheVariants.{EmptyProviders, UnitVersion}
+use Rattle.unit_views.specs.declared.fault.ViewFault.TheVariants.{Prefix, TooMany}
+use Rattle.unit_views.specs.declared.view.UnitView.{UnitView}
+use Rattle.unit_views.specs.declared.view.UnitView.TheVariants as views
+use Rattle.unit_views.proofs.Agreement.{view_means}
 use Rattle.rtr_wire.specs.PrivateSteps.{AreDifferent, SameFront, is_payload_unit}
 use Rattle.rtr_wire.specs.PrivateSteps.{unit, end, viewed}
 use Rattle.rtr_wire.specs.Sequences.{Accepts}

@@ -14,12 +14,12 @@ use Rattle.rtr_payload.specs.KeyUnits.{key_at}
 use Rattle.rtr_payload.specs.AspaUnits.{aspa_at}
 use Rattle.rtr_payload.specs.UnitFields.{key_unit, aspa_unit, meaning}
 use Rattle.rtr_payload.specs.Units.{IsUnit, form_of}
-use Rattle.rtr_views.specs.Origins.{origin_meaning}
-use Rattle.rtr_views.specs.Placing.{Places}
-use Rattle.rtr_views.specs.Views.{IsViewOf, ViewMeans}
-use Rattle.rtr_views.specs.declared.view.UnitView.{UnitView}
-use Rattle.rtr_views.specs.declared.view.UnitView.TheVariants as views
-use Rattle.rtr_views.proofs.Agreement.{view_means}
+use Rattle.unit_views.specs.Origins.{origin_meaning}
+use Rattle.unit_views.specs.Placing.{Places}
+use Rattle.unit_views.specs.Views.{IsViewOf, ViewMeans}
+use Rattle.unit_views.specs.declared.view.UnitView.{UnitView}
+use Rattle.unit_views.specs.declared.view.UnitView.TheVariants as views
+use Rattle.unit_views.proofs.Agreement.{view_means}
 use Rattle.rtr_wire.specs.PrivateSteps.{StepTells, Steps, StopsStepInto, Stepped}
 use borrow.Rule.Slice.PartMut.{put_mid}
 use Rattle.rtr_wire.specs.Into.{StopsInto, NormalisesInto, into_answer}

@@ -23,17 +23,17 @@ use Rattle.rtr_payload.specs.FirstFault.{first_fault, refusal_report, taken}
 use Rattle.rtr_payload.specs.FaultSteps.{first_unit}
 use Rattle.rtr_payload.specs.UnitFields.{meaning}
 use Rattle.rtr_payload.specs.Units.{form_of}
-use Rattle.rtr_views.specs.Faults.{IsFirstFault, IsWriterFault, is_view_writer_fault}
-use Rattle.rtr_views.specs.Origins.{origin_meaning}
-use Rattle.rtr_views.specs.Views.{IsViewOf, ViewMeans, view_form}
-use Rattle.rtr_views.specs.declared.fault.ViewFault.{ViewFault}
-use Rattle.rtr_views.specs.declared.fault.ViewFault.TheVariants.{Writer, Short, UnitType}
-use Rattle.rtr_views.specs.declared.fault.ViewFault.TheVariants.{UnitLength, TooLong}
-use Rattle.rtr_views.specs.declared.fault.ViewFault.TheVariants.{EmptyProviders, UnitVersion}
-use Rattle.rtr_views.specs.declared.fault.ViewFault.TheVariants.{Prefix, TooMany}
-use Rattle.rtr_views.specs.declared.view.UnitView.{UnitView}
-use Rattle.rtr_views.specs.declared.view.UnitView.TheVariants as views
-use Rattle.rtr_views.proofs.Agreement.{view_means, form_meant}
+use Rattle.unit_views.specs.Faults.{IsFirstFault, IsWriterFault, is_view_writer_fault}
+use Rattle.unit_views.specs.Origins.{origin_meaning}
+use Rattle.unit_views.specs.Views.{IsViewOf, ViewMeans, view_form}
+use Rattle.unit_views.specs.declared.fault.ViewFault.{ViewFault}
+use Rattle.unit_views.specs.declared.fault.ViewFault.TheVariants.{Writer, Short, UnitType}
+use Rattle.unit_views.specs.declared.fault.ViewFault.TheVariants.{UnitLength, TooLong}
+use Rattle.unit_views.specs.declared.fault.ViewFault.TheVariants.{EmptyProviders, UnitVersion}
+use Rattle.unit_views.specs.declared.fault.ViewFault.TheVariants.{Prefix, TooMany}
+use Rattle.unit_views.specs.declared.view.UnitView.{UnitView}
+use Rattle.unit_views.specs.declared.view.UnitView.TheVariants as views
+use Rattle.unit_views.proofs.Agreement.{view_means, form_meant}
 use Rattle.rtr_wire.specs.PrivateSteps.{StepTells, Steps, StopsStep, is_payload_unit, passed}
 use Rattle.rtr_units.specs.StopCauses.{by_cause}
 use Rattle.rtr_wire.specs.Run.{IsProperPrefix, IsToWrite, Run, HasRun, Ends, BlamesNobody}

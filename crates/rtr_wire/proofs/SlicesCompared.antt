@@ -11,12 +11,12 @@ use Rattle.rtr_units.specs.StopCauses.{short, unit_type, unit_version, too_long,
 use Rattle.rtr_units.specs.StopCauses.{empty_providers, refused}
 use Rattle.rtr_units.specs.declared.fault.Fault.{Fault}
 use Rattle.rtr_payload.specs.FirstFault.{refusal_report}
-use Rattle.rtr_views.specs.Faults.{IsWriterFault}
-use Rattle.rtr_views.specs.declared.fault.ViewFault.{ViewFault}
-use Rattle.rtr_views.specs.declared.fault.ViewFault.TheVariants.{Writer, Short, UnitType}
-use Rattle.rtr_views.specs.declared.fault.ViewFault.TheVariants.{UnitLength, TooLong}
-use Rattle.rtr_views.specs.declared.fault.ViewFault.TheVariants.{EmptyProviders, UnitVersion}
-use Rattle.rtr_views.specs.declared.fault.ViewFault.TheVariants.{Prefix, TooMany}
+use Rattle.unit_views.specs.Faults.{IsWriterFault}
+use Rattle.unit_views.specs.declared.fault.ViewFault.{ViewFault}
+use Rattle.unit_views.specs.declared.fault.ViewFault.TheVariants.{Writer, Short, UnitType}
+use Rattle.unit_views.specs.declared.fault.ViewFault.TheVariants.{UnitLength, TooLong}
+use Rattle.unit_views.specs.declared.fault.ViewFault.TheVariants.{EmptyProviders, UnitVersion}
+use Rattle.unit_views.specs.declared.fault.ViewFault.TheVariants.{Prefix, TooMany}
 use Rattle.rtr_wire.specs.Comparison.{IsAccepted, IsFaultOf, SaysWhetherSame}
 use Rattle.rtr_wire.specs.Comparison.{IsViewFaultAt, IsViewFaultOf, IsFaultOn}
 use Rattle.rtr_wire.specs.Comparison.{Compares, ComparesMeanings, ComparesSlices}

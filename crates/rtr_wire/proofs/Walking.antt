@@ -6,12 +6,12 @@ use Rattle.rtr_base.specs.Bytes.{IsBytes}
 use Rattle.rtr_units.specs.End.{EndMeaning, IsEnd}
 use Rattle.rtr_payload.specs.Payloads.{Meaning}
 use Rattle.rtr_payload.specs.Units.{IsUnit}
-use Rattle.rtr_views.specs.Faults.{IsFirstFault, IsWriterFault}
-use Rattle.rtr_views.specs.declared.fault.ViewFault.{ViewFault}
-use Rattle.rtr_views.specs.declared.fault.ViewFault.TheVariants.{Writer, Short, UnitType}
-use Rattle.rtr_views.specs.declared.fault.ViewFault.TheVariants.{UnitLength, TooLong}
-use Rattle.rtr_views.specs.declared.fault.ViewFault.TheVariants.{EmptyProviders, UnitVersion}
-use Rattle.rtr_views.specs.declared.fault.ViewFault.TheVariants.{Prefix, TooMany}
+use Rattle.unit_views.specs.Faults.{IsFirstFault, IsWriterFault}
+use Rattle.unit_views.specs.declared.fault.ViewFault.{ViewFault}
+use Rattle.unit_views.specs.declared.fault.ViewFault.TheVariants.{Writer, Short, UnitType}
+use Rattle.unit_views.specs.declared.fault.ViewFault.TheVariants.{UnitLength, TooLong}
+use Rattle.unit_views.specs.declared.fault.ViewFault.TheVariants.{EmptyProviders, UnitVersion}
+use Rattle.unit_views.specs.declared.fault.ViewFault.TheVariants.{Prefix, TooMany}
 use Rattle.rtr_wire.specs.Comparison.{Accepted, IsViewFaultAt}
 use Rattle.rtr_wire.specs.Run.{Counts, Ends}
 use Rattle.rtr_wire.specs.Sequences.{AreUnits, everything, forms, written_units}

@@ -3,7 +3,7 @@
 use Rattle.std.specs.Prelude.{◌≡◌, ℕ, ◌+◌, ◌<◌, ◌≤◌, List, [], ◌++◌, length, drop}
 use Rattle.std.specs.Prelude.{Result, Ok, Err, IfErr, MatchResult, ⊤}
 use Rattle.rtr_units.specs.StopCauses.{Refusal, Cause, by_writer, too_many, wrong}
-use Rattle.rtr_views.specs.declared.fault.ViewFault.TheVariants.{UnitVersion}
+use Rattle.unit_views.specs.declared.fault.ViewFault.TheVariants.{UnitVersion}
 use Rattle.rtr_wire.specs.Run.{IsToWrite, Run}
 use Rattle.rtr_wire.specs.Sequences.{Output, written_units}
 use Rattle.rtr_wire.specs.SliceRun.{view_cause}

@@ -15,12 +15,12 @@ use Rattle.rtr_payload.specs.Units.{IsUnit, form_of}
 use Rattle.rtr_payload.specs.AspaUnits.{aspa_at}
 use Rattle.rtr_payload.specs.KeyUnits.{key_at}
 use Rattle.rtr_payload.specs.UnitFields.{LengthsAgree, meaning, key_unit, aspa_unit}
-use Rattle.rtr_views.specs.Origins.{origin_meaning}
+use Rattle.unit_views.specs.Origins.{origin_meaning}
 use Rattle.rtr_payload.specs.UnitBytes.{unit_fields, HasNoPayload}
 use Rattle.rtr_payload.specs.declared.pdu.payload.Payload.{Payload}
-use Rattle.rtr_views.specs.declared.fault.ViewFault.{ViewFault}
-use Rattle.rtr_views.specs.declared.view.UnitView.{UnitView}
-use Rattle.rtr_views.specs.declared.view.UnitView.TheVariants as views
+use Rattle.unit_views.specs.declared.fault.ViewFault.{ViewFault}
+use Rattle.unit_views.specs.declared.view.UnitView.{UnitView}
+use Rattle.unit_views.specs.declared.view.UnitView.TheVariants as views
 use Rattle.rtr_wire.specs.declared.into.IntoFault.{IntoFault}
 use Rattle.rtr_wire.specs.declared.into.IntoFault.TheVariants.{NoRoom, TooMany, Refused}
 use Rattle.rtr_wire.specs.declared.into.Step.{Step}

@@ -5,19 +5,19 @@ ghost use Rattle.std.specs.Prelude.{IfOk, IfErr, IfSome, None};
 ghost use Rattle.rtr_payload.specs.AspaUnits.{aspa_at};
 ghost use Rattle.rtr_payload.specs.KeyUnits.{key_at};
 ghost use Rattle.rtr_payload.specs.UnitFields.{HasFields, aspa_unit, key_unit, meaning};
-ghost use Rattle.rtr_views.specs.Origins.{origin_meaning};
-ghost use Rattle.rtr_views.specs.Views.{IsViewOf};
+ghost use Rattle.unit_views.specs.Origins.{origin_meaning};
+ghost use Rattle.unit_views.specs.Views.{IsViewOf};
 ghost use Rattle.rtr_wire.specs.Comparison.{ComparesMeanings, ComparesSlices};
 ghost use Rattle.rtr_wire.specs.Comparison.{IsAccepted, IsViewFaultAt};
 ghost use Rattle.rtr_wire.specs.PrivateSteps.{AreDifferent, SameFront, viewed};
 
 use crate::slice::is_unit;
 use rtr_base::action::Action;
-use rtr_views::aspa::AspaView;
-use rtr_views::fault::ViewFault;
-use rtr_views::origin::OriginView;
-use rtr_views::router_key::RouterKeyView;
-use rtr_views::view::UnitView;
+use unit_views::aspa::AspaView;
+use unit_views::fault::ViewFault;
+use unit_views::origin::OriginView;
+use unit_views::router_key::RouterKeyView;
+use unit_views::view::UnitView;
 
 /// One of two inputs that are compared.
 #[derive(Clone, Copy, Debug, PartialEq, Eq)]

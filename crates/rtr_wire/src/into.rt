@@ -2,8 +2,8 @@
 
 ghost use Rattle.std.specs.Prelude.{◌≡◌, ◌≢◌, ◌+◌, ◌-◌, ◌≤◌, ◌<◌, ℕ, List, length, Err, IfErr};
 ghost use Rattle.rtr_payload.specs.Payloads.{Meaning, smallest_version as smallest};
-ghost use Rattle.rtr_views.specs.Placing.{Places};
-ghost use Rattle.rtr_views.specs.Views.{ViewMeans};
+ghost use Rattle.unit_views.specs.Placing.{Places};
+ghost use Rattle.unit_views.specs.Views.{ViewMeans};
 ghost use Rattle.rtr_wire.specs.Into.{NormalisesInto, RefusesVersion};
 ghost use Rattle.rtr_wire.specs.PrivateSteps.{StepsInto};
 ghost use Rattle.rtr_wire.specs.Sequences.{everything, for_version};
@@ -14,9 +14,9 @@ use rtr_payload::pdu::{Aspa, PayloadUnit, RouterKey};
 use rtr_units::header::LAST_VERSION;
 use rtr_units::prefixes::{Ipv4Prefix, Ipv6Prefix};
 use rtr_units::unit::Unit;
-use rtr_views::fault::ViewFault;
-use rtr_views::placing::place;
-use rtr_views::view::UnitView;
+use unit_views::fault::ViewFault;
+use unit_views::placing::place;
+use unit_views::view::UnitView;
 
 /// How far a call came: whole units taken from the front of the input, and what is written of them
 /// at the front of the output. Of a unit that is refused no byte counts, whereas `normalise` has

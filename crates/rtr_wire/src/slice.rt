@@ -2,7 +2,7 @@
 
 ghost use Rattle.std.specs.Prelude.{◌≡◌, Ok, Some, IfOk, IfErr, not};
 ghost use Rattle.rtr_units.specs.StopCauses.{count_after};
-ghost use Rattle.rtr_views.specs.Faults.{is_view_writer_fault, HoldsViewWriteError};
+ghost use Rattle.unit_views.specs.Faults.{is_view_writer_fault, HoldsViewWriteError};
 ghost use Rattle.rtr_wire.specs.PrivateSteps.{Steps, StopsStep, is_payload_unit, passed};
 ghost use Rattle.rtr_wire.specs.Sequences.{everything};
 ghost use Rattle.rtr_wire.specs.SliceRun.{NormalisesSlice};
@@ -11,8 +11,8 @@ use rtr_payload::pdu::{Aspa, RouterKey};
 use rtr_units::prefixes::{Ipv4Prefix, Ipv6Prefix};
 use rtr_units::source::Sink;
 use rtr_units::unit::Unit;
-use rtr_views::fault::ViewFault;
-use rtr_views::view::UnitView;
+use unit_views::fault::ViewFault;
+use unit_views::view::UnitView;
 
 /// As `normalise`, of an input that lies in a slice, and without any memory. Answers the number of
 /// payload units and that of the bytes taken, which the end of data closes; what follows it doesn't

@@ -4,7 +4,7 @@ ghost use Rattle.std.specs.Prelude.{◌≡◌, ◌≢◌, ◌+◌, ◌++◌, ℕ
 ghost use Rattle.std.specs.Prelude.{take, drop, Some, Result, Err};
 ghost use Rattle.rtr_units.specs.declared.fault.Fault.{Fault};
 ghost use Rattle.rtr_units.specs.StopCauses.{ReaderState, WriterState};
-ghost use Rattle.rtr_views.specs.declared.fault.ViewFault.{ViewFault};
+ghost use Rattle.unit_views.specs.declared.fault.ViewFault.{ViewFault};
 ghost use Rattle.rtr_units.specs.StopCauses.{by_cause, no_memory};
 ghost use Rattle.rtr_wire.specs.Comparison.{Compares, ComparesMeanings, ComparesSlices};
 ghost use Rattle.rtr_wire.specs.Comparison.{by_place, by_view_cause};

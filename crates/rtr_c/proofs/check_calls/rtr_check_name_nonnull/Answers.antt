@@ -1,9 +1,9 @@
 use Rattle.std.proofs.Common.{◌∙◌, ap, refl, Ok, Err}
-use Rattle.rtr_texts.proofs.Laid.{lays_said}
-use Rattle.rtr_texts.proofs.ReadBack.{read_back}
-use Rattle.rtr_findings.specs.KeptNames.{begins_sequence}
-use Rattle.rtr_findings.specs.PayloadNames.{unit_name}
-use Rattle.rtr_findings.specs.SequenceSoFar.{announces}
+use Rattle.text_lines.proofs.Laid.{lays_said}
+use Rattle.text_lines.proofs.ReadBack.{read_back}
+use Rattle.text_findings.specs.KeptNames.{begins_sequence}
+use Rattle.text_findings.specs.PayloadNames.{unit_name}
+use Rattle.text_findings.specs.SequenceSoFar.{announces}
 use Rattle.rtr_c.proofs.check_calls.rtr_check_name_nonnull.Goals as goal
 
 pub returns-in-Err : goal.returns-in-Err

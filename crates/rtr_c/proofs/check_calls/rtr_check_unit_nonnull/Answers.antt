@@ -1,9 +1,9 @@
 use Rattle.std.proofs.Common.{◌∙◌, ◌∷◌, ap, refl, sym, subst, Ok, Err}
-use Rattle.rtr_texts.proofs.ReadBack.{read_back}
-use Rattle.rtr_findings.specs.CheckedUnits.{found_list, known_after}
-use Rattle.rtr_findings.specs.KeptNames.{IsAnnouncedAs}
-use Rattle.rtr_findings.specs.Rules.{findings}
-use Rattle.rtr_findings.specs.SequenceSoFar.{named_by, sequence}
+use Rattle.text_lines.proofs.ReadBack.{read_back}
+use Rattle.text_findings.specs.CheckedUnits.{found_list, known_after}
+use Rattle.text_findings.specs.KeptNames.{IsAnnouncedAs}
+use Rattle.text_findings.specs.Rules.{findings}
+use Rattle.text_findings.specs.SequenceSoFar.{named_by, sequence}
 use Rattle.rtr_c.proofs.check_calls.rtr_check_unit_nonnull.Goals as goal
 
 pub returns-in-Err : goal.returns-in-Err

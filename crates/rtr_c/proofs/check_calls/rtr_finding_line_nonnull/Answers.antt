@@ -1,5 +1,5 @@
 use Rattle.std.proofs.Common.{◌∙◌, ap, arith, sym}
-use Rattle.rtr_texts.proofs.Laid.{lays_none, lays_said}
+use Rattle.text_lines.proofs.Laid.{lays_none, lays_said}
 use Rattle.rtr_c.specs.Checks.{told_line}
 use Rattle.rtr_c.proofs.check_calls.rtr_finding_line_nonnull.Goals as goal
 

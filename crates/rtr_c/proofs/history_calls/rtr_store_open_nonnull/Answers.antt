@@ -1,4 +1,4 @@
-use Rattle.rtr_history.proofs.Sealing.{opened}
+use Rattle.data_history.proofs.Sealing.{opened}
 use Rattle.rtr_c.proofs.history_calls.rtr_store_open_nonnull.Goals as goal
 
 pub returns-in-Some-clause-opens : goal.returns-in-Some-clause-opens

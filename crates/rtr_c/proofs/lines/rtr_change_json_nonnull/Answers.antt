@@ -1,6 +1,6 @@
 use Rattle.std.proofs.Common.{ap, rules}
-use Rattle.rtr_texts.specs.PayloadLines.{change_json}
-use Rattle.rtr_texts.proofs.Laid.{lays_said}
+use Rattle.text_lines.specs.PayloadLines.{change_json}
+use Rattle.text_lines.proofs.Laid.{lays_said}
 use Rattle.rtr_c.proofs.LinesTold.{line_told, refusal_told}
 use Rattle.rtr_c.proofs.lines.rtr_change_json_nonnull.Goals as goal
 

@@ -1,6 +1,6 @@
 use Rattle.std.proofs.Common.{ap, rules}
-use Rattle.rtr_texts.specs.JsonLines.{unit_json}
-use Rattle.rtr_texts.proofs.Laid.{lays_said}
+use Rattle.text_lines.specs.JsonLines.{unit_json}
+use Rattle.text_lines.proofs.Laid.{lays_said}
 use Rattle.rtr_c.proofs.LinesTold.{line_told, refusal_told}
 use Rattle.rtr_c.proofs.lines.rtr_json_nonnull.Goals as goal
 

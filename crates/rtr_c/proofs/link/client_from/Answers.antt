@@ -1,10 +1,10 @@
 use native.Mathlib.Omega.{arith}
 use Rattle.std.proofs.Common.{sym, subst, ap, ◌∙◌}
-use Rattle.rtr_router.specs.declared.router.Phase.{Phase}
-use Rattle.rtr_router.specs.declared.router.Router.{Router}
-use Rattle.rtr_client.specs.Holding.{due_size}
-use Rattle.rtr_client.specs.Turning.{InPhase}
-use Rattle.rtr_client.specs.declared.client.Holding.{Holding}
+use Rattle.session_router.specs.declared.router.Phase.{Phase}
+use Rattle.session_router.specs.declared.router.Router.{Router}
+use Rattle.session_client.specs.Holding.{due_size}
+use Rattle.session_client.specs.Turning.{InPhase}
+use Rattle.session_client.specs.declared.client.Holding.{Holding}
 use Rattle.rtr_c.specs.Routers.{phase_of, router_of}
 use Rattle.rtr_c.proofs.Links.{begun_suits, begun_within, due_within, in_phase}
 use Rattle.rtr_c.proofs.link.client_from.Goals as goal

@@ -1,5 +1,5 @@
 use Rattle.std.proofs.Common.{◌∙◌, ap}
-use Rattle.rtr_client.specs.declared.client.Client.{Client}
+use Rattle.session_client.specs.declared.client.Client.{Client}
 use Rattle.rtr_c.specs.LinkTodos.{AsksNow, todo_told}
 use Rattle.rtr_c.specs.Links.{client_of}
 use Rattle.rtr_c.proofs.LinksTold.{both_of, tells}

@@ -1,6 +1,6 @@
 use native.Mathlib.Omega.{arith}
 use Rattle.std.proofs.Common.{◌≤◌, ap}
-use Rattle.rtr_client.specs.declared.client.Client.{Client}
+use Rattle.session_client.specs.declared.client.Client.{Client}
 use Rattle.rtr_c.proofs.Links.{begun_more}
 use Rattle.rtr_c.proofs.link_calls.rtr_link_received_nonnull.Goals as goal
 

@@ -1,4 +1,4 @@
-use Rattle.rtr_session.proofs.Lengths.{said_bounded}
+use Rattle.unit_any.proofs.Lengths.{said_bounded}
 use Rattle.rtr_c.proofs.size.rtr_unit_size_nonnull.Goals as goal
 
 pub returns-in-Ok-Some-clause-bounded : goal.returns-in-Ok-Some-clause-bounded

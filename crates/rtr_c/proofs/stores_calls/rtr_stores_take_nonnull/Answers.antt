@@ -1,8 +1,8 @@
 use Rattle.std.proofs.Common.{◌≡◌, ◌-◌, ◌∙◌, ℕ, List, length, true}
 use Rattle.std.specs.Prelude.{Ok, Result}
-use Rattle.rtr_history.specs.Stores.{numbers_of}
-use Rattle.rtr_history.specs.declared.newer.Untaken.{Untaken}
-use Rattle.rtr_history.specs.declared.stores.Stores.{Stores}
+use Rattle.data_history.specs.Stores.{numbers_of}
+use Rattle.data_history.specs.declared.newer.Untaken.{Untaken}
+use Rattle.data_history.specs.declared.stores.Stores.{Stores}
 use Rattle.rtr_c.specs.Stores.{has_stores, stores_in}
 use Rattle.rtr_c.specs.StoresAnswers.{taking_told}
 use Rattle.rtr_c.specs.StoresCalls.{TakesNew}

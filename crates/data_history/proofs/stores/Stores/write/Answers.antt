@@ -1,0 +1,79 @@
+use Rattle.std.proofs.Common.{◌≡◌, ◌+◌, ◌-◌, Some, None, arith, false, true, length}
+use Rattle.std.proofs.Common.{refl, subst, sym, take}
+use Rattle.data_slices.specs.Canonical.{HoldsData}
+use Rattle.data_history.specs.Snapshots.{Snapshot}
+use Rattle.data_history.specs.Store.{HoldsStore}
+use Rattle.data_history.specs.Stores.{IsShortForTaking, MayBeOf, TakesData, TakesLater, front_of}
+use Rattle.data_history.specs.Stores.{size_of}
+use Rattle.data_history.proofs.Serving.{if_ok, looked_at}
+use Rattle.data_history.proofs.stores.Stores.write.Goals as goal
+
+pub returns-in-Err-clause-takes : goal.returns-in-Err-clause-takes
+returns-in-Err-clause-takes c = λ z free h.
+    absurd (c.in-Err.ensures.flaw.none (z.payloads, z.end, h))
+
+pub returns-then-not-may_be_of-clause-takes : goal.returns-then-not-may_be_of-clause-takes
+returns-then-not-may_be_of-clause-takes c = λ z free h may.
+    let wrong : false ≡ true = c.if-not-may_be_of.ensures.1
+    (subst (MayBeOf c.args.self.now.unsaved) (sym (c.in-Ok.ensures.is z.payloads z.end h)) may) in
+    absurd cc
+
+pub returns-in-Some-clause-takes : goal.returns-in-Some-clause-takes
+returns-in-Some-clause-takes c = λ z free h.
+    let since = c.args.now - c.args.limits.now.time in
+    let most = c.args.limits.now.bytes in
+    let may = subst (MayBeOf c.args.self.now.unsaved) (c.in-Ok.ensures.is z.payloads z.end h)
+    (c.if-not-may_be_of.ensures.0 refl) in
+    subst (λ o. TakesData since most c.next_store.result c.args.self.now
+    (front_of o c.args.held.now) z c.next_store.new.output) (sym c.in-Some.is)
+    (looked_at since most c.next_store.result c.args.self.now
+    (Some (take c.in-Some.size c.args.held.now)) z c.next_store.new.output
+    c.next_store.ensures.late free may (λ x ys j.
+    subst (λ b. TakesLater since most c.next_store.result b z x ys c.next_store.new.output)
+    c.front-store.ensures
+    (c.next_store.ensures.takes z x ys h
+    (subst (λ b. HoldsStore b x ys) (sym c.front-store.ensures) j))))
+
+pub returns-in-Some-clause-holds : goal.returns-in-Some-clause-holds
+returns-in-Some-clause-holds c =
+    let k = c.in-Ok.ensures.holds in
+    if_ok c.next_store.result
+    ((z : Snapshot) × HoldsData c.args.new.now z.payloads z.end)
+    (record { end = k.1; payloads = k.0 }, k.2)
+
+pub returns-in-Some-clause-rooms : goal.returns-in-Some-clause-rooms
+returns-in-Some-clause-rooms c =
+    subst (λ o. IsShortForTaking c.next_store.result
+    (size_of (front_of o c.args.held.now) + length c.args.new.now) (length c.args.buffer.now)
+    (length c.args.spare.now) (length c.args.output.now)) (sym c.in-Some.is)
+    (subst (λ b. IsShortForTaking c.next_store.result (length b + length c.args.new.now)
+    (length c.args.buffer.now) (length c.args.spare.now) (length c.args.output.now))
+    c.front-store.ensures c.next_store.ensures.rooms)
+
+pub returns-in-None-clause-takes : goal.returns-in-None-clause-takes
+returns-in-None-clause-takes c = λ z free h.
+    let since = c.args.now - c.args.limits.now.time in
+    let most = c.args.limits.now.bytes in
+    let may = subst (MayBeOf c.args.self.now.unsaved) (c.in-Ok.ensures.is z.payloads z.end h)
+    (c.if-not-may_be_of.ensures.0 refl) in
+    subst (λ o. TakesData since most c.first_store.result c.args.self.now
+    (front_of o c.args.held.now) z c.first_store.new.output) (sym c.in-None.is)
+    (looked_at since most c.first_store.result c.args.self.now None z c.first_store.new.output
+    c.first_store.ensures.late free may (c.first_store.ensures.takes z h))
+
+pub returns-in-None-clause-holds : goal.returns-in-None-clause-holds
+returns-in-None-clause-holds c =
+    let k = c.in-Ok.ensures.holds in
+    if_ok c.first_store.result
+    ((z : Snapshot) × HoldsData c.args.new.now z.payloads z.end)
+    (record { end = k.1; payloads = k.0 }, k.2)
+
+pub returns-in-None-clause-rooms : goal.returns-in-None-clause-rooms
+returns-in-None-clause-rooms c =
+    subst (λ o. IsShortForTaking c.first_store.result
+    (size_of (front_of o c.args.held.now) + length c.args.new.now) (length c.args.buffer.now)
+    (length c.args.spare.now) (length c.args.output.now)) (sym c.in-None.is)
+    (let all : length c.args.new.now ≡ 0 + length c.args.new.now = omega arith in
+    subst (λ n. IsShortForTaking c.first_store.result n (length c.args.buffer.now)
+    (length c.args.spare.now) (length c.args.output.now)) all
+    (c.first_store.ensures.rooms (length c.args.buffer.now)))

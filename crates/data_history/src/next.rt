@@ -1,0 +1,202 @@
+//! The history after newer data.
+
+ghost use Rattle.std.specs.Prelude.{◌≡◌, ◌-◌, ◌++◌, ◌<◌, ◌≤◌, ◌^◌, ℕ, IfErr, IfOk, IfSome, List};
+ghost use Rattle.std.specs.Prelude.{Some, length, take};
+ghost use Rattle.std.specs.Prelude.{◌+◌, ◌*◌, Err, IsOk, IsSome};
+ghost use Rattle.std.specs.declared.cmp.Ordering.TheVariants.{Less};
+ghost use Rattle.rtr_base.specs.Serial.{serial_cmp};
+ghost use Rattle.data_slices.specs.Canonical.{HoldsData, PlacesFront};
+ghost use Rattle.data_history.specs.Snapshots.{Snapshot, HoldsHistory};
+ghost use Rattle.data_history.specs.Next.{Advances, StartsHistory, IsFlawIn, IsLongest};
+ghost use Rattle.data_history.specs.Next.{IsShortForNewer};
+ghost use Rattle.data_history.specs.PrivateRefusals.{NamesWhy};
+ghost use Rattle.data_history.specs.Parts.{part_form};
+
+use crate::kept::{is_earlier, kept_front};
+use crate::part::{HEAD, first_part, head, length_of};
+use crate::room::{Room, wanted_of};
+use data_slices::{Flaw, check_data, delta_into};
+use rtr_units::end::EndOfData;
+use unit_views::placing::place;
+
+/// Limits of the steps back that a history keeps.
+#[derive(Clone, Copy, Debug, PartialEq, Eq)]
+pub struct Limits {
+    /// A step is kept for this many milliseconds after it was made.
+    pub time: u64,
+    /// The steps have at most this many bytes, with the 16 bytes before each.
+    pub bytes: usize,
+}
+
+/// Why no history was written.
+#[derive(Debug, Drop)]
+pub enum Refused {
+    /// The new data aren't in canonical form.
+    Flaw(Flaw),
+    /// The new data are of this protocol version, and the history is of another.
+    UnitVersion(u8),
+    /// The new data are the present ones.
+    Same,
+    /// The new data are the present ones under the same serial number, with other times.
+    Times,
+    /// The serial number of the new data isn't later than the present one.
+    Serial,
+    /// The old bytes are no history.
+    Malformed,
+    /// This slice is too short. It suffices for these data if it is as long as wanted.
+    NoRoom { room: Room, wanted: usize },
+}
+
+/// Writes the history of these data alone, and returns its length.
+pub fn first_into(new: &[u8], now: u64, output: &mut [u8]) -> Result<usize, Refused>
+    ensures data { (z : Snapshot) → HoldsData new.now z.payloads z.end →
+        StartsHistory result z output.old output.new }
+    ensures flaw { IfErr result (IsFlawIn new.now) }
+    ensures within { IfOk result (λ n. n ≤ length output.old) }
+    ensures rooms { IsShortForNewer result 0 (16 + length new.now) 0 (length output.old) }
+{
+    match check_data(new) {
+        Ok(_) => {}
+        Err(flaw) => return Err(Refused::Flaw(flaw)),
+    }
+    match place(&head(now, length_of(new)), new, output) {
+        Some(size) => Ok(size),
+        None => Err(no_room(Room::Output, HEAD + new.len())),
+    }
+}
+
+/// That this slice is too short, and how long it has to be.
+fn no_room(room: Room, wanted: usize) -> Refused
+    ensures { result ≡ Refused.NoRoom room wanted }
+{
+    Refused::NoRoom { room, wanted }
+}
+
+/// That the output is too short for new data, a step and the steps that are kept, of these lengths.
+fn no_output(output: &[u8], new: usize, step: usize, kept: usize) -> Refused
+    ensures rooms { (buffer most have : ℕ) → length output.now < 32 + new + step + kept →
+        32 + new + step + kept ≤ most →
+        IsShortForNewer (Err result) buffer most have (length output.now) }
+    ensures advances { (since most : ℕ) (z x : Snapshot) (ys : List Snapshot)
+        (before after : List ℕ) → Advances since most (Err result) z x ys before after }
+    ensures no_flaw { (b : List ℕ) → IsFlawIn b result }
+{
+    let wanted = wanted_of(output, HEAD + HEAD, new, step, kept);
+    no_room(Room::Output, wanted)
+}
+
+/// Writes the history after newer data, and returns its length: these data, a step back to the
+/// present ones, and of the steps behind it as many as the limits leave. Data of another session
+/// begin a history.
+///
+/// A buffer as long as the old bytes and the new together, and an output twice as long and 32 bytes
+/// more, always suffice.
+pub fn next_into(
+    old: &[u8],
+    new: &[u8],
+    now: u64,
+    limits: &Limits,
+    buffer: &mut [u8],
+    output: &mut [u8],
+) -> Result<usize, Refused>
+    ensures data { (x z : Snapshot) (ys : List Snapshot) → HoldsHistory old.now x ys →
+        HoldsData new.now z.payloads z.end → Advances (now - limits.now.time) limits.now.bytes
+        result z x ys output.old output.new }
+    ensures flaw { IfErr result (IsFlawIn new.now) }
+    ensures within { IfOk result (λ n. n ≤ length output.old) }
+    ensures longest { (x z : Snapshot) (ys : List Snapshot) → HoldsHistory old.now x ys →
+        HoldsData new.now z.payloads z.end → z.end.session ≡ x.end.session →
+        IsLongest (now - limits.now.time) limits.now.bytes result z x old.now output.new }
+    ensures newer { (x z : Snapshot) (ys : List Snapshot) → HoldsHistory old.now x ys →
+        HoldsData new.now z.payloads z.end → z.end.session ≡ x.end.session → IsOk result →
+        serial_cmp x.end.serial z.end.serial ≡ Some Less }
+    ensures rooms { IsShortForNewer result (length old.now + length new.now)
+        (32 + 2 * (length old.now + length new.now)) (length buffer.old) (length output.old) }
+{
+    let end = match check_data(new) {
+        Ok(end) => end,
+        Err(flaw) => return Err(Refused::Flaw(flaw)),
+    };
+    let (_, present, steps) = match first_part(old) {
+        Some(part) => part,
+        None => return Err(Refused::Malformed),
+    };
+    let before = match check_data(present) {
+        Ok(end) => end,
+        Err(_) => return Err(Refused::Malformed),
+    };
+    if before.session() != end.session() {
+        return first_into(new, now, output);
+    }
+    if before.version() != end.version() {
+        return Err(Refused::UnitVersion(end.version()));
+    }
+    let size = match delta_into(new, present, buffer) {
+        Ok(size) => size,
+        Err(_) => return Err(no_room(Room::Buffer, old.len() + new.len())),
+    };
+    if !is_earlier(before.serial(), end.serial()) {
+        return Err(not_later(&before, &end, size));
+    }
+    if limits.bytes < HEAD {
+        return first_into(new, now, output);
+    }
+    let most = limits.bytes - HEAD;
+    if size > most {
+        return first_into(new, now, output);
+    }
+    let since = now.saturating_sub(limits.time);
+    let kept = kept_front(steps, end.serial(), since, most - size);
+    match place_history(new, &buffer[..size], &steps[..kept], now, output) {
+        Some(size) => Ok(size),
+        None => Err(no_output(output, new.len(), size, kept)),
+    }
+}
+
+/// Why data whose serial number isn't later are refused, by the ends of both data and the length of
+/// the delta between them.
+fn not_later(before: &EndOfData, end: &EndOfData, size: usize) -> Refused
+    ensures why { NamesWhy result before.now end.now size }
+    ensures no_flaw { (b : List ℕ) → IsFlawIn b result }
+    ensures rooms { (b o have out : ℕ) → IsShortForNewer (Err result) b o have out }
+    ensures longest { (since most : ℕ) (z x : Snapshot) (old after : List ℕ) →
+        IsLongest since most (Err result) z x old after }
+{
+    if before.serial().0 != end.serial().0 {
+        return Refused::Serial;
+    }
+    if size > before.as_ref().len() {
+        return Refused::Serial;
+    }
+    if before.as_ref() == end.as_ref() {
+        return Refused::Same;
+    }
+    Refused::Times
+}
+
+/// Writes the parts of a history.
+fn place_history(new: &[u8], step: &[u8], kept: &[u8], now: u64, output: &mut [u8]) -> Option<usize>
+    ensures bytes { IfSome result (λ n. PlacesFront (Some n)
+        (part_form now new.now ++ (part_form now step.now ++ kept.now)) output.old output.new) }
+    ensures new { length new.now < 2 ^ 64 }
+    ensures step { length step.now < 2 ^ 64 }
+    ensures enough { 32 + length new.now + length step.now + length kept.now ≤ length output.old →
+        IsSome result }
+{
+    let _step_size = length_of(step);
+    let first = place(&head(now, length_of(new)), new, output)?;
+    let rest = place_steps(step, kept, now, &mut output[first..])?;
+    Some(first + rest)
+}
+
+/// Writes the steps of a history.
+fn place_steps(step: &[u8], kept: &[u8], now: u64, output: &mut [u8]) -> Option<usize>
+    ensures bytes { IfSome result (λ n. PlacesFront (Some n)
+        (part_form now step.now ++ kept.now) output.old output.new) }
+    ensures within { IfSome result (λ n. n ≤ length output.old) }
+    ensures enough { 16 + length step.now + length kept.now ≤ length output.old → IsSome result }
+{
+    let first = place(&head(now, length_of(step)), step, output)?;
+    let rest = place(kept, &[], &mut output[first..])?;
+    Some(first + rest)
+}

@@ -1,0 +1,112 @@
+//! What a cache saves: the sessions that it left, and the history of the present one.
+
+ghost use Rattle.std.specs.Prelude.{◌≡◌, ◌<◌, ◌≤◌, ◌+◌, ◌^◌, ◌++◌, ◌↔◌, IfOk, IfSome, IsSome};
+ghost use Rattle.std.specs.Prelude.{IsTrue, List, Some, length, take};
+ghost use Rattle.data_slices.specs.Canonical.{PlacesFront};
+ghost use Rattle.data_history.specs.Parts.{head_bytes, part_rest};
+ghost use Rattle.data_history.specs.Snapshots.{HoldsHistory, Snapshot};
+ghost use Rattle.data_history.specs.Store.{BeginsStore, IsAmong, WantsOutput, WritesStore};
+ghost use Rattle.data_history.specs.Store.{sessions_of};
+
+use crate::part::{HEAD, first_part, head};
+use crate::room::wanted_of;
+use unit_views::placing::place;
+
+/// Why no store was written.
+#[derive(Clone, Copy, Debug, PartialEq, Eq)]
+pub enum TakeFault {
+    /// The cache left the session of the new data before.
+    SessionLeft,
+    /// The old bytes are no store.
+    Malformed,
+    /// The output is too short. It suffices if it is as long as wanted.
+    NoRoom { wanted: usize },
+}
+
+/// Writes the first store of a cache, which left no session, and returns its length: 16 bytes more
+/// than that of the history.
+pub fn first_store_into(history: &[u8], output: &mut [u8]) -> Result<usize, TakeFault>
+    ensures begins { (z : Snapshot) (ys : List Snapshot) → HoldsHistory history.now z ys →
+        BeginsStore result z ys output.new }
+    ensures history { IfOk result (λ n. part_rest (take n output.new) ≡ history.now) }
+    ensures room { WantsOutput result (16 + length history.now) (length output.old) }
+{
+    match place_store(&[], &[], history, output) {
+        Some(size) => Ok(size),
+        None => Err(TakeFault::NoRoom {
+            wanted: HEAD + history.len(),
+        }),
+    }
+}
+
+/// Writes the store to be saved after newer data, of which this is the history, and returns its
+/// length. It names the session of the present data and that of the newer ones: if they differ, the
+/// present one is left, and a session that was left is refused.
+///
+/// An output 18 bytes longer than the old store and the history together always suffices.
+pub fn take_into(
+    store: &[u8],
+    present: u16,
+    next: u16,
+    history: &[u8],
+    output: &mut [u8],
+) -> Result<usize, TakeFault>
+    ensures takes { (x z : Snapshot) (ys zs : List Snapshot) → WritesStore result store.now present
+        next history.now x z ys zs output.new }
+    ensures history { IfOk result (λ n. part_rest (take n output.new) ≡ history.now) }
+    ensures room { WantsOutput result (18 + length store.now + length history.now)
+        (length output.old) }
+{
+    let (_, left, _) = match first_part(store) {
+        Some(part) => part,
+        None => return Err(TakeFault::Malformed),
+    };
+    if present == next {
+        return match place_store(&[], left, history, output) {
+            Some(size) => Ok(size),
+            None => Err(TakeFault::NoRoom {
+                wanted: wanted_of(output, HEAD, left.len(), history.len(), 0),
+            }),
+        };
+    }
+    if is_among(next, left) {
+        return Err(TakeFault::SessionLeft);
+    }
+    match place_store(&present.to_be_bytes(), left, history, output) {
+        Some(size) => Ok(size),
+        None => Err(TakeFault::NoRoom {
+            wanted: wanted_of(output, HEAD, 2, left.len(), history.len()),
+        }),
+    }
+}
+
+/// Writes the part of the sessions, in two pieces, and the history behind it.
+fn place_store(last: &[u8], left: &[u8], history: &[u8], output: &mut [u8]) -> Option<usize>
+    ensures bytes { IfSome result (λ n. PlacesFront (Some n)
+        ((head_bytes 0 (length last.now + length left.now) ++ last.now) ++ left.now ++ history.now)
+        output.old output.new) }
+    ensures fits { length last.now + length left.now < 2 ^ 64 }
+    ensures enough { 16 + length last.now + length left.now + length history.now
+        ≤ length output.old → IsSome result }
+{
+    let size = (last.len() + left.len()) as u64;
+    let front = place(&head(0, size), last, output)?;
+    let rest = place(left, history, &mut output[front..])?;
+    Some(front + rest)
+}
+
+/// Reports whether a session is among these, of two bytes each.
+fn is_among(session: u16, sessions: &[u8]) -> bool
+    ensures { IsTrue result ↔ IsAmong session (sessions_of sessions.now) }
+{
+    let mut rest = sessions;
+    'sessions: loop {
+        if rest.len() < 2 {
+            return false;
+        }
+        if 256 * rest[0] as u16 + rest[1] as u16 == session {
+            return true;
+        }
+        rest = &rest[2..];
+    }
+}

@@ -1,0 +1,221 @@
+//! What is known of a recording where so much of it was read.
+
+ghost use Rattle.std.specs.Prelude.{◌≡◌, ◌||◌, List, Some, None, false};
+ghost use Rattle.std.specs.Option.{is_some, option_map};
+ghost use Rattle.rtr_units.specs.AnyEnd.{end_meaning};
+ghost use Rattle.rtr_payload.specs.Payloads.{Payload};
+ghost use Rattle.data_recordings.specs.Recordings.{asked_since, begins_anew, is_before, is_wanted};
+ghost use Rattle.data_recordings.specs.Recordings.{is_other as is_another, last_serial};
+ghost use Rattle.data_recordings.specs.Recordings.{last_session};
+ghost use Rattle.data_recordings.specs.Recordings.{refusal_in, refused_since as is_refused_since};
+ghost use Rattle.data_loading.specs.PrivateLoading.{IsBegun, IsCurrent, opened_answer, so_much};
+
+use rtr_base::state::Serial;
+use data_recordings::Refusal;
+use rtr_units::end::EndOfData;
+use std::cmp::Ordering;
+
+/// What is known where so much of a recording was read. The payloads themselves lie in a slice.
+#[derive(Drop)]
+pub(crate) struct Held {
+    /// The length of the data of the whole answers.
+    pub(crate) length: usize,
+    /// The end of data of the last whole answer, if there was one.
+    pub(crate) end: Option<EndOfData>,
+    /// The answer that is open, if one is.
+    pub(crate) pending: Option<Answer>,
+    /// Whether all data were asked for, if anything was since the last answer began.
+    pub(crate) asks_all: Option<bool>,
+    /// Whether an answer was cut off.
+    pub(crate) has_cut: bool,
+}
+
+/// An answer whose end of data hasn't come.
+#[derive(Clone, Copy)]
+pub(crate) struct Answer {
+    /// How many payload units came of it.
+    pub(crate) count: usize,
+    /// The version of these, or of the data that they change.
+    pub(crate) version: Option<u8>,
+    /// Its session, if its cache response or the whole answer before it says one.
+    pub(crate) session: Option<u16>,
+    /// The serial number of the data that it changes; none if it began anew, or was the first.
+    pub(crate) since: Option<u32>,
+    /// Whether it is to a request for all data.
+    pub(crate) has_all: bool,
+    /// Whether it began anew, with no payloads.
+    pub(crate) is_anew: bool,
+}
+
+impl Held {
+    /// Nothing, as before the first unit.
+    pub(crate) fn new() -> Self
+        ensures { result ≡ record {
+          length = 0;
+          end = None;
+          pending = None;
+          asks_all = None;
+          has_cut = false;
+        } }
+    {
+        Held {
+            length: 0,
+            end: None,
+            pending: None,
+            asks_all: None,
+            has_cut: false,
+        }
+    }
+
+    /// Opens an answer of this session, which cuts off one that is open.
+    pub(crate) fn respond(&mut self, session: u16)
+        ensures { (a : Answer) × (self.new ≡ record self.old {
+          pending = Some a;
+          asks_all = None;
+          has_cut = self.old.has_cut || is_some self.old.pending;
+        }) × ((d : List Payload) → IsBegun a self.old d (Some session)) }
+    {
+        let answer = self.begin(Some(session));
+        self.has_cut |= self.pending.is_some();
+        self.pending = Some(answer);
+        self.asks_all = None;
+    }
+
+    /// The answer that the next payload unit or end of data is of.
+    pub(crate) fn current(&self) -> Answer
+        ensures answer { IsCurrent self.now.pending result self.now }
+    {
+        match self.pending {
+            Some(answer) => answer,
+            None => self.begin(self.last_session()),
+        }
+    }
+
+    /// What was asked since that answer began.
+    pub(crate) fn asked_since(&self) -> Option<bool>
+        ensures { (d : List Payload) →
+            result ≡ asked_since (so_much self.now d).pending self.now.asks_all }
+    {
+        match self.pending {
+            Some(_) => self.asks_all,
+            None => None,
+        }
+    }
+
+    /// The answer of this session that begins next.
+    fn begin(&self, session: Option<u16>) -> Answer
+        ensures { (d : List Payload) → IsBegun result self.now d session }
+    {
+        let has_all = self.is_wanted();
+        if self.begins_anew(session) {
+            return Answer {
+                count: 0,
+                version: None,
+                session,
+                since: None,
+                has_all,
+                is_anew: true,
+            };
+        }
+        Answer {
+            count: 0,
+            version: self.last_version(),
+            session,
+            since: self.last_serial(),
+            has_all,
+            is_anew: false,
+        }
+    }
+
+    /// Whether an answer of this session begins with no payloads.
+    fn begins_anew(&self, session: Option<u16>) -> bool
+        ensures { (d : List Payload) → result ≡ begins_anew (so_much self.now d) session }
+    {
+        self.is_wanted() || is_other(self.last_session(), session)
+    }
+
+    /// Whether the next answer is to a request for all data.
+    fn is_wanted(&self) -> bool
+        ensures { (d : List Payload) → result ≡ is_wanted (so_much self.now d) }
+    {
+        match (self.asks_all, &self.pending) {
+            (Some(all), _) => all,
+            (None, Some(cut)) => cut.has_all,
+            (None, None) => false,
+        }
+    }
+
+    /// The session of the last whole answer.
+    fn last_session(&self) -> Option<u16>
+        ensures { (d : List Payload) → result ≡ last_session (so_much self.now d) }
+    {
+        match &self.end {
+            Some(end) => Some(end.session()),
+            None => None,
+        }
+    }
+
+    /// The serial number of the last whole answer.
+    fn last_serial(&self) -> Option<u32>
+        ensures { (d : List Payload) → result ≡ last_serial (so_much self.now d) }
+    {
+        match &self.end {
+            Some(end) => Some(end.serial().0),
+            None => None,
+        }
+    }
+
+    /// The version of the last whole answer.
+    fn last_version(&self) -> Option<u8>
+        ensures { result ≡ option_map (λ e. (end_meaning e).version) self.now.end }
+    {
+        match &self.end {
+            Some(end) => Some(end.version()),
+            None => None,
+        }
+    }
+}
+
+impl Answer {
+    /// Why an end of data can't close it.
+    pub(crate) fn refusal(&self, end: &EndOfData) -> Option<Refusal>
+        ensures { (d : List Payload) →
+            result ≡ refusal_in (opened_answer d self.now) (end_meaning end.now) }
+    {
+        let session = end.session();
+        match self.session {
+            Some(begun) if begun != session => Some(Refusal::Session(session, begun)),
+            _ => refused_since(self.since, end.serial().0),
+        }
+    }
+}
+
+/// Why changes of data of one serial number can't end with another.
+fn refused_since(since: Option<u32>, serial: u32) -> Option<Refusal>
+    ensures { result ≡ is_refused_since since serial }
+{
+    match since {
+        Some(last) if is_before(serial, last) => Some(Refusal::Serial(serial, last)),
+        _ => None,
+    }
+}
+
+/// Whether a session is another than that before it.
+fn is_other(last: Option<u16>, session: Option<u16>) -> bool
+    ensures { result ≡ is_another last session }
+{
+    match (last, session) {
+        (Some(last), Some(session)) => last != session,
+        _ => false,
+    }
+}
+
+/// Whether a serial number comes before another (RFC 1982).
+fn is_before(serial: u32, last: u32) -> bool
+    ensures { result ≡ is_before serial last }
+{
+    match Serial(serial).partial_cmp(&Serial(last)) {
+        Some(Ordering::Less) => true,
+        _ => false,
+    }
+}

@@ -1,0 +1,202 @@
+//! What each unit of a recording does.
+
+ghost use Rattle.std.specs.Prelude.{◌≡◌, ◌≤◌, ◌+◌, ◌++◌, ◌∷◌, [], ℕ, List, IsTrue, length};
+ghost use Rattle.std.specs.Prelude.{◌↔◌, take, drop, min, Err, Some};
+ghost use Rattle.data_loading.specs.Loading.{RefusesLoad};
+ghost use Rattle.data_loading.specs.PrivateLoading.{IsOfWanted, IsRightReason, Sees, Settles};
+ghost use Rattle.data_loading.specs.PrivateLoading.{StandsAt, TookUnit};
+ghost use Rattle.data_loading.specs.declared.seen.Seen.TheVariants as seens;
+
+use crate::closing::{close, settle};
+use crate::fault::{LoadFault, LoadReason};
+use crate::held::Held;
+use crate::seen::Seen;
+use data_recordings::Refusal;
+
+/// Takes the unit of this size at the offset.
+pub(crate) fn take_unit(
+    held: &mut Held,
+    seen: &Seen,
+    size: usize,
+    at: usize,
+    input: &[u8],
+    index: &mut [usize],
+    work: &mut [u8],
+    output: &mut [u8],
+) -> Result<(), LoadFault>
+    requires stands { StandsAt held.old at input.now index.old output.old }
+    requires unit { Sees seen.now (take size (drop at input.now)) }
+    requires within { at + size ≤ length input.now }
+    ensures takes { TookUnit result held.new (at + size) input.now index.new output.new
+        (min (length work.old) (length output.old)) }
+    ensures index { length index.new ≡ length index.old }
+    ensures work { length work.new ≡ length work.old }
+    ensures output { length output.new ≡ length output.old }
+{
+    match seen {
+        Seen::Payload(version) => gather(held, *version, size, at, input, index, output),
+        Seen::End(end) => close(held, end, size, at, input, index, work, output),
+        Seen::Response(session) => respond(held, *session, size, at, input, index, output),
+        Seen::Reset => reset(held, size, at, input, index, output),
+        Seen::Report => report(held, size, at, input, index, output),
+        Seen::AsksAll => {
+            held.asks_all = Some(true);
+            Ok(())
+        }
+        Seen::AsksChanges => {
+            held.asks_all = Some(false);
+            Ok(())
+        }
+        Seen::Notifies => Ok(()),
+    }
+}
+
+/// The fault of the bytes at the offset, unless the open answer has one before them.
+pub(crate) fn refuse(
+    held: &Held,
+    at: usize,
+    reason: LoadReason,
+    input: &[u8],
+    index: &mut [usize],
+    output: &[u8],
+) -> LoadFault
+    requires stands { StandsAt held.now at input.now index.old output.now }
+    requires right { IsRightReason reason held.now input.now at }
+    ensures refuses { (room : ℕ) → RefusesLoad result input.now (length index.old) room }
+    ensures index { length index.new ≡ length index.old }
+{
+    match settle(held, input, index, output) {
+        Some(fault) => fault,
+        None => LoadFault::Refused { offset: at, reason },
+    }
+}
+
+/// Takes a payload unit of this version.
+fn gather(
+    held: &mut Held,
+    version: u8,
+    size: usize,
+    at: usize,
+    input: &[u8],
+    index: &mut [usize],
+    output: &[u8],
+) -> Result<(), LoadFault>
+    requires stands { StandsAt held.old at input.now index.old output.now }
+    requires unit { Sees (seens.Payload version) (take size (drop at input.now)) }
+    requires within { at + size ≤ length input.now }
+    ensures takes { (room : ℕ) →
+        TookUnit result held.new (at + size) input.now index.new output.now room }
+    ensures index { length index.new ≡ length index.old }
+{
+    let mut answer = held.current();
+    if !is_of(answer.version, version) {
+        let reason = LoadReason::UnitVersion(version);
+        return Err(refuse(held, at, reason, input, index, output));
+    }
+    put_offset(index, answer.count, at);
+    answer.count += 1;
+    answer.version = Some(version);
+    held.asks_all = held.asked_since();
+    held.pending = Some(answer);
+    Ok(())
+}
+
+/// Takes a cache response of this session.
+fn respond(
+    held: &mut Held,
+    session: u16,
+    size: usize,
+    at: usize,
+    input: &[u8],
+    index: &mut [usize],
+    output: &[u8],
+) -> Result<(), LoadFault>
+    requires stands { StandsAt held.old at input.now index.old output.now }
+    requires unit { Sees (seens.Response session) (take size (drop at input.now)) }
+    requires within { at + size ≤ length input.now }
+    ensures takes { (room : ℕ) →
+        TookUnit result held.new (at + size) input.now index.new output.now room }
+    ensures index { length index.new ≡ length index.old }
+{
+    match settle(held, input, index, output) {
+        Some(fault) => Err(fault),
+        None => {
+            held.respond(session);
+            Ok(())
+        }
+    }
+}
+
+/// Takes a cache reset, which may not stand inside an answer.
+fn reset(
+    held: &mut Held,
+    size: usize,
+    at: usize,
+    input: &[u8],
+    index: &mut [usize],
+    output: &[u8],
+) -> Result<(), LoadFault>
+    requires stands { StandsAt held.old at input.now index.old output.now }
+    requires unit { Sees seens.Reset (take size (drop at input.now)) }
+    requires within { at + size ≤ length input.now }
+    ensures takes { (room : ℕ) →
+        TookUnit result held.new (at + size) input.now index.new output.now room }
+    ensures index { length index.new ≡ length index.old }
+{
+    match held.pending {
+        Some(_) => {
+            let reason = LoadReason::Refused(Refusal::CacheReset);
+            Err(refuse(held, at, reason, input, index, output))
+        }
+        None => {
+            held.asks_all = Some(true);
+            Ok(())
+        }
+    }
+}
+
+/// Takes an error report, which may not stand inside an answer.
+fn report(
+    held: &mut Held,
+    size: usize,
+    at: usize,
+    input: &[u8],
+    index: &mut [usize],
+    output: &[u8],
+) -> Result<(), LoadFault>
+    requires stands { StandsAt held.old at input.now index.old output.now }
+    requires unit { Sees seens.Report (take size (drop at input.now)) }
+    requires within { at + size ≤ length input.now }
+    ensures takes { (room : ℕ) →
+        TookUnit result held.new (at + size) input.now index.new output.now room }
+    ensures index { length index.new ≡ length index.old }
+{
+    match held.pending {
+        Some(_) => {
+            let reason = LoadReason::Refused(Refusal::ErrorReport);
+            Err(refuse(held, at, reason, input, index, output))
+        }
+        None => Ok(()),
+    }
+}
+
+/// Whether a unit of a version may follow where this one is wanted, if any is.
+pub(crate) fn is_of(wanted: Option<u8>, version: u8) -> bool
+    ensures { IsTrue result ↔ IsOfWanted wanted version }
+{
+    match wanted {
+        None => true,
+        Some(wanted) => wanted == version,
+    }
+}
+
+/// Puts the offset after so many others, if the index has room for it.
+fn put_offset(index: &mut [usize], count: usize, offset: usize)
+    ensures same_length { length index.new ≡ length index.old }
+    ensures held { (os : List ℕ) → (count ≤ length index.old → take count index.old ≡ os) →
+        count + 1 ≤ length index.new → take (count + 1) index.new ≡ os ++ offset ∷ [] }
+{
+    if count < index.len() {
+        index[count] = offset;
+    }
+}

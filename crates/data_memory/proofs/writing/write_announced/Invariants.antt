@@ -1,0 +1,14 @@
+use Rattle.std.proofs.Common.{◌≡◌, ◌++◌, map}
+use Rattle.std.specs.List.{filter}
+use Rattle.std.specs.Map.Iter.{deref_pair}
+use Rattle.rtr_base.specs.declared.action.Action.TheVariants.{Announce}
+use Rattle.data_memory.specs.Contents.{entry_of}
+use Rattle.data_memory.specs.PrivateForms.{lacks_entry}
+use Rattle.data_memory.proofs.Fronts.{Sent}
+use Rattle.data_memory.proofs.writing.write_announced.Given as goal
+
+abbrev pub invariant-loop-customer : goal.invariant-loop-customer
+invariant-loop-customer g l =
+    (l.new.entries ≡ map deref_pair l.yielded ++ l.customer-iterator)
+    × Sent l.version Announce (g.W.Sink.state l.fn.writer) (g.W.Sink.state l.writer)
+    (map entry_of (filter (lacks_entry l.old) (map deref_pair l.yielded)))

@@ -1,0 +1,82 @@
+//! The payloads of data are in their ranges, as the types of their parts keep them.
+
+ghost use Rattle.std.specs.Prelude.{◌≡◌, map};
+ghost use Rattle.std.specs.List.{AllByRecursion};
+ghost use Rattle.rtr_base.specs.Bytes.{IsBytes};
+ghost use Rattle.rtr_payload.specs.Meanings.{key_of, origin_of};
+ghost use Rattle.data_memory.specs.Contents.{entry_of};
+ghost use Rattle.data_memory.specs.Sequences.{IsInRange, IsSendable};
+
+use super::Data;
+use crate::kept_origin::KeptOrigin;
+use rtr_base::asn::Asn;
+use rtr_payload::payload::{RouteOrigin, RouterKey};
+use rtr_payload::pdu::ProviderAsns;
+use std::collections::{BTreeMap, BTreeSet};
+
+impl Data {
+    /// Each payload is one that a unit announces. Only laws call this: it has no effect.
+    pub(crate) fn members_are_sendable(&self)
+        ensures { AllByRecursion IsSendable self.now }
+    {
+        let _parts = self.parts();
+        origins_in_range(&self.origins);
+        keys_in_range(&self.router_keys);
+        aspas_in_range(&self.aspas);
+    }
+}
+
+fn origins_in_range(origins: &BTreeSet<KeptOrigin>)
+    ensures { AllByRecursion IsInRange (map origin_of origins.now.keys) }
+{
+    for origin in origins.iter() {
+        origin_in_range(&origin.get());
+    }
+}
+
+fn keys_in_range(keys: &BTreeSet<RouterKey>)
+    ensures { AllByRecursion IsInRange (map key_of keys.now.keys) }
+{
+    for key in keys.iter() {
+        key_in_range(key);
+    }
+}
+
+fn aspas_in_range(aspas: &BTreeMap<Asn, ProviderAsns>)
+    ensures { AllByRecursion IsInRange (map entry_of aspas.now.entries) }
+{
+    for (customer, providers) in aspas.iter() {
+        aspa_in_range(*customer, providers);
+    }
+}
+
+fn origin_in_range(origin: &RouteOrigin)
+    ensures { IsInRange (origin_of origin.now) }
+{
+    origin.prefix.prefix();
+    origin.asn.into_u32();
+}
+
+fn key_in_range(key: &RouterKey)
+    ensures { IsInRange (key_of key.now) }
+{
+    <[u8; 20]>::from(key.key_identifier);
+    key.asn.into_u32();
+    key.key_info.len();
+    are_bytes(key.key_identifier.as_slice());
+    are_bytes(key.key_info.as_slice());
+}
+
+fn aspa_in_range(customer: Asn, providers: &ProviderAsns)
+    ensures { IsInRange (entry_of (customer, providers.now)) }
+{
+    customer.into_u32();
+    providers.asn_count();
+}
+
+fn are_bytes(bytes: &[u8]) -> &[u8]
+    ensures same { result.now ≡ bytes.now }
+    ensures range { IsBytes result.now }
+{
+    bytes
+}

@@ -1,0 +1,65 @@
+//! Changes whose units begin at given offsets of a slice, made onto data.
+
+ghost use Rattle.std.specs.Prelude.{ℕ};
+ghost use Rattle.rtr_units.specs.AnyEnd.{end_bytes, end_meaning};
+ghost use Rattle.rtr_units.specs.End.{IsEnd};
+ghost use Rattle.data_slices.specs.AtOffsets.{ChecksAt, HaveLying, MakesAt};
+
+use crate::allowing::first_disallowed;
+use crate::made::place_all_made;
+use crate::offsets::sort_offsets;
+use rtr_base::action::Action;
+use rtr_units::end::EndOfData;
+
+/// Why changes aren't made onto data, or the output has no room for what they make of it.
+#[derive(Drop)]
+pub enum AtFault {
+    /// The change at this offset, which does this, is the first that the data don't allow.
+    Refused {
+        /// Where its unit begins in the input.
+        offset: usize,
+        /// What it does.
+        action: Action,
+    },
+    /// The output has no room for all of the data.
+    NoRoom,
+}
+
+/// Where the first of the changes lies that the data don't allow, made one after the other in the
+/// order of their offsets, and what it does. The data are in canonical form, or an empty slice.
+/// What the offsets are afterwards is open.
+pub fn check_at(data: &[u8], input: &[u8], offsets: &mut [usize]) -> Option<(usize, Action)>
+    requires { (v : ℕ) × HaveLying input.now offsets.old v }
+    ensures { ChecksAt result «data».now input.now offsets.old }
+{
+    sort_offsets(input, offsets);
+    first_disallowed(data, input, offsets)
+}
+
+/// Writes what the changes make of the data, in canonical form, with this end of data, whose
+/// version is that of the data and of the units. It answers the length in bytes. The data are in
+/// canonical form, or an empty slice. What the offsets are afterwards is open.
+///
+/// `Refused` comes with nothing written, `NoRoom` with a front of the data written.
+pub fn make_at(
+    data: &[u8],
+    input: &[u8],
+    offsets: &mut [usize],
+    end: &EndOfData,
+    output: &mut [u8],
+) -> Result<usize, AtFault>
+    requires units { HaveLying input.now offsets.old (end_meaning end.now).version }
+    requires end { IsEnd (end_bytes end.now) (end_meaning end.now) }
+    ensures { MakesAt result «data».now input.now offsets.old (end_meaning end.now)
+        output.old output.new }
+{
+    sort_offsets(input, offsets);
+    match first_disallowed(data, input, offsets) {
+        Some((offset, action)) => return Err(AtFault::Refused { offset, action }),
+        None => {}
+    }
+    match place_all_made(data, input, offsets, end, output) {
+        Some(size) => Ok(size),
+        None => Err(AtFault::NoRoom),
+    }
+}

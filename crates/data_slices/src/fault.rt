@@ -1,0 +1,76 @@
+//! Why a slice isn't what it has to be.
+
+use unit_views::fault::ViewFault;
+
+/// What is wrong at some place of a slice.
+#[derive(Debug, Drop, thiserror::Error)]
+pub enum Reason {
+    /// What follows is refused: a fault of `UnitView::first`.
+    #[error(transparent)]
+    Refused(ViewFault),
+    /// What follows is a payload unit or an end of data, but not one that may stand here: it isn't
+    /// of the version of the units before it, or it breaks the order, or is a withdrawal in data.
+    #[error("not in canonical form")]
+    NotCanonical,
+}
+
+/// The first fault of a slice.
+#[derive(Debug, Drop)]
+pub struct Flaw {
+    /// How many bytes of whole payload units come before it.
+    pub offset: usize,
+    /// What is wrong there.
+    pub reason: Reason,
+}
+
+/// Why there is no delta between two slices, or none that the output has room for.
+#[derive(Debug, Drop, thiserror::Error)]
+pub enum DeltaFault {
+    /// The old slice isn't data.
+    #[error("the old slice holds no data in canonical form")]
+    Old(Flaw),
+    /// The new slice isn't data.
+    #[error("the new slice holds no data in canonical form")]
+    New(Flaw),
+    /// The new data are of this protocol version, and the old ones of another.
+    #[error("version {0} is not that of the old data")]
+    UnitVersion(u8),
+    /// The new data are of this session, and the old ones of another.
+    #[error("session {0} is not that of the old data")]
+    Session(u16),
+    /// The output has no room for the whole delta.
+    #[error("no room in the output")]
+    NoRoom,
+}
+
+/// Why changes aren't applied to data, or the output has no room for what they make of it.
+#[derive(Debug, Drop, thiserror::Error)]
+pub enum ApplyFault {
+    /// The first slice isn't data.
+    #[error("the first slice holds no data in canonical form")]
+    Data(Flaw),
+    /// The second slice isn't changes.
+    #[error("the second slice holds no changes in canonical form")]
+    Changes(Flaw),
+    /// The changes are of this protocol version, and the data of another.
+    #[error("version {0} is not that of the data")]
+    UnitVersion(u8),
+    /// The changes are of this session, and the data of another.
+    #[error("session {0} is not that of the data")]
+    Session(u16),
+    /// The unit at this offset of the changes announces what is there already.
+    #[error("duplicate announcement at byte {offset} of the changes")]
+    Duplicate {
+        /// How many bytes of the changes come before the unit.
+        offset: usize,
+    },
+    /// The unit at this offset of the changes withdraws what isn't there.
+    #[error("withdrawal of an unknown record at byte {offset} of the changes")]
+    Unknown {
+        /// How many bytes of the changes come before the unit.
+        offset: usize,
+    },
+    /// The output has no room for all of the data.
+    #[error("no room in the output")]
+    NoRoom,
+}

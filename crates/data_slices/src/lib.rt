@@ -1,0 +1,39 @@
+//! Data that lie in slices, as units in canonical form: the delta between two, changes put in order
+//! and made onto them, without memory. A `Data` of `data_memory` has the same in memory of its own.
+#![tactic(auto)]
+
+mod allowing;
+mod applied;
+mod apply;
+mod at_offsets;
+mod changes;
+mod check;
+mod delta;
+mod fault;
+mod in_order;
+mod in_order_fault;
+pub mod in_order_laws;
+mod item;
+pub mod laws;
+mod made;
+mod missing;
+mod offsets;
+mod order;
+mod order_fault;
+pub mod order_laws;
+mod placing;
+mod reading;
+mod refused;
+mod settling;
+mod shared;
+
+pub use apply::apply_into;
+pub use at_offsets::{AtFault, check_at, make_at};
+pub use changes::check_changes;
+pub use check::check_data;
+pub use delta::delta_into;
+pub use fault::{ApplyFault, DeltaFault, Flaw, Reason};
+pub use in_order::{apply_in_order, check_in_order};
+pub use in_order_fault::InOrderFault;
+pub use order::order_into;
+pub use order_fault::OrderFault;

@@ -1,0 +1,74 @@
+//! The offsets of the units that a slice begins with.
+
+ghost use Rattle.std.specs.Prelude.{◌≡◌, ◌≤◌, ◌+◌, ◌++◌, ◌∷◌, ◌↔◌, [], ℕ, List, length, take};
+ghost use Rattle.std.specs.Prelude.{IfOk, IfErr, IsTrue};
+ghost use Rattle.data_slices.specs.Order.{IsStrayAt};
+ghost use Rattle.data_slices.specs.PrivateOffsets.{IsOf, OffsetsRead};
+
+use crate::fault::{Flaw, Reason};
+use crate::item::{Item, next};
+use rtr_units::end::EndOfData;
+
+/// The end of data, and how many units come before it. The index gets their offsets, or as many as
+/// it has room for.
+pub(crate) fn read_offsets(input: &[u8], index: &mut [usize]) -> Result<(EndOfData, usize), Flaw>
+    ensures read { IfOk result (λ p. OffsetsRead p.0 p.1 input.now index.new) }
+    ensures stray { IfErr result (λ f. IsStrayAt input.now f) }
+    ensures same_length { length index.new ≡ length index.old }
+{
+    let (mut rest, mut version, mut count) = (input, None, 0);
+    'items: loop {
+        let offset = input.len() - rest.len();
+        let (item, left) = match next(rest) {
+            Ok(first) => first,
+            Err(fault) => return Err(flaw(offset, Reason::Refused(fault))),
+        };
+        match item {
+            Item::Unit(view) => {
+                if !is_of(version, view.version()) {
+                    return Err(flaw(offset, Reason::NotCanonical));
+                }
+                put_offset(index, count, offset);
+                version = Some(view.version());
+                count += 1;
+                rest = left;
+            }
+            Item::End(end) => {
+                if !is_of(version, end.version()) {
+                    return Err(flaw(offset, Reason::NotCanonical));
+                }
+                return Ok((end, count));
+            }
+        }
+    }
+}
+
+fn flaw(offset: usize, reason: Reason) -> Flaw
+    ensures offset { result.offset ≡ offset }
+    ensures reason { result.reason ≡ reason }
+{
+    Flaw { offset, reason }
+}
+
+/// Whether units of the version, if any, and this one are of one version.
+#[inline(always)]
+fn is_of(version: Option<u8>, other: u8) -> bool
+    ensures { IsTrue result ↔ IsOf version other }
+{
+    match version {
+        None => true,
+        Some(version) => version == other,
+    }
+}
+
+/// Puts the offset after so many others, if the index has room for it.
+#[inline(always)]
+fn put_offset(index: &mut [usize], count: usize, offset: usize)
+    ensures same_length { length index.new ≡ length index.old }
+    ensures held { (os : List ℕ) → (count ≤ length index.old → take count index.old ≡ os) →
+        count + 1 ≤ length index.new → take (count + 1) index.new ≡ os ++ offset ∷ [] }
+{
+    if count < index.len() {
+        index[count] = offset;
+    }
+}

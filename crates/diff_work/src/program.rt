@@ -1,0 +1,216 @@
+//! One run of the program, over any readers and writers.
+
+ghost use Rattle.std.specs.Prelude.{◌≡◌, ◌<◌, false, true, is_ok, IfErr, IfOk};
+ghost use Rattle.rtr_units.specs.AnyEnd.{end_bytes, end_meaning};
+ghost use Rattle.data_memory.specs.Changes.{changes};
+ghost use Rattle.diff_work.specs.DiffStatus.{RunsDiff, diff_status, has_no_cut};
+ghost use Rattle.diff_work.specs.FilesCompared.{ComparesFiles, HoldsTroubleError};
+ghost use Rattle.diff_work.specs.Differences.{differences, has_some, last_piece};
+ghost use Rattle.diff_work.specs.Printing.{Puts};
+
+use crate::differences::print_changes;
+use crate::printer::Printer;
+use crate::words::{Form, Request};
+use program_frame::{Escaped, Failed, report};
+use data_recordings::{Recording, Stop, StopCause, read_recording};
+use rtr_units::end::EndOfData;
+use rtr_units::fault::Fault;
+use rtr_units::source::{Sink, Source};
+use std::alloc::Global;
+use std::io;
+use std::io::Write;
+
+/// The status where nothing differs.
+const SAME: u8 = 0;
+
+/// The status where something does.
+const DIFFERENT: u8 = 1;
+
+/// The status where the files weren't compared, or the changes not printed.
+const TROUBLE: u8 = 3;
+
+/// What comparing two files told.
+#[derive(Clone, Copy, Debug)]
+pub struct Compared {
+    /// Whether something differs.
+    pub differs: bool,
+    /// Whether an answer of the first file was left out, since the next one cut it off.
+    pub old_cut: bool,
+    /// The same of the second file.
+    pub new_cut: bool,
+}
+
+/// Why the files weren't compared, or the changes not printed.
+#[derive(Debug, Drop)]
+pub enum Trouble {
+    /// The first file couldn't be read.
+    Old(Stop),
+    /// The second file couldn't.
+    New(Stop),
+    /// The changes weren't all printed: `Writer` or `Memory`.
+    Output(Fault),
+}
+
+/// Reads both files, the old first, and prints the changes from the data of the first to that of
+/// the second. Answers whether there is one, and whether an answer was left out.
+pub fn compare<O: Source, N: Source, W: Sink>(
+    alloc: Global,
+    form: Form,
+    old: &mut O,
+    new: &mut N,
+    output: &mut W,
+) -> Result<Compared, Trouble>
+    ensures compares { ComparesFiles form result (O.state old.old) (O.state old.new)
+        (N.state new.old) (N.state new.new) (W.state output.old) (W.state output.new) }
+    ensures error { IfErr result (HoldsTroubleError (O.fails old.new) (N.fails new.new)) }
+{
+    let before = match read_recording(alloc, old) {
+        Ok(recording) => recording,
+        Err(stop) => return Err(Trouble::Old(stop)),
+    };
+    let after = match read_recording(alloc, new) {
+        Ok(recording) => recording,
+        Err(stop) => return Err(Trouble::New(stop)),
+    };
+    match print_differences(alloc, form, &before, &after, output) {
+        Ok(differs) => Ok(Compared {
+            differs,
+            old_cut: before.has_cut,
+            new_cut: after.has_cut,
+        }),
+        Err(fault) => Err(Trouble::Output(fault)),
+    }
+}
+
+/// Prints the changes from the data of the first file to that of the second, after units the end of
+/// data of the second. Answers whether there is a change. Its faults are `Memory` and `Writer`.
+pub fn print_differences<W: Sink>(
+    alloc: Global,
+    form: Form,
+    old: &Recording,
+    new: &Recording,
+    output: &mut W,
+) -> Result<bool, Fault>
+    ensures prints { Puts result (W.state output.old) (W.state output.new)
+        (differences form (end_meaning new.now.end).version old.now.payloads new.now.payloads
+        (end_bytes new.now.end)) }
+    ensures any { IfOk result (λ any. any ≡ has_some (changes old.now.payloads new.now.payloads)) }
+{
+    let mut printer = Printer::new(alloc, form, new.end.version());
+    let any = print_changes(&mut printer, &old.payloads, &new.payloads, output)?;
+    print_end(form, &new.end, output)?;
+    Ok(any)
+}
+
+/// Writes the end of data, where units are asked for.
+fn print_end<W: Sink>(form: Form, end: &EndOfData, output: &mut W) -> Result<(), Fault>
+    ensures { Puts result (W.state output.old) (W.state output.new)
+        (last_piece form (end_bytes end.now)) }
+{
+    match form {
+        Form::Units => end.write(output),
+        Form::Text | Form::Json => Ok(()),
+    }
+}
+
+/// Prints the changes that are asked for, flushes the output once, and answers the exit status:
+/// - 0 if nothing differs;
+/// - 1 if something does;
+/// - 3 if a file can't be read or holds no recording, or if writing, flushing or memory failed.
+///
+/// Status 3 comes with a line on `faults`, and the others with one for each file in which an answer
+/// was left out; each begins with the program's name. Of a pipe that nobody reads any more nothing
+/// is said. If a line can't be written, nothing else changes.
+pub fn run<O: Source, N: Source, W: Sink, F: Write>(
+    alloc: Global,
+    name: &str,
+    request: Request<'_>,
+    old: &mut O,
+    new: &mut N,
+    output: &mut W,
+    faults: &mut F,
+) -> u8
+    ensures { RunsDiff request.entry.form (faults.new ≡ faults.old) result
+        (O.state old.old) (O.state old.new) (N.state new.old) (N.state new.new)
+        (W.state output.old) (W.state output.new) }
+{
+    let answer = compare(alloc, request.form, old, new, output);
+    let flushed = output.flush();
+    tell(name, request, answer, flushed, faults)
+}
+
+/// Says what stopped the run, if something did, and answers the status to end with.
+fn tell<F: Write>(
+    name: &str,
+    request: Request<'_>,
+    answer: Result<Compared, Trouble>,
+    flushed: io::Result<()>,
+    faults: &mut F,
+) -> u8
+    ensures status { result ≡ diff_status answer (is_ok flushed) }
+    ensures quiet { result < 2 → has_no_cut answer ≡ true → faults.new ≡ faults.old }
+{
+    let compared = match answer {
+        Ok(compared) => compared,
+        Err(trouble) => {
+            tell_trouble(name, request, &trouble, faults);
+            return TROUBLE;
+        }
+    };
+    match flushed {
+        Ok(()) => {
+            tell_cut(name, request.old, compared.old_cut, faults);
+            tell_cut(name, request.new, compared.new_cut, faults);
+            if compared.differs { DIFFERENT } else { SAME }
+        }
+        Err(error) => {
+            report(name, &Fault::Writer(error), faults);
+            TROUBLE
+        }
+    }
+}
+
+/// Says that an answer of this file was left out, if one was.
+fn tell_cut<F: Write>(name: &str, file: &str, has_cut: bool, faults: &mut F)
+    ensures { has_cut ≡ false → faults.new ≡ faults.old }
+{
+    if has_cut {
+        let file = Escaped(file);
+        let _ = writeln!(
+            faults,
+            "{name}: {file}: left out: an answer without an end of data"
+        );
+    }
+}
+
+/// Says what stopped the run.
+fn tell_trouble<F: Write>(name: &str, request: Request<'_>, trouble: &Trouble, faults: &mut F) {
+    match trouble {
+        Trouble::Old(stop) => tell_stop(name, request.old, stop, faults),
+        Trouble::New(stop) => tell_stop(name, request.new, stop, faults),
+        Trouble::Output(fault) => report(name, fault, faults),
+    }
+}
+
+/// Says why a file stopped, and where, unless that is the system's doing.
+fn tell_stop<F: Write>(name: &str, file: &str, stop: &Stop, faults: &mut F) {
+    let file = Escaped(file);
+    match &stop.cause {
+        StopCause::Read(fault) if is_of_system(fault) => {
+            let failed = Failed(fault);
+            let _ = writeln!(faults, "{name}: {file}: {failed}");
+        }
+        cause => {
+            let offset = stop.offset;
+            let _ = writeln!(faults, "{name}: {file}: offset {offset}: {cause}");
+        }
+    }
+}
+
+/// Whether the fault is none of the input's.
+fn is_of_system(fault: &Fault) -> bool {
+    matches!(
+        fault,
+        Fault::Reader(_) | Fault::Writer(_) | Fault::Memory | Fault::TooMany
+    )
+}

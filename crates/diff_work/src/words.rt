@@ -1,0 +1,74 @@
+//! What the program is asked for.
+
+ghost use Rattle.std.specs.Prelude.{◌≡◌, option_map};
+ghost use Rattle.diff_work.specs.DiffWords.{asked_by_words, asked_for, form_by_word};
+ghost use Rattle.diff_work.specs.DiffWords.{is_file_name, is_standard_input, two_files};
+
+/// The name that stands for standard input.
+const STANDARD_INPUT: &str = "-";
+
+/// In which form changes are printed.
+#[derive(Clone, Copy)]
+pub enum Form {
+    /// A line for people of each.
+    Text,
+    /// A JSON object of each.
+    Json,
+    /// The units of a delta, and the end of data of the second file.
+    Units,
+}
+
+/// What a run is asked for: a form, and the names of the two files.
+#[derive(Clone, Copy)]
+pub struct Request<'a> {
+    /// The form.
+    pub form: Form,
+    /// The file whose data is the old.
+    pub old: &'a str,
+    /// The file whose data is the new.
+    pub new: &'a str,
+}
+
+/// What the words after the program's name ask for, if they ask for something: two files, after
+/// `--json` or `--units` in that form. One of them may be `-`, standard input. No other name begins
+/// with `-`.
+pub fn asked(words: &[String]) -> Option<Request<'_>>
+    ensures { option_map asked_for result ≡ asked_by_words words.now }
+{
+    match words {
+        [old, new] => two_named(Form::Text, old.as_str(), new.as_str()),
+        [form, old, new] => two_named(form_named(form.as_str())?, old.as_str(), new.as_str()),
+        _ => None,
+    }
+}
+
+/// The form that the word asks for.
+fn form_named(word: &str) -> Option<Form>
+    ensures { result ≡ form_by_word word.now }
+{
+    match word {
+        "--json" => Some(Form::Json),
+        "--units" => Some(Form::Units),
+        _ => None,
+    }
+}
+
+/// The two files of these names in the form, where both are names and only one is standard input.
+fn two_named<'a>(form: Form, old: &'a str, new: &'a str) -> Option<Request<'a>>
+    ensures { option_map asked_for result ≡ two_files form old.now new.now }
+{
+    if !is_name(old) || !is_name(new) {
+        return None;
+    }
+    if old == STANDARD_INPUT && new == STANDARD_INPUT {
+        return None;
+    }
+    Some(Request { form, old, new })
+}
+
+/// Whether the word may be a file's name: `-`, or one that doesn't begin with it.
+fn is_name(word: &str) -> bool
+    ensures { result ≡ is_file_name word.now }
+{
+    word == STANDARD_INPUT || word.as_bytes().first() != Some(&b'-')
+}

@@ -1,0 +1,218 @@
+//! One run of the program, over any reader and writers.
+
+ghost use Rattle.std.specs.Prelude.{◌≡◌, [], false, is_ok, Err, if◌then◌else◌};
+ghost use Rattle.rtr_units.specs.StopCauses.{by_cause, cause_of};
+ghost use Rattle.list_lines.specs.PrivateFollowing.{HasSeen};
+ghost use Rattle.list_lines.specs.Listing.{Lists};
+ghost use Rattle.list_lines.specs.ListStatus.{Runs, counts_units, listing_status};
+ghost use Rattle.list_lines.specs.ListStatus.{wanted_by_words};
+
+use crate::printer::Printer;
+use program_frame::report;
+use unit_any::AnyUnit;
+use rtr_units::fault::Fault;
+use rtr_units::source::{Sink, Source};
+use std::alloc::Global;
+use std::io;
+use std::io::Write;
+
+/// The status where nothing was found.
+const WELL: u8 = 0;
+
+/// The status where a rule was found broken, and at a fault of the input.
+const BROKEN: u8 = 1;
+
+/// The status where reading, writing or memory failed.
+const FAILED: u8 = 3;
+
+/// What a run is asked to print.
+#[derive(Clone, Copy)]
+pub enum Wanted {
+    /// A line for people of each unit.
+    Text,
+    /// A JSON object of each unit.
+    Json,
+    /// A line of each rule that a unit breaks.
+    Findings,
+}
+
+/// What the words after the program's name ask for.
+pub fn form_wanted(words: &[String]) -> Option<Wanted>
+    ensures { result ≡ wanted_by_words words.now }
+{
+    match words {
+        [] => Some(Wanted::Text),
+        [word] => match word.as_str() {
+            "--json" => Some(Wanted::Json),
+            "--check" => Some(Wanted::Findings),
+            _ => None,
+        },
+        _ => None,
+    }
+}
+
+/// Reads units up to the end of the input and prints what is wanted of each, flushes the output
+/// once, and answers the exit status:
+/// - 0 if all that succeeded and no broken rule was found;
+/// - 1 if one was found, or the input has a fault;
+/// - 3 if reading, writing, flushing or memory failed.
+///
+/// A fault and status 3 come with a line on `faults`, which begins with the program's name; of a
+/// pipe that nobody reads any more nothing is said. Where broken rules are wanted, a last line says
+/// how many units and answers were looked at. If a line can't be written, nothing else changes.
+pub fn print_units<R: Source, W: Sink, F: Write>(
+    alloc: Global,
+    name: &str,
+    wanted: Wanted,
+    input: &mut R,
+    output: &mut W,
+    faults: &mut F,
+) -> u8
+    // Where it succeeds no line is printed on `faults`, unless units are counted there.
+    ensures quiet { counts_units wanted ≡ false → result ≡ 0 → faults.new ≡ faults.old }
+    // What is wanted is printed of the input, and then the output flushed once, of which a clause
+    // sees a failure alone.
+    ensures lists { Runs wanted result
+        (R.state input.old) (R.state input.new) (W.state output.old) (W.state output.new) }
+{
+    let mut printer = Printer::new(alloc);
+    let mut counts = Counts {
+        units: 0,
+        answers: 0,
+    };
+    let answer = list(alloc, wanted, &mut printer, &mut counts, input, output);
+    let flushed = output.flush();
+    let status = tell(name, answer, flushed, printer.offset(), faults);
+    if let Wanted::Findings = wanted {
+        tell_counts(name, counts, faults);
+    }
+    status
+}
+
+/// How many units were looked at.
+#[derive(Clone, Copy)]
+struct Counts {
+    /// The units.
+    units: u64,
+    /// The ends of data among them, which are as many as the answers.
+    answers: u64,
+}
+
+impl Counts {
+    /// Counts the unit.
+    fn add(&mut self, unit: &AnyUnit) {
+        self.units = self.units.saturating_add(1);
+        if let AnyUnit::EndOfData(_) = unit {
+            self.answers = self.answers.saturating_add(1);
+        }
+    }
+}
+
+/// Says how many units were looked at.
+fn tell_counts<F: Write>(name: &str, counts: Counts, faults: &mut F) {
+    let units = counts.units;
+    let answers = counts.answers;
+    let _ = writeln!(faults, "{name}: looked at units {units}, answers {answers}");
+}
+
+/// Says what failed, if something did, and answers the status to end with.
+fn tell<F: Write>(
+    name: &str,
+    answer: Result<bool, Fault>,
+    flushed: io::Result<()>,
+    offset: u64,
+    faults: &mut F,
+) -> u8
+    ensures status { result ≡ (if is_ok flushed then listing_status (by_cause answer) else 3) }
+    ensures quiet { result ≡ 0 → faults.new ≡ faults.old }
+{
+    let found = match answer {
+        Ok(found) => found,
+        Err(fault) => return tell_fault(name, &fault, flushed, offset, faults),
+    };
+    match flushed {
+        Ok(()) => { if found { BROKEN } else { WELL } }
+        Err(error) => {
+            report(name, &Fault::Writer(error), faults);
+            FAILED
+        }
+    }
+}
+
+/// Says what the fault is, with the place of its unit where it is the input's, and answers the
+/// status to end with. Where the flush after it failed, that is said of the output alone: reading
+/// may have failed since it flushes first.
+fn tell_fault<F: Write>(
+    name: &str,
+    fault: &Fault,
+    flushed: io::Result<()>,
+    offset: u64,
+    faults: &mut F,
+) -> u8
+    ensures { result ≡
+        (if is_ok flushed then listing_status (Err (cause_of fault.now)) else 3) }
+{
+    let status = fault_status(fault);
+    if status == BROKEN {
+        let _ = writeln!(faults, "{name}: offset {offset}: {fault}");
+    }
+    match flushed {
+        Ok(()) => {
+            if status == FAILED {
+                report(name, fault, faults);
+            }
+            status
+        }
+        Err(error) => {
+            report(name, &Fault::Writer(error), faults);
+            FAILED
+        }
+    }
+}
+
+/// The status at a fault.
+fn fault_status(fault: &Fault) -> u8
+    ensures { result ≡ listing_status (Err (cause_of fault.now)) }
+{
+    match fault {
+        Fault::Reader(_) | Fault::Writer(_) | Fault::TooMany | Fault::Memory => FAILED,
+        _ => BROKEN,
+    }
+}
+
+/// Prints what is wanted of each unit, counts it, and answers whether a rule was found broken.
+fn list<R: Source, W: Sink>(
+    alloc: Global,
+    wanted: Wanted,
+    printer: &mut Printer,
+    counts: &mut Counts,
+    input: &mut R,
+    output: &mut W,
+) -> Result<bool, Fault>
+    // The printer has printed nothing.
+    requires offset { printer.old.offset ≡ 0 }
+    requires checker { HasSeen printer.old.checker [] }
+    ensures { Lists wanted result
+        (R.state input.old) (R.state input.new) (W.state output.old) (W.state output.new) }
+{
+    let mut found = false;
+    for count in 0..u64::MAX {
+        match AnyUnit::read(alloc, input) {
+            Ok(Some(unit)) => match printer.print(wanted, &unit, output) {
+                Ok(more) => {
+                    found |= more;
+                    counts.add(&unit);
+                }
+                Err(fault) => return Err(fault),
+            },
+            Ok(None) => {
+                return match printer.finish(wanted, output) {
+                    Ok(more) => Ok(found | more),
+                    Err(fault) => Err(fault),
+                };
+            }
+            Err(fault) => return Err(fault),
+        }
+    }
+    Err(Fault::TooMany)
+}

@@ -1,0 +1,142 @@
+//! One run of the program, over any reader and writers.
+
+ghost use Rattle.std.specs.Prelude.{◌≡◌, [], Err};
+ghost use Rattle.rtr_units.specs.StopCauses.{by_cause, cause_of};
+ghost use Rattle.list_lines.specs.ListStatus.{listing_status, read_status};
+ghost use Rattle.program_frame.specs.Questions.{WritesText};
+ghost use Rattle.list_summary.specs.PrivateTallies.{ReadsAndSums, Sums};
+ghost use Rattle.list_summary.specs.SummaryStatus.{Summarises};
+
+use crate::summary::Summary;
+use crate::text::add_summary;
+use list_lines::Line;
+use program_frame::report;
+use unit_any::AnyUnit;
+use rtr_units::fault::Fault;
+use rtr_units::piece::put;
+use rtr_units::source::{Sink, Source};
+use std::alloc::Global;
+use std::io::Write;
+
+/// The status where the input ended and its summary was printed.
+const PRINTED: u8 = 0;
+
+/// The status at a fault of the input.
+const REFUSED: u8 = 1;
+
+/// The status where reading, writing or memory failed.
+const FAILED: u8 = 3;
+
+/// Reads units up to the end of the input or to the first fault, prints the summary of all of them,
+/// flushes the output once, and answers the exit status:
+/// - 0 if the input ended and all that succeeded;
+/// - 1 if the input has a fault;
+/// - 3 if reading, writing, flushing or memory failed.
+///
+/// A fault and status 3 come with a line on `faults`, which begins with the program's name. Of a
+/// pipe that nobody reads any more nothing is said. If a line can't be written, nothing else
+/// changes. Where memory for the text, an answer or the count of an AS can't be had nothing is
+/// printed.
+pub fn summarise<R: Source, W: Sink, F: Write>(
+    alloc: Global,
+    name: &str,
+    input: &mut R,
+    output: &mut W,
+    faults: &mut F,
+) -> u8
+    ensures quiet { result ≡ 0 → faults.new ≡ faults.old }
+    ensures summarises { Summarises result
+        (R.state input.old) (R.state input.new) (W.state output.old) (W.state output.new) }
+{
+    let mut summary = Summary::new(alloc);
+    let answer = read_units(alloc, &mut summary, input);
+    let mut text = Line::new(alloc);
+    match add_summary(alloc, &mut text, answer.is_ok(), &summary) {
+        Ok(()) => print(
+            name,
+            text.as_bytes(),
+            &answer,
+            summary.bytes,
+            output,
+            faults,
+        ),
+        Err(_) => fail(name, &Fault::Memory, faults),
+    }
+}
+
+/// Reads units up to the end of the input or to the first fault, and counts them.
+fn read_units<R: Source>(alloc: Global, summary: &mut Summary, input: &mut R) -> Result<(), Fault>
+    requires { Sums summary.old [] }
+    ensures { ReadsAndSums result summary.new (R.state input.old) (R.state input.new) }
+{
+    for count in 0..u64::MAX {
+        match AnyUnit::read(alloc, input) {
+            Ok(Some(unit)) => summary.add(&unit),
+            Ok(None) => return Ok(()),
+            Err(fault) => return Err(fault),
+        }
+    }
+    Err(Fault::TooMany)
+}
+
+/// Prints the text, flushes the output, and answers the status: by how reading ended, at this
+/// offset, where that succeeds.
+fn print<W: Sink, F: Write>(
+    name: &str,
+    text: &[u8],
+    answer: &Result<(), Fault>,
+    offset: u64,
+    output: &mut W,
+    faults: &mut F,
+) -> u8
+    ensures quiet { result ≡ 0 → faults.new ≡ faults.old }
+    ensures writes { WritesText text.now (read_status (by_cause answer.now)) 3 result
+        (W.state output.old) (W.state output.new) }
+{
+    let written = put(output, text);
+    let flushed = output.flush();
+    let status = tell(name, answer, offset, faults);
+    match written {
+        Ok(()) => match flushed {
+            Ok(()) => status,
+            Err(error) => fail(name, &Fault::Writer(error), faults),
+        },
+        Err(fault) => fail(name, &fault, faults),
+    }
+}
+
+/// Says why reading stopped before the end of the input, if it did, and answers the status for
+/// that.
+fn tell<F: Write>(name: &str, answer: &Result<(), Fault>, offset: u64, faults: &mut F) -> u8
+    ensures status { result ≡ read_status (by_cause answer.now) }
+    ensures quiet { result ≡ 0 → faults.new ≡ faults.old }
+{
+    match answer {
+        Ok(()) => PRINTED,
+        Err(fault) => tell_fault(name, fault, offset, faults),
+    }
+}
+
+/// Says what the fault is, with the place of its unit where it is the input's, and answers the
+/// status for that.
+fn tell_fault<F: Write>(name: &str, fault: &Fault, offset: u64, faults: &mut F) -> u8
+    ensures { result ≡ listing_status (Err (cause_of fault.now)) }
+{
+    match fault {
+        Fault::Reader(_) | Fault::Writer(_) | Fault::TooMany | Fault::Memory => {
+            fail(name, fault, faults)
+        }
+        _ => {
+            let _ = writeln!(faults, "{name}: offset {offset}: {fault}");
+            REFUSED
+        }
+    }
+}
+
+/// Reports what failed, and answers the status.
+fn fail<F: Write>(name: &str, fault: &Fault, faults: &mut F) -> u8
+    ensures { result ≡ 3 }
+{
+    report(name, fault, faults);
+    FAILED
+}

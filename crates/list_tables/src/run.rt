@@ -1,0 +1,171 @@
+//! A run that prints a table, over any reader and writers.
+
+ghost use Rattle.std.specs.Prelude.{◌≡◌, ◌++◌, false, Ok, OnOk};
+ghost use Rattle.list_tables.specs.TableStatus.{EndsTable, HasEach, RunsTable};
+ghost use Rattle.list_tables.specs.TableStatus.{refused_status};
+ghost use Rattle.list_tables.specs.Tables.{table_text};
+
+use crate::csv_table::{LeftOut, add_csv, left_out};
+use crate::json_table::add_json;
+use crate::words::Table;
+use data_memory::{ChangeError, Data};
+use list_lines::Line;
+use program_frame::report;
+use data_recordings::{Recording, Refusal, Stop, StopCause, read_recording};
+use rtr_units::fault::Fault;
+use rtr_units::piece::put;
+use rtr_units::source::{Sink, Source};
+use std::alloc::{AllocError, Global};
+use std::io::Write;
+
+/// The status where the table was printed.
+const PRINTED: u8 = 0;
+
+/// The status at a fault of the input.
+const REFUSED: u8 = 1;
+
+/// The status where reading, writing or memory failed.
+const FAILED: u8 = 3;
+
+/// Reads a recording up to the end of the input, as `read_recording` does, prints the table of the
+/// data that it leaves, flushes the output once, and answers the exit status:
+/// - 0 if all that succeeded;
+/// - 1 if the input is refused;
+/// - 3 if reading, writing, flushing or memory failed.
+///
+/// Nothing is written unless the whole table is made, which takes memory for all of its text.
+/// Statuses 1 and 3 come with a line on `faults`, which begins with the program's name, and status
+/// 0 with one where payloads are left out, and with one where an answer is. Of a pipe that nobody
+/// reads any more nothing is said. If a line can't be written, nothing else changes.
+pub fn print_table<R: Source, W: Sink, F: Write>(
+    alloc: Global,
+    name: &str,
+    table: Table,
+    input: &mut R,
+    output: &mut W,
+    faults: &mut F,
+) -> u8
+    ensures { RunsTable table (faults.new ≡ faults.old) result
+        (R.state input.old) (R.state input.new) (W.state output.old) (W.state output.new) }
+{
+    match read_recording(alloc, input) {
+        Ok(recording) => print(alloc, name, table, &recording, output, faults),
+        Err(stop) => report_stop(name, &stop, faults),
+    }
+}
+
+/// Prints the table of the payloads, flushes the output, and answers the status.
+fn print<W: Sink, F: Write>(
+    alloc: Global,
+    name: &str,
+    table: Table,
+    recording: &Recording,
+    output: &mut W,
+    faults: &mut F,
+) -> u8
+    ensures { EndsTable table (faults.new ≡ faults.old) (Ok recording.now) result
+        (W.state output.old) (W.state output.new) }
+{
+    let mut text = Line::new(alloc);
+    let Ok(()) = add_table(alloc, table, &mut text, &recording.payloads) else {
+        return fail(name, &Fault::Memory, faults);
+    };
+    let answer = put(output, text.as_bytes());
+    let flushed = output.flush();
+    match answer {
+        Ok(()) => match flushed {
+            Ok(()) => {
+                report_left_out(name, table, &recording.payloads, faults);
+                report_cut(name, recording.has_cut, faults);
+                PRINTED
+            }
+            Err(error) => fail(name, &Fault::Writer(error), faults),
+        },
+        Err(fault) => fail(name, &fault, faults),
+    }
+}
+
+/// Reports what failed, and answers the status.
+fn fail<F: Write>(name: &str, fault: &Fault, faults: &mut F) -> u8
+    ensures { result ≡ 3 }
+{
+    report(name, fault, faults);
+    FAILED
+}
+
+/// Adds the text of the table.
+fn add_table(
+    alloc: Global,
+    table: Table,
+    text: &mut Line,
+    payloads: &Data,
+) -> Result<(), AllocError>
+    ensures { OnOk result (text.new ≡ text.old ++ table_text table payloads.now) }
+{
+    match table {
+        Table::Csv => add_csv(text, payloads),
+        Table::Json => add_json(alloc, text, payloads),
+    }
+}
+
+/// Reports which payloads the table leaves out, if there are some.
+fn report_left_out<F: Write>(name: &str, table: Table, payloads: &Data, faults: &mut F)
+    ensures { HasEach table payloads.now → faults.new ≡ faults.old }
+{
+    match table {
+        Table::Csv => report_counts(name, left_out(payloads), faults),
+        Table::Json => {}
+    }
+}
+
+/// Reports that an answer was left out, if one was.
+fn report_cut<F: Write>(name: &str, has_cut: bool, faults: &mut F)
+    ensures { has_cut ≡ false → faults.new ≡ faults.old }
+{
+    if has_cut {
+        let _ = writeln!(faults, "{name}: left out: an answer without an end of data");
+    }
+}
+
+fn report_counts<F: Write>(name: &str, left_out: LeftOut, faults: &mut F)
+    ensures { left_out.router_keys ≡ 0 → left_out.aspas ≡ 0 → faults.new ≡ faults.old }
+{
+    let keys = left_out.router_keys;
+    let aspas = left_out.aspas;
+    if keys > 0 || aspas > 0 {
+        let _ = writeln!(
+            faults,
+            "{name}: left out: router keys {keys}, ASPAs {aspas}"
+        );
+    }
+}
+
+/// Reports where reading stopped, and why: with the place of the unit where the input is at fault.
+/// Answers the status.
+fn report_stop<F: Write>(name: &str, stop: &Stop, faults: &mut F) -> u8
+    ensures { result ≡ refused_status stop.now.cause }
+{
+    let status = refused_status(&stop.cause);
+    if status == REFUSED {
+        let offset = stop.offset;
+        let cause = &stop.cause;
+        let _ = writeln!(faults, "{name}: offset {offset}: {cause}");
+        return status;
+    }
+    match &stop.cause {
+        StopCause::Read(fault) => report(name, fault, faults),
+        StopCause::Refused(_) => report(name, &Fault::Memory, faults),
+    }
+    status
+}
+
+/// The status where reading stopped.
+fn refused_status(cause: &StopCause) -> u8
+    ensures { result ≡ refused_status cause.now }
+{
+    match cause {
+        StopCause::Read(Fault::Reader(_) | Fault::Writer(_) | Fault::TooMany | Fault::Memory)
+        | StopCause::Refused(Refusal::Change(ChangeError::Memory)) => FAILED,
+        StopCause::Read(_) | StopCause::Refused(_) => REFUSED,
+    }
+}

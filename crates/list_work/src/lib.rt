@@ -1,0 +1,90 @@
+//! What the program `rtr_list` does by its words: it lists units, prints tables of what they leave,
+//! or their summary, over any reader and writers.
+#![tactic(auto)]
+
+ghost use Rattle.std.specs.Prelude.{◌≡◌, ◌||◌, drop, false, true, IfSome, IsNone, None};
+ghost use Rattle.std.specs.Option.{is_some};
+ghost use Rattle.list_lines.specs.ListStatus.{Runs, counts_units, wanted_by_words};
+ghost use Rattle.program_frame.specs.Questions.{WritesText, asked_of, manual_text};
+ghost use Rattle.list_summary.specs.SummaryStatus.{Summarises, summary_by_words};
+ghost use Rattle.list_tables.specs.TableStatus.{RunsTable, table_by_words};
+
+use list_lines::{form_wanted, print_units};
+use program_frame::{Manual, about, usage, words_after_name};
+use list_summary::{summarise, summary_wanted};
+use list_tables::{print_table, table_wanted};
+use rtr_units::source::{Sink, Source};
+use std::alloc::Global;
+use std::io::Write;
+
+/// The status where what was asked for can't be written.
+const FAILED: u8 = 3;
+
+/// Runs the program with the words that it was started with, its name first, and answers the exit
+/// status: that of `list_tables::print_table` where they ask for a table, of
+/// `list_summary::summarise` where they ask for a summary, and of `list_lines::print_units` where
+/// they ask for units or broken rules. Where they ask for help or the version it is 0, or 3 where
+/// that can't be written. Otherwise, and where there are no words, since they can't be had as
+/// texts, a line on `faults` says how the program is called, and the status is 2.
+pub fn program<R: Source, W: Sink, F: Write>(
+    alloc: Global,
+    manual: &Manual,
+    words: Option<Vec<String>>,
+    input: &mut R,
+    output: &mut W,
+    faults: &mut F,
+) -> u8
+    // Without words nothing is read or written.
+    ensures no_words { IsNone words →
+        (result ≡ 2) × (input.new ≡ input.old) × (output.new ≡ output.old) }
+    // Nor is it with words after the program's name that ask for nothing.
+    ensures usage { IfSome words (λ all. table_by_words (drop 1 all.items) ≡ None →
+        summary_by_words (drop 1 all.items) ≡ false →
+        wanted_by_words (drop 1 all.items) ≡ None → asked_of (drop 1 all.items) ≡ None →
+        (result ≡ 2) × (input.new ≡ input.old) × (output.new ≡ output.old)) }
+    // Where they ask about the program, that is written, and nothing is read.
+    ensures asked { IfSome words (λ all. IfSome (asked_of (drop 1 all.items)) (λ question.
+        (input.new ≡ input.old) × WritesText (manual_text manual.now question) 0 3 result
+        (W.state output.old) (W.state output.new))) }
+    // Where they ask for a table, it is printed of what the recording leaves.
+    ensures tables { IfSome words (λ all. IfSome (table_by_words (drop 1 all.items)) (λ table.
+        RunsTable table (faults.new ≡ faults.old) result
+        (R.state input.old) (R.state input.new) (W.state output.old) (W.state output.new))) }
+    // Where they ask for a summary, it is printed of the units.
+    ensures summary { IfSome words (λ all. summary_by_words (drop 1 all.items) ≡ true →
+        Summarises result
+        (R.state input.old) (R.state input.new) (W.state output.old) (W.state output.new)) }
+    // Where they ask for units or broken rules, these are printed of the input.
+    ensures lists { IfSome words (λ all. IfSome (wanted_by_words (drop 1 all.items)) (λ what.
+        Runs what result
+        (R.state input.old) (R.state input.new) (W.state output.old) (W.state output.new))) }
+    // Where units are printed and that succeeds, no line is printed on `faults`.
+    ensures quiet { IfSome words (λ all. IfSome (wanted_by_words (drop 1 all.items)) (λ what.
+        counts_units what ≡ false → result ≡ 0 → faults.new ≡ faults.old)) }
+    // Nor is one where a summary is.
+    ensures quiet_summary { IfSome words (λ all. summary_by_words (drop 1 all.items) ≡ true →
+        result ≡ 0 → faults.new ≡ faults.old) }
+{
+    let Some(all) = words else {
+        return usage(manual, faults);
+    };
+    let words = words_after_name(&all);
+    if let Some(table) = table_wanted(words) {
+        return print_table(alloc, manual.name, table, input, output, faults);
+    }
+    if summary_wanted(words) {
+        return summarise(alloc, manual.name, input, output, faults);
+    }
+    if let Some(wanted) = form_wanted(words) {
+        return print_units(alloc, manual.name, wanted, input, output, faults);
+    }
+    about(manual, words, FAILED, output, faults)
+}
+
+/// Whether the words after the program's name ask for something that is read from its input.
+pub fn reads_input(words: &[String]) -> bool
+    ensures { result ≡ (is_some (table_by_words words.now) || summary_by_words words.now ||
+        is_some (wanted_by_words words.now)) }
+{
+    table_wanted(words).is_some() | summary_wanted(words) | form_wanted(words).is_some()
+}

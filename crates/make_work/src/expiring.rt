@@ -1,0 +1,130 @@
+//! What has expired of items that come one after the other.
+
+ghost use Rattle.std.specs.Prelude.{◌≡◌, MatchResult};
+ghost use Rattle.make_work.specs.Expiries.{expiry_fault, lasts};
+ghost use Rattle.make_work.specs.PrivateExpiring.{AreNewTimes, LooksAtTime, sooner};
+ghost use Rattle.make_work.specs.Taking.{times_answer};
+
+use crate::item::{Expiry, Item, Place, Reason, Refusal};
+use crate::json_names::Part;
+
+/// What was left out of items at a time.
+#[derive(Clone, Copy, Debug)]
+pub struct Expired {
+    /// How many items had expired.
+    pub left_out: usize,
+    /// When the next of the others expires, if one does.
+    pub next: Option<u64>,
+}
+
+/// The times of items that were looked at.
+#[derive(Drop)]
+pub(crate) struct Times<'a> {
+    /// The time that is asked for, if one is.
+    asked: Option<u64>,
+    /// How many items had expired at it.
+    left_out: usize,
+    /// When the next of the others expires, if one does.
+    next: Option<u64>,
+    /// The first item whose expiry has no meaning.
+    refused: Option<Refusal<'a>>,
+}
+
+impl<'a> Times<'a> {
+    /// Those of no items, to be looked at for this time.
+    pub(crate) fn new(asked: Option<u64>) -> Times<'a>
+        ensures { AreNewTimes asked result }
+    {
+        Times {
+            asked,
+            left_out: 0,
+            next: None,
+            refused: None,
+        }
+    }
+
+    /// Looks at one item more, and answers whether it stays: one that expires at the time that is
+    /// asked for, or before it, doesn't. Fails where there are more than can be counted.
+    ///
+    /// An item whose expiry is no number of seconds, or is given twice, is refused, with `Time` or
+    /// `Twice`. Then no other is looked at.
+    pub(crate) fn look(&mut self, item: &Item<'a>) -> Result<bool, Reason>
+        ensures { MatchResult result (λ stays. LooksAtTime item.now stays self.old self.new)
+            (λ r. r ≡ Reason.Memory) }
+    {
+        let Some(now) = self.asked else {
+            return Ok(true);
+        };
+        if self.refused.is_some() {
+            return Ok(false);
+        }
+        if let Some(reason) = expiry_fault(item.expiry) {
+            let place = time_place(item.place);
+            self.refused = Some(Refusal { place, reason });
+            return Ok(false);
+        }
+        if lasts(now, item.expiry) {
+            self.next = sooner(self.next, item.expiry);
+            return Ok(true);
+        }
+        match self.left_out.checked_add(1) {
+            Some(left_out) => self.left_out = left_out,
+            None => return Err(Reason::Memory),
+        }
+        Ok(false)
+    }
+
+    /// What has expired of the items, where a time is asked for, or the first that is refused.
+    pub(crate) fn answer(self) -> Result<Option<Expired>, Refusal<'a>>
+        ensures { result ≡ times_answer self.entry }
+    {
+        match (self.refused, self.asked) {
+            (Some(refusal), _) => Err(refusal),
+            (None, None) => Ok(None),
+            (None, Some(_)) => Ok(Some(Expired {
+                left_out: self.left_out,
+                next: self.next,
+            })),
+        }
+    }
+}
+
+/// What is wrong with an expiry, if something is.
+fn expiry_fault(expiry: Expiry) -> Option<Reason>
+    ensures { result ≡ expiry_fault expiry }
+{
+    match expiry {
+        Expiry::Never | Expiry::At(_) => None,
+        Expiry::Invalid => Some(Reason::Time),
+        Expiry::Twice => Some(Reason::Twice),
+    }
+}
+
+/// Where the time of an item stands.
+fn time_place<'a>(place: Place<'a>) -> Place<'a> {
+    match place {
+        Place::Item(array, index) => Place::Member(array, index, Part::Expires.usual_name()),
+        other => other,
+    }
+}
+
+/// Whether what has this expiry stays at a time.
+fn lasts(now: u64, expiry: Expiry) -> bool
+    ensures { result ≡ lasts now expiry }
+{
+    match expiry {
+        Expiry::At(time) => now < time,
+        Expiry::Never | Expiry::Invalid | Expiry::Twice => true,
+    }
+}
+
+/// The earlier of a time and that of an expiry.
+fn sooner(next: Option<u64>, expiry: Expiry) -> Option<u64>
+    ensures { result ≡ sooner next expiry }
+{
+    match (next, expiry) {
+        (None, Expiry::At(time)) => Some(time),
+        (Some(first), Expiry::At(time)) => Some(first.min(time)),
+        (next, _) => next,
+    }
+}

@@ -1,0 +1,119 @@
+//! What the program says of itself.
+
+ghost use Rattle.std.specs.Prelude.{◌≡◌};
+ghost use Rattle.make_work.specs.MakeInfo.{PutsSomeText, TellsText, info_by_words, info_named};
+
+use program_frame::report;
+use rtr_units::fault::Fault;
+use rtr_units::piece::put;
+use rtr_units::source::Sink;
+use std::io::Write;
+
+/// What the program is asked to say of itself.
+#[derive(Clone, Copy, Debug, PartialEq, Eq)]
+pub enum Info {
+    /// What it does, and what each word means.
+    Help,
+    /// Its version.
+    Version,
+}
+
+/// The status if writing or flushing failed.
+const FAILED: u8 = 3;
+
+/// Its name.
+pub const NAME: &str = "rtr_make";
+
+/// Its name and version, in a line.
+const VERSION: &str = "rtr_make 0.3.0\n";
+
+/// How it is called, in a line.
+pub const USAGE: &str =
+    "usage: rtr_make --csv | --json [--version 0|1|2] [--session N] [--serial N] \
+[--refresh N] [--retry N] [--expire N] [--drop] [--empty] [--unended] [--ignore NAME] [--at N] \
+[--slurm FILE] [FILE]";
+
+/// What the program does, and what each word means.
+const HELP: &str = "rtr_make - write the RTR sequence of validated payloads
+
+It reads what a validator prints from FILE, or from standard input, for which
+the name - stands too, and writes the units that announce it, and an end of
+data, to standard output.
+
+  --csv            lines of an AS number, a prefix and a max length are read
+  --json           a JSON object is read, as validators print it
+  --version 0|1|2  the version of the units, 2 if none is named
+  --session N      the session of the end of data, 0 if none is named
+  --serial N       its serial number, 1 if none is named
+  --refresh N      its timings in seconds: 3600, 600 and 7200 if none are
+  --retry N        named; version 0 has none
+  --expire N
+  --drop           payloads that the version lacks are left out, and counted
+  --empty          a sequence without payloads is written, too
+  --unended        CSV is read whose last line has no line end, too
+  --ignore NAME    what the JSON has under this name is passed over
+  --at N           items that have expired at this time, in seconds since
+                   1970, are left out, and counted: by their expires in
+                   JSON, by a column of the name Expires in CSV; the time is
+                   now if none is named
+  --slurm FILE     payloads are filtered, and others added, by this SLURM
+                   file (RFC 8416); several must not overlap
+
+Alone: --help prints this, and --version the program's version.
+";
+
+/// What the words after the program's name ask it to say of itself, if they are `--help` or
+/// `--version` alone.
+pub fn info_asked(words: &[String]) -> Option<Info>
+    ensures { result ≡ info_by_words words.now }
+{
+    match words {
+        [word] => info_named(word.as_str()),
+        _ => None,
+    }
+}
+
+fn info_named(word: &str) -> Option<Info>
+    ensures { result ≡ info_named word.now }
+{
+    match word {
+        "--help" => Some(Info::Help),
+        "--version" => Some(Info::Version),
+        _ => None,
+    }
+}
+
+/// Writes what is asked for, flushes it once, and answers the exit status: 0 if that succeeded, and
+/// else 3 with a line on `faults`.
+pub fn tell_info<W: Sink, F: Write>(info: Info, output: &mut W, faults: &mut F) -> u8
+    ensures { TellsText result (W.state output.old) (W.state output.new) }
+{
+    let written = put_text(info, output);
+    let flushed = output.flush();
+    match written {
+        Ok(()) => match flushed {
+            Ok(()) => 0,
+            Err(error) => tell_unwritten(&Fault::Writer(error), faults),
+        },
+        Err(fault) => tell_unwritten(&fault, faults),
+    }
+}
+
+/// Prints why the output can't be written, and answers the status.
+pub(crate) fn tell_unwritten<F: Write>(fault: &Fault, faults: &mut F) -> u8
+    ensures { result ≡ 3 }
+{
+    report(NAME, fault, faults);
+    FAILED
+}
+
+/// Writes the text that is asked for.
+fn put_text<W: Sink>(info: Info, output: &mut W) -> Result<(), Fault>
+    ensures { PutsSomeText result (W.state output.old) (W.state output.new) }
+{
+    let text = match info {
+        Info::Help => HELP,
+        Info::Version => VERSION,
+    };
+    put(output, text.as_bytes())
+}

@@ -1,0 +1,359 @@
+//! What the program is asked for.
+
+ghost use Rattle.std.specs.Prelude.{◌≡◌, ◌&&◌, map, string_bytes};
+ghost use Rattle.make_work.specs.MakeWords.{broken_by_words, has_timing, ignored_by_words};
+ghost use Rattle.make_work.specs.MakeWords.{is_misplaced, timing_asked};
+ghost use Rattle.make_work.specs.MakeWords.{is_one_of, nothing_said};
+ghost use Rattle.make_work.specs.MakeWords.{number_of, once};
+ghost use Rattle.make_work.specs.MakeWords.{request_by_words, request_of, said_alone};
+ghost use Rattle.make_work.specs.MakeWords.{said_by, said_with};
+ghost use Rattle.make_work.specs.MakeWords.{setting_named, version_of};
+ghost use Rattle.make_work.specs.Making.{version_number};
+ghost use Rattle.make_work.specs.PrivateWords.{word_taken};
+
+use rtr_base::state::{Serial, State};
+use rtr_base::timing::Timing;
+use session_times::{TimeRule, broken_time_rule};
+
+/// In which format the payloads are given.
+#[derive(Clone, Copy, Debug, PartialEq, Eq)]
+pub enum Format {
+    /// Comma-separated values.
+    Csv,
+    /// JSON.
+    Json,
+}
+
+/// A version of the protocol.
+#[derive(Clone, Copy, Debug, PartialEq, Eq)]
+pub enum Version {
+    /// That of RFC 6810.
+    V0,
+    /// That of RFC 8210.
+    V1,
+    /// The one that has ASPAs.
+    V2,
+}
+
+impl Version {
+    /// Its number.
+    pub fn number(self) -> u8
+        ensures { result ≡ version_number self }
+    {
+        match self {
+            Version::V0 => 0,
+            Version::V1 => 1,
+            Version::V2 => 2,
+        }
+    }
+}
+
+/// What a run is asked for.
+#[derive(Clone, Copy, Debug)]
+pub struct Request {
+    /// The format of the input.
+    pub format: Format,
+    /// The version of the units.
+    pub version: Version,
+    /// The session and the serial number of the end of data.
+    pub state: State,
+    /// Its timings, which version 0 lacks.
+    pub timing: Timing,
+    /// Whether payloads that the version lacks are left out. Otherwise they are refused.
+    pub leaves_out: bool,
+    /// Whether a sequence without payloads is written. Otherwise it is refused.
+    pub takes_empty: bool,
+    /// Whether CSV is read whose last line has no line end. Otherwise it is refused.
+    pub takes_unended: bool,
+    /// The time at which items have to be good, in the place of the present one: seconds after the
+    /// epoch, the first second of 1970.
+    pub at: Option<u64>,
+}
+
+/// An option that a text follows.
+#[derive(Clone, Copy)]
+enum Setting {
+    Ignore,
+    Version,
+    Session,
+    Serial,
+    Refresh,
+    Retry,
+    Expire,
+    At,
+}
+
+/// What the words said so far.
+#[derive(Clone, Copy)]
+struct Said {
+    format: Option<Format>,
+    version: Option<Version>,
+    session: Option<u16>,
+    serial: Option<u32>,
+    refresh: Option<u32>,
+    retry: Option<u32>,
+    expire: Option<u32>,
+    leaves_out: Option<bool>,
+    takes_empty: Option<bool>,
+    takes_unended: Option<bool>,
+    at: Option<u64>,
+    ignores: bool,
+}
+
+/// What the words after the program's name ask for, if they ask for something: `--csv` or `--json`,
+/// and each of the options at most once, in any order, but for `--ignore`, which goes with `--json`
+/// alone and may come again; `--unended` goes with `--csv` alone. Without `--version` it is 2. The
+/// session is 0, the serial number 1, and the timings are those of RFC 8210 section 6, if they
+/// aren't given. Version 0 has no timings: none may be given with it. Timings have to be in the
+/// ranges of that section, and expire above the others.
+pub fn asked(words: &[String]) -> Option<Request>
+    ensures { result ≡ request_by_words words.now }
+{
+    match said_by(words) {
+        Some(said) => said.request(),
+        None => None,
+    }
+}
+
+/// The first rule that the timings break that the words say, if they break one.
+pub fn broken_timing(words: &[String]) -> Option<TimeRule>
+    ensures { result ≡ broken_by_words words.now }
+{
+    match said_by(words) {
+        Some(said) => broken_time_rule(said.timing()),
+        None => None,
+    }
+}
+
+/// What the words say, in any order, if they say something.
+fn said_by(words: &[String]) -> Option<Said>
+    ensures { result ≡ said_by (map string_bytes words.now) nothing_said }
+{
+    let mut said = Said::nothing();
+    let mut open: Option<Setting> = None;
+    for word in words {
+        (said, open) = said.after(open, word.as_str())?;
+    }
+    match open {
+        Some(_) => None,
+        None => Some(said),
+    }
+}
+
+/// Whether the words after the program's name have this name after an `--ignore`.
+pub fn is_ignored(words: &[String], name: &str) -> bool
+    ensures { result ≡ is_one_of (ignored_by_words words.now) name.now }
+{
+    let mut follows = false;
+    for word in words {
+        let word = word.as_str();
+        if is_both(follows, word == name) {
+            return true;
+        }
+        follows = is_both(!follows, word == "--ignore");
+    }
+    false
+}
+
+fn is_both(first: bool, second: bool) -> bool
+    ensures { result ≡ (first && second) }
+{
+    first && second
+}
+
+/// What is set to this value, where nothing was.
+fn once<T: Copy>(place: Option<T>, value: T) -> Option<T>
+    ensures { result ≡ once place value }
+{
+    match place {
+        Some(_) => None,
+        None => Some(value),
+    }
+}
+
+/// The option of this name that a text has to follow.
+fn setting_named(word: &str) -> Option<Setting>
+    ensures { result ≡ setting_named word.now }
+{
+    match word {
+        "--ignore" => Some(Setting::Ignore),
+        "--version" => Some(Setting::Version),
+        "--session" => Some(Setting::Session),
+        "--serial" => Some(Setting::Serial),
+        "--refresh" => Some(Setting::Refresh),
+        "--retry" => Some(Setting::Retry),
+        "--expire" => Some(Setting::Expire),
+        "--at" => Some(Setting::At),
+        _ => None,
+    }
+}
+
+/// The version of this number.
+fn version_of(text: &str) -> Option<Version>
+    ensures { result ≡ version_of text.now }
+{
+    match text {
+        "0" => Some(Version::V0),
+        "1" => Some(Version::V1),
+        "2" => Some(Version::V2),
+        _ => None,
+    }
+}
+
+/// The number of 16 bits that the text is.
+fn short_number(text: &str) -> Option<u16>
+    ensures { result ≡ number_of 16 text.now }
+{
+    match text.parse::<u16>() {
+        Ok(number) => Some(number),
+        Err(_) => None,
+    }
+}
+
+/// The number of 32 bits that the text is.
+fn number(text: &str) -> Option<u32>
+    ensures { result ≡ number_of 32 text.now }
+{
+    match text.parse::<u32>() {
+        Ok(number) => Some(number),
+        Err(_) => None,
+    }
+}
+
+/// The number of 64 bits that the text is.
+pub fn long_number(text: &str) -> Option<u64>
+    ensures { result ≡ number_of 64 text.now }
+{
+    match text.parse::<u64>() {
+        Ok(number) => Some(number),
+        Err(_) => None,
+    }
+}
+
+impl Said {
+    /// What no words say.
+    fn nothing() -> Self
+        ensures { result ≡ nothing_said }
+    {
+        Said {
+            format: None,
+            version: None,
+            session: None,
+            serial: None,
+            refresh: None,
+            retry: None,
+            expire: None,
+            leaves_out: None,
+            takes_empty: None,
+            takes_unended: None,
+            at: None,
+            ignores: false,
+        }
+    }
+
+    /// What was said with one more word, and the option that the next has to follow. The word
+    /// follows an open option itself, if there is one.
+    fn after(self, before: Option<Setting>, word: &str) -> Option<(Said, Option<Setting>)>
+        ensures { result ≡ word_taken before word.now self }
+    {
+        if let Some(setting) = before {
+            return Some((self.setting(setting, word)?, None));
+        }
+        match setting_named(word) {
+            Some(setting) => Some((self, Some(setting))),
+            None => Some((self.alone(word)?, None)),
+        }
+    }
+
+    /// Takes a word that stands alone.
+    fn alone(self, word: &str) -> Option<Said>
+        ensures { result ≡ said_alone word.now self }
+    {
+        let mut said = self;
+        match word {
+            "--csv" => said.format = Some(once(self.format, Format::Csv)?),
+            "--json" => said.format = Some(once(self.format, Format::Json)?),
+            "--drop" => said.leaves_out = Some(once(self.leaves_out, true)?),
+            "--empty" => said.takes_empty = Some(once(self.takes_empty, true)?),
+            "--unended" => said.takes_unended = Some(once(self.takes_unended, true)?),
+            _ => return None,
+        }
+        Some(said)
+    }
+
+    /// Takes the text that follows an option.
+    fn setting(self, setting: Setting, text: &str) -> Option<Said>
+        ensures { result ≡ said_with setting text.now self }
+    {
+        let mut said = self;
+        match setting {
+            Setting::Ignore => said.ignores = true,
+            Setting::Version => said.version = Some(once(self.version, version_of(text)?)?),
+            Setting::Session => said.session = Some(once(self.session, short_number(text)?)?),
+            Setting::Serial => said.serial = Some(once(self.serial, number(text)?)?),
+            Setting::Refresh => said.refresh = Some(once(self.refresh, number(text)?)?),
+            Setting::Retry => said.retry = Some(once(self.retry, number(text)?)?),
+            Setting::Expire => said.expire = Some(once(self.expire, number(text)?)?),
+            Setting::At => said.at = Some(once(self.at, long_number(text)?)?),
+        }
+        Some(said)
+    }
+
+    /// Whether a timing was said.
+    fn has_timing(&self) -> bool
+        ensures { result ≡ has_timing self.now }
+    {
+        self.refresh.is_some() || self.retry.is_some() || self.expire.is_some()
+    }
+
+    /// Whether a word was said that doesn't go with this format: names to ignore stand in JSON, and
+    /// lines in CSV.
+    fn is_misplaced(&self, format: Format) -> bool
+        ensures { result ≡ is_misplaced self.now format }
+    {
+        match format {
+            Format::Csv => self.ignores,
+            Format::Json => self.takes_unended.is_some(),
+        }
+    }
+
+    /// The timings that were said, and for the others the recommended ones.
+    fn timing(&self) -> Timing
+        ensures { result ≡ timing_asked self.now }
+    {
+        let timing = Timing::default();
+        Timing {
+            refresh: self.refresh.unwrap_or(timing.refresh),
+            retry: self.retry.unwrap_or(timing.retry),
+            expire: self.expire.unwrap_or(timing.expire),
+        }
+    }
+
+    /// What all words ask for.
+    fn request(self) -> Option<Request>
+        ensures { result ≡ request_of self }
+    {
+        let version = self.version.unwrap_or(Version::V2);
+        if version.number() == 0 && self.has_timing() {
+            return None;
+        }
+        let timing = self.timing();
+        if broken_time_rule(timing).is_some() {
+            return None;
+        }
+        let format = self.format?;
+        if self.is_misplaced(format) {
+            return None;
+        }
+        Some(Request {
+            format,
+            version,
+            state: State::from_parts(self.session.unwrap_or(0), Serial(self.serial.unwrap_or(1))),
+            timing,
+            leaves_out: self.leaves_out.unwrap_or(false),
+            takes_empty: self.takes_empty.unwrap_or(false),
+            takes_unended: self.takes_unended.unwrap_or(false),
+            at: self.at,
+        })
+    }
+}

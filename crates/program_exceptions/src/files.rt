@@ -1,0 +1,105 @@
+//! SLURM files.
+
+use json::Scratch;
+use program_files::Input;
+use program_frame::Escaped;
+use data_slurm::{JoinError, Slurm, SlurmReason, SlurmRefusal, read_slurm};
+use std::io::{Read, Write};
+use std::{fmt, io};
+
+/// The status if a file is refused.
+const REFUSED: u8 = 1;
+
+/// The status if a file can't be opened or read, or memory runs out.
+const FAILED: u8 = 3;
+
+/// The name of a program and that of a file.
+#[derive(Clone, Copy)]
+struct Named<'a> {
+    program: &'a str,
+    file: &'a str,
+}
+
+impl fmt::Display for Named<'_> {
+    fn fmt<W: fmt::Write>(&self, f: &mut fmt::Formatter<W>) -> fmt::Result {
+        let program = self.program;
+        let file = Escaped(self.file);
+        write!(f, "{program}: {file}")
+    }
+}
+
+/// The entries of these SLURM files (RFC 8416), in their order. If a file can't be read, is refused
+/// or overlaps another one, says so and fails with the status to end with: 1 if it is refused or
+/// overlaps, 3 if reading or memory failed.
+pub fn read_files<F: Write>(
+    rt: &HostRuntime,
+    program: &str,
+    files: &[String],
+    faults: &mut F,
+) -> Result<Slurm, u8> {
+    let mut slurm = Slurm::new(rt.alloc());
+    for file in files {
+        let named = Named {
+            program,
+            file: file.as_str(),
+        };
+        match add_file(rt, named, &mut slurm, faults) {
+            Ok(()) => {}
+            Err(status) => return Err(status),
+        }
+    }
+    Ok(slurm)
+}
+
+/// The bytes of a file, or of standard input.
+fn read_all(rt: &HostRuntime, file: &str) -> io::Result<Vec<u8>> {
+    let mut input = Input::open(rt, file)?;
+    let mut text = Vec::new(rt.alloc());
+    input.read_to_end(&mut text)?;
+    Ok(text)
+}
+
+/// Adds the entries of a file to those of the files before.
+fn add_file<F: Write>(
+    rt: &HostRuntime,
+    named: Named<'_>,
+    slurm: &mut Slurm,
+    faults: &mut F,
+) -> Result<(), u8> {
+    let text = match read_all(rt, named.file) {
+        Ok(text) => text,
+        Err(error) => {
+            let _ = writeln!(faults, "{named}: {error}");
+            return Err(FAILED);
+        }
+    };
+    let mut scratch = Scratch::new(rt.alloc());
+    match read_slurm(rt.alloc(), &text, &mut scratch) {
+        Ok(next) => match slurm.join(next) {
+            Ok(()) => Ok(()),
+            Err(error) => {
+                let _ = writeln!(faults, "{named}: {error}");
+                Err(join_status(error))
+            }
+        },
+        Err(refusal) => Err(tell_refusal(named, &refusal, faults)),
+    }
+}
+
+fn join_status(error: JoinError) -> u8 {
+    match error {
+        JoinError::Overlap => REFUSED,
+        JoinError::Memory => FAILED,
+    }
+}
+
+/// Prints why a SLURM file is refused, and returns the status.
+fn tell_refusal<F: Write>(named: Named<'_>, refusal: &SlurmRefusal<'_>, faults: &mut F) -> u8 {
+    let place = refusal.place;
+    let reason = &refusal.reason;
+    let _ = writeln!(faults, "{named}: {place}: {reason}");
+    match reason {
+        SlurmReason::Memory => FAILED,
+        _ => REFUSED,
+    }
+}

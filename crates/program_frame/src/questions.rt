@@ -1,0 +1,115 @@
+//! What a program says of itself.
+
+ghost use Rattle.std.specs.Prelude.{◌≡◌, ◌≢◌, None, IfSome};
+ghost use Rattle.program_frame.specs.Questions.{WritesText, asked_of, manual_text};
+
+use rtr_units::fault::Fault;
+use rtr_units::piece::put;
+use rtr_units::source::Sink;
+use std::io::Write;
+
+/// The status where what was asked for was written.
+const WELL: u8 = 0;
+
+/// The status where the words ask for nothing.
+const USAGE: u8 = 2;
+
+/// What a program says of itself. Each text ends with a line feed.
+#[derive(Clone, Copy)]
+pub struct Manual {
+    /// Its name.
+    pub name: &'static str,
+    /// Its name and its version, on a line.
+    pub version: &'static str,
+    /// How it is called, on a line.
+    pub usage: &'static str,
+    /// What it does, and what each of its words does.
+    pub help: &'static str,
+}
+
+/// What a program is asked about itself.
+#[derive(Clone, Copy)]
+pub enum Question {
+    /// What it does, by `--help`.
+    Help,
+    /// Its version, by `--version`.
+    Version,
+}
+
+/// What the words after the program's name ask about it: one of the two words, alone.
+fn asked(words: &[String]) -> Option<Question>
+    ensures { result ≡ asked_of words.now }
+{
+    match words {
+        [word] => match word.as_str() {
+            "--help" => Some(Question::Help),
+            "--version" => Some(Question::Version),
+            _ => None,
+        },
+        _ => None,
+    }
+}
+
+/// Writes what is asked for, flushes the output, and answers the exit status: 0 where both
+/// succeeded, and else the one that is given for that, with a line on `faults`.
+fn answer<W: Sink, F: Write>(
+    manual: &Manual,
+    question: Question,
+    failed: u8,
+    output: &mut W,
+    faults: &mut F,
+) -> u8
+    ensures tells { WritesText (manual_text manual.now question) 0 failed result
+        (W.state output.old) (W.state output.new) }
+    ensures quiet { failed ≢ 0 → result ≡ 0 → faults.new ≡ faults.old }
+{
+    let text = match question {
+        Question::Help => manual.help,
+        Question::Version => manual.version,
+    };
+    let written = put(output, text.as_bytes());
+    let flushed = output.flush();
+    match written {
+        Ok(()) => match flushed {
+            Ok(()) => WELL,
+            Err(error) => {
+                crate::report(manual.name, &Fault::Writer(error), faults);
+                failed
+            }
+        },
+        Err(fault) => {
+            crate::report(manual.name, &fault, faults);
+            failed
+        }
+    }
+}
+
+/// Answers what the words after the program's name ask about it, as `answer` does, and the exit
+/// status. Where they ask nothing it says how the program is called, as `usage` does.
+pub fn about<W: Sink, F: Write>(
+    manual: &Manual,
+    words: &[String],
+    failed: u8,
+    output: &mut W,
+    faults: &mut F,
+) -> u8
+    ensures usage { asked_of words.now ≡ None → (result ≡ 2) × (output.new ≡ output.old) }
+    ensures tells { IfSome (asked_of words.now) (λ question.
+        WritesText (manual_text manual.now question) 0 failed result
+        (W.state output.old) (W.state output.new)) }
+    ensures quiet { failed ≢ 0 → result ≡ 0 → faults.new ≡ faults.old }
+{
+    match asked(words) {
+        Some(question) => answer(manual, question, failed, output, faults),
+        None => usage(manual, faults),
+    }
+}
+
+/// Says on standard error how the program is called, and answers the exit status for that.
+pub fn usage<F: Write>(manual: &Manual, faults: &mut F) -> u8
+    ensures { result ≡ 2 }
+{
+    let text = manual.usage;
+    let _ = write!(faults, "{text}");
+    USAGE
+}

@@ -1,5 +1,0 @@
-use Rattle.rtr_conversation.proofs.Connected.{serves_on}
-use Rattle.rtr_conversation.proofs.laws.what_is_served_goes_on.Goals as goal
-
-pub returns : goal.returns
-returns c = serves_on

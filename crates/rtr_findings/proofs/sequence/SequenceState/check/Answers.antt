@@ -1,7 +1,0 @@
-use Rattle.rtr_texts.specs.ListedUnits.{fields_listed}
-use Rattle.rtr_findings.proofs.Steps.{checks}
-use Rattle.rtr_findings.proofs.sequence.SequenceState.check.Goals as goal
-
-pub returns : goal.returns
-returns c =
-    checks c.args.self.now c.args.was_there (fields_listed c.args.unit.now) _ c.found.ensures

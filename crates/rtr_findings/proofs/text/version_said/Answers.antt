@@ -1,5 +1,0 @@
-use Rattle.rtr_texts.proofs.Laid.{lays_both}
-use Rattle.rtr_findings.proofs.text.version_said.Goals as goal
-
-pub returns : goal.returns
-returns c = lays_both _ _ _ _ _ _ _ _ c.labelled-at.ensures c.between.ensures

@@ -1,5 +1,0 @@
-use Rattle.rtr_router.proofs.laws.acts_soon.Goals as goal
-use Rattle.rtr_router.proofs.Soon.{acts_soon}
-
-pub returns : goal.returns
-returns c k ms r h run timed = acts_soon k ms r h run timed

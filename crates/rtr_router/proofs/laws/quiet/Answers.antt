@@ -1,5 +1,0 @@
-use Rattle.rtr_router.proofs.laws.quiet.Goals as goal
-use Rattle.rtr_router.proofs.Quiet.{quiet}
-
-pub returns : goal.returns
-returns c k ms r h run timed = quiet k ms r h run timed

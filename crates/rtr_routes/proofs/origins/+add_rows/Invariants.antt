@@ -1,4 +1,0 @@
-use Rattle.rtr_routes.proofs.origins.+add_rows.Given as goal
-
-abbrev pub decreases-add_rows : goal.decreases-add_rows
-decreases-add_rows l = l.most

@@ -1,8 +1,0 @@
-use Rattle.std.proofs.Common.{refl}
-use Rattle.rtr_routes.proofs.Summaries.{stops_summary}
-use Rattle.rtr_routes.proofs.program.summarize.Goals as goal
-
-pub returns-in-Err : goal.returns-in-Err
-returns-in-Err g c =
-    stops_summary g.F.Refusals.hears c.args.options c.args.lists c.in-Err.stop _ _ _ _ _ _
-    c.in-Err.ensures refl

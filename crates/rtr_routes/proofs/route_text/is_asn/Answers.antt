@@ -1,4 +1,0 @@
-use Rattle.rtr_routes.proofs.route_text.is_asn.Goals as goal
-
-pub returns-in-Err : goal.returns-in-Err
-returns-in-Err c (n, is) = c.in-Err.ensures.value n is

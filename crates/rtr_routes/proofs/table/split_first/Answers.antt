@@ -1,7 +1,0 @@
-use Rattle.rtr_routes.proofs.Splits.{splits_first}
-use Rattle.rtr_routes.proofs.table.split_first.Goals as goal
-
-pub returns : goal.returns
-returns c =
-    splits_first c.args.at c.args.text.now c.split_once.result c.split_once.ensures.cases
-    c.requires

@@ -1,7 +1,0 @@
-use Rattle.rtr_routes.proofs.Splits.{splits_last}
-use Rattle.rtr_routes.proofs.table.split_last.Goals as goal
-
-pub returns : goal.returns
-returns c =
-    splits_last c.args.at c.args.text.now c.rsplit_once.result c.rsplit_once.ensures.cases
-    c.requires

@@ -1,5 +1,0 @@
-use Rattle.std.proofs.Common.{length}
-use Rattle.rtr_routes.proofs.words.+asked_after.Given as goal
-
-abbrev pub decreases-asked_after : goal.decreases-asked_after
-decreases-asked_after l = length l.words.now

@@ -1,6 +1,0 @@
-use Rattle.rtr_session.proofs.Viewed.{header_named}
-use Rattle.rtr_session.proofs.session_view.whole.Goals as goal
-
-pub returns-in-Err-clause-fault : goal.returns-in-Err-clause-fault
-returns-in-Err-clause-fault c =
-    header_named c.args.input.now c.in-Err.fault c.in-Err.ensures.0 c.in-Err.ensures.1

@@ -1,9 +1,0 @@
-use Rattle.std.proofs.Common.{length}
-use Rattle.rtr_slices.proofs.Passing.{PassingUnits}
-use Rattle.rtr_slices.proofs.check.pass_following.Given as goal
-
-abbrev pub invariant-units : goal.invariant-units
-invariant-units l = PassingUnits l.fn.view l.fn.left l.last l.rest
-
-abbrev pub decreases-units : goal.decreases-units
-decreases-units l = length l.rest

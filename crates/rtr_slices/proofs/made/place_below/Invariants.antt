@@ -1,9 +1,0 @@
-use Rattle.std.proofs.Common.{length}
-use Rattle.rtr_slices.proofs.Copying.{Copying}
-use Rattle.rtr_slices.proofs.made.place_below.Given as goal
-
-abbrev pub invariant-units : goal.invariant-units
-invariant-units l = Copying l.bound l.fn.«data» l.rest l.initial.output l.output l.written
-
-abbrev pub decreases-units : goal.decreases-units
-decreases-units l = length l.rest

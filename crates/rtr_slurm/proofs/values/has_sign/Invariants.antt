@@ -1,6 +1,0 @@
-use Rattle.rtr_slurm.specs.SlurmValues.{has_sign}
-use Rattle.rtr_slurm.proofs.TestedSoFar.{TestedSoFar}
-use Rattle.rtr_slurm.proofs.values.has_sign.Given as goal
-
-abbrev pub invariant-loop-byte : goal.invariant-loop-byte
-invariant-loop-byte l = TestedSoFar has_sign l.fn.text l.byte-index

@@ -1,6 +1,0 @@
-use Rattle.std.specs.Map.Iter.{deref_pair}
-use Rattle.rtr_summary.proofs.Rankings.{SoFar}
-use Rattle.rtr_summary.proofs.as_counts.largest.Given as goal
-
-abbrev pub invariant-loop-asn : goal.invariant-loop-asn
-invariant-loop-asn l = SoFar deref_pair l.counts.entries l.yielded l.asn-iterator l.rows.items

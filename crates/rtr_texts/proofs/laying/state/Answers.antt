@@ -1,7 +1,0 @@
-use Rattle.rtr_texts.proofs.Laid.{lays_next}
-use Rattle.rtr_texts.proofs.laying.state.Goals as goal
-
-pub returns : goal.returns
-returns c =
-    lays_next _ _ _ _ _ _ _ _ _ c.labelled-at.ensures
-    c.labelled.ensures

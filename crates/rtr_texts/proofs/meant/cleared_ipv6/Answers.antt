@@ -1,6 +1,0 @@
-use Rattle.rtr_texts.proofs.ClearedBits.{cleared_refused}
-use Rattle.rtr_texts.proofs.meant.cleared_ipv6.Goals as goal
-
-pub returns-in-Err : goal.returns-in-Err
-returns-in-Err c =
-    cleared_refused 128 c.args.len c.args.bits _ _ c.from_v6_bits.ensures.exact c.in-Err.is

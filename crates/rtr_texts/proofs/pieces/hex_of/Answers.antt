@@ -1,7 +1,0 @@
-use Rattle.std.proofs.Common.{rules}
-use Rattle.hex.specs.Hex.{encode_with}
-use Rattle.rtr_texts.proofs.pieces.hex_of.Goals as goal
-
-pub returns : goal.returns
-unfolding encode_with
-returns c = search rules

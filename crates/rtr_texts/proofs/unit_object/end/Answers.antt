@@ -1,6 +1,0 @@
-use Rattle.std.proofs.Common.{rules}
-use Rattle.rtr_texts.proofs.Laid.{lays_said}
-use Rattle.rtr_texts.proofs.unit_object.end.Goals as goal
-
-pub returns : goal.returns
-returns c = lays_said _ _ _ _ _ _ (search rules) c.state.ensures

@@ -1,8 +1,0 @@
-use Rattle.std.proofs.Common.{rules}
-use Rattle.rtr_texts.proofs.Laid.{lays_said}
-use Rattle.rtr_texts.proofs.UnitPieces.{no_intervals_said}
-use Rattle.rtr_texts.proofs.unit_object.intervals.Goals as goal
-
-pub returns-in-None : goal.returns-in-None
-returns-in-None c =
-    lays_said _ _ _ _ _ _ (no_intervals_said c.args.timing (search rules)) c.text.ensures

@@ -1,9 +1,0 @@
-use Rattle.rtr_texts.proofs.Laid.{lays_both, lays_said}
-use Rattle.rtr_texts.proofs.ReportPieces.{string_end}
-use Rattle.rtr_texts.proofs.unit_object.string.Goals as goal
-
-pub returns : goal.returns
-returns c =
-    lays_said _ _ _ _ _ _ (string_end c.args.text.now)
-    (lays_both _ _ _ _ _ _ _ _ c.text-at.ensures
-    (lays_both _ _ _ _ _ _ _ _ c.string-at.ensures c.text.ensures))

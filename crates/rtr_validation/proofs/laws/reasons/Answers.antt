@@ -1,5 +1,0 @@
-use Rattle.rtr_validation.proofs.Agreeing.{reason_or_match}
-use Rattle.rtr_validation.proofs.laws.reasons.Goals as goal
-
-pub returns : goal.returns
-returns c = λ v p asn m h k. reason_or_match v p asn m h k

@@ -1,6 +1,0 @@
-use Rattle.std.proofs.Common.{refl}
-use Rattle.rtr_vrps.proofs.Takings.{nothing_taken}
-use Rattle.rtr_vrps.proofs.gathering.Gathering.with_slurm.Goals as goal
-
-pub returns-clause-none : goal.returns-clause-none
-returns-clause-none c = nothing_taken _ _ c.new.ensures c.new-2.ensures refl

@@ -1,4 +1,0 @@
-use Rattle.rtr_vrps.proofs.info.put_text.Goals as goal
-
-pub returns : goal.returns
-returns g c = (c.as_bytes.result.now, c.put.ensures.bytes)

@@ -1,9 +1,0 @@
-use Rattle.std.proofs.Common.{ap, sym, ◌∙◌}
-use Rattle.rtr_vrps.specs.JsonPayloads.{item_expiry}
-use Rattle.rtr_vrps.proofs.JsonSoFar.{object_seen}
-use Rattle.rtr_vrps.proofs.json_items.expiry_of.Goals as goal
-
-pub returns-in-Object : goal.returns-in-Object
-returns-in-Object c =
-    c.expiry.ensures ∙ ap item_expiry (sym (object_seen c.args.item.now c.in-Object.members
-    c.deref.result.now c.in-Object.is c.deref.ensures.value))

@@ -1,9 +1,0 @@
-use Rattle.std.specs.List.{AllByRecursion}
-use Rattle.json.specs.Value.{items_view}
-use Rattle.rtr_vrps.specs.JsonValues.{IsLikeAsn, items_list}
-use Rattle.rtr_vrps.proofs.SeenSoFar.{SeenSoFar}
-use Rattle.rtr_vrps.proofs.json_looks.are_asns.Given as goal
-
-abbrev pub invariant-loop-item : goal.invariant-loop-item
-invariant-loop-item l =
-    SeenSoFar (λ vs. AllByRecursion IsLikeAsn (items_list (items_view vs))) l.list l.item-index

@@ -1,8 +1,0 @@
-use Rattle.json.specs.Value.{items_view}
-use Rattle.rtr_vrps.specs.JsonValues.{IsLikeAsn, SomeIs, items_list}
-use Rattle.rtr_vrps.proofs.SeenSoFar.{SeenSoFar}
-use Rattle.rtr_vrps.proofs.json_looks.has_asn.Given as goal
-
-abbrev pub invariant-loop-item : goal.invariant-loop-item
-invariant-loop-item l =
-    SeenSoFar (λ vs. SomeIs IsLikeAsn (items_list (items_view vs))) l.list l.item-index

@@ -1,5 +1,0 @@
-use Rattle.rtr_vrps.proofs.NamesSoFar.{NameSoFar}
-use Rattle.rtr_vrps.proofs.json_names.is_plainly.Given as goal
-
-abbrev pub invariant-loop-byte : goal.invariant-loop-byte
-invariant-loop-byte l = NameSoFar l.fn.known l.fn.name l.byte-index l.left

@@ -1,5 +1,0 @@
-use Rattle.std.proofs.Common.{refl}
-use Rattle.rtr_vrps.proofs.json_values.asn_of_text.Goals as goal
-
-pub returns-in-Err : goal.returns-in-Err
-returns-in-Err c = (refl, λ n is. c.in-Err.ensures.value n is.1)

@@ -1,0 +1,18 @@
+use native.Mathlib.Omega.{arith}
+use Rattle.std.proofs.Common.{sym, ◌∙◌}
+use Rattle.session_bytes.proofs.Heads.{first_unit}
+use Rattle.session_bytes.proofs.telling.came.Goals as goal
+
+pub returns-clause-unit : goal.returns-clause-unit
+returns-clause-unit c =
+    let (header, fine, size) = c.in-Ok.ensures.size in
+    let bounds = c.bounded_lengths.ensures c.args.input.now c.in-Ok.first.1 c.in-Ok.ensures.size in
+    record {
+      head = c.head_of-head.result;
+      unit = first_unit c.in-Ok.first.0 c.in-Ok.first.1 c.u32_at.result c.args.input.now
+          c.head_of-head.result c.in-Ok.ensures.within (c.u32_at.ensures ∙ sym size)
+          c.in-Ok.ensures.view c.head_of-head.ensures;
+      some = omega (arith, bounds.least);
+      within = c.in-Ok.ensures.within;
+      step = c.hear.ensures.steps;
+    }

@@ -1,0 +1,22 @@
+//! A router's and a cache's conversation in bytes (RFC 8210): what comes is told to the machines of
+//! `session_router` and `session_cache`, and what these want sent is written, but for data and changes.
+//! Nothing allocates.
+#![tactic(auto)]
+
+pub mod answer;
+mod fault;
+mod head;
+pub mod laws;
+pub mod query;
+pub mod refusal;
+pub mod report;
+pub mod saying;
+pub mod serving;
+pub mod telling;
+
+pub use answer::{place_opening, place_owed};
+pub use query::place_query;
+pub use refusal::Refusal;
+pub use report::place_ending;
+pub use serving::{Served, serve};
+pub use telling::{Told, tell};

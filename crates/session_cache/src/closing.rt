@@ -1,0 +1,70 @@
+//! How connections end.
+
+ghost use Rattle.std.specs.Prelude.{◌≡◌, ◌<◌, None, Some, Option, ℕ, true};
+ghost use Rattle.session_cache.specs.CacheRules.{CacheRule, once_closed, report_version};
+ghost use Rattle.session_cache.specs.Serving.{ServesFault, closes_with, reports};
+ghost use Rattle.session_cache.specs.declared.event.CacheEvent.TheVariants as events;
+ghost use Rattle.session_cache.specs.declared.event.Present.{Present};
+
+use crate::cache::Cache;
+use crate::event::{Answer, Closing, OwedReport, Reason};
+use session_router::head::Fault;
+
+/// The highest version that there is.
+pub(crate) const HIGHEST: u8 = 2;
+
+/// The codes of reports (RFC 8210 section 12).
+pub(crate) const CORRUPT_DATA: u16 = 0;
+
+pub(crate) const INTERNAL_ERROR: u16 = 1;
+
+pub(crate) const INVALID_REQUEST: u16 = 3;
+
+pub(crate) const NO_VERSION: u16 = 4;
+
+pub(crate) const OTHER_VERSION: u16 = 8;
+
+impl Cache {
+    /// Ends the connection.
+    pub(crate) fn close(&mut self, report: Option<OwedReport>, reason: Reason) -> Answer
+        ensures answer { result ≡ closes_with report reason }
+        ensures after { self.new ≡ once_closed self.old }
+    {
+        self.live = false;
+        Answer::End(Closing { report, reason })
+    }
+
+    /// Ends the connection with a report about a unit of this version. It is in the version of the
+    /// connection, or else in that of the unit if there is such a version, and else in the highest.
+    pub(crate) fn report(&mut self, version: u8, code: u16, reason: Reason) -> Answer
+        ensures answer { result ≡ reports (report_version self.old version) code reason }
+        ensures after { self.new ≡ once_closed self.old }
+    {
+        let version = if self.asked {
+            self.version
+        } else {
+            version.min(HIGHEST)
+        };
+        self.close(Some(OwedReport { version, code }), reason)
+    }
+
+    /// A unit is refused. Its version comes first (RFC 8210 section 7), and nothing is said about
+    /// an error report (section 5.11).
+    pub(crate) fn faulty(&mut self, fault: &Fault) -> Answer
+        requires live { self.old.live ≡ true }
+        ensures rule { (n : ℕ) (p : Present)
+            → CacheRule self.old n p (events.Faulty fault.now) result self.new }
+        ensures serves { ServesFault self.old fault.now result }
+    {
+        match fault.code {
+            None => self.close(None, Reason::Faulty),
+            Some(_) if self.asked && fault.version != self.version => {
+                self.report(fault.version, OTHER_VERSION, Reason::OtherVersion)
+            }
+            Some(_) if !self.asked && fault.version > HIGHEST => {
+                self.report(fault.version, NO_VERSION, Reason::NoVersion)
+            }
+            Some(code) => self.report(fault.version, code, Reason::Faulty),
+        }
+    }
+}

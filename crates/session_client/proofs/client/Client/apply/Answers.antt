@@ -1,0 +1,15 @@
+use Rattle.std.proofs.Common.{◌≤◌, length, subst, sym}
+use Rattle.session_client.specs.Holding.{AsksRoom, WantsData, room_at}
+use Rattle.session_client.proofs.client.Client.apply.Goals as goal
+
+pub returns-in-Answer-clause-enough : goal.returns-in-Answer-clause-enough
+returns-in-Answer-clause-enough c =
+    let s = c.args.self.now in
+    subst (λ m. room_at m s.shown s.kept ≤ length c.args.made.now → WantsData c.make_all.result → ⊥)
+    (sym c.in-Answer.is) c.make_all.ensures.enough
+
+pub returns-in-Answer-clause-asks : goal.returns-in-Answer-clause-asks
+returns-in-Answer-clause-asks c =
+    let s = c.args.self.now in
+    subst (λ m. AsksRoom c.make_all.result (room_at m s.shown s.kept) s.router.units)
+    (sym c.in-Answer.is) c.make_all.ensures.asks

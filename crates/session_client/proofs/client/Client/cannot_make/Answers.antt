@@ -1,0 +1,21 @@
+use Rattle.std.proofs.Common.{None}
+use Rattle.session_client.proofs.Overs.{acts_itself}
+use Rattle.session_client.proofs.Steps.{answer_applying, refused_ends}
+use Rattle.session_router.specs.declared.event.Event.TheVariants as events
+use Rattle.session_client.proofs.client.Client.cannot_make.Goals as goal
+
+pub returns-clause-names : goal.returns-clause-names
+returns-clause-names c = λ held.
+    let x = c.happens-action in
+    acts_itself c.args.now c.args.self.now x.new.self c.args.input.now held x.new.input
+    c.args.output.now x.new.output (events.NotApplied None) x.result tt tt x.ensures.steps
+    x.ensures.ends
+
+pub returns-clause-ends : goal.returns-clause-ends
+returns-clause-ends c =
+    let s = c.args.self.now in
+    let x = c.happens-action in
+    x.ensures.given_up c.requires.whole
+    (refused_ends s.router x.new.self.router c.args.now None x.result
+    (answer_applying s.router.phase s.holding c.requires.step c.requires.whole)
+    x.ensures.steps.rule)

@@ -1,0 +1,100 @@
+use Rattle.std.proofs.Common.{◌+◌, ◌∷◌, length, subst, take, drop}
+use Rattle.session_client.specs.Holding.{Holds}
+use Rattle.session_client.specs.Makings.{MadeAnswer, onto}
+use Rattle.session_client.specs.Counting.{IsKeptCount}
+use Rattle.session_client.proofs.CountsKept.{index_enough}
+use Rattle.session_client.proofs.Made.{duplicate_at, no_index, unknown_at}
+use Rattle.session_client.proofs.Room.{wants_index, wants_room}
+use Rattle.session_client.proofs.Runs.{made_is}
+use Rattle.session_client.proofs.client.Client.make_all.Goals as goal
+
+pub returns-in-Ok-clause-serves : goal.returns-in-Ok-clause-serves
+returns-in-Ok-clause-serves c =
+    let s = c.args.self.now in
+    let input = c.args.input.now in
+    let size = c.args.size in
+    let made = c.make.new.made in
+    let new = take c.in-Ok.count made in
+    let one : MadeAnswer = record {
+      base = onto c.args.since s.shown c.args.held.now (take size (drop s.kept input));
+      answer = take (s.kept + size) input;
+      new = new;
+    } in
+    λ set x. record {
+      made = one ∷ x.made;
+      were = (c.in-Ok.ensures.made, x.were);
+      counts = c.adopt.ensures.counts;
+      stands = λ k settings makes.
+          let y = x.stands k settings makes.1 in
+          let due = subst (λ m. Holds k y.host m s.kept input) c.requires.due y.holds in
+          c.adopt.ensures.stands k c.args.held.now made y
+          (made_is k y.host size c.args.since s.kept s.shown input c.args.held.now new y.shows
+          makes.0
+          due);
+    }
+
+pub returns-in-Ok-clause-enough : goal.returns-in-Ok-clause-enough
+returns-in-Ok-clause-enough c = λ room wants. c.adopt.ensures.enough (wants_room _ wants)
+
+pub returns-in-Err-Duplicate-clause-enough : goal.returns-in-Err-Duplicate-clause-enough
+returns-in-Err-Duplicate-clause-enough c = λ room wants.
+    c.refuse.ensures.enough (wants_room _ wants)
+
+pub returns-in-Err-Unknown-clause-enough : goal.returns-in-Err-Unknown-clause-enough
+returns-in-Err-Unknown-clause-enough c = λ room wants.
+    c.refuse-in-Err-Unknown.ensures.enough (wants_room _ wants)
+
+pub returns-in-Err-clause-enough : goal.returns-in-Err-clause-enough
+returns-in-Err-clause-enough c = λ room wants. c.cannot_make.ensures.enough (wants_room _ wants)
+
+pub returns-in-Err-Duplicate-clause-names : goal.returns-in-Err-Duplicate-clause-names
+returns-in-Err-Duplicate-clause-names c =
+    let s = c.args.self.now in
+    let x = c.in-Err-Duplicate in
+    c.refuse.ensures.names c.args.held.now c.args.since c.args.size (length c.args.index.now)
+    c.requires.due
+    (duplicate_at x.field-0 x.offset
+    (onto c.args.since s.shown c.args.held.now (take c.args.size (drop s.kept c.args.input.now)))
+    (take (s.kept + c.args.size) c.args.input.now) (length c.args.index.now) c.args.made.now
+    c.make.new.made x.field-0-is x.ensures.applies)
+
+pub returns-in-Err-Unknown-clause-names : goal.returns-in-Err-Unknown-clause-names
+returns-in-Err-Unknown-clause-names c =
+    let s = c.args.self.now in
+    let x = c.in-Err-Unknown in
+    c.refuse-in-Err-Unknown.ensures.names c.args.held.now c.args.since c.args.size
+    (length c.args.index.now)
+    c.requires.due
+    (unknown_at x.field-0 x.offset
+    (onto c.args.since s.shown c.args.held.now (take c.args.size (drop s.kept c.args.input.now)))
+    (take (s.kept + c.args.size) c.args.input.now) (length c.args.index.now) c.args.made.now
+    c.make.new.made x.field-0-is x.ensures.applies)
+
+pub returns-in-Err-NoIndex-clause-index : goal.returns-in-Err-NoIndex-clause-index
+returns-in-Err-NoIndex-clause-index c = λ counts room wants.
+    let s = c.args.self.now in
+    let input = c.args.input.now in
+    index_enough
+    (onto c.args.since s.shown c.args.held.now (take c.args.size (drop s.kept input)))
+    (take (s.kept + c.args.size) input) s.router.units (length c.args.index.now)
+    (subst (λ m. IsKeptCount m s.router s.kept input) c.requires.due counts) room
+    (no_index c.in-Err-NoIndex.field-0
+    (onto c.args.since s.shown c.args.held.now (take c.args.size (drop s.kept input)))
+    (take (s.kept + c.args.size) input) (length c.args.index.now) c.args.made.now
+    c.make.new.made c.in-Err-NoIndex.field-0-is c.in-Err-NoIndex.ensures.applies)
+
+pub returns-in-Ok-clause-index : goal.returns-in-Ok-clause-index
+returns-in-Ok-clause-index c = λ counts room wants.
+    c.adopt.ensures.enough (wants_index _ wants)
+
+pub returns-in-Err-Duplicate-clause-index : goal.returns-in-Err-Duplicate-clause-index
+returns-in-Err-Duplicate-clause-index c = λ counts room wants.
+    c.refuse.ensures.enough (wants_index _ wants)
+
+pub returns-in-Err-Unknown-clause-index : goal.returns-in-Err-Unknown-clause-index
+returns-in-Err-Unknown-clause-index c = λ counts room wants.
+    c.refuse-in-Err-Unknown.ensures.enough (wants_index _ wants)
+
+pub returns-in-Err-clause-index : goal.returns-in-Err-clause-index
+returns-in-Err-clause-index c = λ counts room wants.
+    c.cannot_make.ensures.enough (wants_index _ wants)

@@ -1,0 +1,51 @@
+use Rattle.std.proofs.Common.{Some, None}
+use Rattle.session_router.specs.declared.event.Action.TheVariants as actions
+use Rattle.session_client.specs.Turning.{turns_left}
+use Rattle.session_client.proofs.Overs.{named_then}
+use Rattle.session_client.proofs.Pieces.{turned}
+use Rattle.session_client.proofs.Turns.{fewer_then}
+use Rattle.session_client.proofs.client.Client.settle.Goals as goal
+
+pub returns-in-Nothing-clause-turns : goal.returns-in-Nothing-clause-turns
+returns-in-Nothing-clause-turns c =
+    record { action = None; todo = tt; did = c.in-Nothing.ensures.did }
+
+pub returns-in-Shown-clause-turns : goal.returns-in-Shown-clause-turns
+returns-in-Shown-clause-turns c =
+    record { action = Some actions.Show; todo = tt; did = c.in-Shown.ensures.did }
+
+pub returns-in-Data-clause-turns : goal.returns-in-Data-clause-turns
+returns-in-Data-clause-turns c =
+    record { action = None; todo = tt; did = c.in-Data.ensures.did }
+
+pub returns-in-Index-clause-turns : goal.returns-in-Index-clause-turns
+returns-in-Index-clause-turns c =
+    record { action = None; todo = tt; did = c.in-Index.ensures.did }
+
+pub returns-in-Acted-clause-turns : goal.returns-in-Acted-clause-turns
+returns-in-Acted-clause-turns c =
+    let s = c.args.self.now in
+    turned c.todo.result c.in-Acted.action c.args.now s.router c.apply.new.self.router
+    c.todo.new.self.router s.unsent c.apply.new.self.unsent c.todo.new.self.unsent
+    c.args.output.now c.apply.new.output c.todo.ensures.todo c.in-Acted.ensures.did
+    c.todo.ensures.router c.todo.ensures.unsent
+
+pub returns-in-Acted-clause-names : goal.returns-in-Acted-clause-names
+returns-in-Acted-clause-names c =
+    named_then c.todo.result c.in-Acted.action c.in-Acted.refusal c.in-Acted.offset c.args.now
+    c.args.self.now c.apply.new.self c.todo.new.self c.args.input.now c.args.held.now
+    c.apply.new.input c.args.output.now c.apply.new.output c.todo.ensures.names
+    c.in-Acted.ensures.names c.todo.ensures.router c.todo.ensures.unsent
+
+pub returns-in-Acted-clause-ends : goal.returns-in-Acted-clause-ends
+returns-in-Acted-clause-ends c = λ turn.
+    fewer_then (turns_left c.args.self.now c.args.input.now)
+    (turns_left c.apply.new.self c.apply.new.input)
+    (turns_left c.todo.new.self c.apply.new.input)
+    (c.in-Acted.ensures.ends (λ room. room)) (c.todo.ensures.turns c.apply.new.input)
+
+pub returns-in-Shown-clause-ends : goal.returns-in-Shown-clause-ends
+returns-in-Shown-clause-ends c = λ turn. c.in-Shown.ensures.ends (λ room. room)
+
+pub returns-in-Nothing-clause-ends : goal.returns-in-Nothing-clause-ends
+returns-in-Nothing-clause-ends c = λ turn. c.in-Nothing.ensures.ends (λ room. room)

@@ -1,0 +1,26 @@
+use native.Mathlib.Omega.{arith}
+use Rattle.std.proofs.Common.{◌≤◌, take, drop, length, ◌-◌}
+use borrow.Rule.Slice.PartMut.{post_of}
+use Rattle.session_client.specs.Said.{report_bytes}
+use Rattle.session_client.proofs.Places.{no_room, puts}
+use Rattle.session_client.proofs.Reports.{report_short}
+use Rattle.session_client.proofs.saying.put_report.Goals as goal
+
+pub returns-in-Some : goal.returns-in-Some
+returns-in-Some c =
+    let out = c.args.output.now in
+    let at = c.args.unsent.now in
+    let x = c.args.ending.now in
+    let left = length out - at in
+    let here : at ≤ length out = omega (arith, c.requires) in
+    puts (report_bytes c.args.version x.report x c.args.refusal c.args.about.now) out
+    c.place_owed.new.output (drop c.in-Some.size (take left (drop at out))) (post_of at left out) at
+    c.in-Some.size here c.in-Some.ensures.0 c.in-Some.ensures.2
+
+pub returns-in-None : goal.returns-in-None
+returns-in-None c =
+    let x = c.args.ending.now in
+    absurd (no_room (report_bytes c.args.version x.report x c.args.refusal c.args.about.now)
+    c.args.output.now c.args.unsent.now c.requires
+    (report_short c.placed_reports.ensures.most c.args.version x.report x c.args.refusal
+    c.args.about.now) c.in-None.ensures.0)

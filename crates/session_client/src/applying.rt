@@ -1,0 +1,355 @@
+//! The changes of a whole answer are made.
+
+ghost use Rattle.std.specs.Prelude.{◌≡◌, ◌≢◌, ◌<◌, ◌≤◌, ◌+◌, ◌-◌, ◌^◌, ℕ, Bool, length, take, drop};
+ghost use Rattle.std.specs.Prelude.{List, Option, Some, Err, IfOk, min};
+ghost use Rattle.session_client.specs.Holding.{Fits, SameCalls, IsClient, Stands, base_room};
+ghost use Rattle.session_client.specs.Holding.{AsksRoom, WantsData, WantsIndex, WantsRoom};
+ghost use Rattle.session_client.specs.Holding.{data_after, due_size, room_at, room_for};
+ghost use Rattle.session_client.specs.Makings.{Octets, WasMade, onto};
+ghost use Rattle.session_client.specs.Counting.{CountsKept};
+ghost use Rattle.session_client.specs.Over.{IfApplied, IsRefusedOver, none_of, over_of};
+ghost use Rattle.session_client.specs.Said.{Did, did_of};
+ghost use Rattle.session_client.specs.Turning.{HasAnswer, IsInStep, turns_left};
+ghost use Rattle.session_client.specs.declared.client.Holding.TheVariants as holdings;
+ghost use Rattle.session_router.specs.Histories.{Caller};
+ghost use Rattle.session_router.specs.declared.settings.Settings.{Settings};
+ghost use Rattle.data_slices.specs.InOrder.{AppliesInOrder};
+ghost use Rattle.data_slices.specs.declared.in_order_fault.InOrderFault.TheVariants.{NoRoom};
+
+use crate::client::{Client, Holding, part};
+use crate::saying::put;
+use session_bytes::Refusal;
+use session_router::event::{Action, Event};
+use data_slices::in_order_laws::changes_as_they_came;
+use data_slices::{InOrderFault, apply_in_order};
+
+/// What came of a whole answer.
+#[derive(Drop)]
+pub enum Applied {
+    /// No whole answer is there.
+    Nothing,
+    /// What the changes made are the data, which have this length, in the other buffer.
+    Shown(usize),
+    /// The other buffer is shorter than this, the most bytes that the changes make. Nothing has
+    /// happened, and nothing was sorted.
+    Data(usize),
+    /// The index is shorter than this, a place for each unit. Nothing has happened, and nothing was
+    /// sorted.
+    Index(usize),
+    /// The changes are refused, or came too late, and the machine took this action. Where one of
+    /// the changes is refused, this is why, and the offset of its unit in the input.
+    Acted {
+        action: Action,
+        refusal: Option<Refusal>,
+        offset: usize,
+    },
+}
+
+impl Client {
+    /// Makes all changes of an answer that is whole, or none. The data are in one buffer, and what
+    /// the changes make of them is written to the other.
+    pub(crate) fn apply(
+        &mut self,
+        now: u64,
+        input: &mut [u8],
+        held: &[u8],
+        made: &mut [u8],
+        index: &mut [usize],
+        output: &mut [u8],
+    ) -> Applied
+        requires time { now < 2 ^ 63 }
+        requires fits { Fits self.old input.old }
+        requires step { IsInStep self.old }
+        requires whole { HasAnswer self.old.holding }
+        requires room { self.old.unsent + 65535 ≤ length output.old }
+        ensures serves { (s : Settings) → IsClient s self.old input.old held.now
+            → IsClient s self.new input.new (data_after result held.now made.new) }
+        ensures fits { Fits self.new input.new }
+        ensures step { IsInStep self.new }
+        ensures same { SameCalls self.old self.new }
+        ensures did { Did (did_of result) now self.old.router self.new.router self.old.unsent
+            self.new.unsent output.old output.new }
+        ensures room { self.new.unsent ≤ length output.new }
+        ensures names { IfApplied result
+            (over_of now self.old input.old held.now self.new output.old output.new)
+            (none_of now self.old input.old self.new input.new) }
+        ensures ends { (WantsRoom result → ⊥)
+            → turns_left self.new input.new < turns_left self.old input.old }
+        ensures still { WantsRoom result → (self.new ≡ self.old) × (input.new ≡ input.old)
+            × (output.new ≡ output.old) }
+        ensures asks { AsksRoom result (room_at self.old.holding self.old.shown self.old.kept)
+            self.old.router.units }
+        ensures index { CountsKept self.old input.old → self.old.router.units ≤ length index.old
+            → WantsIndex result → ⊥ }
+        ensures enough { room_at self.old.holding self.old.shown self.old.kept ≤ length made.old
+            → WantsData result → ⊥ }
+        ensures short { length made.old
+            < min (room_at self.old.holding self.old.shown self.old.kept) (2 ^ 64 - 1)
+            → WantsData result }
+    {
+        match self.holding {
+            Holding::Answer(size, since) => {
+                self.make_all(now, size, since, input, held, made, index, output)
+            }
+            _ => Applied::Nothing,
+        }
+    }
+
+    fn make_all(
+        &mut self,
+        now: u64,
+        size: usize,
+        since: bool,
+        input: &mut [u8],
+        held: &[u8],
+        made: &mut [u8],
+        index: &mut [usize],
+        output: &mut [u8],
+    ) -> Applied
+        requires time { now < 2 ^ 63 }
+        requires fits { Fits self.old input.old }
+        requires step { IsInStep self.old }
+        requires room { self.old.unsent + 65535 ≤ length output.old }
+        requires due { self.old.holding ≡ holdings.Answer size since }
+        requires within { self.old.kept + size ≤ self.old.filled }
+        ensures serves { (s : Settings) → IsClient s self.old input.old held.now
+            → IsClient s self.new input.new (data_after result held.now made.new) }
+        ensures fits { Fits self.new input.new }
+        ensures step { IsInStep self.new }
+        ensures same { SameCalls self.old self.new }
+        ensures did { Did (did_of result) now self.old.router self.new.router self.old.unsent
+            self.new.unsent output.old output.new }
+        ensures room { self.new.unsent ≤ length output.new }
+        ensures names { IfApplied result
+            (over_of now self.old input.old held.now self.new output.old output.new)
+            (none_of now self.old input.old self.new input.new) }
+        ensures ends { (WantsRoom result → ⊥)
+            → turns_left self.new input.new < turns_left self.old input.old }
+        ensures still { WantsRoom result → (self.new ≡ self.old) × (input.new ≡ input.old)
+            × (output.new ≡ output.old) }
+        ensures asks { AsksRoom result (room_for since self.old.shown size self.old.kept)
+            self.old.router.units }
+        ensures index { CountsKept self.old input.old → self.old.router.units ≤ length index.old
+            → WantsIndex result → ⊥ }
+        ensures enough { room_for since self.old.shown size self.old.kept ≤ length made.old
+            → WantsData result → ⊥ }
+        ensures short { length made.old
+            < min (room_for since self.old.shown size self.old.kept) (2 ^ 64 - 1)
+            → WantsData result }
+    {
+        // Without this the units would be sorted, in vain.
+        let room = self.data_room(size, since);
+        if made.len() < room {
+            return Applied::Data(room);
+        }
+        match self.make(size, since, input, held, made, index) {
+            Ok(count) => self.adopt(now, size, count, input, output),
+            Err(InOrderFault::NoRoom) => Applied::Data(room),
+            Err(InOrderFault::NoIndex) => Applied::Index(self.router.units as usize),
+            Err(InOrderFault::Duplicate { offset }) => {
+                self.refuse(now, Refusal::Duplicate, offset, input, output)
+            }
+            Err(InOrderFault::Unknown { offset }) => {
+                self.refuse(now, Refusal::Unknown, offset, input, output)
+            }
+            Err(_) => self.cannot_make(now, input, output),
+        }
+    }
+
+    /// The most bytes that the changes of an answer make.
+    fn data_room(&self, size: usize, since: bool) -> usize
+        requires { self.now.kept + size ≤ self.now.filled }
+        ensures { result ≡ min (room_for since self.now.shown size self.now.kept) (2 ^ 64 - 1) }
+    {
+        base_room(since, self.shown, size).saturating_add(self.kept + size)
+    }
+
+    /// The changes of an answer were made.
+    fn adopt(
+        &mut self,
+        now: u64,
+        size: usize,
+        count: usize,
+        input: &mut [u8],
+        output: &mut [u8],
+    ) -> Applied
+        requires time { now < 2 ^ 63 }
+        requires fits { Fits self.old input.old }
+        requires step { IsInStep self.old }
+        requires whole { HasAnswer self.old.holding }
+        requires due { due_size self.old.holding ≡ size }
+        requires room { self.old.unsent + 65535 ≤ length output.old }
+        requires within { self.old.kept + size ≤ self.old.filled }
+        ensures stands { (c : Caller Octets Octets) (held made : Octets)
+            → (x : Stands c self.old input.old held) → x.host.made ≡ Some (take count made)
+            → Stands c self.new input.new (data_after result held made) }
+        ensures fits { Fits self.new input.new }
+        ensures step { IsInStep self.new }
+        ensures counts { CountsKept self.new input.new }
+        ensures same { SameCalls self.old self.new }
+        ensures did { Did (did_of result) now self.old.router self.new.router self.old.unsent
+            self.new.unsent output.old output.new }
+        ensures room { self.new.unsent ≤ length output.new }
+        ensures names { (held : Octets) → IfApplied result
+            (over_of now self.old input.old held self.new output.old output.new)
+            (none_of now self.old input.old self.new input.new) }
+        ensures ends { turns_left self.new input.new < turns_left self.old input.old }
+        ensures enough { WantsRoom result → ⊥ }
+    {
+        let action = self.router.step(now, Event::Applied);
+        let to = self.kept + size;
+        self.forget(to, &action, input);
+        match action {
+            Action::Show => {
+                self.shown = Some(count);
+                Applied::Shown(count)
+            }
+            _ => {
+                let version = self.router.version;
+                put(version, &action, None, &[], &mut self.unsent, output);
+                Applied::Acted {
+                    action,
+                    refusal: None,
+                    offset: 0,
+                }
+            }
+        }
+    }
+
+    /// A change is refused for this reason, whose unit begins at this offset of the input.
+    fn refuse(
+        &mut self,
+        now: u64,
+        refusal: Refusal,
+        offset: usize,
+        input: &mut [u8],
+        output: &mut [u8],
+    ) -> Applied
+        requires time { now < 2 ^ 63 }
+        requires fits { Fits self.old input.old }
+        requires step { IsInStep self.old }
+        requires whole { HasAnswer self.old.holding }
+        requires room { self.old.unsent + 65535 ≤ length output.old }
+        ensures stands { (c : Caller Octets Octets) (held made : Octets)
+            → Stands c self.old input.old held
+            → Stands c self.new input.new (data_after result held made) }
+        ensures fits { Fits self.new input.new }
+        ensures step { IsInStep self.new }
+        ensures counts { CountsKept self.old input.old → CountsKept self.new input.new }
+        ensures same { SameCalls self.old self.new }
+        ensures did { Did (did_of result) now self.old.router self.new.router self.old.unsent
+            self.new.unsent output.old output.new }
+        ensures room { self.new.unsent ≤ length output.new }
+        ensures names { (held : Octets) (since : Bool) (size places : ℕ)
+            → self.old.holding ≡ holdings.Answer size since
+            → IsRefusedOver refusal offset
+            (onto since self.old.shown held (take size (drop self.old.kept input.old)))
+            (take (self.old.kept + size) input.old) places
+            → IfApplied result (over_of now self.old input.old held self.new output.old output.new)
+            (none_of now self.old input.old self.new input.new) }
+        ensures ends { turns_left self.new input.new < turns_left self.old input.old }
+        ensures enough { WantsRoom result → ⊥ }
+    {
+        let action = self
+            .router
+            .step(now, Event::NotApplied(Some(refusal.code())));
+        let version = self.router.version;
+        let about = part(input, offset.min(self.filled), self.filled);
+        let refusal = Some(refusal);
+        put(version, &action, refusal, about, &mut self.unsent, output);
+        self.follow(&action, input);
+        Applied::Acted {
+            action,
+            refusal,
+            offset,
+        }
+    }
+
+    /// The changes can't be made, and none of them is to blame.
+    fn cannot_make(&mut self, now: u64, input: &mut [u8], output: &mut [u8]) -> Applied
+        requires time { now < 2 ^ 63 }
+        requires fits { Fits self.old input.old }
+        requires step { IsInStep self.old }
+        requires whole { HasAnswer self.old.holding }
+        requires room { self.old.unsent + 65535 ≤ length output.old }
+        ensures stands { (c : Caller Octets Octets) (held made : Octets)
+            → Stands c self.old input.old held
+            → Stands c self.new input.new (data_after result held made) }
+        ensures fits { Fits self.new input.new }
+        ensures step { IsInStep self.new }
+        ensures counts { CountsKept self.old input.old → CountsKept self.new input.new }
+        ensures same { SameCalls self.old self.new }
+        ensures did { Did (did_of result) now self.old.router self.new.router self.old.unsent
+            self.new.unsent output.old output.new }
+        ensures room { self.new.unsent ≤ length output.new }
+        ensures names { (held : Octets) → IfApplied result
+            (over_of now self.old input.old held self.new output.old output.new)
+            (none_of now self.old input.old self.new input.new) }
+        ensures ends { turns_left self.new input.new < turns_left self.old input.old }
+        ensures enough { WantsRoom result → ⊥ }
+    {
+        let action = self.happens(now, Event::NotApplied(None), input, output);
+        Applied::Acted {
+            action,
+            refusal: None,
+            offset: 0,
+        }
+    }
+
+    /// Writes what the changes make, to the other buffer.
+    fn make(
+        &self,
+        size: usize,
+        since: bool,
+        input: &[u8],
+        held: &[u8],
+        made: &mut [u8],
+        index: &mut [usize],
+    ) -> Result<usize, InOrderFault>
+        requires within { self.now.kept + size ≤ length input.now }
+        ensures enough { room_for since self.now.shown size self.now.kept ≤ length made.old
+            → result ≢ Err NoRoom }
+        ensures applies { AppliesInOrder result
+            (onto since self.now.shown held.now (take size (drop self.now.kept input.now)))
+            (take (self.now.kept + size) input.now) (length index.old) made.old made.new }
+        ensures made { IfOk result (λ n. WasMade (record {
+          base = onto since self.now.shown held.now (take size (drop self.now.kept input.now));
+          answer = take (self.now.kept + size) input.now;
+          new = take n made.new;
+        })) }
+    {
+        changes_as_they_came();
+        let (answer, _) = input.split_at(self.kept + size);
+        let (_, end) = answer.split_at(self.kept);
+        apply_in_order(base(since, self.shown, held, end), answer, index, made)
+    }
+}
+
+/// The most bytes of what changes are made of.
+fn base_room(since: bool, shown: Option<usize>, size: usize) -> usize
+    ensures { result ≡ base_room since shown size }
+{
+    match shown {
+        Some(count) => if since { count } else { size },
+        None => size,
+    }
+}
+
+/// What changes are made of: the data, or the end of data that came, alone.
+fn base<'a>(since: bool, shown: Option<usize>, held: &'a [u8], end: &'a [u8]) -> &'a [u8]
+    ensures { result.now ≡ onto since shown held.now end.now }
+{
+    match shown {
+        Some(count) => {
+            if !since {
+                return end;
+            }
+            if count > held.len() {
+                return held;
+            }
+            let (data, _) = held.split_at(count);
+            data
+        }
+        None => end,
+    }
+}

@@ -1,0 +1,164 @@
+//! A client's numbers.
+
+ghost use Rattle.std.specs.Prelude.{◌≡◌, ◌≤◌, ◌-◌, ◌==◌, List, ℕ, take, drop, length, min, None};
+ghost use Rattle.std.specs.Prelude.{true};
+ghost use Rattle.session_client.specs.Makings.{Octets};
+ghost use Rattle.session_client.specs.Holding.{Fits, IsClient, client_again, new_client, shown_after};
+ghost use Rattle.session_client.specs.Holding.{whole_answer};
+ghost use Rattle.session_client.specs.Turning.{IsInStep};
+
+use session_router::event::Action;
+use session_router::router::{Phase, Router};
+use session_router::settings::Settings;
+
+/// What the first bytes of the input are.
+#[derive(Clone, Copy)]
+pub enum Holding {
+    /// Nothing that counts.
+    Nothing,
+    /// Payload units of a response that isn't whole yet.
+    Units,
+    /// All payload units of a response, followed by its end of data, of so many bytes. Their
+    /// changes are to be made: of the data if true, and otherwise of no data.
+    Answer(usize, bool),
+}
+
+/// A router's end of a session. Its buffers belong to the caller, who passes them to each call:
+///
+/// - input: payload units of the answer, and behind them bytes that the machine wasn't told of yet
+/// - two data buffers: one has the data, and the next answer is written to the other
+/// - index: room to sort the payload units of an answer
+/// - output: the bytes to be sent
+#[derive(Clone, Copy)]
+pub struct Client {
+    pub router: Router,
+    pub holding: Holding,
+    /// The length of the payload units at the front of the input.
+    pub kept: usize,
+    /// The offset in the input at which the next bytes are read.
+    pub filled: usize,
+    /// The length of the data, if there are data.
+    pub shown: Option<usize>,
+    /// How many bytes of the output are still to be sent.
+    pub unsent: usize,
+    /// Whether the data are in the second data buffer.
+    pub second: bool,
+    /// Whether a connection was opened, or closed by the peer, and the machine wasn't told.
+    pub opened: bool,
+    pub closed: bool,
+}
+
+impl Client {
+    /// A client without data, which wants to connect at once.
+    pub fn new(settings: Settings) -> Client
+        ensures serves { (input buffer : Octets)
+            → IsClient (record settings { highest = min settings.highest 2 }) result input buffer }
+        ensures fits { (input : Octets) → Fits result input }
+        ensures step { IsInStep result }
+        ensures is { result ≡ new_client settings }
+    {
+        Client {
+            router: Router::new(settings),
+            holding: Holding::Nothing,
+            kept: 0,
+            filled: 0,
+            shown: None,
+            unsent: 0,
+            second: false,
+            opened: false,
+            closed: false,
+        }
+    }
+
+    /// A client without data that goes on with a cache which was asked before: its waits grow on.
+    pub fn again(&self) -> Client
+        ensures serves { (input buffer : Octets)
+            → IsClient (record self.now.router.settings {
+              highest = min self.now.router.settings.highest 2;
+            }) result input buffer }
+        ensures fits { (input : Octets) → Fits result input }
+        ensures step { IsInStep result }
+        ensures is { result ≡ client_again self.now }
+    {
+        Client {
+            router: self.router.again(),
+            holding: Holding::Nothing,
+            kept: 0,
+            filled: 0,
+            shown: None,
+            unsent: 0,
+            second: false,
+            opened: false,
+            closed: false,
+        }
+    }
+
+    /// Whether the client's offsets are in this input.
+    pub fn fits(&self, input: &[u8]) -> bool
+        ensures yes { result ≡ true → Fits self.now input.now }
+        ensures no { Fits self.now input.now → result ≡ true }
+    {
+        let due = match self.holding {
+            Holding::Answer(size, _) => size,
+            _ => 0,
+        };
+        due <= self.filled && self.kept <= self.filled - due && self.filled <= input.len()
+    }
+
+    /// Whether the input is held as the machine's phase says.
+    pub fn is_in_step(&self) -> bool
+        ensures yes { result ≡ true → IsInStep self.now }
+        ensures no { IsInStep self.now → result ≡ true }
+    {
+        match self.router.phase {
+            Phase::Reading => matches!(self.holding, Holding::Units),
+            Phase::Applying => matches!(self.holding, Holding::Answer(_, _)),
+            _ => matches!(self.holding, Holding::Nothing),
+        }
+    }
+
+    /// The payload units of an answer whose changes the next call of `next` makes: their length at
+    /// the front of the input, and whether they are the changes since the data. Where it returns
+    /// `Data` then, these are what changed, or all payloads.
+    pub fn answer(&self) -> Option<(usize, bool)>
+        ensures { result ≡ whole_answer self.now }
+    {
+        match self.holding {
+            Holding::Answer(_, since) => Some((self.kept, since)),
+            _ => None,
+        }
+    }
+}
+
+/// The length of the data after this action.
+pub(crate) fn shown_after(action: &Action, shown: Option<usize>) -> Option<usize>
+    ensures { result ≡ shown_after action.now shown }
+{
+    match action {
+        Action::Drop => None,
+        Action::End(ending) => if ending.drop { None } else { shown },
+        _ => shown,
+    }
+}
+
+/// Removes the bytes from one offset to another.
+pub(crate) fn take_out(input: &mut [u8], from: usize, to: usize, filled: usize)
+    requires order { from ≤ to }
+    requires some { to ≤ filled }
+    requires within { filled ≤ length input.old }
+    ensures front { take from input.new ≡ take from input.old }
+    ensures rest { take (filled - to) (drop from input.new) ≡ drop to (take filled input.old) }
+{
+    input.copy_within(to..filled, from);
+}
+
+/// The bytes from one offset to another.
+pub(crate) fn part(input: &[u8], from: usize, to: usize) -> &[u8]
+    requires order { from ≤ to }
+    requires within { to ≤ length input.now }
+    ensures { result.now ≡ drop from (take to input.now) }
+{
+    let (front, _) = input.split_at(to);
+    let (_, rest) = front.split_at(from);
+    rest
+}

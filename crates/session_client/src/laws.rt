@@ -1,0 +1,33 @@
+//! What holds of a client, whatever it is called with.
+
+ghost use Rattle.std.specs.Prelude.{◌≡◌, ◌⊎◌, ℕ, List, Option, take, None, Some};
+ghost use Rattle.session_client.specs.Holding.{Fits, SameThere, IsClient, ShowsWholeAnswer};
+ghost use Rattle.session_client.specs.Makings.{Octets};
+ghost use Rattle.session_client.specs.declared.client.Client.{Client};
+ghost use Rattle.session_router.specs.declared.settings.Settings.{Settings};
+
+use session_bytes::laws::only_whole_answers_in_bytes;
+
+/// Between two calls a caller may move the input and the data buffers, make them longer, and read
+/// into the input from the offset `filled` on.
+pub fn room_may_change()
+    ensures { (s : Settings) (k : Client) (input input' buffer buffer' : Octets)
+        → Fits k input → SameThere k input input' buffer buffer' → IsClient s k input buffer
+        → IsClient s k input' buffer' }
+{}
+
+/// A client has no data, or those of the first `shown` bytes of its data buffer: data in canonical
+/// form, which one whole answer made, by the rules of `Data::apply`, of the data before it or of
+/// none, in a run of its machine that was told of each unit by its bytes. They haven't expired.
+pub fn only_whole_answers_are_shown()
+    ensures { (s : Settings) (k : Client) (input buffer : Octets) → IsClient s k input buffer
+        → (k.shown ≡ None) ⊎ ShowsWholeAnswer s k buffer }
+{
+    only_whole_answers_in_bytes()
+}
+
+/// There is a client that shows data: the premise of `only_whole_answers_are_shown` is met.
+pub fn data_are_shown()
+    ensures { (s : Settings) × (k : Client) × (input : Octets) × (buffer : Octets)
+        × IsClient s k input buffer × (k.shown ≡ Some 44) }
+{}

@@ -1,0 +1,102 @@
+//! What holds of whole runs.
+
+ghost use Rattle.std.specs.Prelude.{◌≡◌, ◌≤◌, ◌<◌, ℕ, List, Option, true, false};
+ghost use Rattle.session_router.specs.Histories as histories;
+ghost use Rattle.session_router.specs.Exchange.{Exchange, exchanged};
+ghost use Rattle.session_router.specs.Recovery.{served_until};
+ghost use Rattle.session_group.specs.Ends.{End, IsGroup, ShowsWhole};
+ghost use Rattle.session_group.specs.Groups.{best_of};
+ghost use Rattle.session_group.specs.Recovery.{IsWaitedFor, shown_until};
+ghost use Rattle.session_group.specs.Served.{Deed, GroupStep, IsServedIn, GroupReaches, served_by};
+ghost use Rattle.session_group.specs.Runs.{ChangesRightly, GroupMoment, Happened, IsGroupRun};
+ghost use Rattle.session_group.specs.Runs.{LeavesNone, Listener, NeverOlder, RunsInOrder, ShowsBest};
+ghost use Rattle.session_group.specs.Runs.{answer_then, best_in, caller_then};
+ghost use Rattle.session_group.specs.declared.group.Group.{Group};
+ghost use Rattle.session_group.specs.declared.settings.Settings as settings;
+
+/// Whatever comes to a group, and whenever, its caller shows the data of the most preferred member
+/// that is current; if none is, of the members with data those of the one that had a whole answer
+/// last; and none if no member has data. `Group::best` returns which member that is.
+pub fn best_data_shown()
+    ensures shown { (count : ℕ) (s : settings.Settings) (history : List (GroupMoment ℕ)) (g : Group)
+        (c : Listener ℕ) → IsGroupRun count s history g c → ShowsBest c }
+    ensures best { (count : ℕ) (s : settings.Settings) (history : List (GroupMoment ℕ)) (g : Group)
+        (c : Listener ℕ) → IsGroupRun count s history g c → best_of g ≡ best_in c }
+{}
+
+/// Whatever comes: the shown data change if and only if that member is another one, or has new
+/// data.
+pub fn changes_with_it()
+    ensures { (count : ℕ) (s : settings.Settings) (history : List (GroupMoment ℕ)) (g : Group)
+        (c : Listener ℕ) (n : ℕ) (h : Happened ℕ) → IsGroupRun count s history g c
+        → ChangesRightly c h (answer_then g n h) (caller_then c n h (answer_then g n h)) }
+{}
+
+/// Whatever comes: data that are shown give way to those of another member only if that one is
+/// current, or if they are gone. So data of a whole answer never give way to those of an earlier
+/// one.
+pub fn never_older()
+    ensures { (count : ℕ) (s : settings.Settings) (history : List (GroupMoment ℕ)) (g : Group)
+        (c : Listener ℕ) (n : ℕ) (h : Happened ℕ) → IsGroupRun count s history g c
+        → NeverOlder c (caller_then c n h (answer_then g n h)) }
+{}
+
+/// Whatever comes: a member runs if and only if each one before it, since it began and since its
+/// last whole answer, failed or was silent for the patience. A stopped member has no data.
+pub fn asked_in_order()
+    ensures runs { (count : ℕ) (s : settings.Settings) (history : List (GroupMoment ℕ)) (g : Group)
+        (c : Listener ℕ) → IsGroupRun count s history g c → RunsInOrder count c }
+    ensures none { (count : ℕ) (s : settings.Settings) (history : List (GroupMoment ℕ)) (g : Group)
+        (c : Listener ℕ) → IsGroupRun count s history g c → LeavesNone c }
+{}
+
+/// A group recovers. After any history: if member `i` keeps the rules from `start` on, so that it
+/// isn't without a whole answer for longer than `within` while it runs, then by `shown_until` it is
+/// current, or a better one is; so the data of one of these are shown by then (`best_data_shown`).
+pub fn group_recovers()
+    ensures { (count : ℕ) (s : settings.Settings) (history : List (GroupMoment ℕ)) (g₀ : Group)
+        (c₀ : Listener ℕ) (i within start : ℕ) (g : Group) (c : Listener ℕ) (now : ℕ)
+        → IsGroupRun count s history g₀ c₀ → i < count
+        → ((j : ℕ) → (c₀.members j).began ≤ start)
+        → IsWaitedFor i within start g₀ c₀ g c now → now ≤ shown_until c₀ i within start }
+{}
+
+/// The same by messages. After any history of a group of routers' ends: if the cache of member `i`
+/// has data and keeps the rules from `start` on, told by what was exchanged with it, then member
+/// `i` is current, or a better one is, by a stated time. If the member runs at `start`, that is
+/// when its router recovers (`recovers` of `session_router`); otherwise `served_by`: a patience for
+/// each member before it, and a connection for each version. Each step of such a run leads from a
+/// run of a group to another one.
+pub fn group_recovers_by_messages()
+    ensures running { (c : ℕ → histories.Caller ℕ ℕ) (count : ℕ) (s : settings.Settings)
+        (payloads : ℕ → ℕ) (history : List (GroupMoment ℕ)) (g₀ g : Group) (k₀ k : Listener ℕ)
+        (ends₀ ends : ℕ → End ℕ ℕ) (i most spoken start : ℕ) (x : Exchange) (now : ℕ)
+        → IsGroup c count s payloads history g₀ k₀ ends₀
+        → (k₀.members i).runs ≡ true → (ends₀ i).router.floor ≤ spoken
+        → IsServedIn c payloads i most start g₀ k₀ ends₀
+        (record (exchanged (c i).settings (ends₀ i).history) { spoken = spoken }) g k ends x now
+        → now ≤ served_until (ends₀ i).router start }
+    ensures waiting { (c : ℕ → histories.Caller ℕ ℕ) (count : ℕ) (s : settings.Settings)
+        (payloads : ℕ → ℕ) (history : List (GroupMoment ℕ)) (g₀ g : Group) (k₀ k : Listener ℕ)
+        (ends₀ ends : ℕ → End ℕ ℕ) (i most start : ℕ) (x₀ x : Exchange) (now : ℕ)
+        → IsGroup c count s payloads history g₀ k₀ ends₀ → i < count
+        → (k₀.members i).runs ≡ false → ((j : ℕ) → (k₀.members j).began ≤ start)
+        → IsServedIn c payloads i most start g₀ k₀ ends₀ x₀ g k ends x now
+        → now ≤ served_by k₀ (c i).settings i start }
+    ensures groups { (c : ℕ → histories.Caller ℕ ℕ) (count : ℕ) (s : settings.Settings)
+        (payloads : ℕ → ℕ) (history : List (GroupMoment ℕ)) (g g' : Group) (k k' : Listener ℕ)
+        (ends ends' : ℕ → End ℕ ℕ) (n : ℕ) (did : Option Deed) (starts : Option ℕ)
+        → IsGroup c count s payloads history g k ends
+        → GroupStep c payloads n g k ends did starts g' k' ends'
+        → GroupReaches c count s payloads g' k' ends' }
+{}
+
+/// Whatever comes to the routers' ends of a group, and whenever: its caller shows no data, or those
+/// that one end shows, the best; one whole answer of that cache made them, of no data or of the
+/// data of that end before it, and they haven't expired.
+pub fn whole_answers_of_one()
+    ensures { (c : ℕ → histories.Caller ℕ ℕ) (count : ℕ) (s : settings.Settings)
+        (payloads : ℕ → ℕ) (history : List (GroupMoment ℕ)) (g : Group) (k : Listener ℕ)
+        (ends : ℕ → End ℕ ℕ) → IsGroup c count s payloads history g k ends
+        → ShowsWhole c s payloads k ends }
+{}

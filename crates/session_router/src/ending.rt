@@ -1,0 +1,355 @@
+//! How connections end, and what comes after.
+
+ghost use Rattle.std.specs.Prelude.{◌≡◌, ◌≢◌, ◌≤◌, ◌<◌, ◌+◌, ◌*◌, ◌-◌, ◌^◌, ◌⊎◌, true, false, None};
+ghost use Rattle.std.specs.Prelude.{Some, min, max, if◌then◌else◌, ℕ};
+ghost use Rattle.session_router.specs.Heeding.{Heeds, HeedsExpiry, IsIdle, ends_with};
+ghost use Rattle.session_router.specs.After.{forgets, once_failed, once_fallen_by_word};
+ghost use Rattle.session_router.specs.After.{once_fallen_silently, once_rested, once_risen};
+ghost use Rattle.session_router.specs.After.{router_after};
+ghost use Rattle.session_router.specs.Pace.{Paces, PacesFailure, PacesFall, PacesGivingUp, grows};
+ghost use Rattle.session_router.specs.Pace.{grows_slow, longest_rest, next_rise, next_wait, rest};
+ghost use Rattle.session_router.specs.Rules.{Drops, Fails, Fresh, GivesUp, HasLost, Rule, SameKnown};
+ghost use Rattle.session_router.specs.Rules.{awaits_changes, is_answering};
+ghost use Rattle.session_router.specs.Times.{shortened};
+ghost use Rattle.session_router.specs.declared.event.Action.TheVariants as actions;
+ghost use Rattle.session_router.specs.declared.event.Cause.TheVariants as causes;
+ghost use Rattle.session_router.specs.declared.event.Event.{Event};
+ghost use Rattle.session_router.specs.declared.event.Event.TheVariants as events;
+ghost use Rattle.session_router.specs.declared.router.Phase.TheVariants as phases;
+
+use crate::event::{Action, Cause, Ending};
+use crate::head::Fault;
+use crate::router::{FIRST_WAIT, Phase, Router};
+
+/// The codes of reports (RFC 8210 section 12).
+pub(crate) const CORRUPT_DATA: u16 = 0;
+
+pub(crate) const NO_DATA: u16 = 2;
+
+pub(crate) const NO_VERSION: u16 = 4;
+
+pub(crate) const NO_TYPE: u16 = 5;
+
+pub(crate) const OTHER_VERSION: u16 = 8;
+
+/// The longest time for which a version isn't tried: a day, in milliseconds.
+const LONGEST_RISE: u32 = 86_400_000;
+
+impl Router {
+    /// Ends the connection because of a failure.
+    pub(crate) fn end(&mut self, now: u64, report: Option<u16>, cause: Cause) -> Action
+        requires time { now < 2 ^ 63 }
+        ensures action { result ≡ ends_with false report cause }
+        ensures becomes { self.new ≡ once_failed false self.old now }
+        ensures same { SameKnown self.old self.new }
+        ensures phase { self.new.phase ≡ phases.Offline }
+        ensures fails { Fails self.old self.new }
+        ensures paces { PacesFailure self.old now false self.new }
+    {
+        let rest = if self.awaits_changes() {
+            self.resync = true;
+            self.settings.pause as u64
+        } else {
+            let grows = self.grows();
+            self.rest(grows)
+        };
+        self.phase = Phase::Offline;
+        self.due = now + rest;
+        Action::End(Ending {
+            drop: false,
+            report,
+            cause,
+        })
+    }
+
+    /// Ends the connection because the time for what was under way is over.
+    pub(crate) fn give_up(&mut self, now: u64) -> Action
+        requires time { now < 2 ^ 63 }
+        ensures action { result ≡ ends_with false None causes.Slow }
+        ensures becomes { self.new ≡ once_rested (grows_slow self.old) self.old now }
+        ensures same { SameKnown self.old self.new }
+        ensures phase { self.new.phase ≡ phases.Offline }
+        ensures gives_up { GivesUp self.old self.new }
+        ensures paces { PacesGivingUp self.old now self.new }
+    {
+        let grows = self.is_answering() || self.grows();
+        let rest = self.rest(grows);
+        self.phase = Phase::Offline;
+        self.due = now + rest;
+        Action::End(Ending {
+            drop: false,
+            report: None,
+            cause: Cause::Slow,
+        })
+    }
+
+    /// Drops the data, and ends the connection.
+    fn drop_all(&mut self, now: u64, report: Option<u16>, cause: Cause) -> Action
+        requires time { now < 2 ^ 63 }
+        ensures action { result ≡ ends_with true report cause }
+        ensures becomes { self.new ≡ once_failed true self.old now }
+        ensures lost { HasLost self.old self.new }
+        ensures phase { self.new.phase ≡ phases.Offline }
+        ensures fails { Fails self.old self.new }
+        ensures paces { PacesFailure self.old now true self.new }
+    {
+        self.has_data = false;
+        self.resync = true;
+        self.floor = 0;
+        self.wait = FIRST_WAIT;
+        self.phase = Phase::Offline;
+        self.due = now + self.settings.pause as u64;
+        Action::End(Ending {
+            drop: true,
+            report,
+            cause,
+        })
+    }
+
+    /// The cache has begun another session (RFC 8210 section 5.1).
+    pub(crate) fn other_session(&mut self, now: u64) -> Action
+        requires time { now < 2 ^ 63 }
+        ensures action { result ≡ ends_with self.old.has_data (Some 0) causes.OtherSession }
+        ensures becomes { self.new ≡ once_failed self.old.has_data self.old now }
+        ensures data_then { Drops self.old.has_data self.old self.new }
+        ensures fresh { Fresh self.old now → Fresh self.new now }
+        ensures phase { self.new.phase ≡ phases.Offline }
+        ensures fails { Fails self.old self.new }
+        ensures paces { PacesFailure self.old now self.old.has_data self.new }
+    {
+        if self.has_data {
+            self.drop_all(now, Some(CORRUPT_DATA), Cause::OtherSession)
+        } else {
+            self.end(now, Some(CORRUPT_DATA), Cause::OtherSession)
+        }
+    }
+
+    /// The data have expired (RFC 8210 section 6).
+    pub(crate) fn expire(&mut self, now: u64) -> Action
+        requires time { now < 2 ^ 63 }
+        ensures rule { (e : Event) → Rule self.old now e result self.new }
+        ensures has_data { self.new.has_data ≡ false }
+        ensures heeds { HeedsExpiry self.old result }
+        ensures paces { (e : Event) → Paces self.old now e result self.new }
+        ensures becomes { (e : Event) → self.new ≡ router_after self.old now e result }
+        ensures acts { result ≢ actions.Wait }
+    {
+        match self.phase {
+            Phase::Offline => {
+                self.has_data = false;
+                self.floor = 0;
+                self.wait = FIRST_WAIT;
+                self.due = self.due.min(now + self.settings.pause as u64);
+                Action::Drop
+            }
+            _ => self.drop_all(now, None, Cause::Expired),
+        }
+    }
+
+    /// Ends the connection, and makes another one at once in a lower version (RFC 8210 section 7).
+    pub(crate) fn fall(&mut self, now: u64, version: u8) -> Action
+        requires time { now < 2 ^ 63 }
+        ensures action { result ≡ ends_with false None causes.Lower }
+        ensures becomes { self.new ≡ once_fallen_by_word self.old now version }
+        ensures same { SameKnown self.old self.new }
+        ensures phase { self.new.phase ≡ phases.Offline }
+        ensures version { self.new.version ≡ version }
+        ensures floor { self.new.floor ≡ self.old.floor }
+        ensures resync { self.new.resync ≡ self.old.resync }
+        ensures paces { PacesFall self.old now self.new }
+    {
+        self.version = version;
+        self.fell = true;
+        self.silent = false;
+        self.phase = Phase::Offline;
+        self.due = now;
+        Action::End(Ending {
+            drop: false,
+            report: None,
+            cause: Cause::Lower,
+        })
+    }
+
+    /// Falls to the next lower version at a close without a word. The highest one is tried again
+    /// after the refresh time, or later each time that it ends so.
+    fn fall_silently(&mut self, now: u64) -> Action
+        requires time { now < 2 ^ 63 }
+        requires version { 1 ≤ self.old.version }
+        ensures action { result ≡ ends_with false None causes.Lower }
+        ensures becomes { self.new ≡ once_fallen_silently self.old now }
+        ensures same { SameKnown self.old self.new }
+        ensures phase { self.new.phase ≡ phases.Offline }
+        ensures version { self.new.version + 1 ≡ self.old.version }
+        ensures floor { self.new.floor ≡ self.old.floor }
+        ensures resync { self.new.resync ≡ self.old.resync }
+        ensures paces { PacesFall self.old now self.new }
+    {
+        if !self.silent {
+            self.rise_wait = self.next_rise();
+            self.rises = now + self.rise_wait as u64;
+        }
+        self.version -= 1;
+        self.fell = true;
+        self.silent = true;
+        self.phase = Phase::Offline;
+        self.due = now;
+        Action::End(Ending {
+            drop: false,
+            report: None,
+            cause: Cause::Lower,
+        })
+    }
+
+    /// How long the highest version isn't tried: the refresh time, and twice as long each time, up
+    /// to a day.
+    fn next_rise(&self) -> u32
+        ensures { result ≡ next_rise self.now }
+    {
+        let refresh = self.settings.refresh(&self.known) as u32;
+        refresh.max(self.rise_wait.saturating_mul(2).min(LONGEST_RISE))
+    }
+
+    /// Ends the connection, and makes another one at once in the highest version. Data stay.
+    pub(crate) fn rise(&mut self, now: u64) -> Action
+        ensures action { result ≡ ends_with false None causes.Higher }
+        ensures becomes { self.new ≡ once_risen self.old now }
+    {
+        self.phase = Phase::Offline;
+        self.due = now;
+        Action::End(Ending {
+            drop: false,
+            report: None,
+            cause: Cause::Higher,
+        })
+    }
+
+    /// A connection could not be made, or is gone. Before a version was agreed on the next one may
+    /// be in a lower version, but not in one below that in which the cache answered before.
+    pub(crate) fn lost(&mut self, now: u64) -> Action
+        requires time { now < 2 ^ 63 }
+        requires fresh { Fresh self.old now }
+        ensures rule { Rule self.old now events.Lost result self.new }
+        ensures fresh { Fresh self.new now }
+        ensures paces { Paces self.old now events.Lost result self.new }
+        ensures becomes { self.new ≡ router_after self.old now events.Lost result }
+        ensures heeds { Heeds self.old now events.Lost result self.new }
+        ensures idles { IsIdle events.Lost self.old → result ≡ actions.Wait }
+    {
+        match self.phase {
+            Phase::Offline => Action::Wait,
+            Phase::Asked if !self.agreed && self.version > self.floor => self.fall_silently(now),
+            _ => self.end(now, None, Cause::Lost),
+        }
+    }
+
+    /// A unit is refused. Its version comes first (RFC 8210 section 7), and nothing is said about
+    /// an error report.
+    pub(crate) fn faulty(&mut self, now: u64, fault: &Fault) -> Action
+        requires time { now < 2 ^ 63 }
+        requires fresh { Fresh self.old now }
+        ensures rule { Rule self.old now (events.Faulty fault.now) result self.new }
+        ensures fresh { Fresh self.new now }
+        ensures paces { Paces self.old now (events.Faulty fault.now) result self.new }
+        ensures becomes { self.new ≡ router_after self.old now (events.Faulty fault.now) result }
+        ensures heeds { Heeds self.old now (events.Faulty fault.now) result self.new }
+        ensures idles { IsIdle (events.Faulty fault.now) self.old → result ≡ actions.Wait }
+    {
+        match self.phase {
+            Phase::Offline | Phase::Connecting => Action::Wait,
+            _ if fault.code.is_none() => self.end(now, None, Cause::Faulty),
+            Phase::Asked if !self.agreed && fault.version > self.version => {
+                self.end(now, Some(NO_VERSION), Cause::HigherVersion)
+            }
+            Phase::Asked if !self.agreed => self.end(now, fault.code, Cause::Faulty),
+            _ if fault.version != self.version => {
+                self.end(now, Some(OTHER_VERSION), Cause::OtherVersion)
+            }
+            _ => self.end(now, fault.code, Cause::Faulty),
+        }
+    }
+
+    /// The changes of a response couldn't be kept or made.
+    pub(crate) fn not_applied(&mut self, now: u64, code: Option<u16>) -> Action
+        requires time { now < 2 ^ 63 }
+        requires fresh { Fresh self.old now }
+        ensures rule { Rule self.old now (events.NotApplied code) result self.new }
+        ensures fresh { Fresh self.new now }
+        ensures paces { Paces self.old now (events.NotApplied code) result self.new }
+        ensures becomes { self.new ≡ router_after self.old now (events.NotApplied code) result }
+        ensures heeds { Heeds self.old now (events.NotApplied code) result self.new }
+        ensures idles { IsIdle (events.NotApplied code) self.old → result ≡ actions.Wait }
+    {
+        match self.phase {
+            Phase::Reading | Phase::Applying => self.end(now, code, Cause::NotApplied),
+            _ => Action::Wait,
+        }
+    }
+
+    /// Whether a serial query is out.
+    fn awaits_changes(&self) -> bool
+        ensures { result ≡ awaits_changes self.now }
+    {
+        self.is_answering() && self.changes
+    }
+
+    /// Whether a query is out, or its answer isn't made yet.
+    fn is_answering(&self) -> bool
+        ensures { result ≡ is_answering self.now.phase }
+    {
+        matches!(self.phase, Phase::Asked | Phase::Reading | Phase::Applying)
+    }
+
+    /// Whether waits grow: without data, or after a cache that was alive a moment ago.
+    fn grows(&self) -> bool
+        ensures { result ≡ grows self.now }
+    {
+        !self.has_data || self.answered || self.agreed
+    }
+
+    /// How long to wait after a failure that isn't a serial query's: longer each time, up to the
+    /// retry time, or that time. A cache without data here that was silent for so long may be one
+    /// of a lower version, whatever answered before.
+    fn rest(&mut self, grows: bool) -> u64
+        ensures value { result ≡ rest grows self.old }
+        ensures most { result < 2 ^ 32 }
+        ensures same { self.new ≡ record self.old {
+          wait = next_wait grows self.old;
+          floor = if forgets self.old then 0 else self.old.floor;
+        } }
+    {
+        let retry = self.settings.retry(&self.known);
+        if !self.has_data && retry <= self.wait as u64 {
+            self.floor = 0;
+        }
+        let wait = if grows {
+            self.grown(self.longest_rest())
+        } else {
+            retry
+        };
+        wait.max(self.settings.pause as u64)
+    }
+
+    /// The longest wait that grows: the retry time, or the refresh time where nothing was asked.
+    fn longest_rest(&self) -> u64
+        ensures value { result ≡ longest_rest self.now }
+        ensures most { result < 2 ^ 32 }
+    {
+        let retry = self.settings.retry(&self.known);
+        match self.phase {
+            Phase::Waiting if self.has_data => retry.max(self.settings.refresh(&self.known)),
+            _ => retry,
+        }
+    }
+
+    /// The next wait that grows.
+    fn grown(&mut self, most: u64) -> u64
+        requires { most < 2 ^ 32 }
+        ensures value { result ≡ shortened self.old.settings.chance (min most self.old.wait) }
+        ensures most { result < 2 ^ 32 }
+        ensures same { self.new ≡ record self.old { wait = next_wait true self.old } }
+    {
+        let wait = most.min(self.wait as u64);
+        self.wait = self.wait.saturating_mul(2);
+        wait - wait * (self.settings.chance as u64) / 131_072
+    }
+}

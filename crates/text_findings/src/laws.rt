@@ -1,0 +1,29 @@
+//! Laws of what a caller keeps.
+
+ghost use Rattle.std.specs.Prelude.{◌≡◌, ◌∷◌, List, Some};
+ghost use Rattle.std.specs.Ordering.{is_eq};
+ghost use Rattle.std.specs.Str.{bytes_eq};
+ghost use Rattle.rtr_payload.specs.Orders.{payload_cmp};
+ghost use Rattle.rtr_payload.specs.Payloads.{Payload};
+ghost use Rattle.unit_any.specs.AnyFields.{AnyFields, AnyFit};
+ghost use Rattle.text_findings.specs.KeptNames.{AllFit, IsAnnouncedAs, has_kept};
+ghost use Rattle.text_findings.specs.PayloadNames.{IsNamed, payload_name, unit_name};
+ghost use Rattle.text_findings.specs.SequenceSoFar.{announced, named_by, sequence};
+
+/// Two payloads have one name exactly where they are one to the rules, and the payload that a unit
+/// names is one of which that can be said.
+pub fn names_are_of_payloads()
+    ensures alike { (p q : Payload) → IsNamed p → IsNamed q →
+        bytes_eq (payload_name p) (payload_name q) ≡ is_eq (payload_cmp p q) }
+    ensures named { (unit : AnyFields) (p : Payload) → AnyFit unit → named_by unit ≡ Some p →
+        IsNamed p }
+{}
+
+/// A caller that does with each unit as it is told has in its set what is announced in the
+/// sequence, and so what it says of the next unit is so.
+pub fn names_are_those_announced()
+    ensures kept { (history : List AnyFields) (p : Payload) → AllFit history → IsNamed p →
+        has_kept history (payload_name p) ≡ announced (sequence history) p }
+    ensures said { (history : List AnyFields) (unit : AnyFields) → AllFit (unit ∷ history) →
+        IsAnnouncedAs (has_kept history (unit_name unit)) (sequence history) (named_by unit) }
+{}

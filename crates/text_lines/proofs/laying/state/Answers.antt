@@ -1,0 +1,7 @@
+use Rattle.text_lines.proofs.Laid.{lays_next}
+use Rattle.text_lines.proofs.laying.state.Goals as goal
+
+pub returns : goal.returns
+returns c =
+    lays_next _ _ _ _ _ _ _ _ _ c.labelled-at.ensures
+    c.labelled.ensures

@@ -1,0 +1,23 @@
+use Rattle.std.proofs.Common.{rules}
+use Rattle.text_lines.proofs.Laid.{lays_said}
+use Rattle.text_lines.proofs.unit_object.own_fields.Goals as goal
+
+pub returns-in-SerialNotify : goal.returns-in-SerialNotify
+returns-in-SerialNotify c =
+    lays_said _ _ _ _ _ _ (search rules) c.state.ensures
+
+pub returns-in-SerialQuery : goal.returns-in-SerialQuery
+returns-in-SerialQuery c =
+    lays_said _ _ _ _ _ _ (search rules) c.state-in-SerialQuery.ensures
+
+pub returns-in-ResetQuery : goal.returns-in-ResetQuery
+returns-in-ResetQuery c =
+    lays_said _ _ _ _ _ _ (search rules) c.zero.ensures
+
+pub returns-in-CacheResponse : goal.returns-in-CacheResponse
+returns-in-CacheResponse c =
+    lays_said _ _ _ _ _ _ (search rules) c.session_alone.ensures
+
+pub returns-in-CacheReset : goal.returns-in-CacheReset
+returns-in-CacheReset c =
+    lays_said _ _ _ _ _ _ (search rules) c.zero-in-CacheReset.ensures

@@ -1,0 +1,12 @@
+use Rattle.std.proofs.Common.{◌≡◌, ◌++◌, map}
+use Rattle.std.specs.List.{AllByRecursion}
+use Rattle.std.specs.Map.Iter.{deref}
+use Rattle.rtr_payload.specs.Meanings.{key_of}
+use Rattle.data_memory.specs.Sequences.{IsInRange}
+use Rattle.validate_work.proofs.ranges.keys_in_range.Given as goal
+
+abbrev pub invariant-loop-key : goal.invariant-loop-key
+invariant-loop-key l = record {
+  turned : l.fn.keys ≡ map deref l.yielded ++ l.key-iterator;
+  ranges : AllByRecursion (λ p. IsInRange p) (map key_of (map deref l.yielded));
+}
