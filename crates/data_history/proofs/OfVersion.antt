@@ -23,7 +23,8 @@ use Rattle.rtr_wire.proofs.InVersion.{sequence_for}
 use Rattle.rtr_wire.proofs.OneAnswer.{only_accepted}
 use Rattle.rtr_wire.proofs.Runs.{accepted_same}
 use Rattle.data_memory.specs.Changes.{announcements, changes, withdrawals}
-use Rattle.data_memory.specs.Data.{Change, announcement, has, has_name, name_cmp, name_of, withdrawal}
+use Rattle.data_memory.specs.Data.{Change, announcement, has, has_name, name_cmp, name_of}
+use Rattle.data_memory.specs.Data.{withdrawal}
 use Rattle.data_memory.specs.Deltas.{changes_for, data_for, unit_of}
 use Rattle.data_memory.proofs.Names.{very_name}
 use Rattle.data_memory.proofs.Versions.{version_data}

@@ -30,7 +30,8 @@ use Rattle.data_history.specs.PrivateJoins.{Returns, grown}
 use Rattle.data_history.specs.Since.{IsShortForAnswer, WritesChangesSince}
 use Rattle.data_history.specs.declared.room.Room.TheVariants.{Index, Buffer, Spare, Output}
 use Rattle.data_history.specs.declared.since.SinceFault.{SinceFault}
-use Rattle.data_history.specs.declared.since.SinceFault.TheVariants.{Unknown, UnitVersion, Malformed}
+use Rattle.data_history.specs.declared.since.SinceFault.TheVariants.{Unknown, UnitVersion}
+use Rattle.data_history.specs.declared.since.SinceFault.TheVariants.{Malformed}
 use Rattle.data_history.specs.declared.since.SinceFault.TheVariants.{NoRoom}
 use Rattle.data_history.proofs.Joining.{changes_few}
 use Rattle.data_history.proofs.Rooms.{stopped_run}

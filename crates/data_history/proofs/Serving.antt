@@ -2,7 +2,11 @@
 use Rattle.std.proofs.Common.{◌≡◌, ◌≤◌, ◌+◌, ◌*◌, ℕ, Bool, true, false, not, List, [], ◌∷◌, Option}
 use Rattle.std.proofs.Common.{Some, None, refl, sym, ap, subst, ◌∙◌, take, arith}
 use Rattle.std.specs.Prelude.{Result, Ok, Err, IfOk, IsOk}
+use Rattle.rtr_units.specs.AnyEnd.{end_meaning}
+use Rattle.rtr_units.specs.End.{EndMeaning}
 use Rattle.rtr_units.specs.declared.end.EndOfData.{EndOfData}
+use Rattle.rtr_payload.specs.Payloads.{Payload}
+use Rattle.data_slices.proofs.OneData.{one_data}
 use Rattle.data_slices.specs.Canonical.{HoldsData}
 use Rattle.data_history.specs.Checks.{ChecksHistory, IsShortForCheck}
 use Rattle.data_history.specs.Life.{IsLife, IsUnsavedLife, MayTake}
@@ -28,6 +32,17 @@ use Rattle.data_history.specs.declared.store.TakeFault.{TakeFault}
 use Rattle.data_history.specs.declared.store.TakeFault.TheVariants as untakes
 use Rattle.data_history.specs.declared.stores.Stores.{Stores}
 use Rattle.data_history.proofs.Living.{lives, lives_unsaved}
+
+-- ---- sessions
+
+-- a session that was read off the end of data is theirs
+pub session_is : (b : List ℕ) (session : ℕ) (end : EndOfData) (z : Snapshot) →
+    session ≡ (end_meaning end).session →
+    ((d : List Payload) × HoldsData b d (end_meaning end)) → HoldsData b z.payloads z.end →
+    session ≡ z.end.session
+session_is b session end z is p h =
+    is ∙ ap (λ (e : EndMeaning). e.session)
+    (one_data b p.0 z.payloads (end_meaning end) z.end p.1 h).1
 
 -- ---- refusals
 

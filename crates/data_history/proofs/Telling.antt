@@ -16,7 +16,8 @@ use Rattle.data_history.specs.Parts.{part_rest}
 use Rattle.data_history.specs.PrivateJoins.{Joins, grown}
 use Rattle.data_history.specs.Since.{WritesChangesSince}
 use Rattle.data_history.specs.declared.since.SinceFault.{SinceFault}
-use Rattle.data_history.specs.declared.since.SinceFault.TheVariants.{Unknown, UnitVersion, Malformed}
+use Rattle.data_history.specs.declared.since.SinceFault.TheVariants.{Unknown, UnitVersion}
+use Rattle.data_history.specs.declared.since.SinceFault.TheVariants.{Malformed}
 use Rattle.data_history.specs.declared.since.SinceFault.TheVariants.{NoRoom}
 use Rattle.data_history.proofs.Steps.{with_more}
 

@@ -8,7 +8,8 @@ use Rattle.data_slices.specs.Order.{Sends}
 use Rattle.data_history.specs.Snapshots.{AreAlike, Snapshot}
 use Rattle.data_history.specs.declared.room.Room.TheVariants.{Index, Buffer, Spare, Output}
 use Rattle.data_history.specs.declared.since.SinceFault.{SinceFault}
-use Rattle.data_history.specs.declared.since.SinceFault.TheVariants.{Unknown, UnitVersion, Malformed}
+use Rattle.data_history.specs.declared.since.SinceFault.TheVariants.{Unknown, UnitVersion}
+use Rattle.data_history.specs.declared.since.SinceFault.TheVariants.{Malformed}
 use Rattle.data_history.specs.declared.since.SinceFault.TheVariants.{NoRoom}
 
 -- the bytes are units that make changes, in this order, which lead from the one snapshot to the

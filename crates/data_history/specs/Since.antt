@@ -8,7 +8,8 @@ use Rattle.data_slices.specs.Delta.{delta_form}
 use Rattle.data_history.specs.Snapshots.{Snapshot}
 use Rattle.data_history.specs.declared.room.Room.TheVariants.{Index, Buffer, Spare, Output}
 use Rattle.data_history.specs.declared.since.SinceFault.{SinceFault}
-use Rattle.data_history.specs.declared.since.SinceFault.TheVariants.{Unknown, UnitVersion, Malformed}
+use Rattle.data_history.specs.declared.since.SinceFault.TheVariants.{Unknown, UnitVersion}
+use Rattle.data_history.specs.declared.since.SinceFault.TheVariants.{Malformed}
 use Rattle.data_history.specs.declared.since.SinceFault.TheVariants.{NoRoom}
 
 -- The whole promise of an answer in a version, by the snapshot that the router has, if it is kept,

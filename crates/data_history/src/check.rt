@@ -22,7 +22,7 @@ use rtr_units::end::EndOfData;
 pub enum CheckFault {
     /// The bytes are no history.
     Malformed,
-    /// This slice is too short. It suffices for these bytes if it is as long as wanted.
+    /// This slice is too short. With `wanted` bytes it suffices for these bytes.
     NoRoom { room: Room, wanted: usize },
 }
 
@@ -104,8 +104,8 @@ fn join_all(newest: &EndOfData, steps: &[u8], buffer: &mut [u8]) -> Result<usize
     }
 }
 
-/// Returns how far an end of data is behind the newest, if it is of the same version and session,
-/// and further behind than the last.
+/// Returns how far the serial number of this end of data is behind the newest, if it is of the same
+/// version and session, and further behind than `last`.
 fn behind_last(end: &EndOfData, newest: &EndOfData, last: u32) -> Option<u32>
     ensures is { IfSome result (λ n.
         MayBeNext n (end_meaning end.now) (end_meaning newest.now) last) }

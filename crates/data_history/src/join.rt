@@ -19,9 +19,9 @@ use rtr_wire::normalise_into;
 /// How many bytes the shortest payload unit has: a withdrawal of an ASPA.
 pub const SHORTEST: usize = 12;
 
-/// Writes the units of the steps back, one step after the other up to the one that leads to the
-/// wanted serial number, and then the end of data of that one. Returns their length. A buffer as
-/// long as the steps always suffices.
+/// Writes the units of the steps back, step after step up to the one that leads to the wanted
+/// serial number, and then its end of data. Returns their length. A buffer as long as the steps
+/// always suffices.
 pub fn join_into(steps: &[u8], wanted: u32, buffer: &mut [u8]) -> Result<usize, SinceFault>
     ensures joins { (x : Snapshot) (ys : List Snapshot) → GoesBack steps.now x ys →
         x.end.serial ≢ wanted → Joins result (snapshot_at wanted x ys) x buffer.new }
@@ -54,8 +54,8 @@ pub fn join_into(steps: &[u8], wanted: u32, buffer: &mut [u8]) -> Result<usize, 
     }
 }
 
-/// Writes the units of changes and their end of data behind so many bytes, and returns how many
-/// there are then.
+/// Writes the units of changes and their end of data at offset `size` of the buffer, and returns
+/// the offset behind them.
 pub fn append(changes: &[u8], size: usize, buffer: &mut [u8]) -> Option<usize>
     requires { size ≤ length buffer.old }
     ensures appends { IfSome result (λ n. (cs : List Change) (e : EndMeaning) →

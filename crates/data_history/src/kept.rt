@@ -7,8 +7,8 @@ ghost use Rattle.data_history.specs.Snapshots.{Snapshot, GoesBack};
 ghost use Rattle.data_history.specs.Next.{KeepsFront, MayBeKept};
 
 use crate::part::first_part;
-use rtr_base::state::Serial;
 use data_slices::check_changes;
+use rtr_base::state::Serial;
 use std::cmp::Ordering;
 
 /// Reports whether a serial number is earlier than another (RFC 1982).

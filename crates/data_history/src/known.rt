@@ -4,8 +4,8 @@ ghost use Rattle.std.specs.Prelude.{◌≡◌, ◌↔◌, IsSome, IsTrue, List};
 ghost use Rattle.data_history.specs.Snapshots.{Snapshot, GoesBack, HoldsHistory, snapshot_at};
 
 use crate::part::first_part;
-use rtr_base::state::Serial;
 use data_slices::{check_changes, check_data};
+use rtr_base::state::Serial;
 
 /// Reports whether the history has data of this serial number, so that `since_into` writes the
 /// changes from them.

@@ -5,12 +5,15 @@ ghost use Rattle.std.specs.Prelude.{Some, length, take};
 ghost use Rattle.std.specs.Prelude.{◌+◌, ◌*◌, Err, IsOk, IsSome};
 ghost use Rattle.std.specs.declared.cmp.Ordering.TheVariants.{Less};
 ghost use Rattle.rtr_base.specs.Serial.{serial_cmp};
+ghost use Rattle.rtr_units.specs.AnyEnd.{end_bytes, end_meaning};
+ghost use Rattle.rtr_units.specs.End.{IsEnd};
+ghost use Rattle.rtr_payload.specs.Payloads.{Payload};
 ghost use Rattle.data_slices.specs.Canonical.{HoldsData, PlacesFront};
 ghost use Rattle.data_history.specs.Snapshots.{Snapshot, HoldsHistory};
 ghost use Rattle.data_history.specs.Next.{Advances, StartsHistory, IsFlawIn, IsLongest};
 ghost use Rattle.data_history.specs.Next.{IsShortForNewer};
 ghost use Rattle.data_history.specs.PrivateRefusals.{NamesWhy};
-ghost use Rattle.data_history.specs.Parts.{part_form};
+ghost use Rattle.data_history.specs.Parts.{HasPart, part_bytes, part_form};
 
 use crate::kept::{is_earlier, kept_front};
 use crate::part::{HEAD, first_part, head, length_of};
@@ -43,11 +46,11 @@ pub enum Refused {
     Serial,
     /// The old bytes are no history.
     Malformed,
-    /// This slice is too short. It suffices for these data if it is as long as wanted.
+    /// This slice is too short. With `wanted` bytes it suffices for these data.
     NoRoom { room: Room, wanted: usize },
 }
 
-/// Writes the history of these data alone, and returns its length.
+/// Writes the history that has only these data, and returns its length.
 pub fn first_into(new: &[u8], now: u64, output: &mut [u8]) -> Result<usize, Refused>
     ensures data { (z : Snapshot) → HoldsData new.now z.payloads z.end →
         StartsHistory result z output.old output.new }
@@ -56,16 +59,26 @@ pub fn first_into(new: &[u8], now: u64, output: &mut [u8]) -> Result<usize, Refu
     ensures rooms { IsShortForNewer result 0 (16 + length new.now) 0 (length output.old) }
 {
     match check_data(new) {
-        Ok(_) => {}
-        Err(flaw) => return Err(Refused::Flaw(flaw)),
+        Ok(_) => begin(new, now, output),
+        Err(flaw) => Err(Refused::Flaw(flaw)),
     }
+}
+
+/// As `first_into`, where the data were checked.
+pub fn begin(new: &[u8], now: u64, output: &mut [u8]) -> Result<usize, Refused>
+    ensures data { (z : Snapshot) → HoldsData new.now z.payloads z.end →
+        StartsHistory result z output.old output.new }
+    ensures flaw { IfErr result (IsFlawIn new.now) }
+    ensures within { IfOk result (λ n. n ≤ length output.old) }
+    ensures rooms { IsShortForNewer result 0 (16 + length new.now) 0 (length output.old) }
+{
     match place(&head(now, length_of(new)), new, output) {
         Some(size) => Ok(size),
         None => Err(no_room(Room::Output, HEAD + new.len())),
     }
 }
 
-/// That this slice is too short, and how long it has to be.
+/// The refusal of a slice that is too short, with the length that suffices.
 fn no_room(room: Room, wanted: usize) -> Refused
     ensures { result ≡ Refused.NoRoom room wanted }
 {
@@ -117,16 +130,66 @@ pub fn next_into(
         Ok(end) => end,
         Err(flaw) => return Err(Refused::Flaw(flaw)),
     };
+    match present_end(old) {
+        Some(before) => advance(old, new, &before, &end, now, limits, buffer, output),
+        None => Err(Refused::Malformed),
+    }
+}
+
+/// Returns the end of the present data of a history, if they are in canonical form.
+pub fn present_end(history: &[u8]) -> Option<EndOfData>
+    ensures holds { IfSome result (λ before. HasPart history.now × (d : List Payload)
+        × HoldsData (part_bytes history.now) d (end_meaning before)) }
+    ensures end { IfSome result (λ before. IsEnd (end_bytes before) (end_meaning before)) }
+    ensures finds { (x : Snapshot) (ys : List Snapshot) → HoldsHistory history.now x ys →
+        IsSome result }
+{
+    let (_, present, _) = match first_part(history) {
+        Some(part) => part,
+        None => return None,
+    };
+    match check_data(present) {
+        Ok(end) => Some(end),
+        Err(_) => None,
+    }
+}
+
+/// As `next_into`, where the present data and the new were checked, and these are their ends.
+pub fn advance(
+    old: &[u8],
+    new: &[u8],
+    before: &EndOfData,
+    end: &EndOfData,
+    now: u64,
+    limits: &Limits,
+    buffer: &mut [u8],
+    output: &mut [u8],
+) -> Result<usize, Refused>
+    requires present { HasPart old.now × (d : List Payload)
+        × HoldsData (part_bytes old.now) d (end_meaning before.now) }
+    requires before { IsEnd (end_bytes before.now) (end_meaning before.now) }
+    requires new { (d : List Payload) × HoldsData new.now d (end_meaning end.now) }
+    requires end { IsEnd (end_bytes end.now) (end_meaning end.now) }
+    ensures data { (x z : Snapshot) (ys : List Snapshot) → HoldsHistory old.now x ys →
+        HoldsData new.now z.payloads z.end → Advances (now - limits.now.time) limits.now.bytes
+        result z x ys output.old output.new }
+    ensures flaw { IfErr result (IsFlawIn new.now) }
+    ensures within { IfOk result (λ n. n ≤ length output.old) }
+    ensures longest { (x z : Snapshot) (ys : List Snapshot) → HoldsHistory old.now x ys →
+        HoldsData new.now z.payloads z.end → z.end.session ≡ x.end.session →
+        IsLongest (now - limits.now.time) limits.now.bytes result z x old.now output.new }
+    ensures newer { (x z : Snapshot) (ys : List Snapshot) → HoldsHistory old.now x ys →
+        HoldsData new.now z.payloads z.end → z.end.session ≡ x.end.session → IsOk result →
+        serial_cmp x.end.serial z.end.serial ≡ Some Less }
+    ensures rooms { IsShortForNewer result (length old.now + length new.now)
+        (32 + 2 * (length old.now + length new.now)) (length buffer.old) (length output.old) }
+{
     let (_, present, steps) = match first_part(old) {
         Some(part) => part,
         None => return Err(Refused::Malformed),
     };
-    let before = match check_data(present) {
-        Ok(end) => end,
-        Err(_) => return Err(Refused::Malformed),
-    };
     if before.session() != end.session() {
-        return first_into(new, now, output);
+        return begin(new, now, output);
     }
     if before.version() != end.version() {
         return Err(Refused::UnitVersion(end.version()));
@@ -136,14 +199,14 @@ pub fn next_into(
         Err(_) => return Err(no_room(Room::Buffer, old.len() + new.len())),
     };
     if !is_earlier(before.serial(), end.serial()) {
-        return Err(not_later(&before, &end, size));
+        return Err(not_later(before, end, size));
     }
     if limits.bytes < HEAD {
-        return first_into(new, now, output);
+        return begin(new, now, output);
     }
     let most = limits.bytes - HEAD;
     if size > most {
-        return first_into(new, now, output);
+        return begin(new, now, output);
     }
     let since = now.saturating_sub(limits.time);
     let kept = kept_front(steps, end.serial(), since, most - size);

@@ -39,7 +39,7 @@ pub fn head(time: u64, size: u64) -> [u8; 16]
     bytes
 }
 
-/// The time of the first part, its bytes, and the parts after it. None where no part is there.
+/// Returns the time of the first part, its bytes, and the parts after it; none if there is no part.
 #[tactic(auto, unfolding(crate::specs::Parts::HasPart, crate::specs::Parts::part_bytes, crate::specs::Parts::part_rest))]
 pub fn first_part(input: &[u8]) -> Option<(u64, &[u8], &[u8])>
     ensures time { IfSome result (λ p. p.0 ≡ part_time input.now) }

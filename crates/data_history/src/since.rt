@@ -4,13 +4,14 @@ ghost use Rattle.std.specs.Prelude.{◌≡◌, ◌≤◌, ◌+◌, ℕ, List, So
 ghost use Rattle.data_slices.specs.Canonical.{HoldsData};
 ghost use Rattle.data_history.specs.Snapshots.{AreAlike, Snapshot, HoldsHistory, snapshot_at};
 ghost use Rattle.data_history.specs.Since.{IsShortForAnswer, WritesChangesSince};
-ghost use Rattle.data_history.specs.PrivateJoins.{JoinedTo, LacksOutput, LacksSpare, Returns, grown};
+ghost use Rattle.data_history.specs.PrivateJoins.{JoinedTo, LacksOutput, LacksSpare, Returns};
+ghost use Rattle.data_history.specs.PrivateJoins.{grown};
 
 use crate::join::{SHORTEST, join_into};
 use crate::part::first_part;
 use crate::room::Room;
-use rtr_base::state::Serial;
 use data_slices::{apply_in_order, check_data, delta_into};
+use rtr_base::state::Serial;
 use rtr_units::header::LAST_VERSION;
 use rtr_wire::normalise_for_into;
 
@@ -26,7 +27,7 @@ pub enum SinceFault {
     UnitVersion,
     /// The bytes are no history.
     Malformed,
-    /// This slice is too short. It suffices for this history if it is as long as wanted.
+    /// This slice is too short. With `wanted` bytes it suffices for this history.
     NoRoom { room: Room, wanted: usize },
 }
 

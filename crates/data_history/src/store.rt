@@ -19,7 +19,7 @@ pub enum TakeFault {
     SessionLeft,
     /// The old bytes are no store.
     Malformed,
-    /// The output is too short. It suffices if it is as long as wanted.
+    /// The output is too short. `wanted` bytes suffice.
     NoRoom { wanted: usize },
 }
 

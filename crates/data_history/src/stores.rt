@@ -1,4 +1,4 @@
-//! What a cache serves, and what it took and has to save first.
+//! The store that a cache serves, and the next one, which has to be saved first.
 
 ghost use Rattle.std.specs.Prelude.{◌≡◌, ◌≤◌, ◌+◌, ◌-◌, ◌∷◌, ℕ, ◌↔◌, IfErr, IfOk, IfSome};
 ghost use Rattle.std.specs.Prelude.{[], Err, IsOk, IsSome, IsTrue, List, None, Option, Some};
@@ -16,18 +16,19 @@ ghost use Rattle.data_history.specs.Stores.{numbered_stores, numbers_of, other_o
 ghost use Rattle.data_history.specs.Stores.{size_of, stores_of, taken_store};
 
 use crate::check::{CheckFault, check_history};
-use crate::newer::{Untaken, first_store, next_store, session_of};
+use crate::newer::{Untaken, first_store, next_store};
 use crate::next::{Limits, Refused};
 use crate::numbers::Numbers;
 use crate::part::first_part;
+use data_slices::check_data;
 use rtr_units::end::EndOfData;
 
-/// The store that a cache serves, and the one that it took and that waits to be saved, each in one
-/// of two buffers, which belong to the caller and are passed to each call.
+/// The store that a cache serves, and the next one, which waits to be saved, each in one of two
+/// buffers, which belong to the caller and are passed to each call.
 ///
-/// Data that are taken are served only once the caller says that their store is saved, and the
-/// next data are taken only after that: so two data are never served under one session and serial
-/// number (`laws::one_data_under_each_name`), as long as a cache starts from what it saved.
+/// New data are served only once the caller says that their store is saved, and the next data are
+/// taken only after that: so two data are never served under one session and serial number
+/// (`laws::one_data_under_each_name`), if a cache starts from what it saved.
 #[derive(Clone, Copy, Debug, PartialEq, Eq)]
 pub struct Stores {
     /// The length of the store that is served, if there is one.
@@ -132,9 +133,9 @@ impl Stores {
     }
 
     /// Takes newer data, of this time in milliseconds since 1970: writes their store to the buffer
-    /// without the one that is served, and returns its length. What is served stays, until `saved`;
-    /// where the cache doesn't save, the data are served at once. At an error all stays as it was,
-    /// but for the content of the buffers that don't have the store that is served.
+    /// that doesn't have the served store, and returns its length. The served store stays until
+    /// `saved`; if the cache doesn't save, the new data are served at once. At an error nothing
+    /// changes, except the content of the buffers that don't have the served store.
     ///
     /// `Waits` comes first, then a flaw of the data, then `OtherSession`.
     pub fn take(
@@ -185,8 +186,8 @@ impl Stores {
         }
     }
 
-    /// Writes the store that newer data make of the one that is served, if there is one, and
-    /// returns its length.
+    /// Writes the store that newer data make of the served one, if there is one, and returns its
+    /// length.
     fn write(
         &self,
         new: &[u8],
@@ -207,17 +208,17 @@ impl Stores {
             (size_of (front_of self.now.served held.now) + length new.now) (length buffer.old)
             (length spare.old) (length output.old) }
     {
-        let session = match session_of(new) {
-            Ok(session) => session,
+        let end = match check_data(new) {
+            Ok(end) => end,
             Err(flaw) => return Err(Untaken::Refused(Refused::Flaw(flaw))),
         };
-        if !self.may_be_of(session) {
+        if !self.may_be_of(end.session()) {
             return Err(Untaken::OtherSession);
         }
         match self.served {
             Some(size) => {
                 let store = front(held, size);
-                next_store(store, new, now, limits, buffer, spare, output)
+                next_store(store, new, &end, now, limits, buffer, spare, output)
             }
             None => first_store(new, now, spare, output),
         }
@@ -251,7 +252,7 @@ impl Stores {
         }
     }
 
-    /// So many bytes of the buffer with the store that is served.
+    /// Returns the first `size` bytes of the buffer with the served store.
     fn held<'a>(&self, size: usize, first: &'a [u8], second: &'a [u8]) -> &'a [u8]
         ensures { result.now ≡ take size (held_of self.now.second first.now second.now) }
     {
@@ -261,7 +262,7 @@ impl Stores {
         front(first, size)
     }
 
-    /// So many bytes of the other buffer.
+    /// Returns the first `size` bytes of the other buffer.
     fn other<'a>(&self, size: usize, first: &'a [u8], second: &'a [u8]) -> &'a [u8]
         ensures { result.now ≡ take size (other_of self.now.second first.now second.now) }
     {
@@ -271,8 +272,8 @@ impl Stores {
         front(second, size)
     }
 
-    /// The store that was taken, to be saved before it is served: behind the head that `seal_head`
-    /// makes, it has to replace the whole file, and to be on the disk, before `saved` is called.
+    /// Returns the store that waits to be saved, if there is one. Before `saved` is called the file
+    /// must be replaced as a whole, by the head of `seal_head` and this store, and synced.
     pub fn to_save<'a>(&self, first: &'a [u8], second: &'a [u8]) -> Option<&'a [u8]>
         ensures is { IfSome result (λ b. taken_store self.now first.now second.now ≡ Some b.now) }
         ensures finds { IsSome self.now.taken → IsSome result }
@@ -303,8 +304,8 @@ impl Stores {
         }
     }
 
-    /// Gives up the store that was taken, as when it could not be saved: what is served stays.
-    /// Whether the file has it doesn't matter.
+    /// Drops the store that waits to be saved, as when saving failed: the served store stays,
+    /// whether or not the file has the other one.
     pub fn give_up(&mut self)
         ensures after { self.new ≡ after_giving_up self.old }
         ensures life { (xs : List Snapshot) (file : Option (List ℕ)) (first second : List ℕ) →
@@ -386,7 +387,7 @@ pub fn check_store(
     }
 }
 
-/// So many bytes at the front, or all.
+/// Returns the first `size` bytes, or all if there are fewer.
 fn front(bytes: &[u8], size: usize) -> &[u8]
     ensures { result.now ≡ take size bytes.now }
 {

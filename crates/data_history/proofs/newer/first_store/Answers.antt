@@ -6,7 +6,7 @@ use Rattle.data_history.proofs.newer.first_store.Goals as goal
 
 pub returns-in-Err-clause-takes : goal.returns-in-Err-clause-takes
 returns-in-Err-clause-takes c = λ z h.
-    refused_first c.in-Err.refused z c.args.spare.now c.first_into.new.output
+    refused_first c.in-Err.refused z c.args.spare.now c.begin.new.output
     (c.in-Err.ensures.«data» z h)
 
 pub returns-in-Err-clause-rooms : goal.returns-in-Err-clause-rooms
@@ -32,11 +32,11 @@ returns-in-Err-first_store_into-clause-flaw c = c.fault_of.ensures.no_flaw c.arg
 pub returns-in-Err-first_store_into-clause-rooms :
     goal.returns-in-Err-first_store_into-clause-rooms
 returns-in-Err-first_store_into-clause-rooms c = λ buffer.
-    let size : length (take c.in-Ok.size c.first_into.new.output) ≤ length c.args.spare.now =
-    omega (arith, length-take c.in-Ok.size c.first_into.new.output, c.first_into.auto.output) in
+    let size : length (take c.in-Ok.size c.begin.new.output) ≤ length c.args.spare.now =
+    omega (arith, length-take c.in-Ok.size c.begin.new.output, c.begin.auto.output) in
     subst (λ r. IsShortForTaking (Err r) (length c.args.new.now) buffer (length c.args.spare.now)
     (length c.args.output.now)) (sym c.fault_of.ensures.is)
     (wants c.in-Err-first_store_into.fault
-    (16 + length (take c.in-Ok.size c.first_into.new.output)) (length c.args.output.now)
+    (16 + length (take c.in-Ok.size c.begin.new.output)) (length c.args.output.now)
     (length c.args.new.now) buffer (length c.args.spare.now) (omega (arith, size))
     c.in-Err-first_store_into.ensures.room)

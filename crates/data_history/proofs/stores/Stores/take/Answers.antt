@@ -2,7 +2,8 @@ use Rattle.std.proofs.Common.{◌≡◌, ◌+◌, ◌-◌, ◌∙◌, ap, false,
 use Rattle.std.specs.Prelude.{IfErr, IfOk, IsSome}
 use Rattle.data_slices.specs.Canonical.{HoldsData}
 use Rattle.data_history.specs.Snapshots.{Snapshot}
-use Rattle.data_history.specs.Stores.{IsFlawOfNew, IsShortForTaking, TakesData, after_call, front_of}
+use Rattle.data_history.specs.Stores.{IsFlawOfNew, IsShortForTaking, TakesData, after_call}
+use Rattle.data_history.specs.Stores.{front_of}
 use Rattle.data_history.specs.Stores.{held_of, other_of, size_of}
 use Rattle.data_history.proofs.Serving.{Took, goes_on, serves_as_before, serves_at_once, took_by}
 use Rattle.data_history.proofs.stores.Stores.take.Goals as goal

@@ -1,11 +1,12 @@
 use Rattle.std.proofs.Common.{◌≡◌, ◌+◌, ◌-◌, Some, None, arith, false, true, length}
 use Rattle.std.proofs.Common.{refl, subst, sym, take}
+use Rattle.rtr_units.specs.AnyEnd.{end_meaning}
 use Rattle.data_slices.specs.Canonical.{HoldsData}
 use Rattle.data_history.specs.Snapshots.{Snapshot}
 use Rattle.data_history.specs.Store.{HoldsStore}
 use Rattle.data_history.specs.Stores.{IsShortForTaking, MayBeOf, TakesData, TakesLater, front_of}
 use Rattle.data_history.specs.Stores.{size_of}
-use Rattle.data_history.proofs.Serving.{if_ok, looked_at}
+use Rattle.data_history.proofs.Serving.{if_ok, looked_at, session_is}
 use Rattle.data_history.proofs.stores.Stores.write.Goals as goal
 
 pub returns-in-Err-clause-takes : goal.returns-in-Err-clause-takes
@@ -15,14 +16,16 @@ returns-in-Err-clause-takes c = λ z free h.
 pub returns-then-not-may_be_of-clause-takes : goal.returns-then-not-may_be_of-clause-takes
 returns-then-not-may_be_of-clause-takes c = λ z free h may.
     let wrong : false ≡ true = c.if-not-may_be_of.ensures.1
-    (subst (MayBeOf c.args.self.now.unsaved) (sym (c.in-Ok.ensures.is z.payloads z.end h)) may) in
+    (subst (MayBeOf c.args.self.now.unsaved) (sym (session_is c.args.new.now c.session.result
+    c.in-Ok.end z c.session.ensures c.in-Ok.ensures.«data» h)) may) in
     absurd cc
 
 pub returns-in-Some-clause-takes : goal.returns-in-Some-clause-takes
 returns-in-Some-clause-takes c = λ z free h.
     let since = c.args.now - c.args.limits.now.time in
     let most = c.args.limits.now.bytes in
-    let may = subst (MayBeOf c.args.self.now.unsaved) (c.in-Ok.ensures.is z.payloads z.end h)
+    let may = subst (MayBeOf c.args.self.now.unsaved) (session_is c.args.new.now c.session.result
+    c.in-Ok.end z c.session.ensures c.in-Ok.ensures.«data» h)
     (c.if-not-may_be_of.ensures.0 refl) in
     subst (λ o. TakesData since most c.next_store.result c.args.self.now
     (front_of o c.args.held.now) z c.next_store.new.output) (sym c.in-Some.is)
@@ -36,10 +39,10 @@ returns-in-Some-clause-takes c = λ z free h.
 
 pub returns-in-Some-clause-holds : goal.returns-in-Some-clause-holds
 returns-in-Some-clause-holds c =
-    let k = c.in-Ok.ensures.holds in
+    let k = c.in-Ok.ensures.«data» in
     if_ok c.next_store.result
     ((z : Snapshot) × HoldsData c.args.new.now z.payloads z.end)
-    (record { end = k.1; payloads = k.0 }, k.2)
+    (record { end = end_meaning c.in-Ok.end; payloads = k.0 }, k.1)
 
 pub returns-in-Some-clause-rooms : goal.returns-in-Some-clause-rooms
 returns-in-Some-clause-rooms c =
@@ -54,7 +57,8 @@ pub returns-in-None-clause-takes : goal.returns-in-None-clause-takes
 returns-in-None-clause-takes c = λ z free h.
     let since = c.args.now - c.args.limits.now.time in
     let most = c.args.limits.now.bytes in
-    let may = subst (MayBeOf c.args.self.now.unsaved) (c.in-Ok.ensures.is z.payloads z.end h)
+    let may = subst (MayBeOf c.args.self.now.unsaved) (session_is c.args.new.now c.session.result
+    c.in-Ok.end z c.session.ensures c.in-Ok.ensures.«data» h)
     (c.if-not-may_be_of.ensures.0 refl) in
     subst (λ o. TakesData since most c.first_store.result c.args.self.now
     (front_of o c.args.held.now) z c.first_store.new.output) (sym c.in-None.is)
@@ -63,10 +67,10 @@ returns-in-None-clause-takes c = λ z free h.
 
 pub returns-in-None-clause-holds : goal.returns-in-None-clause-holds
 returns-in-None-clause-holds c =
-    let k = c.in-Ok.ensures.holds in
+    let k = c.in-Ok.ensures.«data» in
     if_ok c.first_store.result
     ((z : Snapshot) × HoldsData c.args.new.now z.payloads z.end)
-    (record { end = k.1; payloads = k.0 }, k.2)
+    (record { end = end_meaning c.in-Ok.end; payloads = k.0 }, k.1)
 
 pub returns-in-None-clause-rooms : goal.returns-in-None-clause-rooms
 returns-in-None-clause-rooms c =

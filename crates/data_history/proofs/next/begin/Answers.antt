@@ -5,7 +5,7 @@ use Rattle.data_history.proofs.Parts.{head_length}
 use Rattle.std.proofs.Common.{◌++◌, ◌∙◌, ap}
 use Rattle.data_history.specs.Parts.{head_bytes}
 use Rattle.data_history.proofs.Advancing.{alone}
-use Rattle.data_history.proofs.next.first_into.Goals as goal
+use Rattle.data_history.proofs.next.begin.Goals as goal
 
 pub returns-in-Some-clause-data : goal.returns-in-Some-clause-data
 returns-in-Some-clause-data c = λ z h.
