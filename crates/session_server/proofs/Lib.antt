@@ -1,0 +1,2 @@
+mod Doors
+mod Paces

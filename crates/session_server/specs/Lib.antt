@@ -1,0 +1,3 @@
+pub mod Limits
+pub mod Doors
+pub mod Paces

@@ -1,0 +1,290 @@
+//! A connection of a server: what its host does next, and when a limit ends it.
+
+ghost use Rattle.std.specs.Prelude.{◌≡◌, ◌<◌, ◌≤◌, true, false};
+ghost use Rattle.session_server.specs.Paces.{answered, closed_by, cut_at, due_at, finish_at};
+ghost use Rattle.session_server.specs.Paces.{input_taken, is_free, later, new_connection};
+ghost use Rattle.session_server.specs.Paces.{connection_wakes_at, once_received, report_begun};
+ghost use Rattle.session_server.specs.Paces.{next_at, sent, tell_at};
+
+use crate::settings::ServerSettings;
+use session_cache::cache::Cache;
+use session_cache::event::Present;
+
+/// Whether a connection is served.
+#[derive(Clone, Copy, PartialEq, Eq)]
+pub enum Phase {
+    Open,
+    /// The machine has ended it: its last report is sent, and the router may read it.
+    Ending,
+    /// The machine has ended it without a report.
+    Over,
+}
+
+/// Why a connection ends, where its machine didn't end it.
+#[derive(Clone, Copy, PartialEq, Eq)]
+pub enum Cut {
+    /// The router sends a unit, or takes an answer, too slowly.
+    Slow,
+    /// There are data of another session than those that the router was told of.
+    NewSession,
+    /// More newer data than `most_behind` came while it was sent an answer.
+    Behind,
+}
+
+/// What the host does next.
+#[derive(Clone, Copy, PartialEq, Eq)]
+pub enum Next {
+    /// Wait until bytes come, the router closes, there are new data, or the time is `wakes`.
+    Wait,
+    /// Pass the input to the machine, by `session_bytes::serve`; then call `heard`, and `answers`
+    /// or `ends` with what it answers.
+    Hear,
+    /// Tell the machine the time, by `CacheEvent::Tick`; then call `answers` or `ends`.
+    Tick,
+    /// The router has closed, and all input was heard: tell the machine `CacheEvent::Lost`.
+    Lose,
+    /// Send the unsent bytes, until `wakes`; then call `sent`.
+    Send,
+    /// Shut the connection down for writing; then read, and ignore what comes, until the router
+    /// closes or the time is `wakes`.
+    Finish,
+    /// Close the connection: a limit has ended it, or else its machine has.
+    Close(Option<Cut>),
+}
+
+/// How far a connection is with its input and its output, in numbers. The host has the bytes.
+#[derive(Clone, Copy)]
+pub struct Connection {
+    pub settings: ServerSettings,
+    pub phase: Phase,
+    /// How many bytes came that the machine hasn't taken, and when the first of them came.
+    pub filled: usize,
+    pub begun: u64,
+    /// Whether there may be a whole unit among them.
+    pub fresh: bool,
+    /// Whether the router has closed.
+    pub closed: bool,
+    /// How many bytes of the present answer, or of the last report, are unsent.
+    pub unsent: usize,
+    /// When a byte of it was sent last, or it began.
+    pub taken: u64,
+    /// When all of it has to be sent; at an end, when the connection is closed.
+    pub until: u64,
+    /// The number of the data that were the newest when the answer began. Data are numbered as
+    /// they come.
+    pub number: u64,
+}
+
+/// The time after a limit.
+fn later(time: u64, limit: u32) -> u64
+    ensures { result ≡ later time limit }
+{
+    time.saturating_add(limit as u64)
+}
+
+impl Connection {
+    /// A connection that was accepted at this time.
+    pub fn new(now: u64, settings: ServerSettings) -> Connection
+        ensures { result ≡ new_connection now settings }
+    {
+        Connection {
+            settings,
+            phase: Phase::Open,
+            filled: 0,
+            begun: now,
+            fresh: false,
+            closed: false,
+            unsent: 0,
+            taken: now,
+            until: now,
+            number: 0,
+        }
+    }
+
+    /// So many bytes were read. They don't count once the machine has ended the connection.
+    pub fn received(&mut self, now: u64, size: usize)
+        ensures { self.new ≡ once_received self.old now size }
+    {
+        if size == 0 || !matches!(self.phase, Phase::Open) {
+            return;
+        }
+        if self.filled == 0 {
+            self.begun = now;
+        }
+        self.filled = self.filled.saturating_add(size);
+        self.fresh = true;
+    }
+
+    /// The router closed the connection. The input that came before is still heard.
+    pub fn closed(&mut self)
+        ensures { self.new ≡ closed_by self.old }
+    {
+        self.closed = true;
+        self.fresh = self.filled > 0;
+    }
+
+    /// The machine took so many bytes of the input; none, if no whole unit is there.
+    pub fn heard(&mut self, now: u64, size: usize)
+        ensures { self.new ≡ input_taken self.old now size }
+    {
+        if size == 0 {
+            self.fresh = false;
+            return;
+        }
+        self.filled = self.filled.saturating_sub(size);
+        self.fresh = self.filled > 0;
+        self.begun = now;
+    }
+
+    /// Whether an answer may begin: the one before is sent.
+    fn is_free(&self) -> bool
+        ensures { result ≡ is_free self.now }
+    {
+        matches!(self.phase, Phase::Open) && self.unsent == 0
+    }
+
+    /// An answer of so many bytes begins, when these are the newest data. Returns false, and
+    /// changes nothing, if another one is unsent, or the connection has ended.
+    pub fn answers(&mut self, now: u64, size: usize, number: u64) -> bool
+        ensures free { result ≡ is_free self.old }
+        ensures after { self.new ≡ answered self.old now size number }
+    {
+        if !self.is_free() {
+            return false;
+        }
+        self.unsent = size;
+        self.taken = now;
+        self.until = later(now, self.settings.response_limit);
+        self.number = number;
+        true
+    }
+
+    /// The machine ends the connection, with a report of so many bytes, or none. Returns false, and
+    /// changes nothing, if an answer is unsent, or the connection has ended.
+    pub fn ends(&mut self, now: u64, size: usize) -> bool
+        ensures free { result ≡ is_free self.old }
+        ensures after { self.new ≡ report_begun self.old now size }
+    {
+        if !self.is_free() {
+            return false;
+        }
+        self.phase = if size == 0 {
+            Phase::Over
+        } else {
+            Phase::Ending
+        };
+        self.unsent = size;
+        self.taken = now;
+        self.until = later(now, self.settings.report_limit);
+        true
+    }
+
+    /// So many bytes were sent. Returns false, and changes nothing, if there aren't as many.
+    pub fn sent(&mut self, now: u64, size: usize) -> bool
+        ensures within { result ≡ true → size ≤ self.old.unsent }
+        ensures above { result ≡ false → self.old.unsent < size }
+        ensures after { self.new ≡ sent self.old now size }
+    {
+        if size > self.unsent {
+            return false;
+        }
+        if size == self.unsent {
+            self.begun = now;
+        }
+        self.unsent -= size;
+        if size > 0 {
+            self.taken = now;
+        }
+        true
+    }
+
+    /// When the next byte of the answer has to be sent, or the rest of the unit received.
+    fn due(&self) -> u64
+        ensures { result ≡ due_at self.now }
+    {
+        if self.unsent > 0 {
+            later(self.taken, self.settings.write_limit).min(self.until)
+        } else if self.filled > 0 {
+            later(self.begun, self.settings.unit_limit)
+        } else {
+            u64::MAX
+        }
+    }
+
+    /// Which limit ends an answer that is being sent.
+    fn cut(&self, now: u64, cache: &Cache, present: &Present, number: u64) -> Option<Cut>
+        ensures { result ≡ cut_at self.now now cache.now present.now number }
+    {
+        let moved = present.has && cache.told && cache.session != present.session;
+        if now >= self.due() {
+            Some(Cut::Slow)
+        } else if moved {
+            Some(Cut::NewSession)
+        } else if number.saturating_sub(self.number) > self.settings.most_behind as u64 {
+            Some(Cut::Behind)
+        } else {
+            None
+        }
+    }
+
+    /// What to tell the machine, or whether to wait, where nothing is unsent.
+    fn tell(&self, now: u64, wakes: u64) -> Next
+        ensures { result ≡ tell_at self.now now wakes }
+    {
+        if self.fresh {
+            Next::Hear
+        } else if self.closed {
+            Next::Lose
+        } else if now >= wakes {
+            Next::Tick
+        } else if now >= self.due() {
+            Next::Close(Some(Cut::Slow))
+        } else {
+            Next::Wait
+        }
+    }
+
+    /// What is left to do after the machine has ended the connection with a report.
+    fn finish(&self, now: u64) -> Next
+        ensures { result ≡ finish_at self.now now }
+    {
+        if now >= self.until {
+            Next::Close(None)
+        } else if self.unsent > 0 {
+            Next::Send
+        } else if self.closed {
+            Next::Close(None)
+        } else {
+            Next::Finish
+        }
+    }
+
+    /// What the host does next, where this is the connection's machine, and these are the newest
+    /// data and their number.
+    pub fn next(&self, now: u64, cache: &Cache, present: &Present, number: u64) -> Next
+        ensures next { result ≡ next_at self.now now cache.now present.now number }
+    {
+        match self.phase {
+            Phase::Over => Next::Close(None),
+            Phase::Ending => self.finish(now),
+            Phase::Open if self.unsent > 0 => match self.cut(now, cache, present, number) {
+                Some(cut) => Next::Close(Some(cut)),
+                None => Next::Send,
+            },
+            Phase::Open => self.tell(now, cache.wakes(*present)),
+        }
+    }
+
+    /// When to call `next`, if nothing happens before.
+    pub fn wakes(&self, cache: &Cache, present: &Present) -> u64
+        ensures { result ≡ connection_wakes_at self.now cache.now present.now }
+    {
+        match self.phase {
+            Phase::Over => 0,
+            Phase::Ending => self.until,
+            Phase::Open if self.unsent > 0 => self.due(),
+            Phase::Open if self.fresh || self.closed => 0,
+            Phase::Open => self.due().min(cache.wakes(*present)),
+        }
+    }
+}
