@@ -1,12 +1,13 @@
 mod CountsKept
-mod Example
+pub mod Example
 mod Made
-mod Makings
+pub mod Makings
 mod Pieces
 mod Overs
 mod Places
 mod Reports
 mod Room
-mod Runs
-mod Steps
+pub mod Runs
+pub mod Steps
+pub mod Takes
 mod Turns

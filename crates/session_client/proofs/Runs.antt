@@ -31,7 +31,7 @@ use Rattle.session_client.specs.declared.client.Holding.TheVariants as holdings
 use Rattle.session_client.proofs.Places.{answer_of, joined, unit_there}
 
 -- what is kept, and more units
-grown : (c : Caller Octets Octets) (h : Host Octets Octets) (m : Holding) (kept start filled : ℕ)
+pub grown : (c : Caller Octets Octets) (h : Host Octets Octets) (m : Holding) (kept start filled : ℕ)
     (input : Octets) (units : List Octets) → IsHearing m → kept + start ≤ filled →
     Holds c h m kept input → concat units ≡ take start (drop kept (take filled input)) →
     Holds c (record { kept = h.kept ++ units; made = h.made; shown = h.shown }) m (kept + start)
@@ -162,7 +162,7 @@ dropped c h b x shown buffer shows =
     buffer)
     [ true ↦ tt | false ↦ shows ]
 
-shows_after : (c : Caller Octets Octets) (h : Host Octets Octets) (b : Octets) (a : Action)
+pub shows_after : (c : Caller Octets Octets) (h : Host Octets Octets) (b : Octets) (a : Action)
     (shown : Option ℕ) (buffer : Octets) → a ≢ actions.Show → ShowsFront h.shown shown buffer →
     ShowsFront (host_after c h b a).shown (shown_after a shown) buffer
 shows_after c h b actions.Show shown buffer other shows = absurd (other refl)
@@ -177,7 +177,7 @@ shows_after c h b (actions.Apply s) shown buffer other shows = shows
 shows_after c h b actions.NoData shown buffer other shows = shows
 
 -- at a unit nothing is shown
-no_show : (r : Router) (n : ℕ) (e : Event) (a : Action) (r' : Router) → e ≢ events.Applied →
+pub no_show : (r : Router) (n : ℕ) (e : Event) (a : Action) (r' : Router) → e ≢ events.Applied →
     Rule r n e a r' → a ≢ actions.Show
 no_show r n e a r' other rule is = go e other (subst (λ a. Rule r n e a r') is rule)
   where
@@ -214,7 +214,7 @@ acts_other c r before r' m now kept kept' start end filled a shown input input' 
 
 -- ---- what the machine is told of itself
 
-heard_none : (e : Event) (r : Router) → SaysItself r e → (h : Host Octets Octets) → MaySay r h e
+pub heard_none : (e : Event) (r : Router) → SaysItself r e → (h : Host Octets Octets) → MaySay r h e
 heard_none events.Tick r says h = tt
 heard_none events.Asked r says h = tt
 heard_none events.Connected r says h = says
@@ -224,7 +224,7 @@ heard_none (events.Faulty f) r says h = tt
 heard_none events.Applied r says h = absurd says
 heard_none (events.NotApplied code) r says h = tt
 
-not_applied : (e : Event) (r : Router) → SaysItself r e → e ≢ events.Applied
+pub not_applied : (e : Event) (r : Router) → SaysItself r e → e ≢ events.Applied
 not_applied e r says is = subst (SaysItself r) is says
 
 -- the moment at which it was told, of nothing that came
@@ -383,7 +383,7 @@ middles : (a b : Octets) (n k m : ℕ) → n + k ≤ m → take m a ≡ take m b
 middles a b n k m order same =
     sym (drop-take n k a) ∙ ap (drop n) (fronts a b (n + k) m order same) ∙ drop-take n k b
 
-holds_still : (c : Caller Octets Octets) (h : Host Octets Octets) (m : Holding) (kept filled : ℕ)
+pub holds_still : (c : Caller Octets Octets) (h : Host Octets Octets) (m : Holding) (kept filled : ℕ)
     (input input' : Octets) → kept + due_size m ≤ filled → take filled input ≡ take filled input' →
     Holds c h m kept input → Holds c h m kept input'
 holds_still c h holdings.Nothing kept filled input input' within same holds = tt
@@ -400,7 +400,7 @@ holds_still c h (holdings.Answer n s) kept filled input input' within same holds
       end_is = holds.end_is ∙ middles input input' kept n filled within same;
     }
 
-shows_still : (o : Option Octets) (n : Option ℕ) (buffer buffer' : Octets) →
+pub shows_still : (o : Option Octets) (n : Option ℕ) (buffer buffer' : Octets) →
     SameShown n buffer buffer' → ShowsFront o n buffer → ShowsFront o n buffer'
 shows_still None None buffer buffer' same shows = tt
 shows_still (Some d) (Some n) buffer buffer' same shows = shows ∙ same

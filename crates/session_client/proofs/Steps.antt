@@ -85,7 +85,7 @@ pub none_itself : (r r' : Router) (n : ℕ) (e : Event) → SaysItself r e →
     Rule r n e actions.NoData r' → ⊥
 none_itself r r' n e says rule = no_data r r' n e says rule
 
-connects_then : (r r' : Router) (n : ℕ) (e : Event) → Rule r n e actions.Connect r' →
+pub connects_then : (r r' : Router) (n : ℕ) (e : Event) → Rule r n e actions.Connect r' →
     r'.phase ≡ phases.Connecting
 connects_then r r' n events.Tick rule = rule.phase
 connects_then r r' n events.Asked rule = absurd rule
@@ -473,7 +473,7 @@ refused_ends r r' n code (actions.End x) at rule = tt
 
 -- ---- where a whole answer may be
 
-hearing_at : (p : Phase) (m : Holding) → p ≢ phases.Applying → InPhase p m → IsHearing m
+pub hearing_at : (p : Phase) (m : Holding) → p ≢ phases.Applying → InPhase p m → IsHearing m
 hearing_at p holdings.Nothing other here = tt
 hearing_at p holdings.Units other here = tt
 hearing_at p (holdings.Answer n s) other here =

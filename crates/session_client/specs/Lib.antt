@@ -5,3 +5,4 @@ pub mod Said
 pub mod Turning
 pub mod Over
 pub mod Next
+pub mod Tells

@@ -5,28 +5,29 @@ ghost use Rattle.std.specs.Prelude.{List, Option, Some, Err, IfOk, min};
 ghost use Rattle.session_client.specs.Holding.{Fits, SameCalls, IsClient, Stands, base_room};
 ghost use Rattle.session_client.specs.Holding.{AsksRoom, WantsData, WantsIndex, WantsRoom};
 ghost use Rattle.session_client.specs.Holding.{data_after, due_size, room_at, room_for};
-ghost use Rattle.session_client.specs.Makings.{Octets, WasMade, onto};
+ghost use Rattle.session_client.specs.Makings.{Octets, MadeAnswer, MakesThis, WasMade, onto};
 ghost use Rattle.session_client.specs.Counting.{CountsKept};
 ghost use Rattle.session_client.specs.Over.{IfApplied, IsRefusedOver, none_of, over_of};
 ghost use Rattle.session_client.specs.Said.{Did, did_of};
+ghost use Rattle.session_client.specs.Tells.{HostHas, TakesCall};
 ghost use Rattle.session_client.specs.Turning.{HasAnswer, IsInStep, turns_left};
 ghost use Rattle.session_client.specs.declared.client.Holding.TheVariants as holdings;
-ghost use Rattle.session_router.specs.Histories.{Caller};
+ghost use Rattle.session_router.specs.Histories.{Caller, Host};
 ghost use Rattle.session_router.specs.declared.settings.Settings.{Settings};
 ghost use Rattle.data_slices.specs.InOrder.{AppliesInOrder};
 ghost use Rattle.data_slices.specs.declared.in_order_fault.InOrderFault.TheVariants.{NoRoom};
 
 use crate::client::{Client, Holding, part};
 use crate::saying::put;
-use session_bytes::Refusal;
-use session_router::event::{Action, Event};
 use data_slices::in_order_laws::changes_as_they_came;
 use data_slices::{InOrderFault, apply_in_order};
+use session_bytes::Refusal;
+use session_router::event::{Action, Event};
 
 /// What came of a whole answer.
 #[derive(Drop)]
 pub enum Applied {
-    /// No whole answer is there.
+    /// No whole answer has come.
     Nothing,
     /// What the changes made are the data, which have this length, in the other buffer.
     Shown(usize),
@@ -69,6 +70,8 @@ impl Client {
         ensures same { SameCalls self.old self.new }
         ensures did { Did (did_of result) now self.old.router self.new.router self.old.unsent
             self.new.unsent output.old output.new }
+        ensures takes { TakesCall (did_of result) now self.old input.old held.now self.new input.new
+            (data_after result held.now made.new) }
         ensures room { self.new.unsent ≤ length output.new }
         ensures names { IfApplied result
             (over_of now self.old input.old held.now self.new output.old output.new)
@@ -119,6 +122,8 @@ impl Client {
         ensures same { SameCalls self.old self.new }
         ensures did { Did (did_of result) now self.old.router self.new.router self.old.unsent
             self.new.unsent output.old output.new }
+        ensures takes { TakesCall (did_of result) now self.old input.old held.now self.new input.new
+            (data_after result held.now made.new) }
         ensures room { self.new.unsent ≤ length output.new }
         ensures names { IfApplied result
             (over_of now self.old input.old held.now self.new output.old output.new)
@@ -189,6 +194,12 @@ impl Client {
         ensures same { SameCalls self.old self.new }
         ensures did { Did (did_of result) now self.old.router self.new.router self.old.unsent
             self.new.unsent output.old output.new }
+        ensures takes { (held made : Octets) (m : MadeAnswer) → WasMade m
+            → ((c : Caller Octets Octets) (h : Host Octets Octets) → MakesThis c m
+            → HostHas c h self.old.holding self.old.kept self.old.shown input.old held
+            → h.made ≡ Some (take count made))
+            → TakesCall (did_of result) now self.old input.old held self.new input.new
+            (data_after result held made) }
         ensures room { self.new.unsent ≤ length output.new }
         ensures names { (held : Octets) → IfApplied result
             (over_of now self.old input.old held self.new output.old output.new)
@@ -239,6 +250,8 @@ impl Client {
         ensures same { SameCalls self.old self.new }
         ensures did { Did (did_of result) now self.old.router self.new.router self.old.unsent
             self.new.unsent output.old output.new }
+        ensures takes { (held made : Octets) → TakesCall (did_of result) now self.old input.old held
+            self.new input.new (data_after result held made) }
         ensures room { self.new.unsent ≤ length output.new }
         ensures names { (held : Octets) (since : Bool) (size places : ℕ)
             → self.old.holding ≡ holdings.Answer size since
@@ -281,6 +294,8 @@ impl Client {
         ensures same { SameCalls self.old self.new }
         ensures did { Did (did_of result) now self.old.router self.new.router self.old.unsent
             self.new.unsent output.old output.new }
+        ensures takes { (held made : Octets) → TakesCall (did_of result) now self.old input.old held
+            self.new input.new (data_after result held made) }
         ensures room { self.new.unsent ≤ length output.new }
         ensures names { (held : Octets) → IfApplied result
             (over_of now self.old input.old held self.new output.old output.new)
@@ -335,7 +350,7 @@ fn base_room(since: bool, shown: Option<usize>, size: usize) -> usize
     }
 }
 
-/// What changes are made of: the data, or the end of data that came, alone.
+/// What the changes are applied to: the data, or no data, which is the end of data alone.
 fn base<'a>(since: bool, shown: Option<usize>, held: &'a [u8], end: &'a [u8]) -> &'a [u8]
     ensures { result.now ≡ onto since shown held.now end.now }
 {

@@ -3,7 +3,8 @@
 ghost use Rattle.std.specs.Prelude.{◌≡◌, ◌≤◌, ◌-◌, ◌==◌, List, ℕ, take, drop, length, min, None};
 ghost use Rattle.std.specs.Prelude.{true};
 ghost use Rattle.session_client.specs.Makings.{Octets};
-ghost use Rattle.session_client.specs.Holding.{Fits, IsClient, client_again, new_client, shown_after};
+ghost use Rattle.session_client.specs.Holding.{Fits, IsClient, client_again, new_client};
+ghost use Rattle.session_client.specs.Holding.{shown_after};
 ghost use Rattle.session_client.specs.Holding.{whole_answer};
 ghost use Rattle.session_client.specs.Turning.{IsInStep};
 
@@ -18,16 +19,16 @@ pub enum Holding {
     Nothing,
     /// Payload units of a response that isn't whole yet.
     Units,
-    /// All payload units of a response, followed by its end of data, of so many bytes. Their
-    /// changes are to be made: of the data if true, and otherwise of no data.
+    /// The length in bytes of all payload units of a response and its end of data. Their changes
+    /// are to be applied to the data if true, and otherwise to no data.
     Answer(usize, bool),
 }
 
 /// A router's end of a session. Its buffers belong to the caller, who passes them to each call:
 ///
-/// - input: payload units of the answer, and behind them bytes that the machine wasn't told of yet
+/// - input: payload units of the answer, and behind them bytes that the machine hasn't read yet
 /// - two data buffers: one has the data, and the next answer is written to the other
-/// - index: room to sort the payload units of an answer
+/// - index: used to sort the payload units of an answer
 /// - output: the bytes to be sent
 #[derive(Clone, Copy)]
 pub struct Client {

@@ -1,21 +1,23 @@
-//! What a client is told, and what it does then.
+//! Reads the input, and passes each unit to the machine.
 
 ghost use Rattle.std.specs.Prelude.{◌≡◌, ◌≢◌, ◌<◌, ◌≤◌, ◌+◌, ◌-◌, ◌^◌, ℕ, length, take, drop, List};
 ghost use Rattle.std.specs.Prelude.{Some, None, []};
 ghost use Rattle.session_client.specs.Makings.{Octets};
 ghost use Rattle.session_client.specs.Holding.{Fits, IsHearing, RunsBeside, SaysItself, Stands};
 ghost use Rattle.session_client.specs.Holding.{due_after, due_size};
-ghost use Rattle.session_client.specs.Holding.{HearsAll, IsAwaits, LeavesInput, SameCalls, shown_after};
+ghost use Rattle.session_client.specs.Holding.{HearsAll, IsAwaits, LeavesInput, SameCalls};
+ghost use Rattle.session_client.specs.Holding.{shown_after};
 ghost use Rattle.session_client.specs.Holding.{untold};
 ghost use Rattle.session_client.specs.Counting.{CountsKept, IsKeptCount};
 ghost use Rattle.session_client.specs.Over.{IfHeard, none_of, over_of};
 ghost use Rattle.session_client.specs.Said.{Did, PutsBehind, did_at, report_bytes};
+ghost use Rattle.session_client.specs.Tells.{HostHas, TakesCall};
 ghost use Rattle.session_client.specs.Turning.{HasAnswer, IsInStep, follows, holding_after};
 ghost use Rattle.session_client.specs.Turning.{turns_left};
 ghost use Rattle.session_client.specs.declared.client.Holding.TheVariants as holdings;
 ghost use Rattle.session_bytes.specs.Reading.{Acts, Awaits, EndsConnection, Hears};
 ghost use Rattle.session_router.specs.Heeding.{IsTalking};
-ghost use Rattle.session_router.specs.Histories.{Caller};
+ghost use Rattle.session_router.specs.Histories.{Caller, Host, host_after};
 ghost use Rattle.session_router.specs.Step.{IsStep};
 ghost use Rattle.session_router.specs.declared.event.Action.TheVariants as actions;
 ghost use Rattle.session_router.specs.declared.event.Ending.{Ending};
@@ -32,7 +34,7 @@ use session_router::event::{Action, Event};
 /// What came of an input.
 #[derive(Drop)]
 pub enum Heard {
-    /// No whole unit is there.
+    /// No whole unit has come.
     Awaits,
     /// Payload units were kept.
     Kept,
@@ -75,6 +77,8 @@ impl Client {
         ensures room { self.new.unsent ≤ length output.new }
         ensures hears { HearsAll self.old.router now closed (untold self.old input.old)
             (untold self.new input.new) self.new.router }
+        ensures takes { (held : Octets)
+            → TakesCall (did_at result) now self.old input.old held self.new input.new held }
         ensures awaits { IsAwaits result
             → Awaits self.old.router (untold self.old input.old) closed self.old.router }
         ensures rests { IsAwaits result → (self.new ≡ self.old) × (input.new ≡ input.old) }
@@ -133,6 +137,12 @@ impl Client {
         ensures counts { CountsKept self.old input.old → CountsKept self.new input.new }
         ensures same { SameCalls self.old self.new }
         ensures steps { IsStep self.old.router now event result self.new.router }
+        ensures left { LeavesInput result 0 (untold self.old input.old)
+            (untold self.new input.new) }
+        ensures has { (c : Caller Octets Octets) (h : Host Octets Octets) (buffer : Octets)
+            → HostHas c h self.old.holding self.old.kept self.old.shown input.old buffer
+            → HostHas c (host_after c h [] result) self.new.holding self.new.kept self.new.shown
+            input.new buffer }
         ensures step { IsInStep self.new }
         ensures ends { (x : Ending) → result ≡ actions.End x
             → PutsBehind (report_bytes self.new.router.version x.report x None [])
@@ -183,6 +193,14 @@ impl Client {
             action.now self.old.router
             → IsKeptCount self.old.holding before self.old.kept input.old
             → CountsKept self.new input.new }
+        ensures has { (c : Caller Octets Octets) (h : Host Octets Octets) (buffer : Octets) (now : ℕ)
+            (before : Router)
+            → Acts before now (drop self.old.kept (take self.old.filled input.old)) start end
+            action.now self.old.router
+            → HostHas c h self.old.holding self.old.kept self.old.shown input.old buffer
+            → HostHas c (host_after c h
+            (drop start (take end (drop self.old.kept (take self.old.filled input.old)))) action.now)
+            self.new.holding self.new.kept self.new.shown input.new buffer }
         ensures left { LeavesInput action.now end (untold self.old input.old)
             (untold self.new input.new) }
         ensures holding { self.new.holding ≡
@@ -263,8 +281,7 @@ impl Client {
         }
     }
 
-    /// What comes before this offset of the untold bytes doesn't count any more, and stays where it
-    /// is.
+    /// Drops what comes before this offset of the unread bytes. The bytes stay where they are.
     fn set_aside(&mut self, end: usize)
         requires within { self.old.kept + end ≤ self.old.filled }
         ensures { self.new ≡ record self.old {
@@ -313,6 +330,12 @@ impl Client {
             → IsStep before now e action.now self.old.router
             → IsKeptCount self.old.holding before self.old.kept input.old
             → CountsKept self.new input.new }
+        ensures has { (c : Caller Octets Octets) (h : Host Octets Octets) (buffer : Octets) (now : ℕ)
+            (before : Router) (e : Event) → SaysItself before e
+            → IsStep before now e action.now self.old.router
+            → HostHas c h self.old.holding self.old.kept self.old.shown input.old buffer
+            → HostHas c (host_after c h [] action.now) self.new.holding self.new.kept self.new.shown
+            input.new buffer }
         ensures left { IsHearing self.old.holding → LeavesInput action.now 0
             (untold self.old input.old) (untold self.new input.new) }
         ensures holding { self.new.holding ≡ follows action.now self.old.holding }

@@ -1,15 +1,17 @@
 //! What a caller has to do next.
 
 ghost use Rattle.std.specs.Prelude.{◌≡◌, ◌<◌, ◌≤◌, ◌+◌, ◌^◌, ℕ, List, length, drop, take, true};
-ghost use Rattle.std.specs.Prelude.{Some, false, min, ◌-◌, ◌≢◌};
+ghost use Rattle.std.specs.Prelude.{Option, Some, false, min, ◌-◌, ◌≢◌};
 ghost use Rattle.session_client.specs.Next.{IsDataRoom, IsIndexRoom, IsRoom, IsTodoOf, IsWait};
 ghost use Rattle.session_client.specs.Next.{NamesRoom, RestsNow, Turns};
-ghost use Rattle.session_client.specs.Holding.{Fits, IsHearing, SaysItself, IsClient, data_in, room_at};
+ghost use Rattle.session_client.specs.Holding.{Fits, IsHearing, SaysItself, IsClient, data_in};
+ghost use Rattle.session_client.specs.Holding.{room_at};
 ghost use Rattle.session_client.specs.Holding.{untold};
 ghost use Rattle.session_client.specs.Makings.{Octets};
 ghost use Rattle.session_client.specs.Counting.{CountsKept};
 ghost use Rattle.session_client.specs.Over.{IfNamed, IsOfNone, none_of, over_of};
 ghost use Rattle.session_client.specs.Said.{given_up, with_room};
+ghost use Rattle.session_client.specs.Tells.{TakesCall, TellsCall};
 ghost use Rattle.session_client.specs.Turning.{HasAnswer, IsInStep, IsTurn, turns_left};
 ghost use Rattle.session_client.specs.declared.client.Client.{Client};
 ghost use Rattle.session_bytes.specs.Reading.{Awaits};
@@ -90,6 +92,9 @@ impl Client {
         ensures step { IsInStep self.new }
         ensures turns { Turns result now self.old.router self.new.router self.old.unsent
             self.new.unsent output.old output.new }
+        ensures told { TellsCall result now self.old input.old
+            (data_in self.old.second first.old second.old) self.new input.new
+            (data_in self.new.second first.new second.new) output.old output.new }
         ensures room { self.new.unsent ≤ length output.new }
         ensures full { NamesRoom result self.new input.new output.new }
         ensures names { IfNamed result (over_of now self.old input.old
@@ -157,6 +162,8 @@ impl Client {
         ensures step { IsInStep self.new }
         ensures turns { Turns result.0 now self.old.router self.new.router self.old.unsent
             self.new.unsent output.old output.new }
+        ensures told { TellsCall result.0 now self.old input.old held.now self.new input.new
+            (data_in result.1 held.now made.new) output.old output.new }
         ensures room { self.new.unsent ≤ length output.new }
         ensures full { NamesRoom result.0 self.new input.new output.new }
         ensures names { IfNamed result.0 (over_of now self.old input.old held.now
@@ -202,6 +209,9 @@ impl Client {
         ensures second { self.new.second ≡ self.old.second }
         ensures turns { Turns result now self.old.router self.new.router self.old.unsent
             self.new.unsent output.old output.new }
+        ensures told { (held : Octets)
+            → TellsCall result now self.old input.old held self.new input.new held
+            output.old output.new }
         ensures room { self.new.unsent ≤ length output.new }
         ensures full { NamesRoom result self.new input.new output.new }
         ensures names { (held : Octets) → IfNamed result
@@ -249,6 +259,9 @@ impl Client {
         ensures second { self.new.second ≡ self.old.second }
         ensures turns { Turns result now self.old.router self.new.router self.old.unsent
             self.new.unsent output.old output.new }
+        ensures told { (held : Octets)
+            → TellsCall result now self.old input.old held self.new input.new held
+            output.old output.new }
         ensures room { self.new.unsent ≤ length output.new }
         ensures full { NamesRoom result self.new input.new output.new }
         ensures names { (held : Octets) → IfNamed result
@@ -281,6 +294,9 @@ impl Client {
         ensures second { self.new.second ≡ self.old.second }
         ensures turns { Turns result now self.old.router self.new.router self.old.unsent
             self.new.unsent output.old output.new }
+        ensures told { (held : Octets)
+            → TellsCall result now self.old input.old held self.new input.new held
+            output.old output.new }
         ensures room { self.new.unsent ≤ length output.new }
         ensures full { NamesRoom result self.new input.new output.new }
         ensures names { (held : Octets) → IfNamed result
@@ -305,7 +321,7 @@ impl Client {
         }
     }
 
-    /// No whole unit is there.
+    /// No whole unit has come.
     fn starve(&mut self, now: u64, input: &mut [u8], output: &mut [u8]) -> Todo
         requires time { now < 2 ^ 63 }
         requires fits { Fits self.old input.old }
@@ -318,6 +334,9 @@ impl Client {
         ensures second { self.new.second ≡ self.old.second }
         ensures turns { Turns result now self.old.router self.new.router self.old.unsent
             self.new.unsent output.old output.new }
+        ensures told { (held : Octets)
+            → TellsCall result now self.old input.old held self.new input.new held
+            output.old output.new }
         ensures room { self.new.unsent ≤ length output.new }
         ensures full { NamesRoom result self.new input.new output.new }
         ensures names { (held : Octets) → IfNamed result
@@ -355,6 +374,9 @@ impl Client {
         ensures second { self.new.second ≡ self.old.second }
         ensures turns { Turns result now self.old.router self.new.router self.old.unsent
             self.new.unsent output.old output.new }
+        ensures told { (held : Octets)
+            → TellsCall result now self.old input.old held self.new input.new held
+            output.old output.new }
         ensures room { self.new.unsent ≤ length output.new }
         ensures full { NamesRoom result self.new input.new output.new }
         ensures names { (held : Octets) → IfNamed result
@@ -378,6 +400,10 @@ impl Client {
     /// What a caller has to do at this action.
     fn todo(&mut self, action: &Action, refusal: Option<Refusal>, offset: usize) -> Todo
         ensures todo { IsTodoOf (Some action.now) result }
+        ensures takes { (a : Option Action) (now : ℕ) (k : Client)
+            (input held input' held' : Octets)
+            → TakesCall a now k input held self.old input' held'
+            → TakesCall a now k input held self.new input' held' }
         ensures full { (k : Client) (input output : Octets) → NamesRoom result k input output }
         ensures names { IfNamed result
             (λ x r o. (action.now ≡ actions.End x) × (r ≡ refusal) × (o ≡ offset))
@@ -427,6 +453,9 @@ impl Client {
         ensures second { self.new.second ≡ self.old.second }
         ensures turns { Turns result now self.old.router self.new.router self.old.unsent
             self.new.unsent output.old output.new }
+        ensures told { (held : Octets)
+            → TellsCall result now self.old input.old held self.new input.new held
+            output.old output.new }
         ensures room { self.new.unsent ≤ length output.new }
         ensures names { (held : Octets) → IfNamed result
             (over_of now self.old input.old held self.new output.old output.new)
@@ -455,6 +484,9 @@ impl Client {
         ensures second { self.new.second ≡ self.old.second }
         ensures turns { Turns result now self.old.router self.new.router
             (with_room self.old.unsent (length output.old)) self.new.unsent output.old output.new }
+        ensures told { (held : Octets) → TellsCall result now
+            (record self.old { unsent = with_room self.old.unsent (length output.old) })
+            input.old held self.new input.new held output.old output.new }
         ensures room { self.new.unsent ≤ length output.new }
         ensures names { (held : Octets) → IfNamed result (over_of now
             (record self.old { unsent = with_room self.old.unsent (length output.old) })
@@ -497,7 +529,7 @@ impl Client {
         self.closed = true;
     }
 
-    /// So many bytes were read into the input, at the offset `filled`.
+    /// Records that `size` bytes were read into the input, at the offset `filled`.
     pub fn received(&mut self, size: usize, input: &[u8])
         requires fits { Fits self.old input.now }
         requires within { self.old.filled + size ≤ length input.now }
@@ -510,7 +542,7 @@ impl Client {
         self.filled += size;
     }
 
-    /// So many bytes of the output were sent. The others move to its front.
+    /// Records that `size` bytes of the output were sent, and moves the others to its front.
     pub fn sent(&mut self, size: usize, output: &mut [u8])
         requires within { size ≤ self.old.unsent }
         requires room { self.old.unsent ≤ length output.old }

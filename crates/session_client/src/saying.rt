@@ -14,9 +14,9 @@ use unit_any::laws::placed_reports;
 /// The most bytes that one action sends: an error report has at most as many.
 pub(crate) const MOST_SENT: usize = 65_535;
 
-/// Appends the bytes that this action sends to those that are still to be sent: its query, or the
-/// report that it owes, in this version, about the unit that `about` begins with, which is refused
-/// for this reason, if it is. Where a connection is to be made, none are left of the one before.
+/// Appends the bytes that this action sends to the unsent ones: its query, or the report that it
+/// owes, in this version, about the unit at the front of `about`, which may be refused for this
+/// reason. An action that connects drops all unsent bytes of the connection before.
 pub(crate) fn put(
     version: u8,
     action: &Action,

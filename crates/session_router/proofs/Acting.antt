@@ -23,10 +23,12 @@ use Rattle.session_router.specs.Pace.{PacesFall, PacesRise, PacesWait, SameDue, 
 use Rattle.session_router.specs.Pace.{due_waiting, grows, rest}
 use Rattle.session_router.specs.Recovery.{connection_time, restarts}
 use Rattle.session_router.proofs.Soon.{at_most, waits_no_later}
-use Rattle.session_router.proofs.Connections.{Holds, Kept, UnderWay, after, after_same, all, all_same}
+use Rattle.session_router.proofs.Connections.{Holds, Kept, UnderWay, after, after_same, all}
+use Rattle.session_router.proofs.Connections.{all_same}
 use Rattle.session_router.proofs.Connections.{ask_le, begin_le, connect_le, fail_le, fall_le, kept}
 use Rattle.session_router.proofs.Connections.{left, less_le, min_le, no_restarts, once_more}
-use Rattle.session_router.proofs.Connections.{opening, reset_le, restarts_reset, restarts_same, same_le}
+use Rattle.session_router.proofs.Connections.{opening, reset_le, restarts_reset, restarts_same}
+use Rattle.session_router.proofs.Connections.{same_le}
 use Rattle.session_router.proofs.Connections.{some_restarts, still_le, then_waiting}
 use Rattle.session_router.proofs.Connections.{after_waiting, ask_less_le, rise_le, times}
 

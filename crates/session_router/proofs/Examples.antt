@@ -23,7 +23,8 @@ use Rattle.session_router.specs.Safety.{IsAllowed, MayStep}
 use Rattle.session_router.specs.Asking.{IsTimed}
 use Rattle.session_router.specs.Examples.{back, fallen, fifth, first, first_answer, first_asked}
 use Rattle.session_router.specs.Examples.{first_whole, fourth, high, high_asked, low, low_answer}
-use Rattle.session_router.specs.Examples.{low_asked, low_begun, low_unit, low_whole, lower, numbering}
+use Rattle.session_router.specs.Examples.{low_asked, low_begun, low_unit, low_whole, lower}
+use Rattle.session_router.specs.Examples.{numbering}
 use Rattle.session_router.specs.Examples.{query_for_all, rise, rise_asked, rise_lost, risen, second}
 use Rattle.session_router.specs.Examples.{seven}
 use Rattle.session_router.specs.Examples.{sixth, third, unit_of_kind, usual}

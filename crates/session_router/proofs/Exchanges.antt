@@ -29,7 +29,8 @@ use Rattle.rtr_base.specs.Serial.{serial_cmp}
 use Rattle.session_router.specs.After.{forgets, once_asked_at, once_ended, once_failed, once_rested}
 use Rattle.session_router.specs.After.{once_resyncing, router_after}
 use Rattle.session_router.specs.Step.{IsInTime, IsStep, made_until}
-use Rattle.session_router.specs.Exchange.{Exchange, exchange_after, exchanged, none_yet, once_queried}
+use Rattle.session_router.specs.Exchange.{Exchange, exchange_after, exchanged, none_yet}
+use Rattle.session_router.specs.Exchange.{once_queried}
 use Rattle.session_router.specs.Exchange.{once_spoken}
 use Rattle.session_router.specs.Histories.{Caller, Host, IsHistory, Moment}
 use Rattle.session_router.specs.Histories.IsHistory.{run_begins, run_goes_on}
@@ -37,7 +38,8 @@ use Rattle.session_router.specs.Recovery.{AnswersWell, AnyStep, ComesInTime, Goe
 use Rattle.session_router.specs.Recovery.{ClosesAbove}
 use Rattle.session_router.specs.Recovery.{IsMadeWell, IsServedBy, LeavesWell, DoesWell, Unshown}
 use Rattle.session_router.specs.Recovery.{served_until}
-use Rattle.session_router.specs.Recovery.AnswersWell.{answers_lower, closes, notifies, refuses_session}
+use Rattle.session_router.specs.Recovery.AnswersWell.{answers_lower, closes, notifies}
+use Rattle.session_router.specs.Recovery.AnswersWell.{refuses_session}
 use Rattle.session_router.specs.Recovery.AnswersWell.{refuses_version, resets_well, responds}
 use Rattle.session_router.specs.Recovery.GoesOnWell.{ends_data, notifies_inside, sends_payload}
 use Rattle.session_router.specs.Recovery.IsMadeWell.{are_made, are_refused}

@@ -18,7 +18,8 @@ use Rattle.session_router.specs.Pace.{Paces, PacesWait, due_waiting, has_more}
 use Rattle.session_router.specs.Times.{refresh_ms}
 use Rattle.session_router.specs.Histories.{Caller, Host, IsHistory, Moment}
 use Rattle.session_router.specs.Histories.IsHistory.{run_begins, run_goes_on}
-use Rattle.session_router.specs.Asking.{IsQuiet, IsTimed, QuietHere, has_reason, is_notify, is_reason}
+use Rattle.session_router.specs.Asking.{IsQuiet, IsTimed, QuietHere, has_reason, is_notify}
+use Rattle.session_router.specs.Asking.{is_reason}
 use Rattle.session_router.specs.Asking.{latest, reason_after, refresh_after, refresh_at}
 use Rattle.session_router.proofs.Settled.{settled}
 

@@ -18,13 +18,15 @@ use Rattle.session_router.specs.declared.event.Action.TheVariants as actions
 use Rattle.session_router.specs.declared.event.Cause.{Cause}
 use Rattle.session_router.specs.declared.event.Cause.TheVariants as causes
 use Rattle.session_router.specs.declared.event.Ending.{Ending}
-use Rattle.session_router.specs.Rules.{ClosesBy, Falls, FallsAt, FallsInSilence, Fresh, MayAsk, Rule}
+use Rattle.session_router.specs.Rules.{ClosesBy, Falls, FallsAt, FallsInSilence, Fresh, MayAsk}
+use Rattle.session_router.specs.Rules.{Rule}
 use Rattle.session_router.specs.Rules.{SameKnown, awaits_changes, opening_version}
 use Rattle.session_router.specs.Heeding.{StandsStill, ends_for, ends_with}
 use Rattle.session_router.specs.Heeding.StandsStill.{agreed_on, lowest, other_code}
 use Rattle.session_router.specs.Pace.{IsLimited, Paces, PacesEnd, grows, is_first_rise, next_rise}
 use Rattle.session_router.specs.Times.{received, refresh_ms}
-use Rattle.session_router.specs.After.{once_asked_at, once_ended, once_failed, once_fallen, once_noted}
+use Rattle.session_router.specs.After.{once_asked_at, once_ended, once_failed, once_fallen}
+use Rattle.session_router.specs.After.{once_noted}
 use Rattle.session_router.specs.After.{once_rested, once_resyncing, once_risen, once_waited}
 use Rattle.session_router.specs.After.{router_after}
 use Rattle.session_router.specs.Step.{IsInTime, IsStep}

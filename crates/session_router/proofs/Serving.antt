@@ -18,19 +18,23 @@ use Rattle.session_router.specs.declared.event.Action.TheVariants as actions
 use Rattle.session_router.specs.declared.event.Cause.TheVariants as causes
 use Rattle.session_router.specs.Rules.{Fresh, Keeps, MayAnswer, Rule}
 use Rattle.session_router.specs.Rules.{query}
-use Rattle.session_router.specs.Heeding.{HeedsAsked, HeedsLoss, HeedsTick, HeedsWaiting, asks_for_all}
+use Rattle.session_router.specs.Heeding.{HeedsAsked, HeedsLoss, HeedsTick, HeedsWaiting}
+use Rattle.session_router.specs.Heeding.{asks_for_all}
 use Rattle.session_router.specs.Heeding.{ends_for, ends_with}
 use Rattle.session_router.specs.Pace.{Paces}
 use Rattle.session_router.specs.Pace.{SameDue, due_in}
 use Rattle.session_router.specs.Pace.{wakes_at}
 use Rattle.session_router.specs.Step.{IsInTime, IsStep}
 use Rattle.session_router.specs.Recovery.{connection_time, served_until, time_needed}
-use Rattle.session_router.proofs.Served.{AnswersWell, GoesOnWell, IsAboveFloor, IsMadeWell, IsServed}
+use Rattle.session_router.proofs.Served.{AnswersWell, GoesOnWell, IsAboveFloor, IsMadeWell}
+use Rattle.session_router.proofs.Served.{IsServed}
 use Rattle.session_router.proofs.Served.{IsServedBy, LeavesWell}
 use Rattle.session_router.proofs.Served.LeavesWell.{not_asked_yet, notifies_then, wished_then}
 use Rattle.session_router.proofs.Served.AnswersWell.{answers_anew, refuses_session, closes_session}
-use Rattle.session_router.proofs.Served.AnswersWell.{not_yet, notifies, responds, resets_well, wished}
-use Rattle.session_router.proofs.Served.AnswersWell.{refuses_version, answers_lower, closes_silently}
+use Rattle.session_router.proofs.Served.AnswersWell.{not_yet, notifies, responds, resets_well}
+use Rattle.session_router.proofs.Served.AnswersWell.{wished}
+use Rattle.session_router.proofs.Served.AnswersWell.{refuses_version, answers_lower}
+use Rattle.session_router.proofs.Served.AnswersWell.{closes_silently}
 use Rattle.session_router.proofs.Served.GoesOnWell.{not_more_yet, notifies_inside, sends_payload}
 use Rattle.session_router.proofs.Served.GoesOnWell.{ends_data, wished_inside}
 use Rattle.session_router.proofs.Served.IsMadeWell.{not_made_yet, are_made, are_refused}

@@ -18,10 +18,12 @@ use Rattle.session_router.specs.Rules.{awaits_changes}
 use Rattle.session_router.specs.declared.event.Event.TheVariants as events
 use Rattle.session_router.specs.Pace.{Paces, PacesEnd, due_in, due_waiting, grows, grows_slow}
 use Rattle.session_router.specs.Pace.{has_more, is_waiting, longest_rest, rest, soonest, wakes_at}
-use Rattle.session_router.specs.Times.{expire_ms, milliseconds, named_refresh_ms, refresh_ms, retry_ms}
+use Rattle.session_router.specs.Times.{expire_ms, milliseconds, named_refresh_ms, refresh_ms}
+use Rattle.session_router.specs.Times.{retry_ms}
 use Rattle.session_router.specs.Times.{set_or}
-use Rattle.session_router.specs.Histories.{Caller, Host, IsHistory, Moment}
+use Rattle.session_router.specs.Histories.{Caller, Host, IsHistory, IsNew, Moment}
 use Rattle.session_router.specs.Histories.IsHistory.{run_begins, run_goes_on}
+use Rattle.session_router.specs.Step.{IsStep}
 use Rattle.session_router.specs.Asking.{IsTimed, latest, longest}
 use Rattle.session_router.proofs.Settled.{ends_settled, settled}
 
@@ -279,22 +281,29 @@ zero_soon d l e = omega arith
 zero_asked : (d : ℕ) → d ≡ 0 → d ≤ 0
 zero_asked d e = omega arith
 
+pub soon_new : (s : Settings) (r : Router) → IsNew s r → Soon s r 0
+soon_new s r new = record {
+  due = zero_soon r.due (longest s) new.due;
+  asked = zero_asked r.asked new.asked;
+}
+
+-- one step
+pub soon_next :
+    (s : Settings) (r r' : Router) (t n : ℕ) (e : Event) (a : Action) → r.settings ≡ s → t ≤ n
+    → IsStep r n e a r' → Soon s r t → Soon s r' n
+soon_next s r r' t n e a set order went y = record {
+  due = soon_after s r r' t n set order (acts r r' n e a went.paces) y.due;
+  asked = asked_before r.asked r'.asked t n order (asked_of r r' n e a went.paces) y.asked;
+}
+
 pub soon_always :
     {B D : Type 0} (c : Caller B D) (ms : List (Moment B)) (r : Router) (h : Host B D)
     → IsHistory c ms r h → IsTimed ms
     → Soon c.settings r (latest ms)
-soon_always c ms r h (run_begins r₀ new) timed = record {
-  due = zero_soon r₀.due (longest c.settings) new.due;
-  asked = zero_asked r₀.asked new.asked;
-}
+soon_always c ms r h (run_begins r₀ new) timed = soon_new c.settings r₀ new
 soon_always c ms r h (run_goes_on n b e a r' ms₀ r₀ h₀ run said went) timed =
-    let y : Soon c.settings r₀ (latest ms₀) = soon_always c ms₀ r₀ h₀ run timed.2 in
-    record {
-      due = soon_after c.settings r₀ r' (latest ms₀) n (settled c ms₀ r₀ h₀ run) timed.0
-          (acts r₀ r' n e a went.paces) y.due;
-      asked = asked_before r₀.asked r'.asked (latest ms₀) n timed.0
-          (asked_of r₀ r' n e a went.paces) y.asked;
-    }
+    soon_next c.settings r₀ r' (latest ms₀) n e a (settled c ms₀ r₀ h₀ run) timed.0 went
+    (soon_always c ms₀ r₀ h₀ run timed.2)
 
 waiting_soon :
     (d q x t p c a f s e : ℕ) → d ≤ t + (p + c + a + f + s + e + 86400000) → q ≤ t → x ≡ p
@@ -316,11 +325,14 @@ least_of : (b : Bool) (x y m : ℕ) → x ≤ m → (if b then min x y else x) �
 least_of true x y m h = omega arith
 least_of false x y m h = h
 
+pub wakes_soon : (s : Settings) (r : Router) (t : ℕ) → r.settings ≡ s → Soon s r t
+    → wakes_at r ≤ t + longest s
+wakes_soon s r t set y =
+    least_of r.has_data (due_in r.phase r) r.expires (t + longest s) (in_phase r.phase s r t set y)
+
 pub acts_soon :
     {B D : Type 0} (c : Caller B D) (ms : List (Moment B)) (r : Router) (h : Host B D)
     → IsHistory c ms r h → IsTimed ms
     → wakes_at r ≤ latest ms + longest c.settings
 acts_soon c ms r h run timed =
-    least_of r.has_data (due_in r.phase r) r.expires (latest ms + longest c.settings)
-    (in_phase r.phase c.settings r (latest ms) (settled c ms r h run)
-    (soon_always c ms r h run timed))
+    wakes_soon c.settings r (latest ms) (settled c ms r h run) (soon_always c ms r h run timed)

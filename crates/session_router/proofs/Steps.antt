@@ -19,13 +19,15 @@ use Rattle.session_router.specs.declared.event.Action.{Action}
 use Rattle.session_router.specs.declared.event.Action.TheVariants as actions
 use Rattle.session_router.specs.declared.event.Cause.TheVariants as causes
 use Rattle.session_router.specs.Rules.{AsksOwn, Fresh, IsPayloadOf, query}
-use Rattle.session_router.specs.Heeding.{HeedsExpiry, IsNoAnswer, IsNoPart, IsPayloadAbove, ends_for}
+use Rattle.session_router.specs.Heeding.{HeedsExpiry, IsNoAnswer, IsNoPart, IsPayloadAbove}
+use Rattle.session_router.specs.Heeding.{ends_for}
 use Rattle.session_router.specs.Heeding.{ends_with}
 use Rattle.session_router.specs.Pace.{IsLimited}
 use Rattle.session_router.specs.Times.{expire_ms, milliseconds, set_or}
 use Rattle.session_router.specs.After.{asks_changes, once_adopted, once_asked, once_begun}
 use Rattle.session_router.specs.After.{once_completed}
-use Rattle.session_router.specs.After.{once_connected, once_dropped, once_fallen_silently, once_lost}
+use Rattle.session_router.specs.After.{once_connected, once_dropped, once_fallen_silently}
+use Rattle.session_router.specs.After.{once_lost}
 use Rattle.session_router.specs.After.{once_risen}
 use Rattle.session_router.specs.Step.{IsStep, made_until}
 

@@ -16,7 +16,8 @@ use Rattle.session_router.specs.declared.event.Event.TheVariants as events
 use Rattle.session_router.specs.declared.event.Action.{Action}
 use Rattle.session_router.specs.declared.event.Action.TheVariants as actions
 use Rattle.session_router.specs.declared.event.Ending.{Ending}
-use Rattle.session_router.specs.Rules.{Adopts, Asks, AsksOwn, Begins, Closes, Completes, Drops, Fresh}
+use Rattle.session_router.specs.Rules.{Adopts, Asks, AsksOwn, Begins, Closes, Completes, Drops}
+use Rattle.session_router.specs.Rules.{Fresh}
 use Rattle.session_router.specs.Rules.{Keeps, PassesOver, Rule, SameKnown, Waits, query}
 use Rattle.session_router.specs.Times.{expire_ms, expires_at_show}
 use Rattle.session_router.specs.Histories.{Caller, HistoryHas, Host, IsAnswered, IsOut}

@@ -6,11 +6,13 @@ ghost use Rattle.std.specs.declared.cmp.Ordering.TheVariants.{Less};
 ghost use Rattle.rtr_base.specs.Serial.{serial_cmp};
 ghost use Rattle.session_router.specs.Heeding.{Heeds, HeedsAsked, HeedsReading, HeedsUnit};
 ghost use Rattle.session_router.specs.Heeding.{HeedsWaiting, IsIdle};
-ghost use Rattle.session_router.specs.After.{once_adopted, once_begun, once_noted, once_without_data};
+ghost use Rattle.session_router.specs.After.{once_adopted, once_begun, once_noted};
+ghost use Rattle.session_router.specs.After.{once_without_data};
 ghost use Rattle.session_router.specs.After.{router_after};
 ghost use Rattle.session_router.specs.Pace.{Paces, PacesNoData, PacesShow, SameDue, is_news};
 ghost use Rattle.session_router.specs.Pace.{rise_wait_at_show, rises_at_show};
-ghost use Rattle.session_router.specs.Rules.{Begins, Fresh, IsPayloadOf, MayAnswer, Rule, SameKnown};
+ghost use Rattle.session_router.specs.Rules.{Begins, Fresh, IsPayloadOf, MayAnswer, Rule};
+ghost use Rattle.session_router.specs.Rules.{SameKnown};
 ghost use Rattle.session_router.specs.Rules.{Adopts};
 ghost use Rattle.session_router.specs.Step.{made_until};
 ghost use Rattle.session_router.specs.declared.event.Action.TheVariants as actions;
@@ -247,8 +249,8 @@ impl Router {
         Action::Keep
     }
 
-    /// A notify of the version came in a response. What it says of the same session is kept until
-    /// the data are there.
+    /// Handles a notify of the version that came inside a response. Keeps its state until the
+    /// response ends, if it is of the same session.
     fn note(&mut self, now: u64, unit: &Head) -> Action
         requires time { now < 2 ^ 63 }
         requires reading { self.old.phase ≡ phases.Reading }
@@ -381,7 +383,7 @@ impl Router {
         }
     }
 
-    /// Whether the answer has other data than those that are there.
+    /// Reports whether the answer changes the data.
     fn is_news(&self) -> bool
         ensures { result ≡ is_news self.now }
     {

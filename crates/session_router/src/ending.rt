@@ -1,4 +1,4 @@
-//! How connections end, and what comes after.
+//! How connections end, and what the router does next.
 
 ghost use Rattle.std.specs.Prelude.{◌≡◌, ◌≢◌, ◌≤◌, ◌<◌, ◌+◌, ◌*◌, ◌-◌, ◌^◌, ◌⊎◌, true, false, None};
 ghost use Rattle.std.specs.Prelude.{Some, min, max, if◌then◌else◌, ℕ};
@@ -8,7 +8,8 @@ ghost use Rattle.session_router.specs.After.{once_fallen_silently, once_rested, 
 ghost use Rattle.session_router.specs.After.{router_after};
 ghost use Rattle.session_router.specs.Pace.{Paces, PacesFailure, PacesFall, PacesGivingUp, grows};
 ghost use Rattle.session_router.specs.Pace.{grows_slow, longest_rest, next_rise, next_wait, rest};
-ghost use Rattle.session_router.specs.Rules.{Drops, Fails, Fresh, GivesUp, HasLost, Rule, SameKnown};
+ghost use Rattle.session_router.specs.Rules.{Drops, Fails, Fresh, GivesUp, HasLost, Rule};
+ghost use Rattle.session_router.specs.Rules.{SameKnown};
 ghost use Rattle.session_router.specs.Rules.{awaits_changes, is_answering};
 ghost use Rattle.session_router.specs.Times.{shortened};
 ghost use Rattle.session_router.specs.declared.event.Action.TheVariants as actions;

@@ -1,18 +1,18 @@
-//! What a router is told, and what it answers.
+//! Events of a router, and its actions.
 
 ghost use Rattle.std.specs.Prelude.{◌≡◌};
 ghost use Rattle.session_router.specs.Texts.{cause_text};
 
 use crate::head::{Fault, Head, Query};
 
-/// What a router is told.
+/// An event that the caller reports to a router.
 #[derive(Clone, Copy)]
 pub enum Event {
     /// Time passed.
     Tick,
     /// Its caller wants the present data: it asks as soon as it may.
     Asked,
-    /// The connection is there.
+    /// The connection is made.
     Connected,
     /// None could be made, or it is gone. Where the close cut off a unit, that is `Faulty`.
     Lost,
@@ -97,8 +97,8 @@ pub enum Cause {
     /// The cache may have a lower version, which the next connection begins in at once. This is no
     /// failure.
     Lower,
-    /// The cache may have a higher version than the one that a silent close left, and the next
-    /// connection begins in the highest at once. This is no failure.
+    /// The cache may support a higher version than the one that the router fell to at a silent
+    /// close. The next connection begins in the highest version, at once. This is no failure.
     Higher,
 }
 

@@ -16,7 +16,7 @@ pub enum Kind {
     ErrorReport,
 }
 
-/// The fields of a unit that a machine looks at. Those that its kind doesn't have are zero.
+/// The fields of a unit that a machine looks at. Fields that its type doesn't have are zero.
 #[derive(Clone, Copy)]
 pub struct Head {
     pub kind: Kind,

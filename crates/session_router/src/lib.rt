@@ -1,5 +1,6 @@
 //! The router's end of a session of the RPKI to Router protocol (RFC 8210), as a machine without
-//! sockets, clock and memory: it is told what happens, and says what to do.
+//! sockets, clock or memory: its caller reports events, and carries out the actions that it
+//! returns.
 #![tactic(auto)]
 
 mod answering;

@@ -32,7 +32,7 @@ pub enum Phase {
     Waiting,
 }
 
-/// A router's end of the protocol. It holds what is known of the data, and not the data.
+/// A router's end of the protocol. It holds the state of the session, and not the data.
 ///
 /// Times are in milliseconds, of a clock that doesn't go back.
 #[derive(Clone, Copy)]
@@ -55,7 +55,7 @@ pub struct Router {
     pub floor: u8,
     /// Whether the last query was a serial query.
     pub changes: bool,
-    /// Whether the next query has to be a reset query.
+    /// Whether the next query must be a reset query.
     pub resync: bool,
     /// Whether the connection, or where there is none the last one, brought data.
     pub answered: bool,
@@ -142,8 +142,8 @@ impl Router {
         }
     }
 
-    /// The next step, at this time. What comes after data have expired, or after the time for it is
-    /// over, is passed over.
+    /// Takes the next step, at this time. An event is ignored if the data have expired, or the
+    /// deadline of what is under way has passed.
     pub fn step(&mut self, now: u64, event: Event) -> Action
         requires time { now < 2 ^ 63 }
         ensures steps { IsStep self.old now event result self.new }
@@ -253,7 +253,7 @@ impl Router {
         }
     }
 
-    /// Whether the time for what is under way is over.
+    /// Reports whether the deadline of what is under way has passed.
     fn is_late(&self, now: u64) -> bool
         ensures late { result ≡ true → IsLimited self.now.phase }
         ensures due { result ≡ true → self.now.due ≤ now }

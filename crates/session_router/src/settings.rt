@@ -29,7 +29,7 @@ pub struct Settings {
 }
 
 impl Settings {
-    /// The usual ones, with this version, or 2 if it is higher.
+    /// The default settings, with this version as the highest, or 2 if it is above 2.
     pub fn usual(highest: u8) -> Settings
         ensures highest { result.highest ≡ min highest 2 }
         ensures pause { result.pause ≡ 1000 }

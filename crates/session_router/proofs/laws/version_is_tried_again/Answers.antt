@@ -1,7 +1,8 @@
 use Rattle.session_router.proofs.laws.version_is_tried_again.Goals as goal
 use Rattle.std.proofs.Common.{refl}
 use Rattle.session_router.proofs.Examples.{by_numbers_again, fresh_low, has_low, has_risen}
-use Rattle.session_router.proofs.Examples.{is_served_again, le, may_fall, may_have_tried, rises_again}
+use Rattle.session_router.proofs.Examples.{is_served_again, le, may_fall, may_have_tried}
+use Rattle.session_router.proofs.Examples.{rises_again}
 
 pub returns-clause-low : goal.returns-clause-low
 returns-clause-low c = has_low

@@ -2,7 +2,7 @@ use native.Mathlib.Omega.{arith}
 use Rattle.std.proofs.Common.{ap, refl, subst, sym, drop, take, ◌+◌, ◌-◌, ◌≤◌, ◌∙◌}
 use Rattle.session_router.specs.declared.event.Action.TheVariants as actions
 use Rattle.session_bytes.specs.Reading.{Acts}
-use Rattle.session_client.specs.Holding.{LeavesInput, Stands, untold}
+use Rattle.session_client.specs.Holding.{LeavesInput, Stands, due_after, untold}
 use Rattle.session_client.specs.declared.client.Client.{Client}
 use Rattle.session_client.proofs.Runs.{acts_begin, acts_complete, acts_other, acts_wait}
 use Rattle.session_client.proofs.Places.{later}
@@ -14,6 +14,9 @@ use Rattle.session_router.specs.declared.event.Event.TheVariants as events
 use Rattle.session_client.proofs.CountsKept.{counts_apply, counts_begin, counts_more, counts_there}
 use Rattle.session_client.proofs.CountsKept.{counts_wait}
 use Rattle.session_client.proofs.Steps.{holding_other}
+use Rattle.session_router.specs.Histories.{host_after}
+use Rattle.session_client.specs.Tells.{HostHas}
+use Rattle.session_client.proofs.Takes.{has_apply, has_begin, has_other, has_wait, unit_shows_none}
 use Rattle.session_client.proofs.client.Client.act.Goals as goal
 
 pub returns-in-Wait-clause-holding : goal.returns-in-Wait-clause-holding
@@ -146,6 +149,14 @@ returns-in_default c =
       holding = ap (λ (k : Client). k.holding) c.forget.ensures.client
           ∙ sym (holding_other c.args.action.now s.holding (c.args.end - c.args.start)
           c.in_default.not-Wait c.in_default.not-Begin c.in_default.not-Apply);
+      has = λ k h buffer now before acts x.
+          subst (λ (new : Client). HostHas k (host_after k h
+          (drop c.args.start (take c.args.end rest)) c.args.action.now) new.holding new.kept new.shown
+          c.forget.new.input buffer) (sym c.forget.ensures.client)
+          (has_other k h s.holding s.kept 0 (drop c.args.start (take c.args.end rest))
+          c.args.action.now s.shown input c.forget.new.input buffer
+          (unit_shows_none now c.args.start c.args.end rest c.args.action.now before s.router acts)
+          x);
       stays = λ is. absurd (c.in_default.not-NoData is);
       counts = λ now before acts x.
           subst (λ m. IsKeptCount m c.forget.new.self.router c.forget.new.self.kept
@@ -205,3 +216,59 @@ returns-in-Apply-clause-counts c = λ now before acts x.
     s.filled input c.requires.hears order c.requires.within y.unit y.step
     (counts_more now before y.before s.holding s.kept start s.filled input c.requires.hears within
     y.kept x) c.complete.new.self.kept c.complete.ensures.kept)
+
+pub returns-in-Wait-clause-has : goal.returns-in-Wait-clause-has
+returns-in-Wait-clause-has c = λ k h buffer now before acts x.
+    let s = c.args.self.now in
+    let input = c.args.input.now in
+    let start = c.args.start in
+    let end = c.args.end in
+    let rest = drop s.kept (take s.filled input) in
+    subst (λ (new : Client). HostHas k (host_after k h (drop start (take end rest)) c.args.action.now)
+    new.holding new.kept new.shown c.pass.new.input buffer) (sym c.pass.ensures.client)
+    (subst (λ a. HostHas k (host_after k h (drop start (take end rest)) a) s.holding (s.kept + start)
+    s.shown c.pass.new.input buffer) (sym c.in-Wait.is)
+    (has_wait k h s.holding now s.kept start end s.filled before s.router s.shown input
+    c.pass.new.input buffer c.requires.hears c.pass.ensures.same
+    (subst (λ a. Acts before now rest start end a s.router) c.in-Wait.is acts) x))
+
+pub returns-in-Begin-clause-has : goal.returns-in-Begin-clause-has
+returns-in-Begin-clause-has c = λ k h buffer now before acts x.
+    let s = c.args.self.now in
+    let input = c.args.input.now in
+    let unit = drop c.args.start (take c.args.end (drop s.kept (take s.filled input))) in
+    subst (λ (new : Client). HostHas k (host_after k h unit c.args.action.now) new.holding new.kept
+    new.shown c.begin.new.input buffer) (sym c.begin.ensures.client)
+    (subst (λ a. HostHas k (host_after k h unit a) holdings.Units 0 s.shown c.begin.new.input buffer)
+    (sym c.in-Begin.is)
+    (has_begin k h s.holding s.kept unit s.shown input c.begin.new.input buffer x))
+
+pub returns-in-Apply-clause-has : goal.returns-in-Apply-clause-has
+returns-in-Apply-clause-has c = λ k h buffer now before acts x.
+    let s = c.args.self.now in
+    let input = c.args.input.now in
+    let start = c.args.start in
+    let end = c.args.end in
+    let rest = drop s.kept (take s.filled input) in
+    let since = c.in-Apply.since in
+    let after = c.complete.new.self in
+    let order : start ≤ end = omega (arith, c.requires.order) in
+    subst (λ (new : Client). HostHas k (host_after k h (drop start (take end rest)) c.args.action.now)
+    new.holding new.kept new.shown input buffer) (sym c.complete.ensures.client)
+    (subst (λ a. HostHas k (host_after k h (drop start (take end rest)) a)
+    (due_after s.holding (end - start) since) after.kept s.shown input buffer) (sym c.in-Apply.is)
+    (has_apply k h s.holding since now s.kept after.kept start end s.filled before s.router s.shown
+    input buffer c.requires.hears order c.requires.within c.complete.ensures.kept
+    (subst (λ a. Acts before now rest start end a s.router) c.in-Apply.is acts) x))
+
+pub returns-in-NoData-clause-has : goal.returns-in-NoData-clause-has
+returns-in-NoData-clause-has c = λ k h buffer now before acts x.
+    let s = c.args.self.now in
+    let input = c.args.input.now in
+    let unit = drop c.args.start (take c.args.end (drop s.kept (take s.filled input))) in
+    subst (λ (new : Client). HostHas k (host_after k h unit c.args.action.now) new.holding new.kept
+    new.shown input buffer) (sym c.set_aside.ensures)
+    (subst (λ a. HostHas k (host_after k h unit a) holdings.Nothing (s.kept + c.args.end) s.shown input
+    buffer) (sym c.in-NoData.is)
+    (has_other k h s.holding s.kept (s.kept + c.args.end) unit actions.NoData s.shown input input
+    buffer (λ is. cc) x))

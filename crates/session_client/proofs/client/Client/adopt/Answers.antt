@@ -1,6 +1,6 @@
 use native.Mathlib.Omega.{arith}
 use Rattle.std.proofs.Common.{◌≤◌, ◌+◌, [], add-zero, ap, drop, length, refl, subst, sym, take}
-use Rattle.std.proofs.Common.{None, Some}
+use Rattle.std.proofs.Common.{◌∷◌, None, Some}
 use Rattle.session_client.specs.Holding.{LeavesInput, untold}
 use Rattle.session_client.specs.Counting.{IsKeptCount}
 use Rattle.session_client.specs.Over.{over_none}
@@ -18,6 +18,9 @@ use Rattle.session_bytes.specs.Reading.KeepsAll.{kept_none}
 use Rattle.session_router.specs.Step.{IsStep}
 use Rattle.session_client.specs.Holding.{RunsBeside}
 use Rattle.session_client.proofs.Runs.{fails_made, leaves_at, shows_made}
+use Rattle.session_router.specs.Histories.{host_after}
+use Rattle.session_client.specs.Tells.{HostHas, of_itself}
+use Rattle.session_client.proofs.Takes.{has_made, has_other}
 use Rattle.session_client.proofs.client.Client.adopt.Goals as goal
 
 pub returns-in-Show-clause-stands : goal.returns-in-Show-clause-stands
@@ -166,3 +169,67 @@ returns-in_default-clause-counts c =
     let after = c.forget.new.self in
     subst (λ m. IsKeptCount m after.router after.kept c.forget.new.input)
     (sym (ap (λ (k : Client). k.holding) c.forget.ensures.client)) tt
+
+pub returns-in-Show-clause-takes : goal.returns-in-Show-clause-takes
+returns-in-Show-clause-takes c = λ held made m was is.
+    let s = c.args.self.now in
+    let there = take s.filled c.args.input.now in
+    let action = c.step-action.result in
+    let after = c.forget.new.self in
+    let to = s.kept + c.args.size in
+    let left =
+    subst (λ n. LeavesInput action 0 (drop (s.kept + n) there) (untold after c.forget.new.input))
+    (sym c.requires.due)
+    (leaves_at action to 0 there (untold after c.forget.new.input)
+    (subst (λ n. LeavesInput action n there (untold after c.forget.new.input)) (sym (add-zero to))
+    c.forget.ensures.left)) in
+    record {
+      word = of_itself events.Applied actions.Show;
+      is_told = (
+        refl,
+        tt,
+        subst (λ r. IsStep s.router c.args.now events.Applied actions.Show r)
+            (sym (ap (λ (k : Client). k.router) c.forget.ensures.client))
+            (subst (λ a. IsStep s.router c.args.now events.Applied a c.step-action.new.self)
+            c.in-Show.is c.step-action.ensures.steps),
+        subst (λ a. LeavesInput a 0 (untold s c.args.input.now) (untold after c.forget.new.input))
+            c.in-Show.is left,
+      );
+      made = m ∷ [];
+      were = (was, tt);
+      says = λ k h makes x. (take c.args.count made, is k h makes.0 x);
+      has = λ k h makes x.
+          subst (λ (new : Client). HostHas k (host_after k h [] actions.Show) new.holding new.kept
+          (Some c.args.count) c.forget.new.input made) (sym c.forget.ensures.client)
+          (has_made k h c.args.count 0 c.forget.new.input made (is k h makes.0 x));
+    }
+
+pub returns-in_default-clause-takes : goal.returns-in_default-clause-takes
+returns-in_default-clause-takes c = λ held made m was is.
+    let s = c.args.self.now in
+    let there = take s.filled c.args.input.now in
+    let action = c.step-action.result in
+    let after = c.forget.new.self in
+    let to = s.kept + c.args.size in
+    record {
+      word = of_itself events.Applied action;
+      is_told = (
+        refl,
+        tt,
+        subst (λ r. IsStep s.router c.args.now events.Applied action r)
+            (sym (ap (λ (k : Client). k.router) c.forget.ensures.client)) c.step-action.ensures.steps,
+        subst (λ n. LeavesInput action 0 (drop (s.kept + n) there) (untold after c.forget.new.input))
+            (sym c.requires.due)
+            (leaves_at action to 0 there (untold after c.forget.new.input)
+            (subst (λ n. LeavesInput action n there (untold after c.forget.new.input))
+            (sym (add-zero to)) c.forget.ensures.left)),
+      );
+      made = m ∷ [];
+      were = (was, tt);
+      says = λ k h makes x. (take c.args.count made, is k h makes.0 x);
+      has = λ k h makes x.
+          subst (λ (new : Client). HostHas k (host_after k h [] action) new.holding new.kept new.shown
+          c.forget.new.input held) (sym c.forget.ensures.client)
+          (has_other k h s.holding s.kept 0 [] action s.shown c.args.input.now c.forget.new.input
+          held c.in_default.not-Show x);
+    }

@@ -2,6 +2,8 @@ use Rattle.std.proofs.Common.{None}
 use Rattle.session_client.proofs.Overs.{acts_itself}
 use Rattle.session_client.proofs.Steps.{answer_applying, refused_ends}
 use Rattle.session_router.specs.declared.event.Event.TheVariants as events
+use Rattle.std.proofs.Common.{[], refl}
+use Rattle.session_client.specs.Tells.{of_itself}
 use Rattle.session_client.proofs.client.Client.cannot_make.Goals as goal
 
 pub returns-clause-names : goal.returns-clause-names
@@ -19,3 +21,15 @@ returns-clause-ends c =
     (refused_ends s.router x.new.self.router c.args.now None x.result
     (answer_applying s.router.phase s.holding c.requires.step c.requires.whole)
     x.ensures.steps.rule)
+
+pub returns-clause-takes : goal.returns-clause-takes
+returns-clause-takes c = λ held made.
+    let x = c.happens-action in
+    record {
+      word = of_itself (events.NotApplied None) x.result;
+      is_told = (refl, tt, x.ensures.steps, x.ensures.left);
+      made = [];
+      were = tt;
+      says = λ k h makes y. tt;
+      has = λ k h makes y. x.ensures.has k h held y;
+    }

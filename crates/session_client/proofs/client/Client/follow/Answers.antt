@@ -1,4 +1,4 @@
-use Rattle.std.proofs.Common.{add-zero, ap, refl, subst, sym, take, ◌∙◌}
+use Rattle.std.proofs.Common.{[], add-zero, ap, refl, subst, sym, take, ◌∙◌}
 use Rattle.session_router.specs.Step.{IsStep}
 use Rattle.session_client.specs.Holding.{LeavesInput, Stands, untold}
 use Rattle.session_client.specs.declared.client.Client.{Client}
@@ -9,6 +9,10 @@ use Rattle.session_client.proofs.CountsKept.{counts_wait}
 use Rattle.session_client.specs.Turning.{follows}
 use Rattle.session_client.proofs.Steps.{follows_other}
 use Rattle.session_client.proofs.Turns.{ends_left}
+use Rattle.session_router.specs.Histories.{host_after}
+use Rattle.session_client.specs.Tells.{HostHas}
+use Rattle.session_client.proofs.Runs.{no_show, not_applied}
+use Rattle.session_client.proofs.Takes.{has_other}
 use Rattle.session_client.proofs.client.Client.follow.Goals as goal
 
 pub returns-in-Wait-clause-holding : goal.returns-in-Wait-clause-holding
@@ -36,6 +40,12 @@ returns-in_default c =
           subst (λ new. Stands k new c.forget.new.input buffer) (sym c.forget.ensures.client)
           (says_other k before s.router s.holding now s.kept 0 e c.args.action.now s.shown
           c.args.input.now c.forget.new.input buffer says x step);
+      has = λ k h buffer now before e says step x.
+          subst (λ (new : Client). HostHas k (host_after k h [] c.args.action.now) new.holding new.kept
+          new.shown c.forget.new.input buffer) (sym c.forget.ensures.client)
+          (has_other k h s.holding s.kept 0 [] c.args.action.now s.shown c.args.input.now
+          c.forget.new.input buffer
+          (no_show before now e c.args.action.now s.router (not_applied e before says) step.rule) x);
       left = λ hearing.
           subst (λ b. LeavesInput c.args.action.now 0 b
           (untold c.forget.new.self c.forget.new.input))
@@ -68,3 +78,9 @@ returns-in-Wait-clause-counts c = λ now before e step x.
     let s = c.args.self.now in
     counts_wait before s.router e s.holding s.kept c.args.input.now
     (subst (λ a. IsStep before now e a s.router) c.in-Wait.is step).rule x
+
+pub returns-in-Wait-clause-has : goal.returns-in-Wait-clause-has
+returns-in-Wait-clause-has c = λ k h buffer now before e says step x.
+    let s = c.args.self.now in
+    subst (λ a. HostHas k (host_after k h [] a) s.holding s.kept s.shown c.args.input.now buffer)
+    (sym c.in-Wait.is) x

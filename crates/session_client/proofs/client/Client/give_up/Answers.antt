@@ -1,6 +1,7 @@
 use Rattle.std.proofs.Common.{subst, sym}
 use Rattle.session_router.specs.Step.{IsStep}
 use Rattle.session_client.specs.Said.{given_up}
+use Rattle.session_client.specs.Tells.{TellsCall}
 use Rattle.session_client.specs.declared.client.Client.{Client}
 use Rattle.session_client.proofs.Reports.{given_lost}
 use Rattle.session_client.proofs.client.Client.give_up.Goals as goal
@@ -17,3 +18,24 @@ returns-in_default-clause-gives c =
           (subst (λ e. IsStep k.router c.args.now e t.0 after)
           (sym (given_lost k.router.phase c.in_default.not-Reading c.in_default.not-Applying)) t.2),
     )
+
+pub returns-in-Reading-clause-told : goal.returns-in-Reading-clause-told
+returns-in-Reading-clause-told c = λ held.
+    let x = c.tells in
+    subst (λ (k : Client). TellsCall x.result c.args.now k c.args.input.now held x.new.self
+    x.new.input held c.args.output.now x.new.output) c.make_room.ensures.unsent
+    (x.ensures.told held)
+
+pub returns-in-Applying-clause-told : goal.returns-in-Applying-clause-told
+returns-in-Applying-clause-told c = λ held.
+    let x = c.tells-in-Applying in
+    subst (λ (k : Client). TellsCall x.result c.args.now k c.args.input.now held x.new.self
+    x.new.input held c.args.output.now x.new.output) c.make_room.ensures.unsent
+    (x.ensures.told held)
+
+pub returns-in_default-clause-told : goal.returns-in_default-clause-told
+returns-in_default-clause-told c = λ held.
+    let x = c.tells-in_default in
+    subst (λ (k : Client). TellsCall x.result c.args.now k c.args.input.now held x.new.self
+    x.new.input held c.args.output.now x.new.output) c.make_room.ensures.unsent
+    (x.ensures.told held)

@@ -10,6 +10,7 @@ use Rattle.session_client.proofs.Turns.{gave_up_turns, itself_turns, tick_turns}
 use Rattle.session_router.specs.declared.router.Router.{Router}
 use Rattle.session_client.specs.declared.client.Client.{Client}
 use Rattle.session_router.specs.declared.event.Action.TheVariants as actions
+use Rattle.session_client.proofs.Takes.{leaves_itself}
 use Rattle.session_client.proofs.client.Client.happens.Goals as goal
 
 pub returns-clause-did : goal.returns-clause-did
@@ -112,3 +113,21 @@ pub returns-clause-counts : goal.returns-clause-counts
 returns-clause-counts c =
     c.follow.ensures.counts c.args.now c.args.self.now.router c.args.event
     c.step-action.ensures.steps
+
+pub returns-clause-left : goal.returns-clause-left
+returns-clause-left c =
+    let s = c.args.self.now in
+    let after = c.follow.new.self in
+    leaves_itself s.router c.step-action.new.self c.args.now c.args.event s.holding
+    (untold s c.args.input.now) (untold after c.follow.new.input) c.requires.says c.requires.step
+    c.step-action.result c.step-action.ensures.steps.rule (
+      c.follow.ensures.left,
+      c.follow.ensures.ends,
+      λ is. ap (λ (k : Client). untold k c.follow.new.input) (c.follow.ensures.waits is).0
+          ∙ ap (untold s) (c.follow.ensures.waits is).1,
+    )
+
+pub returns-clause-has : goal.returns-clause-has
+returns-clause-has c = λ k h buffer x.
+    c.follow.ensures.has k h buffer c.args.now c.args.self.now.router c.args.event c.requires.says
+    c.step-action.ensures.steps x

@@ -1,11 +1,11 @@
 use Rattle.std.proofs.Common.{◌∙◌, [], ap, inl, inr, refl, subst, sym, drop, take, ◌+◌, None}
-use Rattle.std.proofs.Common.{◌<◌, ◌-◌}
+use Rattle.std.proofs.Common.{◌<◌, ◌-◌, ◌∷◌, ◌++◌}
 use Rattle.unit_views.specs.declared.fault.ViewFault.TheVariants.{Short}
 use Rattle.unit_any.specs.SessionViews.{IsSessionFault}
 use Rattle.session_bytes.specs.Reading.KeepsAll.{kept_none}
 use Rattle.session_client.proofs.Pieces.{said}
 use Rattle.session_router.specs.declared.event.Event.TheVariants as events
-use Rattle.session_bytes.specs.Reading.{Acts, HearsRefused, fault_of}
+use Rattle.session_bytes.specs.Reading.{Acts, HearsRefused, KeepsUnits, fault_of}
 use Rattle.session_bytes.specs.declared.telling.Told.TheVariants as told
 use Rattle.session_client.specs.declared.client.Client.{Client}
 use Rattle.session_client.specs.Holding.{IsHearing, LeavesInput, RunsBeside, untold}
@@ -22,6 +22,10 @@ use Rattle.session_client.proofs.Turns.{acted_turns, kept_turns, refused_turns}
 use Rattle.session_router.specs.Step.{IsStep}
 use Rattle.session_router.specs.declared.event.Action.TheVariants as actions
 use Rattle.session_router.specs.declared.router.Router.{Router}
+use Rattle.session_router.specs.Histories.{host_after}
+use Rattle.session_client.specs.Makings.{Octets}
+use Rattle.session_client.specs.Tells.{HostHas, TakesCall, TakesFrom, of_bytes}
+use Rattle.session_client.proofs.Takes.{has_kept, kept_left, takes_none}
 use Rattle.session_client.proofs.client.Client.hear.Goals as goal
 
 pub returns-in-Kept-clause-stands : goal.returns-in-Kept-clause-stands
@@ -377,3 +381,94 @@ returns-in-Refused-clause-counts c = λ x.
     (events.Faulty (fault_of rest c.in-Refused.fault)) c.in-Refused.ensures.hears.step
     (subst (λ (new : Client). IsKeptCount new.holding s.router new.kept input)
     (sym c.told.ensures.same) x)
+
+pub returns-in-Awaits-clause-takes : goal.returns-in-Awaits-clause-takes
+returns-in-Awaits-clause-takes c = λ held.
+    let s = c.args.self.now in
+    let input = c.args.input.now in
+    subst (λ (new : Client). TakesCall None c.args.now s input held new input held)
+    (sym (returns-in-Awaits-clause-rests c tt).0)
+    (takes_none c.args.now s.router s.holding s.kept s.filled s.shown input held)
+
+pub returns-in-Kept-clause-takes : goal.returns-in-Kept-clause-takes
+returns-in-Kept-clause-takes c = λ held.
+    let s = c.args.self.now in
+    let input = c.args.input.now in
+    let after = c.told.new.self.router in
+    let size = c.in-Kept.size in
+    let heard = c.in-Kept.ensures.hears in
+    let here = untold_hearing s.holding s.kept s.filled input c.requires.hears in
+    let within =
+    inside input s.kept size s.filled c.requires.fits.kept c.requires.fits.filled heard.within in
+    let takes : TakesFrom None c.args.now s.router s.holding s.kept s.filled s.shown input held after
+    s.holding (s.kept + size) s.filled s.shown input held = record {
+      word = of_bytes c.args.closed (told.Kept size);
+      is_told = (
+        refl,
+        subst (λ b. KeepsUnits s.router c.args.now b size after) (sym here) heard,
+        kept_left s.holding s.kept size s.filled input c.requires.hears,
+      );
+      made = [];
+      were = tt;
+      says = λ k h makes x. tt;
+      has = λ k h makes x.
+          subst (λ (b : Octets). HostHas k (record {
+            kept = h.kept ++ take size b ∷ [];
+            made = h.made;
+            shown = h.shown;
+          }) s.holding (s.kept + size) s.shown input held) (sym here)
+          (has_kept k h s.holding s.kept size s.filled s.shown input held c.requires.hears within x);
+    } in
+    subst (λ (new : Client). TakesCall None c.args.now s input held
+    (record new { router = after; kept = new.kept + size }) input held)
+    (sym c.told.ensures.same) takes
+
+pub returns-in-Acted-clause-takes : goal.returns-in-Acted-clause-takes
+unfolding returns-in-Acted-clause-hears
+returns-in-Acted-clause-takes c = λ held.
+    let s = c.args.self.now in
+    let input = c.args.input.now in
+    let x = c.in-Acted in
+    let after = c.act.new.self in
+    let heard = returns-in-Acted-clause-hears c in
+    let here = untold_hearing s.holding s.kept s.filled input c.requires.hears in
+    let rest = drop s.kept (take s.filled input) in
+    record {
+      word = of_bytes c.args.closed (told.Acted x.start x.end x.action);
+      is_told = (refl, heard.hears, heard.leaves);
+      made = [];
+      were = tt;
+      says = λ k h makes y. tt;
+      has = λ k h makes y.
+          subst (λ (b : Octets). HostHas k (host_after k h (drop x.start (take x.end b)) x.action)
+          after.holding after.kept after.shown c.act.new.input held) (sym here)
+          (subst (λ (new : Client). HostHas k (host_after k h
+          (drop x.start (take x.end (drop new.kept (take new.filled input)))) x.action)
+          after.holding after.kept after.shown c.act.new.input held) c.told.ensures.same
+          (c.act.ensures.has k h held c.args.now s.router
+          (subst (λ (new : Client). Acts s.router c.args.now (drop new.kept (take new.filled input))
+          x.start x.end x.action c.told.new.self.router) (sym c.told.ensures.same) x.ensures.hears)
+          (subst (λ (new : Client). HostHas k h new.holding new.kept new.shown input held)
+          (sym c.told.ensures.same) y)));
+    }
+
+pub returns-in-Refused-clause-takes : goal.returns-in-Refused-clause-takes
+unfolding returns-in-Refused-clause-hears
+returns-in-Refused-clause-takes c = λ held.
+    let s = c.args.self.now in
+    let input = c.args.input.now in
+    let x = c.in-Refused in
+    let heard = returns-in-Refused-clause-hears c in
+    let rest = drop s.kept (take s.filled input) in
+    record {
+      word = of_bytes c.args.closed (told.Refused x.fault x.action);
+      is_told = (refl, heard.hears, heard.leaves);
+      made = [];
+      were = tt;
+      says = λ k h makes y. tt;
+      has = λ k h makes y.
+          c.follow.ensures.has k h held c.args.now s.router
+          (events.Faulty (fault_of rest x.fault)) tt x.ensures.hears.step
+          (subst (λ (new : Client). HostHas k h new.holding new.kept new.shown input held)
+          (sym c.told.ensures.same) y);
+    }

@@ -1,4 +1,4 @@
-use Rattle.std.proofs.Common.{◌∙◌, ◌<◌, ap, None, subst, sym}
+use Rattle.std.proofs.Common.{◌∙◌, ◌<◌, ap, None, Some, subst, sym}
 use Rattle.session_bytes.specs.Reading.{Awaits}
 use Rattle.session_client.specs.Holding.{untold}
 use Rattle.session_client.specs.Next.{Turns}
@@ -8,6 +8,8 @@ use Rattle.session_client.specs.Turning.{turns_left}
 use Rattle.session_client.proofs.Overs.{named_then}
 use Rattle.session_client.proofs.Pieces.{turned}
 use Rattle.session_client.proofs.Turns.{fewer_then}
+use Rattle.session_client.specs.Tells.{TellsCall}
+use Rattle.session_client.proofs.Takes.{told_then}
 use Rattle.session_client.proofs.client.Client.listen.Goals as goal
 
 pub returns-in-Kept-clause-turns : goal.returns-in-Kept-clause-turns
@@ -97,3 +99,29 @@ returns-in-Acted-clause-serves c = λ s buffer x.
           c.in-Acted.ensures.stands k buffer (x.stands k settings makes);
       counts = c.in-Acted.ensures.counts x.counts;
     })
+
+pub returns-in-Kept-clause-told : goal.returns-in-Kept-clause-told
+returns-in-Kept-clause-told c = λ held.
+    (None, tt, c.in-Kept.ensures.did, c.in-Kept.ensures.takes held)
+
+pub returns-in-Acted-clause-told : goal.returns-in-Acted-clause-told
+returns-in-Acted-clause-told c = λ held.
+    let s = c.args.self.now in
+    told_then c.todo.result c.in-Acted.action c.args.now s c.hear.new.self c.todo.new.self
+    c.args.input.now held c.hear.new.input held c.args.output.now c.hear.new.output
+    c.todo.ensures.todo c.in-Acted.ensures.did c.todo.ensures.router c.todo.ensures.unsent
+    (c.todo.ensures.takes (Some c.in-Acted.action) c.args.now s c.args.input.now held
+    c.hear.new.input held (c.in-Acted.ensures.takes held))
+
+pub returns-in-Awaits-clause-told : goal.returns-in-Awaits-clause-told
+returns-in-Awaits-clause-told c = λ held.
+    let rests = c.in-Awaits.ensures.rests tt in
+    let after = c.starve.new.self in
+    let in_after = c.starve.new.input in
+    let out = c.starve.new.output in
+    subst (λ (k : Client). TellsCall c.starve.result c.args.now k c.args.input.now held after in_after
+    held c.args.output.now out) rests.0
+    (subst (λ b. TellsCall c.starve.result c.args.now c.hear.new.self b held after in_after held
+    c.args.output.now out) rests.1
+    (subst (λ o. TellsCall c.starve.result c.args.now c.hear.new.self c.hear.new.input held after
+    in_after held o out) c.in-Awaits.ensures.did.2 (c.starve.ensures.told held)))

@@ -6,6 +6,7 @@ use Rattle.session_client.proofs.CountsKept.{index_enough}
 use Rattle.session_client.proofs.Made.{duplicate_at, no_index, unknown_at}
 use Rattle.session_client.proofs.Room.{wants_index, wants_room}
 use Rattle.session_client.proofs.Runs.{made_is}
+use Rattle.session_client.proofs.Takes.{takes_none}
 use Rattle.session_client.proofs.client.Client.make_all.Goals as goal
 
 pub returns-in-Ok-clause-serves : goal.returns-in-Ok-clause-serves
@@ -98,3 +99,49 @@ returns-in-Err-Unknown-clause-index c = λ counts room wants.
 pub returns-in-Err-clause-index : goal.returns-in-Err-clause-index
 returns-in-Err-clause-index c = λ counts room wants.
     c.cannot_make.ensures.enough (wants_index _ wants)
+
+pub returns-in-Ok-clause-takes : goal.returns-in-Ok-clause-takes
+returns-in-Ok-clause-takes c =
+    let s = c.args.self.now in
+    let input = c.args.input.now in
+    let size = c.args.size in
+    let held = c.args.held.now in
+    let made = c.make.new.made in
+    let new = take c.in-Ok.count made in
+    let one : MadeAnswer = record {
+      base = onto c.args.since s.shown held (take size (drop s.kept input));
+      answer = take (s.kept + size) input;
+      new = new;
+    } in
+    c.adopt.ensures.takes held made one c.in-Ok.ensures.made
+    (λ k h makes x. made_is k h size c.args.since s.kept s.shown input held new x.0 makes
+    (subst (λ m. Holds k h m s.kept input) c.requires.due x.1))
+
+pub returns-in-Err-Duplicate-clause-takes : goal.returns-in-Err-Duplicate-clause-takes
+returns-in-Err-Duplicate-clause-takes c =
+    c.refuse.ensures.takes c.args.held.now c.make.new.made
+
+pub returns-in-Err-Unknown-clause-takes : goal.returns-in-Err-Unknown-clause-takes
+returns-in-Err-Unknown-clause-takes c =
+    c.refuse-in-Err-Unknown.ensures.takes c.args.held.now c.make.new.made
+
+pub returns-in-Err-clause-takes : goal.returns-in-Err-clause-takes
+returns-in-Err-clause-takes c = c.cannot_make.ensures.takes c.args.held.now c.make.new.made
+
+pub returns-in-Err-NoRoom-clause-takes : goal.returns-in-Err-NoRoom-clause-takes
+returns-in-Err-NoRoom-clause-takes c =
+    let s = c.args.self.now in
+    takes_none c.args.now s.router s.holding s.kept s.filled s.shown c.args.input.now
+    c.args.held.now
+
+pub returns-in-Err-NoIndex-clause-takes : goal.returns-in-Err-NoIndex-clause-takes
+returns-in-Err-NoIndex-clause-takes c =
+    let s = c.args.self.now in
+    takes_none c.args.now s.router s.holding s.kept s.filled s.shown c.args.input.now
+    c.args.held.now
+
+pub returns-then-made-room-clause-takes : goal.returns-then-made-room-clause-takes
+returns-then-made-room-clause-takes c =
+    let s = c.args.self.now in
+    takes_none c.args.now s.router s.holding s.kept s.filled s.shown c.args.input.now
+    c.args.held.now

@@ -14,6 +14,8 @@ use Rattle.session_client.proofs.Turns.{gave_up_turns}
 use Rattle.session_router.specs.Step.{IsStep}
 use Rattle.session_router.specs.declared.event.Event.TheVariants as events
 use Rattle.session_router.specs.declared.router.Router.{Router}
+use Rattle.session_client.specs.Tells.{of_itself}
+use Rattle.session_client.proofs.Takes.{leaves_ended}
 use Rattle.session_client.proofs.client.Client.refuse.Goals as goal
 
 pub returns-clause-stands : goal.returns-clause-stands
@@ -103,3 +105,28 @@ pub returns-clause-counts : goal.returns-clause-counts
 returns-clause-counts c =
     c.follow.ensures.counts c.args.now c.args.self.now.router
     (events.NotApplied (Some c.code.result)) c.step-action.ensures.steps
+
+pub returns-clause-takes : goal.returns-clause-takes
+returns-clause-takes c = λ held made.
+    let s = c.args.self.now in
+    let event = events.NotApplied (Some c.code.result) in
+    let action = c.step-action.result in
+    let after = c.follow.new.self in
+    record {
+      word = of_itself event action;
+      is_told = (
+        refl,
+        tt,
+        subst (λ r. IsStep s.router c.args.now event action r) (sym c.follow.ensures.router)
+            c.step-action.ensures.steps,
+        leaves_ended action (untold s c.args.input.now) (untold after c.follow.new.input)
+            (refused_ends s.router c.step-action.new.self c.args.now (Some c.code.result) action
+            (answer_applying s.router.phase s.holding c.requires.step c.requires.whole)
+            c.step-action.ensures.steps.rule) c.follow.ensures.ends,
+      );
+      made = [];
+      were = tt;
+      says = λ k h makes x. tt;
+      has = λ k h makes x.
+          c.follow.ensures.has k h held c.args.now s.router event tt c.step-action.ensures.steps x;
+    }

@@ -1,10 +1,31 @@
 use Rattle.std.proofs.Common.{Some, None}
 use Rattle.session_router.specs.declared.event.Action.TheVariants as actions
+use Rattle.session_client.specs.Next.{IsIndexRoom, IsRoom}
 use Rattle.session_client.specs.Turning.{turns_left}
+use Rattle.session_client.specs.declared.next.Todo.{Todo}
+use Rattle.session_client.specs.declared.next.Todo.TheVariants as todos
 use Rattle.session_client.proofs.Overs.{named_then}
 use Rattle.session_client.proofs.Pieces.{turned}
 use Rattle.session_client.proofs.Turns.{fewer_then}
+use Rattle.session_client.proofs.Takes.{told_then}
 use Rattle.session_client.proofs.client.Client.settle.Goals as goal
+
+index_is_room : (t : Todo) → IsIndexRoom t → IsRoom t
+index_is_room (todos.IndexRoom n) is = tt
+index_is_room (todos.InputRoom n) is = tt
+index_is_room (todos.DataRoom n) is = tt
+index_is_room (todos.OutputRoom n) is = tt
+index_is_room todos.Go is = absurd is
+index_is_room todos.Wait is = absurd is
+index_is_room todos.Connect is = absurd is
+index_is_room (todos.Close x refusal offset) is = absurd is
+index_is_room todos.Data is = absurd is
+index_is_room todos.Dropped is = absurd is
+index_is_room (todos.NoData offset) is = absurd is
+
+pub returns-in-Acted-clause-index : goal.returns-in-Acted-clause-index
+returns-in-Acted-clause-index c = λ counts room wants.
+    c.todo.ensures.rooms (index_is_room c.todo.result wants)
 
 pub returns-in-Nothing-clause-turns : goal.returns-in-Nothing-clause-turns
 returns-in-Nothing-clause-turns c =
@@ -49,3 +70,27 @@ returns-in-Shown-clause-ends c = λ turn. c.in-Shown.ensures.ends (λ room. room
 
 pub returns-in-Nothing-clause-ends : goal.returns-in-Nothing-clause-ends
 returns-in-Nothing-clause-ends c = λ turn. c.in-Nothing.ensures.ends (λ room. room)
+
+pub returns-in-Nothing-clause-told : goal.returns-in-Nothing-clause-told
+returns-in-Nothing-clause-told c =
+    (None, tt, c.in-Nothing.ensures.did, c.in-Nothing.ensures.takes)
+
+pub returns-in-Shown-clause-told : goal.returns-in-Shown-clause-told
+returns-in-Shown-clause-told c =
+    (Some actions.Show, tt, c.in-Shown.ensures.did, c.in-Shown.ensures.takes)
+
+pub returns-in-Data-clause-told : goal.returns-in-Data-clause-told
+returns-in-Data-clause-told c = (None, tt, c.in-Data.ensures.did, c.in-Data.ensures.takes)
+
+pub returns-in-Index-clause-told : goal.returns-in-Index-clause-told
+returns-in-Index-clause-told c = (None, tt, c.in-Index.ensures.did, c.in-Index.ensures.takes)
+
+pub returns-in-Acted-clause-told : goal.returns-in-Acted-clause-told
+returns-in-Acted-clause-told c =
+    let s = c.args.self.now in
+    told_then c.todo.result c.in-Acted.action c.args.now s c.apply.new.self c.todo.new.self
+    c.args.input.now c.args.held.now c.apply.new.input c.args.held.now c.args.output.now
+    c.apply.new.output c.todo.ensures.todo c.in-Acted.ensures.did c.todo.ensures.router
+    c.todo.ensures.unsent
+    (c.todo.ensures.takes (Some c.in-Acted.action) c.args.now s c.args.input.now c.args.held.now
+    c.apply.new.input c.args.held.now c.in-Acted.ensures.takes)

@@ -1,10 +1,14 @@
-use Rattle.std.proofs.Common.{None, subst, sym}
+use Rattle.std.proofs.Common.{None, Some, subst, sym}
 use Rattle.session_router.specs.Step.{IsStep}
 use Rattle.session_client.specs.Turning.{turns_left}
 use Rattle.session_client.proofs.Overs.{acts_itself, named_then}
 use Rattle.session_client.proofs.Pieces.{turned}
 use Rattle.session_client.proofs.Steps.{hearing_elsewhere}
 use Rattle.session_client.proofs.Turns.{fewer_then, most_then}
+use Rattle.std.proofs.Common.{[], refl}
+use Rattle.session_client.specs.Tells.{of_itself}
+use Rattle.session_client.proofs.Runs.{heard_none}
+use Rattle.session_client.proofs.Takes.{no_unit, told_then}
 use Rattle.session_client.proofs.client.Client.tells.Goals as goal
 
 pub returns-clause-turns : goal.returns-clause-turns
@@ -52,3 +56,20 @@ returns-clause-ticks c = λ is hears wakes turn.
     (x.ensures.steps.acts is wakes
     (hearing_elsewhere s.router.phase s.holding c.requires.step hears))
     (c.todo.ensures.turn turn)) (c.todo.ensures.turns x.new.input)
+
+pub returns-clause-told : goal.returns-clause-told
+returns-clause-told c = λ held.
+    let s = c.args.self.now in
+    let x = c.happens-action in
+    told_then c.todo.result x.result c.args.now s x.new.self c.todo.new.self c.args.input.now held
+    x.new.input held c.args.output.now x.new.output c.todo.ensures.todo x.ensures.did
+    c.todo.ensures.router c.todo.ensures.unsent
+    (c.todo.ensures.takes (Some x.result) c.args.now s c.args.input.now held x.new.input held
+    (record {
+      word = of_itself c.args.event x.result;
+      is_told = (refl, no_unit c.args.event c.requires.none, x.ensures.steps, x.ensures.left);
+      made = [];
+      were = tt;
+      says = λ k h makes y. heard_none c.args.event s.router c.requires.says h;
+      has = λ k h makes y. x.ensures.has k h held y;
+    }))

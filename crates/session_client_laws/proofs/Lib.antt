@@ -1,0 +1,4 @@
+mod Along
+mod Called
+mod Example
+mod Served

@@ -1,0 +1,89 @@
+//! What holds of a client and a cache that are joined.
+
+ghost use Rattle.std.specs.Prelude.{◌≡◌, ◌≤◌, ◌+◌, ℕ, List, Option, Some, true};
+ghost use Rattle.session_client_laws.specs.Called.{IsCalled};
+ghost use Rattle.session_client_laws.specs.Runs.{IsRunOfClient, Pair, RunsInBytes, ShowsHad};
+ghost use Rattle.session_client_laws.specs.Served.{IsServedFrom, TakesSteps};
+ghost use Rattle.session_cache.specs.Worlds.{IsOneDataPerName};
+ghost use Rattle.session_client.specs.Makings.{Octets};
+ghost use Rattle.session_client.specs.Tells.{TakesCall};
+ghost use Rattle.session_client.specs.declared.client.Client.{Client};
+ghost use Rattle.session_laws.specs.Editions.{editions_of};
+ghost use Rattle.session_router.specs.Asking.{longest};
+ghost use Rattle.session_router.specs.Exchange.{Exchange, exchanged, none_yet};
+ghost use Rattle.session_router.specs.Histories.{Caller, Host, IsHistory, Moment};
+ghost use Rattle.session_router.specs.Pace.{wakes_at};
+ghost use Rattle.session_router.specs.Recovery.{expired_until, served_until};
+ghost use Rattle.session_router.specs.declared.event.Action.{Action};
+ghost use Rattle.session_router.specs.declared.router.Phase.TheVariants as phases;
+ghost use Rattle.session_router.specs.declared.settings.Settings.{Settings};
+
+use session_laws::laws::bytes_agree;
+use session_router::laws::recovers;
+
+/// Each run of a client and a cache of ours, whatever the caller calls and when, is a run in bytes
+/// of the client's machine and the cache: what `session_laws` says of such runs holds of the
+/// client.
+pub fn runs_in_bytes()
+    ensures { (p : Pair) → IsRunOfClient p → RunsInBytes p }
+{}
+
+/// Over any calls of one client and any number of connections with a cache of ours, each cut
+/// anywhere and read in any pieces, with new editions, sessions and restarts of the cache at any
+/// time: whenever the client has data, its data buffer has the payloads of the edition that the
+/// cache had under their session and serial number, as the client's version has them.
+pub fn data_agree()
+    ensures { (p : Pair) → IsOneDataPerName (editions_of p.had) → IsRunOfClient p
+        → p.client.router.has_data ≡ true → ShowsHad p }
+{
+    bytes_agree()
+}
+
+/// Each call of a client is such steps of its machine: one at an event, or one at each unit that
+/// the bytes begin with, told by its bytes.
+pub fn calls_take_steps()
+    ensures { (a : Option Action) (now : ℕ) (k k' : Client) (input held input' held' : Octets)
+        → (t : TakesCall a now k input held k' input' held') → TakesSteps now k input k' t.word }
+{}
+
+/// Whatever comes: the time at which a client acts by itself is never far, `longest` after its last
+/// call. (`Client::next` says that it does act then.)
+pub fn client_acts_soon()
+    ensures { (s : Settings) (k : Client) (now : ℕ)
+        → IsCalled s k now → wakes_at k.router ≤ now + longest s }
+{}
+
+/// While a cache that has data and keeps the rules serves a client, whatever it did before, and no
+/// data are shown since, it isn't later than `served_until`, as in the law `recovers` of
+/// `session_router`: so data are shown by then. The client is called when it wakes, at the latest.
+pub fn client_recovers()
+    ensures after { (c : Caller ℕ ℕ) (history : List (Moment ℕ)) (h : Host ℕ ℕ)
+        (most spoken start : ℕ) (k k' : Client) (x : Exchange) (now : ℕ)
+        → IsHistory c history k.router h → k.router.floor ≤ spoken
+        → IsServedFrom most k (record (exchanged c.settings history) { spoken = spoken })
+        start k' x now
+        → now ≤ served_until k.router start }
+    ensures offline { (most start : ℕ) (k k' : Client) (none x : Exchange) (now : ℕ)
+        → k.router.phase ≡ phases.Offline → none.phase ≡ phases.Offline
+        → k.router.floor ≤ none.spoken → IsServedFrom most k none start k' x now
+        → now ≤ served_until k.router start }
+    ensures expired { (c : Caller ℕ ℕ) (history : List (Moment ℕ)) (h : Host ℕ ℕ)
+        (most spoken start : ℕ) (k k' : Client) (x : Exchange) (now : ℕ)
+        → IsHistory c history k.router h → k.router.has_data ≡ true
+        → IsServedFrom most k (record (exchanged c.settings history) { spoken = spoken })
+        start k' x now
+        → now ≤ expired_until k.router start }
+{
+    recovers()
+}
+
+/// There is a run in which a client gets a prefix of a cache and shows it: it meets the premises of
+/// `runs_in_bytes` and `data_agree`, beside a cache that keeps the rules those of
+/// `client_recovers`, and those of `client_acts_soon`.
+pub fn data_are_shown()
+    ensures run { (p : Pair) × IsRunOfClient p × IsOneDataPerName (editions_of p.had)
+        × (p.client.router.has_data ≡ true) × (p.client.shown ≡ Some 44) }
+    ensures served { (k k' : Client) × (x : Exchange) × (k.router.phase ≡ phases.Offline)
+        × (k.router.floor ≤ 0) × IsServedFrom 2 k none_yet 0 k' x 32 }
+    ensures called { (s : Settings) × (k : Client) × IsCalled s k 32 }
+{}
