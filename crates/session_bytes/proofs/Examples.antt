@@ -28,10 +28,12 @@ use Rattle.session_router.specs.declared.event.Event.TheVariants as events
 use Rattle.session_router.specs.Histories.{Caller, Host, IsHistory, IsNew, Moment, at, empty_host}
 use Rattle.session_router.specs.Histories.IsHistory.{run_begins, run_goes_on}
 use Rattle.session_router.specs.Rules.{query}
-use Rattle.session_cache.proofs.ExampleCalm.{adopts_so, asks_so, begins_so, completes_so, connects_so}
+use Rattle.session_cache.proofs.ExampleCalm.{adopts_so, asks_so, begins_so, completes_so}
+use Rattle.session_cache.proofs.ExampleCalm.{connects_so}
 use Rattle.session_cache.proofs.ExampleCalm.{keeps_so}
 use Rattle.session_cache.proofs.ExampleWorlds.{applying, asked, connecting, end_head, keeping}
-use Rattle.session_cache.proofs.ExampleWorlds.{payload_head, reading, response_head, router₀, settings}
+use Rattle.session_cache.proofs.ExampleWorlds.{payload_head, reading, response_head, router₀}
+use Rattle.session_cache.proofs.ExampleWorlds.{settings}
 use Rattle.session_cache.proofs.ExampleWorlds.{waiting}
 use Rattle.session_bytes.specs.Heads.{HasHead}
 use Rattle.session_bytes.specs.ShownData.{AppliesAnswers, AreHeard, ShowsAnswer, WritesAnswer}

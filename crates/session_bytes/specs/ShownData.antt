@@ -18,7 +18,8 @@ use Rattle.session_router.specs.declared.head.Head.{Head}
 use Rattle.session_router.specs.declared.head.Known.{Known}
 use Rattle.session_router.specs.declared.router.Router.{Router}
 use Rattle.session_router.specs.declared.settings.Settings.{Settings}
-use Rattle.session_router.specs.Histories.{Caller, HistoryHas, Host, IsHistory, Moment, at, host_after}
+use Rattle.session_router.specs.Histories.{Caller, HistoryHas, Host, IsHistory, Moment, at}
+use Rattle.session_router.specs.Histories.{host_after}
 use Rattle.session_router.specs.Rules.{known_of}
 use Rattle.session_bytes.specs.Heads.{HasHead, end_head}
 

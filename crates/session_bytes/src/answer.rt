@@ -10,9 +10,9 @@ use crate::refusal::{Refusal, part, unit_of};
 use crate::saying::place_refusal;
 use rtr_base::error_code::ErrorCode;
 use rtr_base::state::{Serial, State};
+use rtr_units::queries::{CacheReset, CacheResponse, SerialNotify};
 use session_cache::event::{Answer, OwedReport, Present, Reason};
 use unit_any::placing::{place_report, place_unit};
-use rtr_units::queries::{CacheReset, CacheResponse, SerialNotify};
 
 /// What to say of the want of data, in a report (RFC 8210 section 8.4).
 const NO_DATA: &str = "the cache has no data yet";

@@ -1,4 +1,4 @@
-//! What a machine is told of a unit that is refused.
+//! The fault of a refused unit, as a machine knows it.
 
 ghost use Rattle.std.specs.Prelude.{◌≡◌, ◌<◌, [], length};
 ghost use Rattle.rtr_units.specs.Codes.{code_of};
@@ -6,12 +6,13 @@ ghost use Rattle.rtr_units.specs.Header.{type_field};
 ghost use Rattle.unit_views.specs.OwedCodes.{owed, read_fault};
 ghost use Rattle.session_bytes.specs.Reading.{fault_of};
 
+use rtr_units::unit::Unit;
 use session_router::head::Fault;
 use unit_any::Report;
-use rtr_units::unit::Unit;
 use unit_views::fault::ViewFault;
 
-/// What a machine is told of the unit that the input begins with, which is refused for this fault.
+/// Returns the fault, as a machine knows it, of the unit at the front of the input, which is
+/// refused for this one.
 pub(crate) fn fault_of(input: &[u8], fault: &ViewFault) -> Fault
     requires some { 0 < length input.now }
     ensures { result ≡ fault_of input.now fault.now }

@@ -5,10 +5,10 @@ ghost use Rattle.rtr_units.specs.AnyEnd.{end_meaning};
 ghost use Rattle.session_bytes.specs.Heads.{bare_head, end_head};
 ghost use Rattle.session_bytes.specs.PrivateHeads.{data_head, shown_head};
 
-use session_router::head::{Head, Kind};
-use unit_any::SessionView;
 use rtr_units::end::EndOfData;
 use rtr_units::unit::Unit;
+use session_router::head::{Head, Kind};
+use unit_any::SessionView;
 use unit_views::view::UnitView;
 
 /// What the machine sees of a unit of this view and size.

@@ -1,5 +1,5 @@
-//! A router's and a cache's conversation in bytes (RFC 8210): what comes is told to the machines of
-//! `session_router` and `session_cache`, and what these want sent is written, but for data and changes.
+//! Both ends of a session in bytes (RFC 8210): units that came are passed to the machines of
+//! `session_router` and `session_cache`, and what these send is written, except data and changes.
 //! Nothing allocates.
 #![tactic(auto)]
 

@@ -4,9 +4,9 @@ ghost use Rattle.unit_views.specs.Placing.{Places};
 ghost use Rattle.session_bytes.specs.Sent.{query_bytes};
 
 use rtr_base::state::{Serial, State};
+use rtr_units::queries::{ResetQuery, SerialQuery};
 use session_router::head::Query;
 use unit_any::placing::place_unit;
-use rtr_units::queries::{ResetQuery, SerialQuery};
 
 /// Writes a query to the front of the output, and answers its length in bytes: 12 for a serial
 /// query, and 8 for a reset query (RFC 8210 sections 5.3 and 5.4). If the output is shorter, it

@@ -6,11 +6,9 @@ ghost use Rattle.session_bytes.specs.Sent.{about, unit_part};
 
 use rtr_base::error_code::ErrorCode;
 use rtr_payload::pdu::prefix_rule::PrefixRule;
+use rtr_units::header::HEADER_SIZE;
 use rtr_units::numbers::u32_at;
 use unit_views::fault::ViewFault;
-
-/// The bytes of a header.
-const HEADER: usize = 8;
 
 /// Why a unit or a change is refused.
 #[derive(Clone, Copy, Debug, PartialEq, Eq)]
@@ -24,11 +22,11 @@ pub enum Refusal {
     TooLong,
     UnitLength,
     EmptyProviders,
-    /// The part of the rule that the lengths of a prefix break, if it is known.
+    /// The part of the rule that the lengths of a prefix break, if known.
     Prefix(Option<PrefixRule>),
-    /// The unit announces what is there already.
+    /// The unit announces a payload that is present.
     Duplicate,
-    /// The unit withdraws what isn't there.
+    /// The unit withdraws a payload that is absent.
     Unknown,
 }
 
@@ -66,22 +64,22 @@ impl Refusal {
         code.0
     }
 
-    /// How much of the input a report about the unit at its front holds: the header alone where
-    /// that is refused, since its length isn't to be believed, and else the whole unit, or as much
-    /// as came of it.
+    /// Returns the part of the input that a report about its first unit copies: only the header if
+    /// the header is refused, since its length can't be trusted; otherwise the whole unit, or as
+    /// much of it as came.
     pub fn part(self, input: &[u8]) -> &[u8]
         ensures { result.now ≡ refusal_part self input.now }
     {
         match self {
             Refusal::Short => input,
             Refusal::Prefix(_) | Refusal::Duplicate | Refusal::Unknown => unit_of(input),
-            _ => front(input, HEADER),
+            _ => front(input, HEADER_SIZE),
         }
     }
 }
 
-/// How much of the input a report holds about the unit at its front, which is refused for this
-/// reason, if it is.
+/// Returns the part of the input that a report about its first unit copies; `refusal` is why the
+/// unit is refused, if it is.
 pub(crate) fn part(refusal: Option<Refusal>, input: &[u8]) -> &[u8]
     ensures { result.now ≡ about refusal input.now }
 {
@@ -91,11 +89,11 @@ pub(crate) fn part(refusal: Option<Refusal>, input: &[u8]) -> &[u8]
     }
 }
 
-/// The unit that the input begins with, as far as it is there.
+/// Returns the unit at the front of the input, or as much of it as came.
 pub(crate) fn unit_of(input: &[u8]) -> &[u8]
     ensures { result.now ≡ unit_part input.now }
 {
-    if input.len() < HEADER {
+    if input.len() < HEADER_SIZE {
         return input;
     }
     front(input, u32_at(input, 4) as usize)

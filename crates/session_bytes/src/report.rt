@@ -11,12 +11,11 @@ use session_router::event::{Cause, Ending};
 use unit_any::placing::place_report;
 
 /// Writes the report that this ending owes the cache (RFC 8210 section 5.11) to the front of the
-/// output, and answers its length in bytes. If none is owed, or the output is shorter, it answers
+/// output, and returns its length in bytes. If none is owed, or the output is shorter, it returns
 /// none and leaves the output unchanged; 65535 bytes are always enough.
 ///
-/// The report is of the version that the connection has, about the unit that `about` begins with,
-/// which is refused for this reason, if it is. Its text is that of the cause, or of the refusal
-/// where a unit or a change is refused.
+/// The report is of the version of the connection, about the unit at the front of `about`, which
+/// may be refused for this reason. Its text is that of the cause, or of the refusal.
 pub fn place_ending(
     version: u8,
     ending: &Ending,

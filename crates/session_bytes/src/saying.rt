@@ -1,4 +1,4 @@
-//! What is said of what is refused.
+//! Texts of refusals.
 
 ghost use Rattle.std.specs.Prelude.{◌≡◌, ◌≤◌, ◌+◌, ◌++◌, decimal, length};
 ghost use Rattle.text_lines.specs.Laying.{Lays};
@@ -8,8 +8,8 @@ ghost use Rattle.session_bytes.specs.Sent.{refusal_name, refusal_text};
 
 use crate::refusal::Refusal;
 use rtr_base::error_code::ErrorCode;
-use unit_any::placing::place_report;
 use text_lines::laying;
+use unit_any::placing::place_report;
 
 /// More than the longest text has.
 const ROOM: usize = 64;

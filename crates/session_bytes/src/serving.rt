@@ -1,4 +1,4 @@
-//! What comes from a router, told to a cache's machine.
+//! Reads a router's units, and passes them to a cache's machine.
 
 ghost use Rattle.std.specs.Prelude.{◌≡◌, ◌<◌, ◌^◌, ℕ, List, Option, IfOk, IfErr};
 ghost use Rattle.unit_any.specs.SessionViews.{IsSessionFault};
@@ -7,18 +7,18 @@ ghost use Rattle.session_bytes.specs.Serving.{HearsRouter};
 
 use crate::fault::fault_of;
 use crate::head::head_of;
+use rtr_units::numbers::u32_at;
 use session_cache::cache::Cache;
 use session_cache::event::{Answer, CacheEvent, Present};
 use session_router::head::Head;
 use unit_any::laws::bounded_lengths;
 use unit_any::{SessionFault, SessionView};
-use rtr_units::numbers::u32_at;
 use unit_views::fault::ViewFault;
 
 /// What came of the unit that an input begins with.
 #[derive(Drop)]
 pub enum Served {
-    /// No whole unit is there.
+    /// No whole unit has come.
     Awaits,
     /// The unit has this many bytes, and made the machine answer this.
     Answered(usize, Answer),

@@ -1,4 +1,4 @@
-//! What comes, told to the machine.
+//! Reads a cache's units, and passes them to a router's machine.
 
 ghost use Rattle.std.specs.Prelude.{◌≡◌, ◌<◌, ◌≤◌, ◌^◌, ℕ, Bool, Option, length, take};
 ghost use Rattle.std.specs.Prelude.{IfOk, IfErr, IfSome, OnErr, None};
@@ -11,25 +11,25 @@ ghost use Rattle.session_bytes.specs.Reading.{Hears, KeepsAll};
 use crate::fault::fault_of;
 use crate::head::head_of;
 use rtr_payload::pdu::{Aspa, RouterKey};
+use rtr_units::numbers::u32_at;
+use rtr_units::prefixes::{Ipv4Prefix, Ipv6Prefix};
+use rtr_units::unit::Unit;
 use session_router::event::{Action, Event};
 use session_router::router::Router;
 use unit_any::laws::bounded_lengths;
 use unit_any::{SessionFault, SessionView};
-use rtr_units::numbers::u32_at;
-use rtr_units::prefixes::{Ipv4Prefix, Ipv6Prefix};
-use rtr_units::unit::Unit;
 use unit_views::fault::ViewFault;
 
 /// What came of the units of an input.
 #[derive(Drop)]
 pub enum Told {
-    /// No whole unit is there.
+    /// No whole unit has come.
     Awaits,
     /// The input begins with payload units of this many bytes in all, which are to be kept.
     Kept(usize),
-    /// The unit between these places of the input made the machine take this action. What comes
-    /// before the first of them are payload units that the machine had kept until then: where there
-    /// are some, the action ends the connection, and they don't matter any more.
+    /// The unit between these offsets of the input made the machine take this action. Before it
+    /// come payload units that the machine had kept; if there are some, the action ends the
+    /// connection, and they are dropped.
     Acted {
         start: usize,
         end: usize,
@@ -105,8 +105,7 @@ fn begins_payload(input: &[u8]) -> bool
         )
 }
 
-/// Tells the machine of the unit that the input begins with. The answer is what it does, and the
-/// size of the unit.
+/// Passes the first unit of the input to the machine. Returns its action and the size of the unit.
 #[inline(always)]
 fn came(router: &mut Router, now: u64, input: &[u8]) -> Result<(Action, usize), SessionFault>
     requires { now < 2 ^ 63 }

@@ -31,15 +31,18 @@ use Rattle.session_cache.specs.Worlds.{IsSource, Next, Sent, Source}
 use Rattle.session_cache.specs.Worlds.{TellsItself, World, cache_writes}
 use Rattle.session_cache.specs.Worlds.{caller_of, changes_of}
 use Rattle.session_cache.specs.Worlds.{query_head, router_writes}
-use Rattle.session_cache.specs.Worlds.Next.{cache_hears, cache_told, connected, renewed, router_hears}
+use Rattle.session_cache.specs.Worlds.Next.{cache_hears, cache_told, connected, renewed}
+use Rattle.session_cache.specs.Worlds.Next.{router_hears}
 use Rattle.session_cache.specs.Worlds.Next.{router_told}
 use Rattle.session_cache.specs.Worlds.IsReachedBy.{world_begins, world_goes_on}
 use Rattle.session_cache.proofs.Had.{Archive, AreAmong, IsArchive, IsOld, WasPresent, among_next}
-use Rattle.session_cache.proofs.Had.{archive_before, first_of, is_archive, present_news, present_old}
+use Rattle.session_cache.proofs.Had.{archive_before, first_of, is_archive, present_news}
+use Rattle.session_cache.proofs.Had.{present_old}
 use Rattle.session_cache.proofs.Had.{source_before}
 use Rattle.session_cache.proofs.Answering.{asking}
 use Rattle.session_cache.proofs.Answering.{Coming, EndsHere, Left, Quiet, UnderWay, answer_comes}
-use Rattle.session_cache.proofs.Answering.{at_same, coming_after, coming_more, coming_news, left_more}
+use Rattle.session_cache.proofs.Answering.{at_same, coming_after, coming_more, coming_news}
+use Rattle.session_cache.proofs.Answering.{left_more}
 use Rattle.session_cache.proofs.Answering.{left_news, notifies, old_of, quiet_more}
 
 -- ---- what holds in each phase

@@ -19,7 +19,8 @@ use Rattle.session_cache.specs.Worlds.{Sent, Source, TellsCache, WasHad}
 use Rattle.session_cache.specs.Worlds.{cache_writes, change_unit}
 use Rattle.session_cache.specs.Worlds.{data_end}
 use Rattle.session_cache.specs.Worlds.{query_head, report_sent, response}
-use Rattle.session_cache.proofs.Had.{Archive, IsArchive, IsOld, WasPresent, present_news, was_present}
+use Rattle.session_cache.proofs.Had.{Archive, IsArchive, IsOld, WasPresent, present_news}
+use Rattle.session_cache.proofs.Had.{was_present}
 
 -- ---- what is on its way to the router
 

@@ -14,9 +14,11 @@ use Rattle.session_cache.specs.declared.cache.Cache.{Cache}
 use Rattle.session_cache.specs.declared.event.Answer.TheVariants as answers
 use Rattle.session_cache.specs.declared.event.CacheEvent.TheVariants as told
 use Rattle.session_cache.specs.CacheRules.{CacheRule}
-use Rattle.session_cache.specs.Worlds.{AreFrom, Edition, IsOneDataPerName, IsReached, IsSource, Next}
+use Rattle.session_cache.specs.Worlds.{AreFrom, Edition, IsOneDataPerName, IsReached, IsSource}
+use Rattle.session_cache.specs.Worlds.{Next}
 use Rattle.session_cache.specs.Worlds.{Source, World, query_head, router_writes}
-use Rattle.session_cache.specs.Worlds.Next.{cache_hears, cache_told, connected, renewed, router_hears}
+use Rattle.session_cache.specs.Worlds.Next.{cache_hears, cache_told, connected, renewed}
+use Rattle.session_cache.specs.Worlds.Next.{router_hears}
 use Rattle.session_cache.specs.Worlds.Next.{router_told}
 use Rattle.session_cache.specs.Worlds.IsReachedBy.{world_begins, world_goes_on}
 use Rattle.session_cache.proofs.Agreement.{known_had}

@@ -23,8 +23,10 @@ use Rattle.session_cache.specs.declared.event.Present.{Present}
 use Rattle.session_cache.specs.CacheRules.{IsQuery}
 use Rattle.session_cache.specs.CacheSteps.{IsCacheStep}
 use Rattle.session_cache.specs.Calm.{IsAtRest, IsCalm, IsToldOfNews, ShowsPresent}
-use Rattle.session_cache.specs.Worlds.{Agrees, AreChangesOf, Edition, GoesOn, IsAnswering, IsListening}
-use Rattle.session_cache.specs.Worlds.{IsLived, IsOneDataPerName, IsPeaceful, IsReached, IsSource, Sent}
+use Rattle.session_cache.specs.Worlds.{Agrees, AreChangesOf, Edition, GoesOn, IsAnswering}
+use Rattle.session_cache.specs.Worlds.{IsListening}
+use Rattle.session_cache.specs.Worlds.{IsLived, IsOneDataPerName, IsPeaceful, IsReached, IsSource}
+use Rattle.session_cache.specs.Worlds.{Sent}
 use Rattle.session_cache.specs.Worlds.{Source, WasHad, World, query_answer}
 use Rattle.session_cache.proofs.Agreement as agreeing
 use Rattle.session_cache.proofs.Calm as calm

@@ -16,8 +16,10 @@ use Rattle.session_router.specs.declared.event.Action.TheVariants as actions
 use Rattle.session_router.specs.declared.event.Event.{Event}
 use Rattle.session_router.specs.declared.event.Event.TheVariants as events
 use Rattle.session_router.specs.Recovery.{served_until}
-use Rattle.session_router.proofs.Served.{AnswersWell, GoesOnWell, IsAboveFloor, IsServed, IsServedBy}
-use Rattle.session_router.proofs.Served.AnswersWell.{not_yet, notifies as notifies_well, resets_well}
+use Rattle.session_router.proofs.Served.{AnswersWell, GoesOnWell, IsAboveFloor, IsServed}
+use Rattle.session_router.proofs.Served.{IsServedBy}
+use Rattle.session_router.proofs.Served.AnswersWell.{not_yet, notifies as notifies_well}
+use Rattle.session_router.proofs.Served.AnswersWell.{resets_well}
 use Rattle.session_router.proofs.Served.AnswersWell.{responds, wished}
 use Rattle.session_router.proofs.Served.GoesOnWell.{ends_data, not_more_yet, sends_payload}
 use Rattle.session_router.proofs.Served.GoesOnWell.{wished_inside}
@@ -48,7 +50,8 @@ use Rattle.session_cache.specs.Worlds.{IsReached, IsSource, Next, Sent, WasHad}
 use Rattle.session_cache.proofs.Runs.{by_rules}
 use Rattle.session_cache.specs.Worlds.{Source, TellsItself, World, cache_writes, change_unit}
 use Rattle.session_cache.specs.Worlds.{data_end, response}
-use Rattle.session_cache.specs.Worlds.Next.{cache_hears, cache_told, connected, renewed, router_hears}
+use Rattle.session_cache.specs.Worlds.Next.{cache_hears, cache_told, connected, renewed}
+use Rattle.session_cache.specs.Worlds.Next.{router_hears}
 use Rattle.session_cache.specs.Worlds.Next.{router_told}
 use Rattle.session_cache.specs.Worlds.IsReachedBy.{world_begins, world_goes_on}
 use Rattle.session_cache.proofs.Agreement.{agreement, asks_own_then}

@@ -24,12 +24,14 @@ use Rattle.session_cache.specs.Worlds.{IsLived, change_unit, data_end, plain_uni
 use Rattle.session_cache.specs.Worlds.IsReachedBy.{world_begins}
 use Rattle.session_cache.proofs.Calm.{shown, soon}
 use Rattle.session_cache.proofs.Examples.{cache₀, named}
-use Rattle.session_cache.proofs.ExampleWorlds.{adopts, applying, asked, asks, begins, cache₁, completes}
+use Rattle.session_cache.proofs.ExampleWorlds.{adopts, applying, asked, asks, begins, cache₁}
+use Rattle.session_cache.proofs.ExampleWorlds.{completes}
 use Rattle.session_cache.proofs.ExampleWorlds.{connecting, connects, edition, end_head, gives_all}
 use Rattle.session_cache.proofs.ExampleWorlds.{is_one}
 use Rattle.session_cache.proofs.ExampleWorlds.{is_source}
 use Rattle.session_cache.proofs.ExampleWorlds.{keeping, keeps, payload_head, reading, response_head}
-use Rattle.session_cache.proofs.ExampleWorlds.{router₀, source, waiting, world₀, world₁, world₂, world₃}
+use Rattle.session_cache.proofs.ExampleWorlds.{router₀, source, waiting, world₀, world₁, world₂}
+use Rattle.session_cache.proofs.ExampleWorlds.{world₃}
 use Rattle.session_cache.proofs.ExampleWorlds.{world₄, world₅, world₆}
 
 -- ---- the steps: what is done has to be done

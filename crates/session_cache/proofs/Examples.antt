@@ -11,7 +11,8 @@ use Rattle.session_cache.specs.declared.event.CacheEvent.TheVariants as told
 use Rattle.session_cache.specs.declared.event.Present.{Present}
 use Rattle.session_cache.specs.declared.settings.CacheSettings.{CacheSettings}
 use Rattle.session_cache.specs.CacheRules.{heard, informed, sent_back}
-use Rattle.session_cache.specs.Connections.{CacheMoment, IsAllowedConnection, IsOrderly, last_notify}
+use Rattle.session_cache.specs.Connections.{CacheMoment, IsAllowedConnection, IsOrderly}
+use Rattle.session_cache.specs.Connections.{last_notify}
 use Rattle.session_cache.specs.Connections.{answered_version, told_session}
 use Rattle.session_cache.specs.Connections.IsConnectionBy.{connection_begins, connection_goes_on}
 use Rattle.session_cache.specs.Worlds.{plain_head}

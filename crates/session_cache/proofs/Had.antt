@@ -5,7 +5,8 @@ use Rattle.std.proofs.lemmas.Bool.Decides.{eqb_tells}
 use Rattle.session_cache.specs.CacheSteps.{CacheMoves}
 use Rattle.session_cache.specs.Worlds.{Edition, IsIn, IsOneDataPerName, IsReachedBy, IsSource, Next}
 use Rattle.session_cache.specs.Worlds.{RouterMoves, Source, WasHad, World}
-use Rattle.session_cache.specs.Worlds.Next.{cache_hears, cache_told, connected, renewed, router_hears}
+use Rattle.session_cache.specs.Worlds.Next.{cache_hears, cache_told, connected, renewed}
+use Rattle.session_cache.specs.Worlds.Next.{router_hears}
 use Rattle.session_cache.specs.Worlds.Next.{router_told}
 use Rattle.session_cache.specs.Worlds.IsReachedBy.{world_begins, world_goes_on}
 

@@ -35,10 +35,12 @@ use Rattle.session_cache.specs.Serving.{ServesUnit}
 use Rattle.session_cache.specs.Worlds.{IsAnswering, query_answer, answer_to}
 use Rattle.session_cache.specs.Worlds.{AreFrom, Edition, IsOneDataPerName, IsSource}
 use Rattle.session_cache.specs.Worlds.{GoesOn, IsListening, IsPeaceful}
-use Rattle.session_cache.specs.Worlds.{IsReached, Next, Sent, Source, TellsCache, TellsItself, World}
+use Rattle.session_cache.specs.Worlds.{IsReached, Next, Sent, Source, TellsCache, TellsItself}
+use Rattle.session_cache.specs.Worlds.{World}
 use Rattle.session_cache.specs.Worlds.{cache_writes, query_head}
 use Rattle.session_cache.specs.Worlds.{router_writes}
-use Rattle.session_cache.specs.Worlds.Next.{cache_hears, cache_told, connected, renewed, router_hears}
+use Rattle.session_cache.specs.Worlds.Next.{cache_hears, cache_told, connected, renewed}
+use Rattle.session_cache.specs.Worlds.Next.{router_hears}
 use Rattle.session_cache.specs.Worlds.Next.{router_told}
 use Rattle.session_cache.specs.Worlds.IsReachedBy.{world_begins, world_goes_on}
 use Rattle.session_cache.proofs.Had.{AreAmong, IsOld, among_next, one_before, present_old}

@@ -9,7 +9,8 @@ use Rattle.session_cache.specs.Connections.IsConnectionBy.{connection_begins, co
 use Rattle.session_cache.specs.declared.cache.Cache.{Cache}
 use Rattle.session_cache.specs.declared.settings.CacheSettings.{CacheSettings}
 use Rattle.session_cache.specs.Worlds.{IsLived, IsReached, Next, Source, World}
-use Rattle.session_cache.specs.Worlds.Next.{cache_hears, cache_told, connected, renewed, router_hears}
+use Rattle.session_cache.specs.Worlds.Next.{cache_hears, cache_told, connected, renewed}
+use Rattle.session_cache.specs.Worlds.Next.{router_hears}
 use Rattle.session_cache.specs.Worlds.Next.{router_told}
 use Rattle.session_cache.specs.Worlds.IsReachedBy.{world_begins, world_goes_on}
 

@@ -68,8 +68,8 @@ impl Cache {
         }
     }
 
-    /// The next step, at this time, where these are the newest data. What comes after the time for
-    /// a query is over is passed over, and so is what comes after the end.
+    /// Takes the next step, at this time, with these as the newest data. Events are ignored after
+    /// the deadline for a query, and after the end of the connection.
     pub fn step(&mut self, now: u64, present: Present, event: CacheEvent) -> Answer
         requires time { now < 2 ^ 63 }
         ensures steps { IsCacheStep self.old now present event result self.new }
@@ -111,8 +111,8 @@ impl Cache {
         present.has && self.told && self.session != present.session
     }
 
-    /// Whether a router that asked wasn't told of the newest data, nor to ask for all data. What it
-    /// was told of another session, it isn't told again.
+    /// Reports whether a router that has sent a query has to be notified: it wasn't sent the newest
+    /// data or a notify of them, nor a cache reset. Of another session it is notified once.
     fn has_news(&self, present: &Present) -> bool
         ensures { result ≡ has_news self.now present.now }
     {
@@ -139,7 +139,7 @@ impl Cache {
         Answer::Notify
     }
 
-    /// The router is told of the present data.
+    /// Records that the router was notified of the present data.
     fn tell(&mut self, present: &Present)
         ensures { self.new ≡ informed self.old present.now }
     {
@@ -149,7 +149,7 @@ impl Cache {
         self.serial = present.serial;
     }
 
-    /// The router is told to ask for all data.
+    /// Records that the router was sent a cache reset.
     fn send_back(&mut self, present: &Present)
         ensures { self.new ≡ sent_back self.old present.now }
     {

@@ -1,4 +1,4 @@
-//! What a cache is told of a connection, and what it answers.
+//! Events of a cache's connection, and its answers.
 
 ghost use Rattle.std.specs.Prelude.{◌≡◌};
 ghost use Rattle.session_cache.specs.ReasonTexts.{reason_text};
@@ -14,7 +14,7 @@ pub struct Present {
     pub serial: u32,
 }
 
-/// What a cache is told of a connection.
+/// An event of a connection that the caller reports to a cache.
 #[derive(Clone, Copy)]
 pub enum CacheEvent {
     /// Time passed, or there are new data.

@@ -2,12 +2,14 @@
 
 ghost use Rattle.std.specs.Prelude.{◌≡◌, ◌≤◌, ◌+◌, ◌∷◌, ℕ, Bool, List, Some, max, true};
 ghost use Rattle.session_cache.specs.CacheSteps.{IsCacheStep};
-ghost use Rattle.session_cache.specs.Calm.{IsAtRest, IsCalm, IsNotified, IsToldOfNews, ShowsPresent};
+ghost use Rattle.session_cache.specs.Calm.{IsAtRest, IsCalm, IsNotified, IsToldOfNews};
+ghost use Rattle.session_cache.specs.Calm.{ShowsPresent};
 ghost use Rattle.session_cache.specs.Connections.{CacheMoment, IsAllowedConnection, IsOrderly};
 ghost use Rattle.session_cache.specs.Worlds.{IsAnswering, answer_to};
 ghost use Rattle.session_cache.specs.CacheRules.{CacheRule};
 ghost use Rattle.session_cache.specs.declared.event.Answer.TheVariants as answers;
-ghost use Rattle.session_cache.specs.Worlds.{Agrees, AreFrom, Edition, GoesOn, IsListening, IsLived};
+ghost use Rattle.session_cache.specs.Worlds.{Agrees, AreFrom, Edition, GoesOn, IsListening};
+ghost use Rattle.session_cache.specs.Worlds.{IsLived};
 ghost use Rattle.session_cache.specs.Worlds.{IsPeaceful};
 ghost use Rattle.session_cache.specs.Worlds.{IsOneDataPerName, IsReached, IsSource, Sent, Source};
 ghost use Rattle.session_cache.specs.Worlds.{World};

@@ -1,5 +1,5 @@
 //! The cache's end of a connection of the RPKI to Router protocol (RFC 8210), as a machine without
-//! sockets, clock and memory: it is told what happens, and says what to do.
+//! sockets, clock or memory: its caller reports events, and sends the answers that it returns.
 #![tactic(auto)]
 
 pub mod cache;

@@ -9,7 +9,8 @@ use Rattle.session_group.specs.declared.group.Group.{Group}
 use Rattle.session_group.specs.declared.settings.Settings.{Settings}
 use Rattle.session_group.specs.Groups.{asks_next, group_after, group_ticked, has_failed, is_over}
 use Rattle.session_group.specs.Groups.{is_running, may_ask_next, news, once_heard}
-use Rattle.session_group.specs.Runs.{Listener, IsNewGroup, IsGroupRun, Member, GroupMoment, Happened}
+use Rattle.session_group.specs.Runs.{Listener, IsNewGroup, IsGroupRun, Member, GroupMoment}
+use Rattle.session_group.specs.Runs.{Happened}
 use Rattle.session_group.specs.Runs.{answer_then, begun, caller_then, first_caller, group_then}
 use Rattle.session_group.specs.Runs.{is_current, is_silent, left, news_of, once_ticked, once_told}
 use Rattle.session_group.specs.Runs.{ticked, told_of}

@@ -21,12 +21,14 @@ use Rattle.session_group.specs.declared.group.Group.{Group}
 use Rattle.session_group.specs.declared.settings.Settings.{Settings}
 use Rattle.session_group.specs.Groups.{counts, if_less}
 use Rattle.session_group.specs.Runs.{Listener, IsGroupRun, Member, GroupMoment, Happened}
-use Rattle.session_group.specs.Runs.{ShowsBest, answer_then, begun, caller_then, group_then, once_told}
+use Rattle.session_group.specs.Runs.{ShowsBest, answer_then, begun, caller_then, group_then}
+use Rattle.session_group.specs.Runs.{once_told}
 use Rattle.session_group.specs.Runs.{told_of}
 use Rattle.session_group.specs.Runs.Happened.{time_passed, to_member}
 use Rattle.session_group.specs.Runs.IsGroupRun.{group_run_begins, group_run_goes_on}
 use Rattle.session_group.specs.Runs.ShowsBest.{none_has, of_best}
-use Rattle.session_group.specs.Ends.{End, HaveShown, IsFresh, IsGroup, ShowsWhole, counted, end_after}
+use Rattle.session_group.specs.Ends.{End, HaveShown, IsFresh, IsGroup, ShowsWhole, counted}
+use Rattle.session_group.specs.Ends.{end_after}
 use Rattle.session_group.specs.Ends.{tells, tells_at_end, with_end, with_fresh}
 use Rattle.session_group.specs.Ends.IsGroup.{group_begins, goes_on_silently, goes_on, waits}
 use Rattle.session_group.specs.Ends.ShowsWhole.{none_shows, of_one}

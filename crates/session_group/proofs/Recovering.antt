@@ -8,7 +8,8 @@ use Rattle.session_group.specs.declared.settings.Settings.{Settings}
 use Rattle.session_group.specs.Groups.{group_wakes}
 use Rattle.session_group.specs.Recovery.{IsWaitedFor, NoneUpTo, shown_until}
 use Rattle.session_group.specs.Recovery.IsWaitedFor.{waited_from, waited_on}
-use Rattle.session_group.specs.Runs.{Listener, IsGroupRun, Member, GroupMoment, Happened, answer_then}
+use Rattle.session_group.specs.Runs.{Listener, IsGroupRun, Member, GroupMoment, Happened}
+use Rattle.session_group.specs.Runs.{answer_then}
 use Rattle.session_group.specs.Runs.{caller_then, group_then, is_current}
 use Rattle.session_group.proofs.Stepping.{Agrees, at_new, at_other}
 use Rattle.session_group.proofs.Agreeing.{Step, after_so, agrees, agrees_next}

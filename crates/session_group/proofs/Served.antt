@@ -27,14 +27,16 @@ use Rattle.session_group.specs.declared.event.Event.TheVariants as events
 use Rattle.session_group.specs.declared.group.Group.{Group}
 use Rattle.session_group.specs.declared.settings.Settings.{Settings}
 use Rattle.session_group.specs.Groups.{answer, counts, group_ticked, group_wakes, if_less}
-use Rattle.session_group.specs.Runs.{Listener, Member, GroupMoment, Happened, answer_then, caller_then}
+use Rattle.session_group.specs.Runs.{Listener, Member, GroupMoment, Happened, answer_then}
+use Rattle.session_group.specs.Runs.{caller_then}
 use Rattle.session_group.specs.Runs.{group_then, is_current, once_told, told_of}
 use Rattle.session_group.specs.Runs.Happened.{time_passed, to_member}
 use Rattle.session_group.specs.Ends.{End, IsGroup, end_after, tells, with_end, with_fresh}
 use Rattle.session_group.specs.Ends.IsGroup.{goes_on, goes_on_silently, waits}
 use Rattle.session_group.specs.Recovery.{NoneUpTo}
 use Rattle.session_group.specs.Served.{Deed, GroupStep, EndHasData, IsServedIn, IsSoon, IsStarted}
-use Rattle.session_group.specs.Served.{KeepsRules, GroupReaches, after_deed, after_start, first_time}
+use Rattle.session_group.specs.Served.{KeepsRules, GroupReaches, after_deed, after_start}
+use Rattle.session_group.specs.Served.{first_time}
 use Rattle.session_group.specs.Served.{served_by}
 use Rattle.session_group.specs.Served.GroupStep.{is_told, time_passes, not_told}
 use Rattle.session_group.specs.Served.IsServedIn.{served_from, served_on}

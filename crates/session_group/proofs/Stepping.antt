@@ -1,5 +1,5 @@
--- What a group knows of its members agrees with what its caller knows, after a step of a member that
--- runs.
+-- What a group knows of its members agrees with what its caller knows, after a step of a member
+-- that runs.
 use Rattle.std.proofs.Common.{◌≡◌, ◌≢◌, ℕ, Bool, true, false, ◌+◌, ◌<◌, ◌≤◌, ◌⊎◌, inl, inr, arith}
 use Rattle.std.proofs.Common.{Option, sym, ◌∙◌, ap, length, subst}
 use Rattle.std.specs.Prelude.{get_or, is_some}

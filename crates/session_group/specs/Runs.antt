@@ -10,7 +10,8 @@ use Rattle.session_group.specs.declared.event.Shown.TheVariants as shows
 use Rattle.session_group.specs.declared.event.Answer.{Answer}
 use Rattle.session_group.specs.declared.settings.Settings.{Settings}
 use Rattle.session_group.specs.declared.group.Group.{Group}
-use Rattle.session_group.specs.Groups.{answer, change_shown, counts, group_after, group_ticked, last}
+use Rattle.session_group.specs.Groups.{answer, change_shown, counts, group_after, group_ticked}
+use Rattle.session_group.specs.Groups.{last}
 use Rattle.session_group.specs.Groups.{news, tick_answer}
 
 -- ---- members and their caller

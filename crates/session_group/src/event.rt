@@ -1,7 +1,7 @@
 //! Events of the members of a group, and its answers.
 
-/// An event of a member, that is of a router's end and the cache that it queries. A step of a
-/// router is at most one event.
+/// An event of a member: a router's end and the cache that it queries. A step of a router is at
+/// most one event.
 #[derive(Clone, Copy)]
 pub enum Event {
     /// It shows the data of a complete answer, changed or not, with this number of payloads.

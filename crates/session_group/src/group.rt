@@ -2,7 +2,8 @@
 
 ghost use Rattle.std.specs.Prelude.{◌≡◌, ◌<◌, ◌^◌, ◌↔◌, true, IfOk, IsErrOf};
 ghost use Rattle.session_group.specs.Groups.{answer, asks_next, best_of, change_shown, counts};
-ghost use Rattle.session_group.specs.Groups.{group_after, group_ticked, has_data, has_failed, if_less};
+ghost use Rattle.session_group.specs.Groups.{group_after, group_ticked, has_data, has_failed};
+ghost use Rattle.session_group.specs.Groups.{if_less};
 ghost use Rattle.session_group.specs.Groups.{answer_between, is_running, may_ask_next, news};
 ghost use Rattle.session_group.specs.Groups.{once_heard, tick_answer, group_wakes};
 ghost use Rattle.session_group.specs.Runs.{IsNewGroup};

@@ -20,11 +20,15 @@ use Rattle.session_cache.specs.Worlds.{change_unit, data_end, plain_unit, query_
 use Rattle.session_cache.specs.Worlds.IsReachedBy.{world_begins, world_goes_on}
 use Rattle.session_cache.specs.Worlds.Next.{cache_hears, connected, router_hears, router_told}
 use Rattle.session_cache.proofs.Examples.{cache₀, named}
-use Rattle.session_cache.proofs.ExampleCalm.{adopts_so, asks_so, begins_so, completes_so, connects_so}
+use Rattle.session_cache.proofs.ExampleCalm.{adopts_so, asks_so, begins_so, completes_so}
+use Rattle.session_cache.proofs.ExampleCalm.{connects_so}
 use Rattle.session_cache.proofs.ExampleCalm.{gives_all_so, keeps_so}
-use Rattle.session_cache.proofs.ExampleWorlds.{adopts, applying, asked, asks, begins, cache₁, completes}
-use Rattle.session_cache.proofs.ExampleWorlds.{connecting, connects, gives_all, keeping, keeps, reading}
-use Rattle.session_cache.proofs.ExampleWorlds.{end_head, payload_head, response_head, router₀, waiting}
+use Rattle.session_cache.proofs.ExampleWorlds.{adopts, applying, asked, asks, begins, cache₁}
+use Rattle.session_cache.proofs.ExampleWorlds.{completes}
+use Rattle.session_cache.proofs.ExampleWorlds.{connecting, connects, gives_all, keeping, keeps}
+use Rattle.session_cache.proofs.ExampleWorlds.{reading}
+use Rattle.session_cache.proofs.ExampleWorlds.{end_head, payload_head, response_head, router₀}
+use Rattle.session_cache.proofs.ExampleWorlds.{waiting}
 use Rattle.session_bytes.specs.Heads.{HasHead}
 use Rattle.session_bytes.specs.Reading.{kept_more, kept_none}
 use Rattle.session_bytes.specs.declared.telling.Told.TheVariants as told

@@ -1,4 +1,5 @@
-//! The times that a cache may name (RFC 8210 section 6): refused by name wherever a cache gets some.
+//! The times that a cache may name (RFC 8210 section 6): refused by name wherever a cache gets
+//! some.
 #![tactic(auto)]
 
 #[cfg(test)]
