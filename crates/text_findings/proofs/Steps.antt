@@ -59,7 +59,8 @@ found_is history there (payload f) h =
     (payload_reserved f) (payload_rules f) _
 found_is history there (end_of_data m) h =
     end_in_turn (differing rules.Version (oldest given_version (sequence history)) m.version)
-    (time_rules m.timing) (differing rules.Session (oldest given_session (sequence history)) m.session)
+    (time_rules m.timing)
+    (differing rules.Session (oldest given_session (sequence history)) m.session)
 found_is history there (cache_reset v s) h =
     own_in_turn (reserved (cache_reset v s)) []
 found_is history there (error_report v c body) h =

@@ -128,8 +128,8 @@ abbrev pub broken_times : Option TimeRule → List Finding
 broken_times (Some rule) = rules.Times rule ∷ []
 broken_times None = []
 
--- the times of an end of data, which version 0 doesn't have, are within their bounds, and the expire
--- time is longer than the others (RFC 8210 section 6)
+-- the times of an end of data, which version 0 doesn't have, are within their bounds, and the
+-- expire time is longer than the others (RFC 8210 section 6)
 abbrev pub time_rules : Option Timing → List Finding
 time_rules (Some timing) = broken_times (broken_time_rule timing)
 time_rules None = []

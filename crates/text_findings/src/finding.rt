@@ -6,9 +6,9 @@ use std::fmt;
 /// A rule that a unit breaks. Places count from 0 in the unit.
 #[derive(Clone, Copy, Debug)]
 pub enum Finding {
-    /// A byte that the unit's type reserves has to be zero (RFC 8210 section 5.1).
+    /// A byte that the unit's type reserves must be zero (RFC 8210 section 5.1).
     Reserved(u8),
-    /// All bits of the flags but the lowest have to be zero (RFC 8210 section 5.1).
+    /// All bits of the flags but the lowest must be zero (RFC 8210 section 5.1).
     Flags,
     /// A prefix length is at most 32 or 128 (RFC 8210 sections 5.6 and 5.7).
     PrefixLength,

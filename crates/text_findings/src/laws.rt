@@ -19,8 +19,8 @@ pub fn names_are_of_payloads()
         IsNamed p }
 {}
 
-/// A caller that does with each unit as it is told has in its set what is announced in the
-/// sequence, and so what it says of the next unit is so.
+/// The set of a caller that keeps and drops names as it is told has the names that are announced in
+/// the sequence, and so the findings on the next unit are right.
 pub fn names_are_those_announced()
     ensures kept { (history : List AnyFields) (p : Payload) → AllFit history → IsNamed p →
         has_kept history (payload_name p) ≡ announced (sequence history) p }

@@ -17,9 +17,9 @@ use crate::rules;
 use rtr_base::addr::MaxLenPrefix;
 use rtr_payload::pdu::prefix_rule::{ipv4_prefix, ipv6_prefix};
 use rtr_payload::pdu::{Aspa, RouterKey};
-use text_lines::{Listed, ListedAspa, ListedKey, ListedPayload, laying};
 use rtr_units::numbers::u128_bytes;
 use rtr_units::prefixes::{Ipv4Prefix, Ipv6Prefix};
+use text_lines::{Listed, ListedAspa, ListedKey, ListedPayload, laying};
 
 /// Whether a sequence begins with the unit, before which nothing is announced in it.
 pub fn begins(unit: &Listed<'_>) -> bool
@@ -45,7 +45,7 @@ pub fn announces(unit: &Listed<'_>) -> bool
 }
 
 /// Lays the name of the payload that the unit announces or withdraws over the front of the output,
-/// as far as there is room, and answers where it ends: 0 where the unit names none.
+/// as far as there is room, and returns where it ends: 0 where the unit names none.
 pub fn lay_name(output: &mut [u8], unit: &Listed<'_>) -> usize
     ensures { Lays (unit_name (fields_listed unit.now)) 0 output.old result output.new }
 {

@@ -26,12 +26,12 @@ use rtr_base::addr::MaxLenPrefix;
 use rtr_base::timing::Timing;
 use rtr_payload::pdu::prefix_rule::{PrefixRule, ipv4_prefix, ipv6_prefix};
 use rtr_payload::pdu::{Aspa, PayloadUnit, RouterKey};
-use text_lines::{ListedAspa, ListedKey, ListedPayload, parts_of};
-use session_times::broken_time_rule;
 use rtr_units::numbers::u32_at;
 use rtr_units::prefixes::{Ipv4Prefix, Ipv6Prefix};
 use rtr_units::unit::Unit;
+use session_times::broken_time_rule;
 use std::str;
+use text_lines::{ListedAspa, ListedKey, ListedPayload, parts_of};
 
 /// The type of an error report (RFC 8210 section 5.11).
 const REPORT: u8 = 10;

@@ -1,4 +1,4 @@
-//! What is known of the sequence that is read, and what the next unit breaks in it.
+//! The state of the sequence that is read, and the rules that the next unit breaks in it.
 
 ghost use Rattle.std.specs.Prelude.{◌≡◌, ◌∷◌, List, [], None, false};
 ghost use Rattle.rtr_units.specs.AnyEnd.{end_meaning};
@@ -12,9 +12,9 @@ ghost use Rattle.text_findings.specs.SequenceSoFar.{asked_at, named_by, sequence
 
 use crate::finding::Finding;
 use crate::rules;
-use text_lines::{Listed, ListedPayload};
 use rtr_units::end::EndOfData;
 use rtr_units::unit::Unit;
+use text_lines::{Listed, ListedPayload};
 
 /// How many rules a unit can break at most.
 pub const MOST: usize = 7;
@@ -32,7 +32,7 @@ pub enum Stage {
     Whole,
 }
 
-/// What is known of the sequence that is read, but for the payloads that are announced in it.
+/// The state of the sequence that is read, without the payloads that are announced in it.
 ///
 /// A sequence goes from a cache response, or from the beginning of the input, to an end of data
 /// (RFC 8210 section 8).
@@ -83,7 +83,7 @@ impl SequenceState {
         self.next(unit)
     }
 
-    /// What is missing where the input ends.
+    /// The finding if the input ends here.
     pub fn missing(&self) -> Option<Finding>
         ensures { (history : List AnyFields) → self.now ≡ known_after history →
             found_in result ≡ end_findings history }
@@ -178,7 +178,7 @@ fn asked(stage: Stage) -> Stage
     }
 }
 
-/// What is missing where the input ends at this stage.
+/// The finding if the input ends at this stage.
 fn missing(stage: Stage) -> Option<Finding>
     ensures { found_in result ≡ missing_at stage }
 {

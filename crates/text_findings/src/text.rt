@@ -1,4 +1,4 @@
-//! What is said of a finding.
+//! The lines of findings.
 
 ghost use Rattle.std.specs.Prelude.{◌≡◌, ◌++◌, decimal};
 ghost use Rattle.text_lines.specs.Laying.{Lays};
@@ -8,8 +8,8 @@ ghost use Rattle.text_findings.specs.declared.finding.Finding.TheVariants as bro
 use crate::finding::{Finding, Layout};
 use text_lines::laying;
 
-/// Lays the line of a finding at a unit that stands after so many bytes over the output from this
-/// place on, as far as there is room, and answers where it ends.
+/// Lays the line of a finding at a unit at this offset over the output from this place on, as far
+/// as there is room, and returns where it ends.
 pub fn describe_finding(output: &mut [u8], at: usize, offset: u64, finding: &Finding) -> usize
     ensures { Lays (finding_of offset finding.now) at output.old result output.new }
 {

@@ -25,7 +25,8 @@ use Rattle.text_lines.proofs.CleanTexts.{Clean, IsClean, clean_address}
 use Rattle.text_lines.proofs.EscapedStrings.{below_plain}
 use Rattle.text_lines.proofs.EscapedTexts.{plain_stays}
 use Rattle.text_lines.proofs.PlainTexts.{IsPlain, all_plain, plain_both, plain_by, plain_decimal}
-use Rattle.text_lines.proofs.PlainTexts.{plain_head, plain_hex, plain_more, plain_none, plain_symbol}
+use Rattle.text_lines.proofs.PlainTexts.{plain_head, plain_hex, plain_more, plain_none}
+use Rattle.text_lines.proofs.PlainTexts.{plain_symbol}
 use Rattle.text_lines.proofs.PlainTexts.{plain_tail}
 
 -- ---- tokens

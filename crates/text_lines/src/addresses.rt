@@ -15,7 +15,7 @@ use std::net::{Ipv4Addr, Ipv6Addr};
 
 /// Lays the IPv4 address of this number: four numbers with dots between them.
 #[tactic(auto, using(crate::proofs::AddressTexts::shown_ipv4))]
-pub(crate) fn ipv4(output: &mut [u8], at: usize, bits: u32) -> usize
+pub fn ipv4(output: &mut [u8], at: usize, bits: u32) -> usize
     ensures { Lays (address_text v4 bits) at output.old result output.new }
 {
     dotted(output, at, Ipv4Addr::from_bits(bits).octets())
@@ -33,7 +33,7 @@ fn dotted(output: &mut [u8], at: usize, octets: [u8; 4]) -> usize
 
 /// Lays the IPv6 address of this number as RFC 5952 writes it.
 #[tactic(auto, using(crate::proofs::AddressTexts::shown_ipv6))]
-pub(crate) fn ipv6(output: &mut [u8], at: usize, bits: u128) -> usize
+pub fn ipv6(output: &mut [u8], at: usize, bits: u128) -> usize
     ensures { Lays (address_text v6 bits) at output.old result output.new }
 {
     let address = Ipv6Addr::from_bits(bits);

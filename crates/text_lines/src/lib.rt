@@ -1,7 +1,7 @@
 //! Lines and texts, written into slices: what the programs print. Nothing allocates.
 #![tactic(auto, using(crate::proofs::Laid::lays_both))]
 
-mod addresses;
+pub mod addresses;
 mod laws;
 pub mod laying;
 mod listed;

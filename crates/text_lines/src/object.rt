@@ -29,8 +29,8 @@ use rtr_base::action::Action;
 use rtr_units::numbers::u32_at;
 use rtr_units::prefixes::{Ipv4Prefix, Ipv6Prefix};
 
-/// Lays the JSON object of the change that a unit makes, as `rtr_diff --json` prints it, with what
-/// `describe_change` says of it; of a unit without a payload nothing.
+/// Lays the JSON object of the change that a unit makes, as `rtr_diff --json` prints it, with the
+/// text of `describe_change`; nothing for a unit without a payload.
 pub fn describe_change_json(output: &mut [u8], at: usize, unit: &Listed<'_>) -> usize
     ensures { Lays (change_json (fields_listed unit.now)) at output.old result output.new }
 {

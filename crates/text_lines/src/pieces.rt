@@ -21,7 +21,7 @@ const DIGITS: &[u8; 16] = b"0123456789abcdef";
 /// How many bytes are made base64 at once: a multiple of three.
 const CHUNK: usize = 768;
 
-/// The symbols that so many bytes take.
+/// The size in symbols of a piece.
 const SYMBOLS: usize = 1024;
 
 /// Lays bytes in hex.

@@ -35,7 +35,7 @@ pub(crate) fn string(output: &mut [u8], at: usize, text: &[u8]) -> usize
     end
 }
 
-/// Lays what stands for the first character, or for a byte of it, and answers what is left.
+/// Lays what stands for the first character, or for a byte of it, and returns the rest.
 fn front<'a>(output: &mut [u8], at: usize, first: u8, others: &'a [u8]) -> (usize, &'a [u8])
     ensures laid { LaysFront (escaped (escape (first ∷ others.now)))
         (escaped (escape result.1.now)) at output.old result.0 output.new }
@@ -67,7 +67,7 @@ fn unicode(output: &mut [u8], at: usize, number: u8) -> usize
     laying::bytes(output, at, &pieces::hex_of(number))
 }
 
-/// Lays what stands for a byte that is a character alone, or a part of one that stays.
+/// Lays the text of a byte that is a character of its own, or part of one that stays.
 fn character(output: &mut [u8], at: usize, byte: u8) -> usize
     ensures { Lays (string_form byte) at output.old result output.new }
 {

@@ -28,8 +28,8 @@ use rtr_units::numbers::u32_at;
 use rtr_units::prefixes::{Ipv4Prefix, Ipv6Prefix};
 use rtr_units::unit::Unit;
 
-/// Lays the line of a unit that stands after so many bytes over the output from this place on, as
-/// far as there is room, and answers where it ends.
+/// Lays the line of a unit at this offset over the output from this place on, as far as there is
+/// room, and returns where it ends.
 pub fn describe(output: &mut [u8], at: usize, offset: u64, unit: &Listed<'_>) -> usize
     ensures { Lays (unit_text offset (fields_listed unit.now)) at output.old result output.new }
 {

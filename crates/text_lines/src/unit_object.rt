@@ -21,19 +21,17 @@ use crate::{laying, pieces, strings};
 use rtr_base::timing::Timing;
 use rtr_payload::pdu::{Aspa, RouterKey};
 use rtr_units::end::{EndOfData, EndOfDataV0, EndOfDataV1};
+use rtr_units::header::HEADER_SIZE;
 use rtr_units::prefixes::{Ipv4Prefix, Ipv6Prefix};
 use rtr_units::queries::{CacheReset, CacheResponse, ResetQuery, SerialNotify, SerialQuery};
 use rtr_units::unit::Unit;
 use std::str;
 
-/// The bytes of a header.
-const HEADER: usize = 8;
-
 /// The bytes of a provider.
 const PROVIDER: usize = 4;
 
-/// Lays the JSON object of a unit that stands after so many bytes, as `rtr_list --json` prints it,
-/// over the output from this place on, as far as there is room, and answers where it ends.
+/// Lays the JSON object of a unit at this offset, as `rtr_list --json` prints it, over the output
+/// from this place on, as far as there is room, and returns where it ends.
 pub fn describe_json(output: &mut [u8], at: usize, offset: u64, unit: &Listed<'_>) -> usize
     ensures { Lays (unit_json offset (fields_listed unit.now)) at output.old result output.new }
 {
@@ -57,7 +55,7 @@ fn size(unit: &Listed<'_>) -> u64
         Listed::EndOfData(EndOfData::V0(_)) => u64::from(EndOfDataV0::size()),
         Listed::EndOfData(EndOfData::V1(_)) => u64::from(EndOfDataV1::size()),
         Listed::CacheReset(_) => u64::from(CacheReset::size()),
-        Listed::Error(report) => (HEADER + report.body.len()) as u64,
+        Listed::Error(report) => (HEADER_SIZE + report.body.len()) as u64,
     }
 }
 
