@@ -15,7 +15,8 @@ use Rattle.rtr_payload.specs.Payloads.{Payload, origin, key, aspa, smallest_vers
 use Rattle.rtr_payload.specs.Units.{form_of}
 use Rattle.data_memory.proofs.Names.{very_name}
 use Rattle.data_memory.specs.Changes.{announcements, withdrawals}
-use Rattle.data_memory.specs.Data.{Change, announcement, has, has_name, name_cmp, name_of, withdrawal}
+use Rattle.data_memory.specs.Data.{Change, announcement, has, has_name, name_cmp, name_of}
+use Rattle.data_memory.specs.Data.{withdrawal}
 use Rattle.data_memory.specs.Deltas.{change_forms, changes_for, data_for, unit_of}
 use Rattle.diff_work.specs.Differences.{change_piece, change_pieces, differences}
 use Rattle.diff_work.specs.declared.words.Form.TheVariants.{Units}

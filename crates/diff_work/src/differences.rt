@@ -7,13 +7,13 @@ ghost use Rattle.diff_work.specs.PrivateChanges.{PrintsChanges, changes_by, is_c
 
 use crate::part::Part;
 use crate::printer::Printer;
-use rtr_base::action::Action;
 use data_memory::Data;
+use rtr_base::action::Action;
 use rtr_payload::payload::PayloadRef;
 use rtr_units::fault::Fault;
 use rtr_units::source::Sink;
 
-/// Prints the changes from old data to new, and answers whether there is one.
+/// Prints the changes from old data to new, and reports whether there is one.
 pub fn print_changes<W: Sink>(
     printer: &mut Printer,
     old: &Data,
@@ -32,7 +32,7 @@ pub fn print_changes<W: Sink>(
 }
 
 /// Prints the changes that announce what other data hasn't, or that withdraw what it has nothing of
-/// the name of, and answers whether there is one.
+/// the name of, and reports whether there is one.
 fn print_made<W: Sink>(
     printer: &mut Printer,
     action: Action,
@@ -63,7 +63,7 @@ fn is_changed(action: Action, payload: &PayloadRef<'_>, other: &Data) -> bool
     }
 }
 
-/// Prints those of these changes that one part of data makes, and answers whether there is one.
+/// Prints those of these changes that one part of data makes, and reports whether there is one.
 fn print_part<P: Part, W: Sink>(
     printer: &mut Printer,
     action: Action,

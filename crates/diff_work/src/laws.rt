@@ -12,15 +12,15 @@ ghost use Rattle.diff_work.specs.Differences.{unit_change, change_piece, differe
 ghost use Rattle.diff_work.specs.declared.words.Form.{Form};
 ghost use Rattle.diff_work.specs.declared.words.Form.TheVariants.{Json, Text, Units};
 
-/// What is printed as units is what `Data::write_delta` writes, for the version of the second end
+/// The units that are printed are those of `Data::write_delta`, for the version of the second end
 /// of data, and then that end.
 pub fn units_are_deltas()
     ensures { (v : ℕ) (old new : List Payload) (end : List ℕ) →
         differences Units v old new end ≡ change_forms v (changes_for v old new) ++ end }
 {}
 
-/// The line and the object of the change that a unit makes, as `text_lines::describe_change` and
-/// `describe_change_json` write them, are those that are printed of it.
+/// The printed line and object of a unit's change are those of `text_lines::describe_change` and
+/// `describe_change_json`.
 pub fn lines_are_those_of_units()
     ensures text { (v : ℕ) (f : Fields) →
         change_piece Text v (unit_change f) ≡ change_said f ++ codes "\n" }
@@ -28,9 +28,9 @@ pub fn lines_are_those_of_units()
         change_piece Json v (unit_change f) ≡ payload_json (meant_fields f) ++ codes "\n" }
 {}
 
-/// What follows from the contract of `run`, whatever it says of lines on standard error: status 0
-/// says that both inputs hold data without a difference, status 1 that they hold data with one and
-/// that all was printed, and any other is 3.
+/// What follows from the contract of `run`, whatever it says of lines on standard error: with
+/// status 0 both inputs hold data without a difference, with status 1 they hold data with one and
+/// all was printed, and any other is 3.
 pub fn statuses()
     ensures same { (form : Form) (old old_left new new_left : ReaderState)
         (before after : WriterState) →

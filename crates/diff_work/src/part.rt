@@ -6,8 +6,8 @@ ghost use Rattle.rtr_payload.specs.Payloads.{Payload};
 ghost use Rattle.data_memory.specs.Contents.{entry_of};
 ghost use Rattle.diff_work.specs.PrivateChanges.{TakesNext};
 
-use rtr_base::asn::Asn;
 use data_memory::KeptOrigin;
+use rtr_base::asn::Asn;
 use rtr_payload::payload;
 use rtr_payload::pdu::ProviderAsns;
 use std::alloc::AllocError;
@@ -18,8 +18,8 @@ pub trait Part: Drop {
     /// The payloads that are still to come.
     ghost left: { Self → List Payload };
 
-    /// Takes the next payload, whose bytes are shared. No memory is asked for, and `AllocError`
-    /// says that the count of those that share them is full.
+    /// Takes the next payload, whose bytes are shared, so nothing is allocated; `AllocError` comes
+    /// if the count of handles is at its maximum.
     fn next_payload(&mut self) -> Result<Option<payload::Payload>, AllocError>
         ensures { IfOk result (λ next. TakesNext next (left self.old) (left self.new)) };
 }

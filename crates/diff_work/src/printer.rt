@@ -1,4 +1,4 @@
-//! What is printed of a change.
+//! Prints changes.
 
 ghost use Rattle.std.specs.Prelude.{◌≡◌, ◌++◌, IfOk, OnOk, codes};
 ghost use Rattle.rtr_base.specs.Actions.{flags_of};
@@ -14,8 +14,8 @@ ghost use Rattle.diff_work.specs.Printing.{Puts};
 ghost use Rattle.diff_work.specs.declared.words.Form.TheVariants.{Text, Json, Units};
 
 use crate::words::Form;
-use rtr_base::action::Action;
 use list_lines::{Line, describe_payload, describe_payload_json};
+use rtr_base::action::Action;
 use rtr_payload::payload::Payload;
 use rtr_payload::pdu;
 use rtr_units::fault::Fault;
@@ -26,7 +26,7 @@ use std::alloc::{AllocError, Global};
 /// The version of the units whose words are printed. The words don't name it.
 const WORDS_VERSION: u8 = 0;
 
-/// What is printed of changes, in memory that it uses again for each.
+/// Prints changes, in memory that it uses again for each.
 #[derive(Drop)]
 pub struct Printer {
     alloc: Global,
@@ -50,8 +50,8 @@ impl Printer {
         }
     }
 
-    /// Prints the change that announces or withdraws the payload, of an ASPA its customer alone.
-    /// Its faults are `Memory` and `Writer`.
+    /// Prints the change that announces or withdraws the payload, of a withdrawn ASPA only its
+    /// customer. Faults: `Memory` and `Writer`.
     pub fn print<W: Sink>(
         &mut self,
         action: Action,
@@ -136,7 +136,7 @@ impl Printer {
     }
 }
 
-/// The payload as the change names it: of an ASPA that is withdrawn the customer alone.
+/// The payload as the change names it: of an ASPA that is withdrawn only the customer.
 fn named(alloc: Global, action: Action, payload: Payload) -> Result<Payload, AllocError>
     ensures { IfOk result (λ p. record { action = action; payload = payload_of p } ≡
         change_by action (payload_of payload)) }

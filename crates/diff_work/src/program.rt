@@ -11,8 +11,8 @@ ghost use Rattle.diff_work.specs.Printing.{Puts};
 use crate::differences::print_changes;
 use crate::printer::Printer;
 use crate::words::{Form, Request};
-use program_frame::{Escaped, Failed, report};
 use data_recordings::{Recording, Stop, StopCause, read_recording};
+use program_frame::{Escaped, Failed, report};
 use rtr_units::end::EndOfData;
 use rtr_units::fault::Fault;
 use rtr_units::source::{Sink, Source};
@@ -52,7 +52,7 @@ pub enum Trouble {
 }
 
 /// Reads both files, the old first, and prints the changes from the data of the first to that of
-/// the second. Answers whether there is one, and whether an answer was left out.
+/// the second. Reports whether there is one, and whether an answer was left out.
 pub fn compare<O: Source, N: Source, W: Sink>(
     alloc: Global,
     form: Form,
@@ -83,7 +83,7 @@ pub fn compare<O: Source, N: Source, W: Sink>(
 }
 
 /// Prints the changes from the data of the first file to that of the second, after units the end of
-/// data of the second. Answers whether there is a change. Its faults are `Memory` and `Writer`.
+/// data of the second. Reports whether there is a change. Its faults are `Memory` and `Writer`.
 pub fn print_differences<W: Sink>(
     alloc: Global,
     form: Form,
@@ -113,14 +113,14 @@ fn print_end<W: Sink>(form: Form, end: &EndOfData, output: &mut W) -> Result<(),
     }
 }
 
-/// Prints the changes that are asked for, flushes the output once, and answers the exit status:
+/// Prints the changes that are asked for, flushes the output once, and returns the exit status:
 /// - 0 if nothing differs;
 /// - 1 if something does;
 /// - 3 if a file can't be read or holds no recording, or if writing, flushing or memory failed.
 ///
 /// Status 3 comes with a line on `faults`, and the others with one for each file in which an answer
-/// was left out; each begins with the program's name. Of a pipe that nobody reads any more nothing
-/// is said. If a line can't be written, nothing else changes.
+/// was left out; each begins with the program's name. A broken pipe is not reported. If a line
+/// can't be written, nothing else changes.
 pub fn run<O: Source, N: Source, W: Sink, F: Write>(
     alloc: Global,
     name: &str,
@@ -139,7 +139,7 @@ pub fn run<O: Source, N: Source, W: Sink, F: Write>(
     tell(name, request, answer, flushed, faults)
 }
 
-/// Says what stopped the run, if something did, and answers the status to end with.
+/// Says what stopped the run, if something did, and returns the exit status.
 fn tell<F: Write>(
     name: &str,
     request: Request<'_>,

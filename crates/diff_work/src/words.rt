@@ -66,7 +66,7 @@ fn two_named<'a>(form: Form, old: &'a str, new: &'a str) -> Option<Request<'a>>
     Some(Request { form, old, new })
 }
 
-/// Whether the word may be a file's name: `-`, or one that doesn't begin with it.
+/// Reports whether the word may name a file: `-`, or a word that doesn't begin with it.
 fn is_name(word: &str) -> bool
     ensures { result ≡ is_file_name word.now }
 {

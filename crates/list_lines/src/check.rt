@@ -21,27 +21,27 @@ ghost use Rattle.list_lines.specs.PrivateFollowing.{Finds, HasSeen, KeepsNames, 
 ghost use Rattle.list_lines.specs.PrivateFollowing.{payload_in};
 
 use crate::listed::listed;
+use data_memory::{ChangeError, Data};
 use rtr_base::action::Action;
 use rtr_base::addr::MaxLenPrefix;
 use rtr_base::asn::Asn;
-use data_memory::{ChangeError, Data};
-use text_findings::{Finding, SequenceState};
 use rtr_payload::payload::{self, PayloadRef};
 use rtr_payload::pdu::prefix_rule::{PrefixRule, ipv4_prefix, ipv6_prefix};
 use rtr_payload::pdu::{Aspa, Payload, RouterKey};
-use unit_any::AnyUnit;
 use std::alloc::{AllocError, Global};
+use text_findings::{Finding, SequenceState};
+use unit_any::AnyUnit;
 
-/// What is known of the sequence that is read.
+/// The state of the sequence that is read.
 ///
 /// A sequence goes from a cache response, or from the beginning of the input, to an end of data
 /// (RFC 8210 section 8).
 #[derive(Drop)]
 pub struct Checker {
     alloc: Global,
-    /// All but what is announced.
+    /// The state without the payloads.
     state: SequenceState,
-    /// What is announced in the sequence and not withdrawn after that.
+    /// The payloads that are announced in the sequence and not withdrawn after that.
     announced: Data,
 }
 
@@ -74,7 +74,7 @@ impl Checker {
         put_each(&broken.slots, found)
     }
 
-    /// Puts what is missing where the input ends in the place of what was found before.
+    /// Replaces the former findings by the finding of an input that ends here.
     pub fn finish(&self, found: &mut Vec<Finding>) -> Result<(), AllocError>
         ensures { OnOk result ((history : List AnyFields) → HasSeen self.now history →
             found.new.items ≡ end_findings history) }
@@ -83,8 +83,8 @@ impl Checker {
         put(self.state.missing(), found)
     }
 
-    /// Keeps what the unit announces, forgets what it withdraws, and all if a sequence begins with
-    /// it; and answers whether the payload that it names was there.
+    /// Keeps the payload that the unit announces, forgets the one that it withdraws, and all if a
+    /// sequence begins with it. Reports whether the payload that it names was present.
     fn keep(&mut self, unit: &AnyUnit) -> Result<bool, AllocError>
         requires { HasAnyFields (any_bytes unit.now) (any_fields unit.now) }
         ensures state { self.new.state ≡ self.old.state }
@@ -117,8 +117,8 @@ impl Checker {
         }
     }
 
-    /// Keeps what is announced, and forgets what is withdrawn; and answers whether one of its name
-    /// was there.
+    /// Keeps a payload that is announced, and forgets one that is withdrawn. Reports whether a
+    /// payload of its name was present.
     fn count(&mut self, action: Action, payload: payload::Payload) -> Result<bool, AllocError>
         requires { action ≡ Announce → IsFit (payload_of payload) }
         ensures state { self.new.state ≡ self.old.state }
@@ -202,7 +202,7 @@ fn aspa_of(unit: &Aspa) -> Result<payload::Payload, AllocError>
     Ok(payload::Payload::aspa(unit.customer(), unit.providers().clone()?))
 }
 
-/// Announces a payload that a reader accepts, and answers whether one of its name was there: of an
+/// Announces a payload that a reader accepts, and reports whether one of its name was there: of an
 /// ASPA, one of its customer.
 fn announce(announced: &mut Data, payload: payload::Payload) -> Result<bool, AllocError>
     requires { IsFit (payload_of payload) }
@@ -221,7 +221,7 @@ fn announce(announced: &mut Data, payload: payload::Payload) -> Result<bool, All
 }
 
 #[tactic(auto, unfolding(data_memory::specs::Data::takes_place))]
-/// Whether the payload takes the place of one that is there, as an ASPA alone does.
+/// Reports whether the payload replaces another one, as only an ASPA does.
 fn will_replace(announced: &Data, payload: &PayloadRef<'_>) -> bool
     ensures { result ≡ (takes_place (payload_of_ref payload.now) &&
         has_name announced.now (payload_of_ref payload.now)) }
@@ -232,7 +232,7 @@ fn will_replace(announced: &Data, payload: &PayloadRef<'_>) -> bool
     }
 }
 
-/// Withdraws a payload, if one of its name is there, and answers whether one was.
+/// Withdraws a payload, if one of its name is present, and reports whether one was.
 fn withdraw(announced: &mut Data, payload: &PayloadRef<'_>) -> bool
     ensures there { result ≡ has_name announced.old (payload_of_ref payload.now) }
     ensures names { Names announced.old announced.new (payload_of_ref payload.now) false }

@@ -1,20 +1,22 @@
 //! Texts of units, as `text_lines` lays them over slices.
 
-ghost use Rattle.std.specs.Prelude.{ℕ, List};
+ghost use Rattle.std.specs.Prelude.{ℕ, List, ◌++◌, decimal};
+ghost use Rattle.rtr_base.specs.PlainTexts.{address_text, prefix_text};
 ghost use Rattle.text_lines.specs.JsonLines.{unit_json};
 ghost use Rattle.text_lines.specs.Laying.{Lays};
 ghost use Rattle.text_lines.specs.ListedUnits.{fields_listed, payload_listed};
 ghost use Rattle.text_lines.specs.PayloadLines.{payload_json};
 ghost use Rattle.text_lines.specs.TextLines.{payload_said, unit_text};
 
-use text_lines::{Listed, ListedPayload, laying};
+use rtr_base::addr::Prefix;
+use text_lines::{Listed, ListedPayload, addresses, laying};
 
 /// A text that can be laid over a slice.
 pub(crate) trait Laid {
     /// The text.
     ghost text: { Self → List ℕ };
 
-    /// Lays the text over the output from this place on, as far as there is room, and answers where
+    /// Lays the text over the output from this place on, as far as there is room, and returns where
     /// it ends.
     fn lay(&self, output: &mut [u8], at: usize) -> usize
         ensures { Lays (text self.now) at output.old result output.new };
@@ -34,7 +36,48 @@ impl<'a> Laid for Bytes<'a> {
     }
 }
 
-/// The line for people of a unit that stands after so many bytes.
+/// A label and a number after it.
+#[derive(Clone, Copy)]
+pub(crate) struct Labelled<'a> {
+    pub label: &'a str,
+    pub number: u64,
+}
+
+impl<'a> Laid for Labelled<'a> {
+    ghost text = { λ t. t.label.now ++ decimal t.number };
+
+    fn lay(&self, output: &mut [u8], at: usize) -> usize {
+        laying::labelled(output, at, self.label, self.number)
+    }
+}
+
+/// A prefix, as 192.0.2.0/23.
+#[derive(Clone, Copy)]
+pub(crate) struct PrefixText {
+    pub prefix: Prefix,
+}
+
+impl Laid for PrefixText {
+    ghost text = { λ t. prefix_text t.prefix };
+
+    fn lay(&self, output: &mut [u8], at: usize) -> usize {
+        let end = lay_address(output, at, self.prefix);
+        laying::labelled(output, end, "/", u64::from(self.prefix.len()))
+    }
+}
+
+/// Lays the address of a prefix.
+fn lay_address(output: &mut [u8], at: usize, prefix: Prefix) -> usize
+    ensures { Lays (address_text prefix.family prefix.address) at output.old result output.new }
+{
+    if prefix.is_v4() {
+        addresses::ipv4(output, at, prefix.bits() as u32)
+    } else {
+        addresses::ipv6(output, at, prefix.bits())
+    }
+}
+
+/// The line for people of a unit at this offset.
 #[derive(Clone, Copy)]
 pub(crate) struct UnitText<'a> {
     pub offset: u64,
@@ -49,7 +92,7 @@ impl<'a> Laid for UnitText<'a> {
     }
 }
 
-/// The JSON object of a unit that stands after so many bytes.
+/// The JSON object of a unit at this offset.
 #[derive(Clone, Copy)]
 pub(crate) struct UnitJson<'a> {
     pub offset: u64,

@@ -3,12 +3,14 @@
 ghost use Rattle.std.specs.Prelude.{◌≡◌, ◌≢◌, ◌≤◌, ◌∷◌, ◌++◌, [], Err, OnOk, decimal, length};
 ghost use Rattle.std.specs.Prelude.{map, max, take};
 ghost use Rattle.std.specs.Fmt.{AppendsText};
+ghost use Rattle.rtr_base.specs.PlainTexts.{prefix_text};
 ghost use Rattle.rtr_units.specs.StopCauses.{by_cause, by_reader};
 ghost use Rattle.text_lines.specs.Laying.{text_end};
 ghost use Rattle.list_lines.specs.Lines.{PutsLine, written_line};
 
-use crate::laid::{Bytes, Laid};
+use crate::laid::{Bytes, Labelled, Laid, PrefixText};
 use itoa::Buffer;
+use rtr_base::addr::Prefix;
 use rtr_units::fault::Fault;
 use rtr_units::piece::put;
 use rtr_units::source::Sink;
@@ -91,8 +93,14 @@ impl Line {
     pub fn labelled(&mut self, label: &str, number: u64) -> Result<(), AllocError>
         ensures { OnOk result (self.new ≡ self.old ++ (label.now ++ decimal number)) }
     {
-        self.text(label)?;
-        self.number(number)
+        self.lay(&Labelled { label, number })
+    }
+
+    /// Adds a prefix, as 192.0.2.0/23.
+    pub fn prefix(&mut self, prefix: Prefix) -> Result<(), AllocError>
+        ensures { OnOk result (self.new ≡ self.old ++ prefix_text prefix) }
+    {
+        self.lay(&PrefixText { prefix })
     }
 
     /// Adds a byte.

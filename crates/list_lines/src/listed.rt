@@ -13,12 +13,10 @@ ghost use Rattle.text_lines.specs.ListedUnits.{payload_listed};
 ghost use Rattle.text_lines.specs.declared.listed.Listed.TheVariants as listed;
 
 use rtr_payload::pdu::{Aspa, Payload, RouterKey};
-use unit_any::{AnyUnit, Report};
-use text_lines::{Listed, ListedAspa, ListedKey, ListedPayload, ListedReport};
+use rtr_units::header::HEADER_SIZE;
 use rtr_units::unit::Unit;
-
-/// The bytes of a header.
-const HEADER: usize = 8;
+use text_lines::{Listed, ListedAspa, ListedKey, ListedPayload, ListedReport};
+use unit_any::{AnyUnit, Report};
 
 /// The unit with its fields as they stand in it.
 pub fn listed(unit: &AnyUnit) -> Listed<'_>
@@ -85,7 +83,7 @@ fn listed_report(report: &Report) -> ListedReport<'_>
     ListedReport {
         version: report.version(),
         code: report.code().0,
-        body: &report.as_ref()[HEADER..],
+        body: &report.as_ref()[HEADER_SIZE..],
     }
 }
 

@@ -20,13 +20,13 @@ use crate::laid::{UnitJson, UnitText};
 use crate::line::Line;
 use crate::listed::listed;
 use crate::run::Wanted;
-use text_findings::Finding;
-use unit_any::AnyUnit;
 use rtr_units::fault::Fault;
 use rtr_units::source::Sink;
 use std::alloc::{AllocError, Global};
+use text_findings::Finding;
+use unit_any::AnyUnit;
 
-/// What is printed of units that come one after the other, in memory that it uses again for each.
+/// Prints units one after the other, in memory that it uses again for each.
 #[derive(Drop)]
 pub struct Printer {
     /// The number of bytes of the units before, which stays at the greatest number.
@@ -58,8 +58,8 @@ impl Printer {
         self.offset
     }
 
-    /// Prints what is wanted of the next unit, and answers whether a rule was found broken. Its
-    /// faults are `Memory` and `Writer`.
+    /// Prints the wanted lines of the next unit, and reports whether it breaks a rule. Faults:
+    /// `Memory` and `Writer`.
     pub fn print<W: Sink>(
         &mut self,
         wanted: Wanted,
@@ -86,7 +86,7 @@ impl Printer {
         answer
     }
 
-    /// Prints what is wanted of the unit. Answers as `print`.
+    /// Prints the wanted lines of the unit. Returns as `print`.
     fn print_lines<W: Sink>(
         &mut self,
         wanted: Wanted,
@@ -109,8 +109,8 @@ impl Printer {
         }
     }
 
-    /// Prints what is wanted where the input ends, and answers whether a rule was found broken. Its
-    /// faults are those of `print`.
+    /// Prints the wanted lines at the end of the input, and reports whether a rule is broken.
+    /// Faults are those of `print`.
     pub fn finish<W: Sink>(&mut self, wanted: Wanted, output: &mut W) -> Result<bool, Fault>
         ensures lines { (before : List AnyFields) → HasChecked wanted self.old.checker before →
             self.old.offset ≡ offset_of before → Prints wanted (end_lines wanted before) result
@@ -203,7 +203,7 @@ fn unbroken(line: Result<(), Fault>) -> Result<bool, Fault>
     }
 }
 
-/// Writes a line of each finding, and answers whether there is one.
+/// Writes a line of each finding, and reports whether there is one.
 fn put_findings<W: Sink>(
     findings: &[Finding],
     offset: u64,

@@ -9,12 +9,12 @@ ghost use Rattle.list_lines.specs.ListStatus.{wanted_by_words};
 
 use crate::printer::Printer;
 use program_frame::report;
-use unit_any::AnyUnit;
 use rtr_units::fault::Fault;
 use rtr_units::source::{Sink, Source};
 use std::alloc::Global;
 use std::io;
 use std::io::Write;
+use unit_any::AnyUnit;
 
 /// The status where nothing was found.
 const WELL: u8 = 0;
@@ -52,14 +52,14 @@ pub fn form_wanted(words: &[String]) -> Option<Wanted>
 }
 
 /// Reads units up to the end of the input and prints what is wanted of each, flushes the output
-/// once, and answers the exit status:
+/// once, and returns the exit status:
 /// - 0 if all that succeeded and no broken rule was found;
 /// - 1 if one was found, or the input has a fault;
 /// - 3 if reading, writing, flushing or memory failed.
 ///
-/// A fault and status 3 come with a line on `faults`, which begins with the program's name; of a
-/// pipe that nobody reads any more nothing is said. Where broken rules are wanted, a last line says
-/// how many units and answers were looked at. If a line can't be written, nothing else changes.
+/// A fault and status 3 come with a line on `faults`, which begins with the program's name; a
+/// broken pipe is not reported. Where broken rules are wanted, a last line says how many units and
+/// answers were looked at. If a line can't be written, nothing else changes.
 pub fn print_units<R: Source, W: Sink, F: Write>(
     alloc: Global,
     name: &str,
@@ -115,7 +115,7 @@ fn tell_counts<F: Write>(name: &str, counts: Counts, faults: &mut F) {
     let _ = writeln!(faults, "{name}: looked at units {units}, answers {answers}");
 }
 
-/// Says what failed, if something did, and answers the status to end with.
+/// Says what failed, if something did, and returns the exit status.
 fn tell<F: Write>(
     name: &str,
     answer: Result<bool, Fault>,
@@ -139,9 +139,9 @@ fn tell<F: Write>(
     }
 }
 
-/// Says what the fault is, with the place of its unit where it is the input's, and answers the
-/// status to end with. Where the flush after it failed, that is said of the output alone: reading
-/// may have failed since it flushes first.
+/// Says what the fault is, with the place of its unit where it is the input's, and returns the exit
+/// status. Where the flush after it failed, that is said of the output alone: reading may have
+/// failed since it flushes first.
 fn tell_fault<F: Write>(
     name: &str,
     fault: &Fault,
@@ -180,7 +180,7 @@ fn fault_status(fault: &Fault) -> u8
     }
 }
 
-/// Prints what is wanted of each unit, counts it, and answers whether a rule was found broken.
+/// Prints what is wanted of each unit, counts it, and reports whether a rule was found broken.
 fn list<R: Source, W: Sink>(
     alloc: Global,
     wanted: Wanted,

@@ -14,7 +14,8 @@ use Rattle.unit_any.specs.AnyFields.{AnyFields, end_of_data}
 use Rattle.text_findings.specs.SequenceSoFar.{announces, sequence}
 use Rattle.list_lines.specs.Listing.{offset_of}
 use Rattle.list_summary.specs.Summaries.{tally, announced_type, other_type, announced_length}
-use Rattle.list_summary.specs.Summaries.{announced_as, whole_answer_line, answer_lines, number_lines}
+use Rattle.list_summary.specs.Summaries.{announced_as, whole_answer_line, answer_lines}
+use Rattle.list_summary.specs.Summaries.{number_lines}
 use Rattle.list_summary.specs.Summaries.{withdraws}
 use Rattle.list_summary.specs.SummaryStatus.{ReadsUnits}
 use Rattle.list_summary.specs.declared.answers.Answer.{Answer}

@@ -5,13 +5,14 @@ ghost use Rattle.std.specs.Prelude.{true, false};
 ghost use Rattle.std.specs.Prelude.{if◌then◌else◌};
 ghost use Rattle.rtr_units.specs.AnyEnd.{end_meaning};
 ghost use Rattle.unit_any.specs.AnyUnits.{any_fields};
-ghost use Rattle.list_summary.specs.PrivateTallies.{AnswersMore, FailsAtEnd, HasAnswered, IsFullTally};
+ghost use Rattle.list_summary.specs.PrivateTallies.{AnswersMore, FailsAtEnd, HasAnswered};
+ghost use Rattle.list_summary.specs.PrivateTallies.{IsFullTally};
 ghost use Rattle.list_summary.specs.PrivateTallies.{ended_answer};
 
 use crate::numbers;
-use unit_any::AnyUnit;
 use rtr_units::end::EndOfData;
 use std::alloc::{AllocError, Global};
+use unit_any::AnyUnit;
 
 /// An answer that is ended.
 #[derive(Clone, Copy, Drop)]
@@ -109,8 +110,7 @@ impl Answers {
         self.withdrawn = 0;
     }
 
-    /// Counts a payload unit, by whether it announces. A count stays at 2^64 - 1, which none
-    /// reaches that is of units: no more of them are read.
+    /// Counts a payload unit, by whether it announces. Saturates at 2^64 - 1; fewer units are read.
     fn count(&mut self, announces: bool)
         ensures ended { self.new.ended.items ≡ self.old.ended.items }
         ensures whole { self.new.is_whole ≡ self.old.is_whole }

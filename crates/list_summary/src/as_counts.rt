@@ -1,7 +1,9 @@
 //! Counters, one for each AS.
 
-ghost use Rattle.std.specs.Prelude.{◌≡◌, ℕ, IfOk, OnOk, Some, length, nat_lt, take, true};
+ghost use Rattle.std.specs.Prelude.{◌≡◌, ℕ, IfOk, None, OnOk, Some, length, nat_lt, take, true};
+ghost use Rattle.std.specs.BTreeMap.{get};
 ghost use Rattle.std.specs.List.{position_or_len};
+ghost use Rattle.std.specs.Ordering.{nat_cmp};
 ghost use Rattle.list_summary.specs.PrivateTallies.{CountsAs, as_count, one_more};
 ghost use Rattle.list_summary.specs.Summaries.{largest, ranked};
 
@@ -30,8 +32,7 @@ impl AsCounts {
         }
     }
 
-    /// Counts the AS, if there is one. A count stays at 2^64 - 1, which none reaches that is of
-    /// units: no more of them are read.
+    /// Counts the AS, if there is one. Saturates at 2^64 - 1; fewer units are read.
     pub fn count(&mut self, asn: Option<Asn>)
         ensures { CountsAs asn self.old self.new }
     {
@@ -55,16 +56,27 @@ impl AsCounts {
     }
 }
 
-/// Counts the AS once more, and answers whether there was memory for it.
+/// Counts the AS once more, and reports whether there was memory for it.
 fn raise(counts: &mut BTreeMap<Asn, u64>, asn: Asn) -> bool
     ensures { result ≡ true → (k : ℕ) →
         as_count counts.new k ≡ one_more (Some asn) (as_count counts.old) k }
 {
-    let before = match counts.get(&asn) {
-        Some(count) => *count,
-        None => 0,
-    };
-    counts.insert(asn, before.saturating_add(1)).is_ok()
+    match counts.get_mut(&asn) {
+        Some(count) => {
+            *count = count.saturating_add(1);
+            true
+        }
+        None => begin(counts, asn),
+    }
+}
+
+/// Counts an AS that wasn't counted before, and reports whether there was memory for it.
+fn begin(counts: &mut BTreeMap<Asn, u64>, asn: Asn) -> bool
+    requires { get nat_cmp counts.old asn ≡ None }
+    ensures { result ≡ true → (k : ℕ) →
+        as_count counts.new k ≡ one_more (Some asn) (as_count counts.old) k }
+{
+    counts.insert(asn, 1).is_ok()
 }
 
 /// The largest ASes of these.
@@ -81,7 +93,7 @@ fn largest(alloc: Global, counts: &BTreeMap<Asn, u64>) -> Result<Vec<(u32, u64)>
     Ok(rows)
 }
 
-/// Puts the row behind those that count as much or more, of which the first ten stay.
+/// Inserts the row behind those with as high a count or a higher one, and keeps the first ten.
 fn rank(rows: &mut Vec<(u32, u64)>, row: (u32, u64)) -> Result<(), AllocError>
     ensures { OnOk result (rows.new.items ≡ take 10 (ranked row rows.old.items)) }
 {

@@ -11,10 +11,10 @@ ghost use Rattle.list_summary.specs.Summaries.{other_type, type_of};
 use rtr_base::action::Action;
 use rtr_base::asn::Asn;
 use rtr_payload::pdu::{Aspa, Payload, RouterKey};
-use unit_any::{AnyUnit, Report};
 use rtr_units::end::EndOfData;
 use rtr_units::prefixes::{Ipv4Prefix, Ipv6Prefix};
 use rtr_units::queries::{CacheReset, CacheResponse, ResetQuery, SerialNotify, SerialQuery};
+use unit_any::{AnyUnit, Report};
 
 /// The type of the unit.
 fn type_of(unit: &AnyUnit) -> u8

@@ -11,12 +11,12 @@ use crate::summary::Summary;
 use crate::text::add_summary;
 use list_lines::Line;
 use program_frame::report;
-use unit_any::AnyUnit;
 use rtr_units::fault::Fault;
 use rtr_units::piece::put;
 use rtr_units::source::{Sink, Source};
 use std::alloc::Global;
 use std::io::Write;
+use unit_any::AnyUnit;
 
 /// The status where the input ended and its summary was printed.
 const PRINTED: u8 = 0;
@@ -28,15 +28,14 @@ const REFUSED: u8 = 1;
 const FAILED: u8 = 3;
 
 /// Reads units up to the end of the input or to the first fault, prints the summary of all of them,
-/// flushes the output once, and answers the exit status:
+/// flushes the output once, and returns the exit status:
 /// - 0 if the input ended and all that succeeded;
 /// - 1 if the input has a fault;
 /// - 3 if reading, writing, flushing or memory failed.
 ///
-/// A fault and status 3 come with a line on `faults`, which begins with the program's name. Of a
-/// pipe that nobody reads any more nothing is said. If a line can't be written, nothing else
-/// changes. Where memory for the text, an answer or the count of an AS can't be had nothing is
-/// printed.
+/// A fault and status 3 come with a line on `faults`, which begins with the program's name. A
+/// broken pipe is not reported. If a line can't be written, nothing else changes. Where memory for
+/// the text, an answer or the count of an AS can't be had nothing is printed.
 pub fn summarise<R: Source, W: Sink, F: Write>(
     alloc: Global,
     name: &str,
@@ -79,7 +78,7 @@ fn read_units<R: Source>(alloc: Global, summary: &mut Summary, input: &mut R) ->
     Err(Fault::TooMany)
 }
 
-/// Prints the text, flushes the output, and answers the status: by how reading ended, at this
+/// Prints the text, flushes the output, and returns the status: by how reading ended, at this
 /// offset, where that succeeds.
 fn print<W: Sink, F: Write>(
     name: &str,
@@ -105,7 +104,7 @@ fn print<W: Sink, F: Write>(
     }
 }
 
-/// Says why reading stopped before the end of the input, if it did, and answers the status for
+/// Says why reading stopped before the end of the input, if it did, and returns the status for
 /// that.
 fn tell<F: Write>(name: &str, answer: &Result<(), Fault>, offset: u64, faults: &mut F) -> u8
     ensures status { result ≡ read_status (by_cause answer.now) }
@@ -117,7 +116,7 @@ fn tell<F: Write>(name: &str, answer: &Result<(), Fault>, offset: u64, faults: &
     }
 }
 
-/// Says what the fault is, with the place of its unit where it is the input's, and answers the
+/// Says what the fault is, with the place of its unit where it is the input's, and returns the
 /// status for that.
 fn tell_fault<F: Write>(name: &str, fault: &Fault, offset: u64, faults: &mut F) -> u8
     ensures { result ≡ listing_status (Err (cause_of fault.now)) }
@@ -133,7 +132,7 @@ fn tell_fault<F: Write>(name: &str, fault: &Fault, offset: u64, faults: &mut F) 
     }
 }
 
-/// Reports what failed, and answers the status.
+/// Reports what failed, and returns the status.
 fn fail<F: Write>(name: &str, fault: &Fault, faults: &mut F) -> u8
     ensures { result ≡ 3 }
 {

@@ -1,4 +1,4 @@
-//! What is counted of units one after the other.
+//! Counts of units one after the other.
 
 ghost use Rattle.std.specs.Prelude.{◌≡◌, ◌+◌, ◌-◌, ◌^◌, [], length, min};
 ghost use Rattle.unit_any.specs.AnyUnits.{any_bytes, any_fields};
@@ -10,9 +10,9 @@ use crate::answers::Answers;
 use crate::as_counts::AsCounts;
 use crate::numbers;
 use crate::tally::Tally;
-use unit_any::AnyUnit;
 use rtr_units::prefixes::{Ipv4Prefix, Ipv6Prefix};
 use std::alloc::Global;
+use unit_any::AnyUnit;
 
 /// What was counted of the units so far.
 #[derive(Drop)]
@@ -21,7 +21,7 @@ pub struct Summary {
     pub bytes: u64,
     /// The units.
     pub units: u64,
-    /// Those that announce, by their type.
+    /// The units that announce, by their type.
     pub announced: Tally,
     /// All others, by their type.
     pub others: Tally,

@@ -18,8 +18,7 @@ impl Tally {
         Tally { counts: [0; 256] }
     }
 
-    /// Counts the byte, if there is one. A count stays at 2^64 - 1, which none reaches that is of
-    /// units: no more of them are read.
+    /// Counts the byte, if there is one. Saturates at 2^64 - 1; fewer units are read.
     pub fn count(&mut self, byte: Option<u8>)
         ensures { self.new.counts ≡ raised self.old.counts byte }
     {

@@ -8,10 +8,10 @@ ghost use Rattle.list_tables.specs.Tables.{json_text, object_text};
 
 use crate::pieces::add_prefix;
 use base64::engine::general_purpose::STANDARD;
-use hex::encode;
-use rtr_base::asn::Asn;
 use data_memory::{Data, KeptOrigin};
+use hex::encode;
 use list_lines::Line;
+use rtr_base::asn::Asn;
 use rtr_payload::payload::{RouteOrigin, RouterKey};
 use rtr_payload::pdu::ProviderAsns;
 use std::alloc::{AllocError, Global};

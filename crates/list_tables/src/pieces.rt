@@ -3,8 +3,8 @@
 ghost use Rattle.std.specs.Prelude.{◌≡◌, ◌++◌, OnOk, decimal};
 ghost use Rattle.rtr_base.specs.PlainTexts.{prefix_text};
 
-use rtr_base::addr::Prefix;
 use list_lines::Line;
+use rtr_base::addr::Prefix;
 use std::alloc::AllocError;
 
 /// Adds a text, a prefix after it, another text, and a number after that.
@@ -19,6 +19,6 @@ pub fn add_prefix(
         ++ (before.now ++ prefix_text prefix ++ between.now ++ decimal max_len)) }
 {
     line.text(before)?;
-    line.show(prefix)?;
+    line.prefix(prefix)?;
     line.labelled(between, u64::from(max_len))
 }

@@ -9,9 +9,9 @@ use crate::csv_table::{LeftOut, add_csv, left_out};
 use crate::json_table::add_json;
 use crate::words::Table;
 use data_memory::{ChangeError, Data};
+use data_recordings::{Recording, Refusal, Stop, StopCause, read_recording};
 use list_lines::Line;
 use program_frame::report;
-use data_recordings::{Recording, Refusal, Stop, StopCause, read_recording};
 use rtr_units::fault::Fault;
 use rtr_units::piece::put;
 use rtr_units::source::{Sink, Source};
@@ -28,15 +28,15 @@ const REFUSED: u8 = 1;
 const FAILED: u8 = 3;
 
 /// Reads a recording up to the end of the input, as `read_recording` does, prints the table of the
-/// data that it leaves, flushes the output once, and answers the exit status:
+/// data that it leaves, flushes the output once, and returns the exit status:
 /// - 0 if all that succeeded;
 /// - 1 if the input is refused;
 /// - 3 if reading, writing, flushing or memory failed.
 ///
 /// Nothing is written unless the whole table is made, which takes memory for all of its text.
 /// Statuses 1 and 3 come with a line on `faults`, which begins with the program's name, and status
-/// 0 with one where payloads are left out, and with one where an answer is. Of a pipe that nobody
-/// reads any more nothing is said. If a line can't be written, nothing else changes.
+/// 0 with one where payloads are left out, and with one where an answer is. A broken pipe is not
+/// reported. If a line can't be written, nothing else changes.
 pub fn print_table<R: Source, W: Sink, F: Write>(
     alloc: Global,
     name: &str,
@@ -54,7 +54,7 @@ pub fn print_table<R: Source, W: Sink, F: Write>(
     }
 }
 
-/// Prints the table of the payloads, flushes the output, and answers the status.
+/// Prints the table of the payloads, flushes the output, and returns the status.
 fn print<W: Sink, F: Write>(
     alloc: Global,
     name: &str,
@@ -85,7 +85,7 @@ fn print<W: Sink, F: Write>(
     }
 }
 
-/// Reports what failed, and answers the status.
+/// Reports what failed, and returns the status.
 fn fail<F: Write>(name: &str, fault: &Fault, faults: &mut F) -> u8
     ensures { result ≡ 3 }
 {
@@ -141,7 +141,7 @@ fn report_counts<F: Write>(name: &str, left_out: LeftOut, faults: &mut F)
 }
 
 /// Reports where reading stopped, and why: with the place of the unit where the input is at fault.
-/// Answers the status.
+/// Returns the status.
 fn report_stop<F: Write>(name: &str, stop: &Stop, faults: &mut F) -> u8
     ensures { result ≡ refused_status stop.now.cause }
 {

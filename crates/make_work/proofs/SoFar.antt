@@ -15,7 +15,8 @@ use Rattle.make_work.specs.PrivateAdding.{with_payload}
 use Rattle.make_work.specs.Taking.{Held, HoldsLeft}
 use Rattle.make_work.specs.declared.item.Item.{Item}
 use Rattle.make_work.specs.declared.item.Reason.{Reason}
-use Rattle.make_work.specs.declared.item.Reason.TheVariants.{Version, OtherProviders, Change, Memory}
+use Rattle.make_work.specs.declared.item.Reason.TheVariants.{Version, OtherProviders, Change}
+use Rattle.make_work.specs.declared.item.Reason.TheVariants.{Memory}
 use Rattle.make_work.specs.declared.item.Refusal.{Refusal}
 use Rattle.make_work.proofs.HeldData.{held_none, held_new, held_again}
 

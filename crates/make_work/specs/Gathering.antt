@@ -12,7 +12,8 @@ use Rattle.data_memory.specs.Sequences.{IsSendable}
 use Rattle.make_work.specs.declared.gathering.Gathered.{Gathered}
 use Rattle.make_work.specs.declared.item.Item.{Item}
 use Rattle.make_work.specs.declared.item.Reason.{Reason}
-use Rattle.make_work.specs.declared.item.Reason.TheVariants.{Version, OtherProviders, Change, Memory}
+use Rattle.make_work.specs.declared.item.Reason.TheVariants.{Version, OtherProviders, Change}
+use Rattle.make_work.specs.declared.item.Reason.TheVariants.{Memory}
 use Rattle.make_work.specs.declared.item.Refusal.{Refusal}
 
 -- the payload of an item that was read

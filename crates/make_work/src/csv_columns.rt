@@ -3,7 +3,8 @@
 ghost use Rattle.std.specs.Prelude.{◌≡◌, codes};
 ghost use Rattle.csv.specs.Records.{fields_of};
 ghost use Rattle.make_work.specs.CsvColumns.{at_most_one, column_of, columns_named, field};
-ghost use Rattle.make_work.specs.CsvColumns.{found_again, has_fields, is_header, one, plain_columns};
+ghost use Rattle.make_work.specs.CsvColumns.{found_again, has_fields, is_header, one};
+ghost use Rattle.make_work.specs.CsvColumns.{plain_columns};
 
 use crate::json_names::Part;
 use csv::StringRecord;
@@ -69,7 +70,7 @@ pub fn columns_named(row: &StringRecord) -> Option<Columns>
     })
 }
 
-/// The index of a column that has to be there.
+/// The index of a column that is required.
 fn one(column: Column) -> Option<usize>
     ensures { result ≡ one column }
 {
@@ -120,7 +121,7 @@ pub fn has_fields(columns: Columns, row: &StringRecord) -> bool
     columns.width <= row.len()
 }
 
-/// The field at an index. One that isn't there is empty.
+/// The field at an index. A missing one is empty.
 pub fn field(row: &StringRecord, index: usize) -> &str
     ensures { result.now ≡ field (fields_of row.now) index }
 {

@@ -43,8 +43,8 @@ impl<'a> Times<'a> {
         }
     }
 
-    /// Looks at one item more, and answers whether it stays: one that expires at the time that is
-    /// asked for, or before it, doesn't. Fails where there are more than can be counted.
+    /// Looks at one item more, and reports whether it stays: one that expires at the requested
+    /// time, or before it, doesn't. Fails where there are more than can be counted.
     ///
     /// An item whose expiry is no number of seconds, or is given twice, is refused, with `Time` or
     /// `Twice`. Then no other is looked at.
@@ -74,7 +74,7 @@ impl<'a> Times<'a> {
         Ok(false)
     }
 
-    /// What has expired of the items, where a time is asked for, or the first that is refused.
+    /// What has expired of the items, where a time is given, or the first that is refused.
     pub(crate) fn answer(self) -> Result<Option<Expired>, Refusal<'a>>
         ensures { result ≡ times_answer self.entry }
     {

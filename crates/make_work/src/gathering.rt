@@ -18,9 +18,9 @@ ghost use Rattle.make_work.specs.Taking.{TakesItems, entries_asked};
 use crate::expiring::{Expired, Times};
 use crate::item::{Expiry, Item, Place, Reason, Refusal};
 use data_memory::{ChangeError, Data};
+use data_slurm::{Entry, Slurm};
 use rtr_payload::payload::laws::in_range;
 use rtr_payload::payload::{Payload, RouteOrigin};
-use data_slurm::{Entry, Slurm};
 use std::alloc::Global;
 
 /// The payloads of items.
@@ -32,10 +32,10 @@ pub struct Gathered {
     pub left_out: usize,
 }
 
-/// What is left of items at the time that is asked for.
+/// The items that stay at the requested time.
 #[derive(Drop)]
 pub struct Left<'a> {
-    /// What has expired of them, where a time is asked for.
+    /// What has expired of them, where a time is given.
     pub expired: Option<Expired>,
     /// The payloads of the others, or the first item that is refused.
     pub gathered: Result<Gathered, Refusal<'a>>,
@@ -59,8 +59,8 @@ pub struct Gathering<'a> {
 }
 
 impl<'a> Gathering<'a> {
-    /// Gathers items for this version. If a time is asked for, those are left out that have expired
-    /// at it.
+    /// Gathers items for this version. If a time is given, those are left out that have expired at
+    /// it.
     pub fn new(alloc: Global, version: u8, leaves_out: bool, asked: Option<u64>) -> Gathering<'a>
         ensures settings { IsFor version leaves_out asked result }
         ensures none { HasTaken [] result }
@@ -187,13 +187,13 @@ impl<'a> Gathering<'a> {
         Ok(())
     }
 
-    /// What is left of the items that were taken. The first item whose expiry has no meaning is
-    /// refused, with `Time` or `Twice`, if a time is asked for.
+    /// Returns the items that stay. The first item whose expiry has no meaning is refused, with
+    /// `Time` or `Twice`, if a time is given.
     ///
-    /// Of those that are left, a payload that comes again is the same payload. One that the version
-    /// lacks is refused, unless such payloads are to be left out: then they are counted. The first
-    /// item that is refused decides, with the reason `Version`, `OtherProviders`, or `Change` with
-    /// `KeyTooLong` or `NoProviders`, whether the version has it or not.
+    /// A payload that comes again is ignored. A payload that the version lacks is refused, unless
+    /// such payloads are to be left out: then they are counted. The first item that is refused
+    /// decides, with the reason `Version`, `OtherProviders`, or `Change` with `KeyTooLong` or
+    /// `NoProviders`, whether the version has it or not.
     pub fn finish(self) -> Result<Left<'a>, Refusal<'a>>
         ensures { EndsTaking self.entry result }
     {
@@ -305,7 +305,7 @@ fn lacks(version: u8, payload: &Payload) -> bool
     }
 }
 
-/// Adds a payload, unless it is there.
+/// Adds a payload, unless it is present.
 fn add(version: u8, leaves_out: bool, payloads: &mut Data, payload: Payload) -> Result<(), Reason>
     ensures adds { AddsPayload version leaves_out (payload_of payload) result
         payloads.old payloads.new }
@@ -342,7 +342,7 @@ fn is_memory(reason: &Reason) -> bool
     }
 }
 
-/// Adds an origin, unless it is there. No other payload has its name, so one search will do.
+/// Adds an origin, unless it is present. No other payload has its name, so one search suffices.
 fn add_origin(
     _version: u8,
     _leaves_out: bool,

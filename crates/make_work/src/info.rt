@@ -1,4 +1,4 @@
-//! What the program says of itself.
+//! The texts of --help and --version.
 
 ghost use Rattle.std.specs.Prelude.{◌≡◌};
 ghost use Rattle.make_work.specs.MakeInfo.{PutsSomeText, TellsText, info_by_words, info_named};
@@ -83,7 +83,7 @@ fn info_named(word: &str) -> Option<Info>
     }
 }
 
-/// Writes what is asked for, flushes it once, and answers the exit status: 0 if that succeeded, and
+/// Writes what is asked for, flushes it once, and returns the exit status: 0 if that succeeded, and
 /// else 3 with a line on `faults`.
 pub fn tell_info<W: Sink, F: Write>(info: Info, output: &mut W, faults: &mut F) -> u8
     ensures { TellsText result (W.state output.old) (W.state output.new) }
@@ -99,7 +99,7 @@ pub fn tell_info<W: Sink, F: Write>(info: Info, output: &mut W, faults: &mut F) 
     }
 }
 
-/// Prints why the output can't be written, and answers the status.
+/// Prints why the output can't be written, and returns the status.
 pub(crate) fn tell_unwritten<F: Write>(fault: &Fault, faults: &mut F) -> u8
     ensures { result ≡ 3 }
 {

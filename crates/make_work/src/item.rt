@@ -1,8 +1,8 @@
 //! Payloads that were read, and why something isn't one.
 
+use data_memory::ChangeError;
 use rtr_base::addr::MaxLenError;
 use rtr_base::parse::{ParseKeyIdentifierError, ParsePrefixError};
-use data_memory::ChangeError;
 use rtr_payload::payload::Payload;
 use std::fmt;
 
@@ -22,9 +22,9 @@ pub struct Item<'a> {
 pub enum Expiry {
     /// The item says nothing of it.
     Never,
-    /// So many seconds after the epoch, the first second of 1970.
+    /// This number of seconds after the epoch, the first second of 1970.
     At(u64),
-    /// What it says is no number of 64 bits.
+    /// The text is no number of 64 bits.
     Invalid,
     /// It says it twice.
     Twice,
@@ -66,7 +66,7 @@ impl fmt::Display for Place<'_> {
     }
 }
 
-/// What is wrong in the input, and where.
+/// Why the input is refused, and where.
 #[derive(Debug, Drop)]
 pub struct Refusal<'a> {
     /// Where.
@@ -105,7 +105,7 @@ pub enum Reason {
     /// An array was expected.
     #[error("no array")]
     NotArray,
-    /// No array of payloads is there.
+    /// There is no array of payloads.
     #[error("no array of payloads")]
     NoArray,
     /// Payloads under a name that isn't known.

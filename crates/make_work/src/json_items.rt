@@ -12,7 +12,8 @@ ghost use Rattle.make_work.specs.JsonPayloads.{AreAuthorizations, AreCustomerAsp
 ghost use Rattle.make_work.specs.JsonPayloads.{AreFamilyPayloads, AreItemPayloads, ArePayloadsIn};
 ghost use Rattle.make_work.specs.JsonPayloads.{ArePayloadsOfEach, AreTopPayloads, HasItemsOf};
 ghost use Rattle.make_work.specs.JsonPayloads.{HasPayloads, IsCustomerAspa, IsDatedCustomer};
-ghost use Rattle.make_work.specs.JsonPayloads.{IsDatedItem, IsItemPayload, IsJsonOf, holds_payloads};
+ghost use Rattle.make_work.specs.JsonPayloads.{IsDatedItem, IsItemPayload, IsJsonOf};
+ghost use Rattle.make_work.specs.JsonPayloads.{holds_payloads};
 ghost use Rattle.make_work.specs.JsonPayloads.{is_array, item_expiry};
 ghost use Rattle.make_work.specs.JsonRefusals.{HasFamilyPayloads, HasTopPayloads, IsNoDocument};
 ghost use Rattle.make_work.specs.JsonRefusals.{IsSomeCustomer, IsSomeItem, OrMemory};
@@ -50,12 +51,12 @@ use std::alloc::Global;
 ///   with `customer_asid` or `customer`, and `providers`; or the providers of each under its
 ///   customer. Providers are sorted, and each is taken once.
 ///
-/// An ASN is a number, or a text with or without `AS` before it. `metadata` is passed over, and
-/// what stands under a name that the words ignore. What stands under other names is passed over
-/// unless it is, or has in it at any depth, what looks like payloads (`has_payloads`).
+/// An ASN is a number, or a text with or without `AS` before it. `metadata` is ignored, and what
+/// stands under a name that the words ignore. What stands under other names is ignored unless it
+/// is, or has in it at any depth, what looks like payloads (`has_payloads`).
 ///
 /// The first place at which that can't go on decides. `scratch` keeps the texts with escapes. A
-/// mark of the byte order at the start is passed over.
+/// mark of the byte order at the start is ignored.
 pub fn read_json<'a>(
     alloc: Global,
     text: &'a [u8],
@@ -81,8 +82,8 @@ pub fn read_json<'a>(
     }
 }
 
-/// The refusal of a text that ends an input of so many bytes, if this is what was found in it
-/// before all of it was read: that it is no JSON comes first.
+/// The refusal of a text that ends an input of this length, if `found` was found in it before all
+/// of it was read: that it is no JSON comes first.
 fn told<'a>(alloc: Global, length: usize, text: &str, found: Refusal<'a>) -> Refusal<'a>
     ensures { TellsFound (document text.now) found.entry.reason result.reason }
 {
@@ -100,7 +101,7 @@ fn refusal(place: Place<'_>, reason: Reason) -> Refusal<'_>
     Refusal { place, reason }
 }
 
-/// The refusal of a text that ends an input of so many bytes, and is no JSON or nests too deep.
+/// The refusal of a text that ends an input of this length, and is no JSON or nests too deep.
 fn not_json<'a>(alloc: Global, length: usize, text: &str) -> Refusal<'a>
     ensures { OrMemory IsNoDocument result.reason }
 {
@@ -173,8 +174,7 @@ fn is_too_deep(alloc: Global, text: &str) -> Option<bool> {
     Some(false)
 }
 
-/// Takes the items of the object that the document has to be. What stands after a refusal isn't
-/// read.
+/// Takes the items of the object that the document must be. What stands after a refusal isn't read.
 fn read_document<'a>(
     alloc: Global,
     words: &[String],
@@ -232,7 +232,7 @@ fn is_begin_object(token: Token<'_>) -> bool
     }
 }
 
-/// Reads the members of the object at the top to its end. Answers whether one has payloads by its
+/// Reads the members of the object at the top to its end. Reports whether one has payloads by its
 /// name.
 fn read_members<'a>(
     alloc: Global,

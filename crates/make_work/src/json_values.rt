@@ -18,7 +18,8 @@ ghost use Rattle.make_work.specs.MakeWords.{number_of};
 ghost use Rattle.make_work.specs.PrivateJson.{IsNoIdentifier, IsNoText, IsUndecoded};
 ghost use Rattle.make_work.specs.JsonValues.{AreAsnValues, AreProviderValues, IsAsnValue};
 ghost use Rattle.make_work.specs.JsonValues.{IsBase64, IsKeyIdentifierValue, IsKeyInfoValue};
-ghost use Rattle.make_work.specs.JsonValues.{IsMaxLengthValue, IsPrefixValue, IsSomeAsn, items_list};
+ghost use Rattle.make_work.specs.JsonValues.{IsMaxLengthValue, IsPrefixValue, IsSomeAsn};
+ghost use Rattle.make_work.specs.JsonValues.{items_list};
 ghost use Rattle.make_work.specs.JsonValues.{IsAsnString, IsPrefixString};
 
 use crate::item::{Expiry, Reason};
@@ -125,7 +126,7 @@ pub fn expiry_of(value: &Value<'_>) -> Expiry
     }
 }
 
-/// When something expires for which this number is given: at so many seconds, if it is one.
+/// The expiry of an item for which this text of a number is given.
 pub fn expiry_of_number(text: &str) -> Expiry
     ensures { result ≡ expiry_by_number (number_of 64 text.now) }
 {
@@ -157,8 +158,8 @@ pub fn key_identifier_of(alloc: Global, value: &Value<'_>) -> Result<KeyIdentifi
     }
 }
 
-/// The identifier of a key whose 20 bytes are this base64. A text that is no such base64 is refused
-/// by what it lacks as hex digits, but for one that has its length.
+/// The key identifier of 20 bytes in base64. Another text is refused as if it were hex digits,
+/// except one of that length.
 fn key_identifier_of_base64(
     alloc: Global,
     text: &str,

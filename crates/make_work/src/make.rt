@@ -21,11 +21,11 @@ use crate::item::{Reason, Refusal};
 use crate::json_items::read_json;
 use crate::sequence::{Trouble, write_sequence};
 use crate::words::{Format, Request, asked, broken_timing};
-use json::Scratch;
 use data_slurm::Slurm;
-use session_times::TimeRule;
+use json::Scratch;
 use rtr_units::fault::Fault;
 use rtr_units::source::Sink;
+use session_times::TimeRule;
 use std::alloc::Global;
 use std::fmt::Display;
 use std::io;
@@ -41,7 +41,7 @@ const WRONG_WORDS: u8 = 2;
 /// The status if reading, writing, flushing or memory failed.
 const FAILED: u8 = 3;
 
-/// Runs the program with the words that it was started with, its name first, and answers the code
+/// Runs the program with the words that it was started with, its name first, and returns the code
 /// to end with, which is the status of `run`. If there are no words, since they can't be had as
 /// texts, it prints the usage. `now` is the time of the clock, in seconds after the epoch. The
 /// filters of `slurm` remove payloads, and then its assertions are added (RFC 8416).
@@ -156,11 +156,10 @@ fn run_asked<N: Display, R: Read, W: Sink, F: Write>(
 }
 
 /// Reads all of the input, writes the sequence of its payloads, flushes the output once, and
-/// answers the exit status. What JSON has under a name that stands after an `--ignore` of the words
-/// is passed over. What has expired at the time that is asked for, or else `now`, is left out. The
-/// status is
+/// returns the exit status. What JSON has under a name that stands after an `--ignore` of the words
+/// is ignored. What has expired at the requested time, or else `now`, is left out. The status is
 /// - 0 if that succeeded, with a line on `faults` if payloads were left out that the version lacks,
-///   and one on those that have expired, if there are some or a time is asked for;
+///   and one on those that have expired, if there are some or a time is given;
 /// - 1 if the input was refused;
 /// - 3 if reading, writing, flushing or memory failed, or one of these lines.
 ///
@@ -192,7 +191,7 @@ pub fn run<N: Display, R: Read, W: Sink, F: Write>(
     }
 }
 
-/// Prints why the input of this name can't be read, and answers the status.
+/// Prints why the input of this name can't be read, and returns the status.
 fn tell_unread<N: Display, F: Write>(name: &N, error: &io::Error, faults: &mut F) -> u8
     ensures { result ≡ 3 }
 {
@@ -285,7 +284,7 @@ fn make_of_asserted<N: Display, W: Sink, F: Write>(
     }
 }
 
-/// Prints that memory ran out, and answers the status.
+/// Prints that memory ran out, and returns the status.
 fn tell_memory<N: Display, F: Write>(name: &N, faults: &mut F) -> u8
     ensures { result ≡ 3 }
 {
@@ -334,7 +333,7 @@ fn write<N: Display, W: Sink, F: Write>(
     }
 }
 
-/// Prints what was left out, and answers the status: 3 if it can't be printed.
+/// Prints what was left out, and returns the status: 3 if it can't be printed.
 fn tell_made<F: Write>(
     asked: &Request,
     left_out: usize,
@@ -381,7 +380,7 @@ fn tell_lacking<F: Write>(version: u8, left_out: usize, faults: &mut F) -> io::R
     )
 }
 
-/// Prints how many items had expired, if some had or a time is asked for.
+/// Prints how many items had expired, if some had or a time is given.
 fn tell_expired<F: Write>(
     is_asked: bool,
     expired: Option<Expired>,
@@ -414,7 +413,7 @@ fn put_expired<F: Write>(expired: Expired, faults: &mut F) -> io::Result<()>
     }
 }
 
-/// Prints why the input of this name is refused, and answers the status.
+/// Prints why the input of this name is refused, and returns the status.
 fn tell_refusal<N: Display, F: Write>(name: &N, refusal: &Refusal<'_>, faults: &mut F) -> u8
     ensures { result ≡ refusal_status refusal.now.reason }
 {

@@ -14,11 +14,11 @@ const QUOTE: u8 = b'"';
 /// The byte of a comma.
 const COMMA: u8 = b',';
 
-/// Checks where quotes stand: one begins a field, one ends it, and between them two stand for one.
+/// Checks the quotes: one begins a field, one ends it, and between them two stand for one.
 ///
-/// The first byte at fault decides: `QuoteInside`, or `TextAfterQuote` where text follows the quote
-/// that ends a field; else `OpenQuote`, where the last quote that begins a field isn't followed by
-/// one that ends it. A mark of the byte order at the start is passed over.
+/// The first byte at fault decides: `QuoteInside`, or `TextAfterQuote` if text follows the quote
+/// that ends a field; otherwise `OpenQuote`, if no quote ends the last field that one begins. A
+/// byte order mark at the start is ignored.
 pub fn check_quotes<'a>(text: &[u8]) -> Result<(), Refusal<'a>>
     ensures fine { OnOk result (AreQuotesWell (strip_bom text.now)) }
     ensures refused { IfErr result (λ r. RefusesQuotes (strip_bom text.now) r.reason) }
@@ -115,7 +115,7 @@ fn reason_at(byte: u8) -> Reason
     }
 }
 
-/// The refusal of the line in which the byte after so many stands.
+/// The refusal of the line with the byte at this offset.
 fn refusal<'a>(text: &[u8], offset: usize, reason: Reason) -> Refusal<'a>
     ensures { result.reason ≡ reason }
 {

@@ -11,8 +11,8 @@ ghost use Rattle.make_work.specs.Taking.{WritesGathered};
 use crate::gathering::{Gathered, has_none};
 use crate::item::{Place, Reason, Refusal};
 use crate::words::Request;
-use rtr_base::timing::Timing;
 use data_memory::Data;
+use rtr_base::timing::Timing;
 use rtr_units::end::EndOfData;
 use rtr_units::fault::Fault;
 use rtr_units::source::Sink;
@@ -27,9 +27,9 @@ pub enum Trouble<'a> {
 }
 
 /// Writes the units that announce the payloads that were gathered for the request, each once and in
-/// order, and an end of data, as the request has them. Answers how many payloads were left out. On
-/// a refusal nothing is written: the first item that is refused, or `NoPayloads` where there would
-/// be none and the request takes no empty sequence.
+/// order, and an end of data, as the request has them. Returns how many payloads were left out. On
+/// a refusal nothing is written: the first item that is refused, or `NoPayloads` if there would be
+/// none and the request takes no empty sequence.
 pub fn write_sequence<'a, W: Sink>(
     asked: &Request,
     gathered: Result<Gathered, Refusal<'a>>,

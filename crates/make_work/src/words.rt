@@ -31,7 +31,7 @@ pub enum Version {
     V0,
     /// That of RFC 8210.
     V1,
-    /// The one that has ASPAs.
+    /// The version with ASPAs.
     V2,
 }
 
@@ -65,7 +65,7 @@ pub struct Request {
     pub takes_empty: bool,
     /// Whether CSV is read whose last line has no line end. Otherwise it is refused.
     pub takes_unended: bool,
-    /// The time at which items have to be good, in the place of the present one: seconds after the
+    /// The time at which items must be good, in the place of the present one: seconds after the
     /// epoch, the first second of 1970.
     pub at: Option<u64>,
 }
@@ -100,12 +100,12 @@ struct Said {
     ignores: bool,
 }
 
-/// What the words after the program's name ask for, if they ask for something: `--csv` or `--json`,
-/// and each of the options at most once, in any order, but for `--ignore`, which goes with `--json`
-/// alone and may come again; `--unended` goes with `--csv` alone. Without `--version` it is 2. The
-/// session is 0, the serial number 1, and the timings are those of RFC 8210 section 6, if they
-/// aren't given. Version 0 has no timings: none may be given with it. Timings have to be in the
-/// ranges of that section, and expire above the others.
+/// The request of the words after the program's name, if they are one: `--csv` or `--json`, and
+/// each of the options at most once, in any order, except `--ignore`, which goes only with `--json`
+/// and may come again; `--unended` goes only with `--csv`. Without `--version` it is 2. The session
+/// is 0, the serial number 1, and the timings are those of RFC 8210 section 6, if they aren't
+/// given. Version 0 has no timings: none may be given with it. Timings must be in the ranges of
+/// that section, and expire above the others.
 pub fn asked(words: &[String]) -> Option<Request>
     ensures { result ≡ request_by_words words.now }
 {
@@ -161,7 +161,7 @@ fn is_both(first: bool, second: bool) -> bool
     first && second
 }
 
-/// What is set to this value, where nothing was.
+/// Sets this value, if none was set before.
 fn once<T: Copy>(place: Option<T>, value: T) -> Option<T>
     ensures { result ≡ once place value }
 {
@@ -265,7 +265,7 @@ impl Said {
         }
     }
 
-    /// Takes a word that stands alone.
+    /// Takes a word without a value.
     fn alone(self, word: &str) -> Option<Said>
         ensures { result ≡ said_alone word.now self }
     {

@@ -24,7 +24,7 @@ const STANDARD_DESCRIPTOR: i32 = 0;
 /// The status where a file can't be opened or read.
 const TROUBLE: u8 = 3;
 
-/// What the program says of itself.
+/// The texts of --help and --version.
 const MANUAL: Manual = Manual {
     name: "rtr_diff",
     version: "rtr_diff 0.3.0\n",
@@ -121,7 +121,7 @@ fn closed(faults: &mut Stderr) -> u8 {
     TROUBLE
 }
 
-/// Opens both files, compares them, and answers the status.
+/// Opens both files, compares them, and returns the status.
 fn compare(rt: &HostRuntime, request: Request<'_>, output: &mut Output, faults: &mut Stderr) -> u8 {
     let old = match Input::open(rt, request.old) {
         Ok(input) => input,

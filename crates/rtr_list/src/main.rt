@@ -2,8 +2,8 @@
 //! or prints their summary or the payloads that it leaves.
 #![tactic(auto)]
 
-use program_files::{Input, Painted, file_after, wants_colours};
 use list_work::{program, reads_input};
+use program_files::{Input, Painted, file_after, wants_colours};
 use program_frame::{Escaped, Front, Manual, Prompt, Shared, hint, usage, words_after_name};
 use rtr_units::buffered::BufferedSource;
 use rtr_units::source::Counted;
@@ -21,7 +21,7 @@ const REFUSED: u8 = 1;
 /// The status where a file can't be opened.
 const FAILED: u8 = 3;
 
-/// What the program says of itself.
+/// The texts of --help and --version.
 const MANUAL: Manual = Manual {
     name: "rtr_list",
     version: "rtr_list 0.3.0\n",
@@ -97,7 +97,7 @@ fn unread(name: &str, error: &io::Error, faults: &mut Stderr) -> u8 {
     FAILED
 }
 
-/// Prints what the words ask for of the file of this name, and answers the status. Faults are told
+/// Prints what the words ask for of the file of this name, and returns the status. Faults are told
 /// of the name that is shown. Lines for people are in colours on a terminal.
 fn print(rt: &HostRuntime, words: Vec<String>, name: &str, shown: &str, faults: &mut Stderr) -> u8 {
     let lines = RefCell::new(buffered_output(rt));

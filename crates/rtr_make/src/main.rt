@@ -2,12 +2,12 @@
 //! output.
 #![tactic(auto)]
 
+use data_slurm::Slurm;
+use make_work::{asked, program};
 use program_exceptions::{Split, read_files, split_words};
 use program_files::{Input, file_after};
 use program_frame::{Escaped, words_after_name};
-use data_slurm::Slurm;
 use rtr_units::source::Counted;
-use make_work::{asked, program};
 use std::io::{BufWriter, Stderr, Stdout, Write};
 use std::process::ExitCode;
 use std::time::{SystemTime, UNIX_EPOCH};
