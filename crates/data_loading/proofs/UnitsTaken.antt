@@ -19,7 +19,8 @@ use Rattle.data_recordings.specs.declared.stop.Refusal.TheVariants as refusals
 use Rattle.data_slices.specs.AtOffsets.{HaveLying, IsBase}
 use Rattle.data_loading.specs.PrivateLoading.{IsBegun, IsCurrent, IsOfWanted, IsRightReason}
 use Rattle.data_loading.specs.Loading.{RefusesLoad}
-use Rattle.data_loading.specs.PrivateLoading.{ReadsSoMuch, Sees, StandsAt, StandsWhole, WritesBackAll}
+use Rattle.data_loading.specs.PrivateLoading.{ReadsSoMuch, Sees, StandsAt, StandsWhole}
+use Rattle.data_loading.specs.PrivateLoading.{WritesBackAll}
 use Rattle.data_loading.specs.PrivateLoading.{base_size, opened_answer, payloads_begun, so_much}
 use Rattle.data_loading.specs.declared.fault.LoadReason.TheVariants as reasons
 use Rattle.data_loading.specs.declared.held.Answer.{Answer}
@@ -27,7 +28,8 @@ use Rattle.data_loading.specs.declared.held.Held.{Held}
 use Rattle.data_loading.specs.declared.seen.Seen.TheVariants as seens
 use Rattle.data_loading.specs.declared.fault.LoadFault.{LoadFault}
 use Rattle.data_loading.proofs.Ready.{Ready, lies_at_end, pushes, ready}
-use Rattle.data_loading.proofs.Settling.{asked_more, end_refused, idle_more, not_alone, other_version}
+use Rattle.data_loading.proofs.Settling.{asked_more, end_refused, idle_more, not_alone}
+use Rattle.data_loading.proofs.Settling.{other_version}
 use Rattle.data_loading.proofs.Settling.{back_refuses, base_of_end, closes, kept_within, responds}
 
 -- ---- payload units

@@ -1,6 +1,6 @@
 -- What loading a recording or a list leaves: the data that its units leave, one after the other, as
--- `Recordings` of `data_recordings` has it, in canonical form; or the first unit at which that can't
--- go on. That units of an answer are of one version, that the changes of an answer are of the
+-- `Recordings` of `data_recordings` has it, in canonical form; or the first unit at which that
+-- can't go on. That units of an answer are of one version, that the changes of an answer are of the
 -- version of the data (RFC 8210 section 7), and what a caller's buffers hold, is this library's
 -- own.
 use Rattle.std.specs.Prelude.{◌≡◌, ◌≢◌, ◌⊎◌, ⊤, ℕ, ◌<◌, Bool, true, false, List, [], ◌∷◌}

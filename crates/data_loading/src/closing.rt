@@ -6,17 +6,18 @@ ghost use Rattle.rtr_units.specs.End.{IsEnd};
 ghost use Rattle.data_memory.specs.declared.change_error.ChangeError.{ChangeError};
 ghost use Rattle.rtr_payload.specs.Payloads.{Payload};
 ghost use Rattle.data_slices.specs.AtOffsets.{HaveLying, IsBase};
-ghost use Rattle.data_loading.specs.PrivateLoading.{Sees, Settles, StandsAt, TookUnit, WritesBackAll};
+ghost use Rattle.data_loading.specs.PrivateLoading.{Sees, Settles, StandsAt, TookUnit};
+ghost use Rattle.data_loading.specs.PrivateLoading.{WritesBackAll};
 ghost use Rattle.data_loading.specs.PrivateLoading.{base_size, change_fault_of};
 ghost use Rattle.data_loading.specs.declared.seen.Seen.TheVariants as seens;
 
 use crate::fault::{LoadFault, LoadReason};
 use crate::held::{Answer, Held};
 use crate::taking::{is_of, refuse};
-use rtr_base::action::Action;
 use data_memory::ChangeError;
 use data_recordings::Refusal;
 use data_slices::{AtFault, check_at, make_at};
+use rtr_base::action::Action;
 use rtr_units::end::EndOfData;
 use unit_views::placing::place;
 

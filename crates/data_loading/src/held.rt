@@ -1,4 +1,4 @@
-//! What is known of a recording where so much of it was read.
+//! The state of a recording that was read up to some offset.
 
 ghost use Rattle.std.specs.Prelude.{◌≡◌, ◌||◌, List, Some, None, false};
 ghost use Rattle.std.specs.Option.{is_some, option_map};
@@ -10,12 +10,13 @@ ghost use Rattle.data_recordings.specs.Recordings.{last_session};
 ghost use Rattle.data_recordings.specs.Recordings.{refusal_in, refused_since as is_refused_since};
 ghost use Rattle.data_loading.specs.PrivateLoading.{IsBegun, IsCurrent, opened_answer, so_much};
 
-use rtr_base::state::Serial;
 use data_recordings::Refusal;
+use rtr_base::state::Serial;
 use rtr_units::end::EndOfData;
 use std::cmp::Ordering;
 
-/// What is known where so much of a recording was read. The payloads themselves lie in a slice.
+/// The state of a recording that was read up to some offset. The payloads themselves lie in a
+/// slice.
 #[derive(Drop)]
 pub(crate) struct Held {
     /// The length of the data of the whole answers.
@@ -67,7 +68,7 @@ impl Held {
         }
     }
 
-    /// Opens an answer of this session, which cuts off one that is open.
+    /// Opens an answer of this session, and drops an answer that is open.
     pub(crate) fn respond(&mut self, session: u16)
         ensures { (a : Answer) × (self.new ≡ record self.old {
           pending = Some a;

@@ -24,18 +24,18 @@ pub struct Loaded {
 }
 
 /// Writes the data that a recording or a list leaves, in canonical form: its answers one after the
-/// other, each with or without a cache response, their payload units in any order. What counts is
-/// what `data_recordings::read_recording` says of the same bytes. No memory is asked for: `index` is
-/// room that the call works in, as many places as an answer has payload units, and so is `work`,
-/// which is to be as long as the data of each answer, as `output` is. What they hold after a fault
-/// is open, and so is what follows the data. An index with an element for each 12 bytes of the input
-/// always suffices, and so do buffers that are as long as the input.
+/// other, each with or without a cache response, their payload units in any order. The result is
+/// that of `data_recordings::read_recording` for the same bytes. Nothing is allocated: `index` is
+/// work space, one element for each payload unit of an answer, and so is `work`, which is as long
+/// as the data of each answer, as `output` is. Their content is undefined after a fault, and behind
+/// the data. An index with an element for each 12 bytes of the input always suffices, and so do
+/// buffers that are as long as the input.
 ///
 /// `Refused` names the first unit at which the recording can't go on, and its offset: `Read` with
 /// the faults of `SessionView::first`, and with `Short` at the end of the input inside an answer or
-/// where none came; `Refused` for a unit that `data_recordings` refuses; `UnitVersion` for a payload
-/// unit or an end of data of another version than those before it in its answer, or than the data
-/// that it changes. `NoIndex` and `NoRoom` say that a buffer is too short for an answer.
+/// if there was none; `Refused` for a unit that `data_recordings` refuses; `UnitVersion` for a
+/// payload unit or an end of data of another version than those before it in its answer, or than
+/// the data that it changes. `NoIndex` and `NoRoom`: a buffer is too short for an answer.
 pub fn load(
     input: &[u8],
     index: &mut [usize],

@@ -5,9 +5,9 @@ ghost use Rattle.unit_views.specs.Views.{IsViewOf};
 ghost use Rattle.unit_any.specs.SessionViews.{ShowsUnit, IsSessionFault};
 ghost use Rattle.data_loading.specs.PrivateLoading.{Sees};
 
-use unit_any::SessionView;
 use rtr_units::end::EndOfData;
 use rtr_units::unit::Unit;
+use unit_any::SessionView;
 use unit_views::fault::ViewFault;
 use unit_views::view::UnitView;
 

@@ -190,7 +190,7 @@ pub(crate) fn is_of(wanted: Option<u8>, version: u8) -> bool
     }
 }
 
-/// Puts the offset after so many others, if the index has room for it.
+/// Appends the offset to the `count` others, if the index has room for it.
 fn put_offset(index: &mut [usize], count: usize, offset: usize)
     ensures same_length { length index.new ≡ length index.old }
     ensures held { (os : List ℕ) → (count ≤ length index.old → take count index.old ≡ os) →

@@ -108,7 +108,7 @@ impl Data {
         )
     }
 
-    /// Whether the payload is there: an ASPA with just these providers.
+    /// Reports whether the payload is present: an ASPA with just these providers.
     pub fn contains(&self, payload: &PayloadRef<'_>) -> bool
         ensures { result ≡ has self.now (payload_of_ref payload.now) }
     {
@@ -126,7 +126,7 @@ impl Data {
         }
     }
 
-    /// Whether a payload of this name is there: of an ASPA, any of the same customer.
+    /// Reports whether a payload of this name is present: any ASPA of the same customer.
     pub fn contains_name(&self, payload: &PayloadRef<'_>) -> bool
         ensures { result ≡ has_name self.now (payload_of_ref payload.now) }
     {
@@ -137,10 +137,10 @@ impl Data {
         }
     }
 
-    /// Announces a payload. An ASPA takes the place of the one of its customer.
+    /// Announces a payload. An ASPA replaces the ASPA of its customer.
     ///
-    /// `KeyTooLong` or `NoProviders` for what no reader accepts, `Duplicate` for another payload
-    /// that is there already, or `Memory`; then the data is as it was.
+    /// `KeyTooLong` or `NoProviders` for a payload that no reader accepts, `Duplicate` for another
+    /// payload that is present, or `Memory`. At an error the data are unchanged.
     pub fn announce(&mut self, payload: Payload) -> Result<(), ChangeError>
         ensures { Leaves result (announcing (payload_of payload) self.old) self.old self.new }
     {
@@ -179,9 +179,9 @@ impl Data {
         }
     }
 
-    /// Withdraws a payload. Of an ASPA the customer alone counts.
+    /// Withdraws a payload. Of an ASPA only the customer counts.
     ///
-    /// `Unknown` where it is not there; then the data is as it was. No memory is asked for.
+    /// `Unknown` if it is absent; then the data are unchanged. Nothing is allocated.
     pub fn withdraw(&mut self, payload: &PayloadRef<'_>) -> Result<(), ChangeError>
         ensures { Makes result (changed Withdraw (payload_of_ref payload.now) self.old)
             self.old self.new }
@@ -208,14 +208,14 @@ impl Data {
         }
     }
 
-    /// Writes what answers a reset query (RFC 8210 section 8.1), between the cache response and the
-    /// end of data, which are the caller's to write: the units of this version that announce the
-    /// payloads that it has, in their order. Version 0 has origins alone, version 1 router keys
-    /// too, and version 2 ASPAs too.
+    /// Writes the payloads of an answer to a reset query (RFC 8210 section 8.1); the caller writes
+    /// the cache response before them and the end of data behind them: the units of this version
+    /// that announce the payloads, in their order. Version 0 has only origins, version 1 router
+    /// keys too, and version 2 ASPAs too.
     ///
     /// A unit has 20 or 32 bytes for an origin, 32 and its key info for a router key, 12 and four
     /// for each provider for an ASPA. `UnitVersion` comes first for a version above 2, with nothing
-    /// written; else `Writer` is the only fault: no memory is asked for.
+    /// written; `Writer` is the only other fault: nothing is allocated.
     pub fn write_all<W: Sink>(&self, version: u8, writer: &mut W) -> Result<(), Fault>
         ensures known { version ≤ 2 → PutsForm result (W.state writer.old) (W.state writer.new)
             (change_forms version (all_for version self.now)) }

@@ -22,8 +22,8 @@ ghost use Rattle.data_memory.specs.declared.apply_error.ApplyError.{ApplyError};
 
 use crate::data::Data;
 
-/// A change that is not refused makes data of data. After an announcement the payload is all that
-/// is there of its name, after a withdrawal nothing is, and of other names there is what was.
+/// A change that is allowed makes data of data. After an announcement the payload is the only one
+/// of its name, after a withdrawal there is none, and other names have what they had.
 pub fn one_change()
     ensures ordered { (c : Change) (d e : List Payload) → IsData d → after c d ≡ Ok e → IsData e }
     ensures announced { (p q : Payload) (d e : List Payload) → IsData d →
@@ -59,8 +59,8 @@ pub fn changes_of_data(old: &Data, new: &Data)
     let _new = new.parts();
 }
 
-/// What a delta sends for a version makes of what the version has of old data what it has of new,
-/// and what announces all of the data makes that of nothing.
+/// The changes that a delta sends for a version lead from the old data to the new ones, as that
+/// version has them; the announcements of all data lead there from no data.
 pub fn deltas_lead_to_new()
     ensures leads { (v : ℕ) (old new : List Payload) → IsData old → IsData new →
         after_all (changes_for v old new) (Ok (data_for v old)) ≡ Ok (data_for v new) }
@@ -81,9 +81,9 @@ pub fn deltas_are_accepted()
         (map (unit_of v) (all_for v d)) e }
 {}
 
-/// Whoever reads what a delta writes, followed by an end of data, and makes the changes one after
-/// the other, makes of what the version has of old data what it has of new, and reads that end of
-/// data; of what announces all of the data he makes that from nothing.
+/// A reader of a delta, followed by an end of data, that applies the changes one after the other,
+/// gets from the old data to the new ones, as the version has them, and reads that end of data;
+/// from the announcements of all data it gets there from no data.
 pub fn deltas_read_back()
     ensures delta { (v : ℕ) (old new : List Payload) (b rest : List ℕ) (ms : List Meaning)
         (d e : EndMeaning) → v < 256 → IsData old → IsData new →
@@ -113,10 +113,10 @@ pub fn sequences_are_applied()
         IsApplicable limit input (p.units ++ p.last) (end_meaning d) before after }
 {}
 
-/// Where a reader gives what a delta from old data to new writes for a version, and then an end of
-/// data, `Data::apply` makes of what the version has of old data what it has of new, and answers
-/// that end, unless the reader or memory is to blame; of what announces all of the data it makes
-/// that from nothing. Nothing that follows is taken, and it doesn't matter how the input is cut.
+/// If a reader gives the delta from old to new data for a version, and then an end of data,
+/// `Data::apply` makes the new data of the old ones, as the version has them, and returns that end,
+/// unless the reader or memory fails; from the announcements of all data it makes them of no data.
+/// Nothing behind the end is read, however the input is split.
 pub fn deltas_are_applied(old: &Data, new: &Data)
     ensures delta { (v limit : ℕ) (e : EndMeaning) (rest : List ℕ)
         (result : Result EndOfData ApplyError) (r s : ReaderState) (after : List Payload) →

@@ -36,7 +36,8 @@ one_stays (serial_notify v s number) m n fine e = ap (λ x. x.kept) (sym (same _
 one_stays (serial_query v s number) m n fine e = ap (λ x. x.kept) (sym (same _ n e))
 one_stays (reset_query v s) m n fine e = ap (λ x. x.kept) (sym (same _ n e))
 one_stays (cache_response v s) m n fine e = ap (λ x. x.kept) (sym (same _ n e))
-one_stays (payload f) m n fine e = changed m n (after (change_of (meaning f)) (current m).payloads) e
+one_stays (payload f) m n fine e =
+    changed m n (after (change_of (meaning f)) (current m).payloads) e
 one_stays (end_of_data end) m n fine e = absurd fine
 one_stays (cache_reset v s) m n fine e =
     unless m.pending refusals.CacheReset (record m { asks_all = Some true }) n e
@@ -57,4 +58,5 @@ pub stay : (units : List AnyFields) (m n : SoMuch) → HasNoEnd units →
     held_after units (Ok m) ≡ Ok n → n.kept ≡ m.kept
 stay [] m n fine e = ap (λ x. x.kept) (sym (same m n e))
 stay (unit ∷ units) m n fine e =
-    in_turn units (λ g k. stay units g k fine.1) m n (step unit m) (λ g. one_stays unit m g fine.0) e
+    in_turn units (λ g k. stay units g k fine.1) m n (step unit m)
+    (λ g. one_stays unit m g fine.0) e

@@ -200,10 +200,10 @@ unless_open None why m = Ok m
 -- ---- units in turn
 
 -- What one unit makes of what came before it, or why it is refused. A reset query asks for all
--- data, and a serial query for changes (RFC 8210 sections 5.3 and 5.4); after a cache reset all data
--- have to be asked for (sections 5.9 and 8.3). A cache reset answers a serial query in the place of
--- a cache response, and an error report ends the session (section 5.11), so that neither stands
--- inside an answer. Serial notifies are ignored.
+-- data, and a serial query for changes (RFC 8210 sections 5.3 and 5.4); after a cache reset all
+-- data have to be asked for (sections 5.9 and 8.3). A cache reset answers a serial query in the
+-- place of a cache response, and an error report ends the session (section 5.11), so that neither
+-- stands inside an answer. Serial notifies are ignored.
 abbrev pub step : AnyFields → SoMuch → Result SoMuch Refusal
 step (payload fields) m = with_change m (after (change_of (meaning fields)) (current m).payloads)
 step (cache_response version session) m = Ok (opens_answer m session)

@@ -26,12 +26,11 @@ ghost use Rattle.data_recordings.specs.Recordings.{last_session, nothing, opens_
 ghost use Rattle.data_recordings.specs.Recordings.{refusal_in, refused_since, whole};
 
 use crate::stop::{Refusal, Stop, StopCause};
+use data_memory::{ChangeError, Data};
 use rtr_base::action::Action;
 use rtr_base::state::Serial;
-use data_memory::{ChangeError, Data};
 use rtr_payload::payload;
 use rtr_payload::pdu::Payload;
-use unit_any::AnyUnit;
 use rtr_units::end::EndOfData;
 use rtr_units::fault::Fault;
 use rtr_units::source::Source;
@@ -39,6 +38,7 @@ use rtr_units::unit::Unit;
 use std::alloc::Global;
 use std::cmp::Ordering;
 use std::marker::Model;
+use unit_any::AnyUnit;
 
 /// What a recording leaves.
 #[derive(Drop)]
@@ -55,11 +55,11 @@ pub struct Recording {
 /// after the other: the payloads that their units make of none by the rules of `Data::announce` and
 /// `Data::withdraw` (RFC 8210 sections 5.6, 5.7 and 5.10).
 ///
-/// A cache response opens an answer, and an end of data closes it (section 8.1). Until then the data
-/// before it stay, as they do in a router: an answer that a cache response cuts off changes nothing.
-/// Units without a cache response before them open one, too, in the session of the last whole
-/// answer. An answer begins anew, with no payloads, in another session than the last whole one
-/// (section 5.1), after a cache reset (sections 5.9 and 8.3), and after a reset query, unless a
+/// A cache response opens an answer, and an end of data closes it (section 8.1). Until then the
+/// data before it stay, as they do in a router: an answer that a cache response cuts off changes
+/// nothing. Units without a cache response before them open one, too, in the session of the last
+/// whole answer. An answer begins anew, with no payloads, in another session than the last whole
+/// one (section 5.1), after a cache reset (sections 5.9 and 8.3), and after a reset query, unless a
 /// serial query comes in between (sections 5.3 and 5.4). Serial notifies are ignored, and versions
 /// don't count.
 ///
@@ -97,7 +97,7 @@ pub fn read_recording<R: Source>(alloc: Global, reader: &mut R) -> Result<Record
     Err(Stop { offset, cause })
 }
 
-/// What is held where so much of a recording was read.
+/// The state of a recording that was read up to some offset.
 #[derive(Drop)]
 struct Held {
     /// The payloads that the whole answers leave.
@@ -175,7 +175,7 @@ impl Held {
         }
     }
 
-    /// Opens an answer of this session, which cuts off one that is open. The only error is
+    /// Opens an answer of this session, and drops an answer that is open. The only error is
     /// `Memory`.
     fn open(&mut self, alloc: Global, session: u16) -> Result<(), ChangeError>
         ensures { MatchResult result (λ _. self.new ≡ opens_answer self.old session)
@@ -341,7 +341,7 @@ impl Held {
         }
     }
 
-    /// What the recording leaves, where the input ends after so many bytes.
+    /// Returns the result of the recording, if the input ends at this offset.
     fn finish(self, offset: u64) -> Result<Recording, Stop>
         ensures { FinishesAt result self offset }
     {

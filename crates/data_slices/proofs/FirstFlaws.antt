@@ -18,7 +18,8 @@ use Rattle.data_memory.specs.Data.{Change, announcement}
 use Rattle.data_memory.specs.Deltas.{unit_of}
 use Rattle.data_slices.specs.Canonical.{HasData}
 use Rattle.data_slices.specs.CanonicalChanges.{AreOrdered, HasChanges}
-use Rattle.data_slices.specs.Flaws.{AreAnnounced, AreUnitsOf, IsFirstFlaw, IsUnitOrEnd, IsWrongAfter}
+use Rattle.data_slices.specs.Flaws.{AreAnnounced, AreUnitsOf, IsFirstFlaw, IsUnitOrEnd}
+use Rattle.data_slices.specs.Flaws.{IsWrongAfter}
 use Rattle.data_slices.specs.PrivateChanges.{BeginsAlso, InVersion, NoUnit}
 use Rattle.data_slices.specs.declared.fault.Flaw.{Flaw}
 use Rattle.data_slices.specs.declared.fault.Reason.TheVariants.{Refused, NotCanonical}

@@ -16,7 +16,8 @@ use Rattle.data_slices.specs.Items.{meant}
 use Rattle.data_slices.specs.Net.{settles}
 use Rattle.data_slices.specs.PrivateOffsets.{FindsWrong, HaveSome, PlacesNets}
 use Rattle.data_slices.specs.PrivateOffsets.{Views, between, ended, first_after, is_action}
-use Rattle.data_slices.specs.PrivateOffsets.{last_form, nets, nets_from, open_at, or_else, same_name}
+use Rattle.data_slices.specs.PrivateOffsets.{last_form, nets, nets_from, open_at, or_else}
+use Rattle.data_slices.specs.PrivateOffsets.{same_name}
 use Rattle.data_slices.specs.PrivateOffsets.{settled, with_action, first_wrong, wrong_from}
 use Rattle.data_slices.specs.declared.item.PayloadView.{PayloadView}
 use Rattle.data_slices.specs.declared.order_fault.OrderFault.{OrderFault}

@@ -20,7 +20,8 @@ use Rattle.unit_views.specs.Placing.{Places}
 use Rattle.data_memory.specs.Data.{name_cmp, IsData}
 use Rattle.data_memory.specs.Deltas.{change_forms, unit_of}
 use Rattle.data_memory.proofs.Names.{below_all}
-use Rattle.data_slices.specs.Canonical.{HasData, HoldsData, PlacesFront, change, data_units, missing}
+use Rattle.data_slices.specs.Canonical.{HasData, HoldsData, PlacesFront, change, data_units}
+use Rattle.data_slices.specs.Canonical.{missing}
 use Rattle.data_slices.specs.Items.{IsItem, meant}
 use Rattle.data_slices.specs.PrivateOrder.{IsDataItem, PlacesMissing, is_same_for}
 use Rattle.data_slices.specs.PrivateOrder.{is_same_item, item_order, lacking_form, lacks}

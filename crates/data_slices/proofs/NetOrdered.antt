@@ -17,7 +17,8 @@ use Rattle.data_memory.proofs.Merge.{laws}
 use Rattle.data_memory.proofs.Names.{above, absent, below, name_total}
 use Rattle.data_slices.specs.CanonicalChanges.{AreOrdered}
 use Rattle.data_slices.specs.Net.{Nets, last_of, net, of_name, settles}
-use Rattle.data_slices.specs.PrivateOffsets.{ended, first_after, is_action, nets, nets_from, ordered}
+use Rattle.data_slices.specs.PrivateOffsets.{ended, first_after, is_action, nets, nets_from}
+use Rattle.data_slices.specs.PrivateOffsets.{ordered}
 use Rattle.data_slices.specs.PrivateOffsets.{same_name, settled, with_action}
 use Rattle.data_slices.proofs.SortedOffsets.{Ascending}
 

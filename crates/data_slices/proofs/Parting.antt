@@ -29,7 +29,8 @@ use Rattle.data_slices.specs.declared.fault.Flaw.{Flaw}
 use Rattle.data_slices.specs.declared.fault.Reason.TheVariants.{Refused, NotCanonical}
 use Rattle.data_slices.specs.declared.refused.Rule.TheVariants.{Apart}
 use Rattle.data_slices.proofs.Applying.{IsApart}
-use Rattle.data_slices.proofs.FirstFlaws.{Begins, also_unit, at_end, at_fault, at_next_unit, at_unit}
+use Rattle.data_slices.proofs.FirstFlaws.{Begins, also_unit, at_end, at_fault, at_next_unit}
+use Rattle.data_slices.proofs.FirstFlaws.{at_unit}
 use Rattle.data_slices.proofs.FirstFlaws.{changes_ended}
 use Rattle.data_slices.proofs.Making.{both, named_there}
 use Rattle.data_slices.proofs.Merging.{rest_is, rest_of}

@@ -11,7 +11,8 @@ use Rattle.rtr_payload.specs.Payloads.{Meaning, Payload}
 use Rattle.rtr_payload.specs.Units.{IsUnit}
 use Rattle.rtr_wire.specs.Sequences.{AreUnits}
 use Rattle.data_memory.specs.Changes.{after_all}
-use Rattle.data_memory.specs.Data.{IsData, announcement, has_name, name_cmp, takes_place, withdrawal}
+use Rattle.data_memory.specs.Data.{IsData, announcement, has_name, name_cmp, takes_place}
+use Rattle.data_memory.specs.Data.{withdrawal}
 use Rattle.data_memory.specs.Deltas.{change_forms, unit_of}
 use Rattle.data_slices.specs.Apply.{data_form}
 use Rattle.data_slices.specs.Canonical.{PlacesFront, change}

@@ -12,8 +12,8 @@ use crate::refused::sought;
 use crate::settling::{first_unit, is_action, same_name};
 use rtr_base::action::Action;
 
-/// Where the first of the changes lies that the data don't allow, made one after the other as they
-/// lie, and what it does. The offsets are in the order of names.
+/// Returns the offset and action of the first change that isn't allowed, if the changes are applied
+/// in their order. The offsets are sorted by name.
 pub(crate) fn first_disallowed(
     data: &[u8],
     input: &[u8],
@@ -37,8 +37,8 @@ pub(crate) fn first_disallowed(
     }
 }
 
-/// Whether the name of the unit is there when its change comes, and what is left of the data from
-/// there on: the one before it of its name decides, or the data.
+/// Reports whether the name of the unit is present when its change comes, and returns the rest of
+/// the data from that name on: the change before it of the same name decides, or the data.
 #[inline(always)]
 fn there_before<'a>(
     last: &Option<PayloadView<'_>>,
@@ -58,7 +58,7 @@ fn there_before<'a>(
     }
 }
 
-/// Where a change lies and what it does, if it isn't allowed.
+/// The offset and action of a change that isn't allowed.
 #[inline(always)]
 fn disallowed(is_there: bool, offset: usize, view: &PayloadView<'_>) -> Option<(usize, Action)>
     ensures { result ≡ is_disallowed is_there offset (meant view.now).action
@@ -70,7 +70,7 @@ fn disallowed(is_there: bool, offset: usize, view: &PayloadView<'_>) -> Option<(
     Some((offset, view.action()))
 }
 
-/// Whether a change is allowed, where its name is there or not.
+/// Reports whether a change is allowed, given whether its name is present.
 #[inline(always)]
 fn fits(is_there: bool, view: &PayloadView<'_>) -> bool
     ensures { result ≡ is_fitting is_there (meant view.now).action (meant view.now).payload }

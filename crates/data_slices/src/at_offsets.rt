@@ -25,9 +25,9 @@ pub enum AtFault {
     NoRoom,
 }
 
-/// Where the first of the changes lies that the data don't allow, made one after the other in the
-/// order of their offsets, and what it does. The data are in canonical form, or an empty slice.
-/// What the offsets are afterwards is open.
+/// Returns the offset and action of the first change that the data don't allow, if the changes are
+/// applied in the order of their offsets. The data are in canonical form, or an empty slice. The
+/// offsets may be reordered.
 pub fn check_at(data: &[u8], input: &[u8], offsets: &mut [usize]) -> Option<(usize, Action)>
     requires { (v : ℕ) × HaveLying input.now offsets.old v }
     ensures { ChecksAt result «data».now input.now offsets.old }

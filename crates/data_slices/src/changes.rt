@@ -15,19 +15,19 @@ use crate::refused::{Rule, first_breaking};
 use rtr_base::action::Action;
 use rtr_units::end::EndOfData;
 
-/// The end of the changes that the input begins with, or why there are no changes there. No memory
-/// is asked for, and what follows the end of data doesn't count.
+/// Returns the end of data of the changes at the front of the input, or why there are no changes.
+/// Nothing is allocated, and what follows the end of data is ignored.
 ///
 /// Changes are in canonical form: units that announce payloads, and then units that withdraw
 /// payloads, each in their order, no name twice (of ASPAs the customer), all of one version, and an
 /// end of data of that version. Data are changes that withdraw nothing.
 ///
 /// A flaw is the first in the input: the bytes before its offset are units with which changes may
-/// begin. `Refused` names the fault of what isn't a unit or an end of data there (`Short` where the
-/// input ends before its end of data), and `NotCanonical` a unit, or the end of data, that may not
-/// follow: a unit that announces after one that withdraws, or isn't above the last one of its
-/// action, or withdraws what is announced, or is of another version. The offset is where that
-/// begins, in bytes from the front of the input.
+/// begin. `Refused` has the fault of bytes that aren't a unit or an end of data (`Short` if the
+/// input ends before its end of data), and `NotCanonical` is for a unit, or the end of data, that
+/// may not follow: a unit that announces after one that withdraws, or isn't above the last one of
+/// its action, or withdraws what is announced, or is of another version. The offset is that of the
+/// unit, in bytes from the front of the input.
 pub fn check_changes(input: &[u8]) -> Result<EndOfData, Flaw>
     ensures changes { IfOk result
         (λ end. (cs : List Change) × HoldsChanges input.now cs (end_meaning end)) }

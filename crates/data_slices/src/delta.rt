@@ -17,11 +17,11 @@ use unit_views::placing::place;
 
 /// Writes the delta that leads a router from the old data to the new (RFC 8210 section 8.2): the
 /// units that announce what the old data lack, then those that withdraw what the new data lack,
-/// each in order, and the end of data of the new. It answers their length in bytes. Units count
-/// whether or not their version has such payloads. No memory is asked for.
+/// each in order, and the end of data of the new. Returns their length in bytes. Units count
+/// whether or not their version has such payloads. Nothing is allocated.
 ///
 /// Both slices begin with data in canonical form: units that announce payloads in their order, all
-/// of one version, and an end of data of that version. What follows it doesn't count.
+/// of one version, and an end of data of that version. What follows it is ignored.
 ///
 /// Faults, in this order: `Old` for old bytes that don't begin with data, then `New` for new ones,
 /// each with the flaw that `check_data` finds first, its offset counted in that slice; then

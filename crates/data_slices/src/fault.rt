@@ -1,15 +1,15 @@
-//! Why a slice isn't what it has to be.
+//! Why a slice is refused.
 
 use unit_views::fault::ViewFault;
 
-/// What is wrong at some place of a slice.
+/// Why a slice is refused at some offset.
 #[derive(Debug, Drop, thiserror::Error)]
 pub enum Reason {
     /// What follows is refused: a fault of `UnitView::first`.
     #[error(transparent)]
     Refused(ViewFault),
-    /// What follows is a payload unit or an end of data, but not one that may stand here: it isn't
-    /// of the version of the units before it, or it breaks the order, or is a withdrawal in data.
+    /// A payload unit or an end of data that may not stand here: it isn't of the version of the
+    /// units before it, or it breaks the order, or is a withdrawal in data.
     #[error("not in canonical form")]
     NotCanonical,
 }
@@ -23,7 +23,7 @@ pub struct Flaw {
     pub reason: Reason,
 }
 
-/// Why there is no delta between two slices, or none that the output has room for.
+/// Why there is no delta between two slices, or why it doesn't fit.
 #[derive(Debug, Drop, thiserror::Error)]
 pub enum DeltaFault {
     /// The old slice isn't data.
@@ -58,7 +58,7 @@ pub enum ApplyFault {
     /// The changes are of this session, and the data of another.
     #[error("session {0} is not that of the data")]
     Session(u16),
-    /// The unit at this offset of the changes announces what is there already.
+    /// The unit at this offset of the changes announces a payload that is present.
     #[error("duplicate announcement at byte {offset} of the changes")]
     Duplicate {
         /// How many bytes of the changes come before the unit.

@@ -18,22 +18,21 @@ use crate::reading::read_offsets;
 use rtr_base::action::Action;
 use rtr_units::end::EndOfData;
 
-/// Writes what the changes make of the data, made one after the other in the order in which they
-/// came: the units that announce it, in order, and the end of data of the changes. It answers their
-/// length in bytes. All changes are made, or none. An ASPA that is announced takes the place of the
-/// one of its customer. No memory is asked for: the index is room that the call works in, as many
-/// places as there are payload units, and what it holds afterwards is open.
+/// Applies the changes to the data in the order in which they came, and writes the result: the
+/// units that announce it, in order, and the end of data of the changes. Returns their length in
+/// bytes. All changes are applied, or none. An ASPA that is announced replaces the ASPA of its
+/// customer. Nothing is allocated: the index is work space, one element for each payload unit, and
+/// its content is undefined afterwards.
 ///
 /// The first slice begins with data in canonical form, as `check_data` says, the second with
-/// payload units in any order and an end of data, all of one version. What follows them doesn't
-/// count.
+/// payload units in any order and an end of data, all of one version. What follows them is ignored.
 ///
 /// Faults, in this order: `Data` for a slice that doesn't begin with data, `Changes` for one that
 /// doesn't begin with units and an end of data, `UnitVersion` and `Session` for data and changes of
-/// two versions or of two sessions, `NoIndex`; then `Duplicate` or `Unknown` for the first of the
-/// changes, as they came, that announces what is there then, and isn't an ASPA, or that withdraws
-/// what isn't there then (RFC 8210 section 12), with the offset of its unit in the changes, all
-/// with nothing written; then `NoRoom`, with a front of the data written.
+/// two versions or of two sessions, `NoIndex`; then `Duplicate` or `Unknown` for the first change
+/// that announces a payload that is then present, and isn't an ASPA, or that withdraws a payload
+/// that is then absent (RFC 8210 section 12), with the offset of its unit in the changes, all with
+/// nothing written; then `NoRoom`, with a front of the data written.
 pub fn apply_in_order(
     data: &[u8],
     changes: &[u8],

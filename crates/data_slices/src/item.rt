@@ -15,12 +15,12 @@ use rtr_base::action::Action;
 use rtr_units::end::EndOfData;
 use rtr_units::prefixes::{Ipv4Prefix, Ipv6Prefix};
 use rtr_units::unit::Unit;
+use std::cmp::Ordering;
 use unit_views::aspa::AspaView;
 use unit_views::fault::ViewFault;
 use unit_views::origin::OriginView;
 use unit_views::router_key::RouterKeyView;
 use unit_views::view::UnitView;
-use std::cmp::Ordering;
 
 /// A payload unit that lies in a slice.
 #[derive(Clone, Copy)]

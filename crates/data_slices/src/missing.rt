@@ -19,8 +19,8 @@ use crate::item::{Item, PayloadView, next};
 use crate::placing::place_change;
 use crate::shared::after_shared_unit;
 use rtr_base::action::Action;
-use unit_views::aspa::AspaView;
 use std::cmp::Ordering;
+use unit_views::aspa::AspaView;
 
 /// Writes the units that announce or withdraw what these data have and those lack, in order, and
 /// answers their length in bytes, or none where there is no room for all of them. Most units are

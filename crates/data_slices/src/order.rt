@@ -16,17 +16,16 @@ use rtr_base::action::Action;
 use rtr_units::end::EndOfData;
 use unit_views::placing::place;
 
-/// Writes the changes of a sequence in canonical form, and the end of data: what they come to, made
-/// one after the other. It answers the length in bytes. No memory is asked for: the index is room
-/// that the call works in, as many places as there are payload units, and what it holds afterwards
-/// is open.
+/// Writes the changes of a sequence in canonical form, and its end of data: the net effect of
+/// applying them one after the other. Returns the length in bytes. Nothing is allocated: the index
+/// is work space, one element for each payload unit, and its content is undefined afterwards.
 ///
 /// The input begins with payload units and an end of data, all of one version, and what follows it
-/// doesn't count. An output as long as the input always suffices.
+/// is ignored. An output as long as the input always suffices.
 ///
-/// No data are looked at. Where data don't allow the changes, `apply_into` refuses what is written,
-/// or it is hidden by changes that come to nothing: see `changes_that_come_to_nothing`.
-/// `apply_in_order` looks at each change.
+/// No data are read. If data don't allow the changes, `apply_into` refuses what is written, or that
+/// is hidden by changes without a net effect: see `changes_that_come_to_nothing`. `apply_in_order`
+/// checks each change.
 ///
 /// Faults, in this order: `Flaw` for an input that doesn't begin so; `NoIndex`; `Duplicate`,
 /// `Unknown` or `Undecided` for the first name, in their order, whose changes are refused. Then

@@ -17,8 +17,8 @@ pub enum OrderFault {
     /// The unit at this offset withdraws what the one of its name before it withdrew.
     #[error("withdrawn again at byte {offset}")]
     Unknown { offset: usize },
-    /// The unit at this offset in the end withdraws an ASPA whose customer was first announced, so
-    /// that what comes of it depends on the data.
+    /// The unit at this offset withdraws, in the end, an ASPA whose customer was announced first,
+    /// so that its effect depends on the data.
     #[error("whether the withdrawal at byte {offset} takes effect depends on the data")]
     Undecided { offset: usize },
     /// The output has no room for all of the changes.

@@ -43,7 +43,7 @@ fn withdraw_origin(view: &OriginView, output: &mut [u8]) -> Option<usize>
     }
 }
 
-/// What comes before the key info in the unit that withdraws the key.
+/// The bytes before the key info in the unit that withdraws the key.
 #[inline(always)]
 fn key_front(view: &RouterKeyView<'_>) -> [u8; 32]
     requires { length (key_at view.now.unit.now).key.info ≤ 65503 }

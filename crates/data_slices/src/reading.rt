@@ -61,7 +61,7 @@ fn is_of(version: Option<u8>, other: u8) -> bool
     }
 }
 
-/// Puts the offset after so many others, if the index has room for it.
+/// Appends the offset to the `count` others, if the index has room for it.
 #[inline(always)]
 fn put_offset(index: &mut [usize], count: usize, offset: usize)
     ensures same_length { length index.new ≡ length index.old }

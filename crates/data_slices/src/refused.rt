@@ -39,8 +39,8 @@ pub(crate) fn first_breaking(these: &[u8], those: &[u8], rule: Rule) -> Option<u
     }
 }
 
-/// Whether a unit's name is among others, and what is left of them from there on. Most of them are
-/// of prefixes, first those of IPv4.
+/// Reports whether a unit's name is among others, and returns their rest from that name on. Most of
+/// them are prefixes, first those of IPv4.
 #[inline(never)]
 pub(crate) fn sought<'a>(first: &PayloadView<'_>, those: &'a [u8]) -> (bool, &'a [u8])
     ensures { Seeks result.0 first.now result.1.now those.now }
@@ -115,7 +115,7 @@ fn compare_front<'a>(first: &PayloadView<'_>, those: &'a [u8]) -> (Ordering, &'a
     }
 }
 
-/// Whether the unit breaks the rule, where its name is there or not.
+/// Reports whether the unit breaks the rule, given whether its name is present.
 #[inline(always)]
 fn breaks(rule: Rule, is_there: bool, view: &PayloadView<'_>) -> bool
     ensures { result ≡ is_against rule is_there (meant view.now).payload }

@@ -7,7 +7,8 @@ ghost use Rattle.data_memory.specs.Sequences.{change_of};
 ghost use Rattle.unit_views.specs.Placing.{Places};
 ghost use Rattle.data_slices.specs.Items.{meant};
 ghost use Rattle.data_slices.specs.Net.{settles as is_settling};
-ghost use Rattle.data_slices.specs.PrivateOffsets.{FindsWrong, HaveSome, PlacesNets, TakesFirstUnit};
+ghost use Rattle.data_slices.specs.PrivateOffsets.{FindsWrong, HaveSome, PlacesNets};
+ghost use Rattle.data_slices.specs.PrivateOffsets.{TakesFirstUnit};
 ghost use Rattle.data_slices.specs.PrivateOffsets.{between as is_between, first_after, last_form};
 ghost use Rattle.data_slices.specs.PrivateOffsets.{is_action as has_action, open_at, unlinked_at};
 ghost use Rattle.data_slices.specs.PrivateOffsets.{same_name as have_name};
@@ -110,7 +111,7 @@ fn first_action(same: bool, first: Action, view: &PayloadView<'_>) -> Action
     if same { first } else { view.action() }
 }
 
-/// What is refused of the unit, and of the next.
+/// The refusal of the unit, and of the next.
 #[inline(always)]
 fn between(
     same: bool,
@@ -149,7 +150,7 @@ fn unlinked(before: Action, offset: usize, view: &PayloadView<'_>) -> Option<Ord
     }
 }
 
-/// That the last unit of a name leaves open what its changes come to, if so.
+/// The refusal of a last unit of a name whose net effect is undecided, if it is.
 #[inline(always)]
 fn open_end(first: Action, offset: usize, view: &PayloadView<'_>) -> Option<OrderFault>
     ensures { result ≡ open_at first offset (change_of (meant view.now)) }
@@ -189,7 +190,7 @@ pub(crate) fn is_action(left: Action, right: Action) -> bool
     left == right
 }
 
-/// Writes the unit, if it is the last of its name, what its changes come to, and of the action.
+/// Writes the unit, if it is the last of its name, has a net effect, and is of this action.
 #[inline(always)]
 fn place_last(
     ends: bool,

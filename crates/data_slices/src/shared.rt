@@ -27,7 +27,7 @@ pub(crate) fn after_shared_unit<'a, 'b>(
     None
 }
 
-/// What follows in both slices so many bytes, if these are the same in both.
+/// The rest of both slices behind the first `size` bytes, if these are the same in both.
 #[inline(always)]
 fn after_shared<'a, 'b>(
     these: &'a [u8],

@@ -6,7 +6,8 @@ use Rattle.rtr_base.specs.Addresses.{Family, PrefixParts, width, cleared}
 use Rattle.rtr_units.specs.Header.{type_field}
 use Rattle.rtr_units.specs.PrefixUnits.{prefix_size, prefix_type}
 use Rattle.data_validation.specs.Validity.{Covers, Matches, first_bits}
-use Rattle.data_validation.specs.PrivateTable.{AreSorted, IsUpperBound, IsTable, UnitsPassed, Sought}
+use Rattle.data_validation.specs.PrivateTable.{AreSorted, IsUpperBound, IsTable, UnitsPassed}
+use Rattle.data_validation.specs.PrivateTable.{Sought}
 use Rattle.data_validation.specs.PrivateTable.{TableSays, answer_of, route_key}
 use Rattle.data_validation.specs.Tables.{AreAtLeast, AreAtLeastBy, order_key, vrp_at}
 use Rattle.data_validation.proofs.Bits.{between, key_below, key_within, origin_clear}

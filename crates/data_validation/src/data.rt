@@ -52,7 +52,7 @@ fn look_through(origins: btree_set::Iter<'_, KeptOrigin>, route: &Route) -> Vali
     unmatched(covered)
 }
 
-/// What one origin says of a route.
+/// The validity of a route by one origin.
 fn origin_says(origin: &RouteOrigin, route: &Route) -> Validity
     ensures { OneSays result (vrp origin.now) route.now.prefix route.now.asn }
 {

@@ -126,7 +126,7 @@ fn fits(vrp: Vrp, len: u8, asn: u32) -> bool
     len <= vrp.max_len && vrp.asn == asn && asn > 0
 }
 
-/// What one VRP says of a route.
+/// The validity of a route by one VRP.
 #[inline(always)]
 pub(crate) fn one_says(is_v4: bool, vrp: Vrp, address: u128, len: u8, asn: u32) -> Validity
     requires clear { IsClear (parts_of (family_of is_v4) vrp) }
@@ -143,7 +143,7 @@ pub(crate) fn one_says(is_v4: bool, vrp: Vrp, address: u128, len: u8, asn: u32) 
     Validity::Invalid
 }
 
-/// What the unit of this index says of a route.
+/// The validity of a route by the unit of this index.
 #[inline(always)]
 fn unit_says(
     units: &[u8],

@@ -33,8 +33,8 @@ pub struct Tables {
 // The fields stand one after the other, and six bytes are left at the end.
 const _: () = prove!(size_of::<Tables>() == 2328);
 
-/// What is known of the units that may cover a route before any is looked at: none is shorter than
-/// `shortest`, and those that aren't after the route end between `low` and `top`.
+/// Bounds on the units that may cover a route, before any is read: none is shorter than `shortest`,
+/// and those that aren't after the route end between `low` and `top`.
 #[derive(Clone, Copy)]
 pub(crate) struct Around {
     pub(crate) shortest: u8,
@@ -93,7 +93,7 @@ impl Tables {
         self.shortest_ipv6
     }
 
-    /// What is known of the units that may cover an IPv4 route.
+    /// The bounds on the units that may cover an IPv4 route.
     #[inline(always)]
     pub(crate) fn around_ipv4(&self, address: u128) -> Around
         requires { address < 2 ^ 32 }
@@ -151,7 +151,7 @@ impl Tables {
         }
     }
 
-    /// What is known of the units that may cover an IPv6 route.
+    /// The bounds on the units that may cover an IPv6 route.
     #[inline(always)]
     pub(crate) fn around_ipv6(&self) -> Around
         ensures { result ≡
@@ -186,7 +186,7 @@ fn begins_with(rest: &[u8], is_v4: bool) -> bool
     rest.len() >= unit_size(is_v4) && rest[1] == type_of(is_v4)
 }
 
-/// What follows so many IPv4 units.
+/// The rest behind `count` IPv4 units.
 #[inline(always)]
 pub(crate) fn after_ipv4(input: &[u8], ipv4: usize) -> &[u8]
     requires { ipv4 * 20 ≤ length input.now }
@@ -195,7 +195,7 @@ pub(crate) fn after_ipv4(input: &[u8], ipv4: usize) -> &[u8]
     &input[ipv4 * 20..]
 }
 
-/// Units of one family, and what is known of their prefixes.
+/// Units of one family, and the bounds on their prefixes.
 #[derive(Clone, Copy)]
 struct Run {
     /// How many units there are.
@@ -241,7 +241,7 @@ fn at_most(left: u8, right: u8) -> u8
     if left < right { left } else { right }
 }
 
-/// Puts a length in the place of the one for a byte, if it is less.
+/// Lowers the length for a byte to this one, if it is less.
 #[inline(always)]
 fn lower(lengths: &mut [u8; 256], byte: u8, len: u8)
     ensures here { slice_index lengths.new byte ≤ len }
@@ -253,7 +253,7 @@ fn lower(lengths: &mut [u8; 256], byte: u8, len: u8)
     }
 }
 
-/// Where the addresses of each first byte begin among so many IPv4 units.
+/// The index of the first unit with each first byte, among the first `count` IPv4 units.
 fn starts_of(units: &[u8], count: usize) -> [usize; 256]
     requires { count * 20 ≤ length units.now }
     ensures { (k : ℕ) → k < 256 → IsStart units.now count k (slice_index result k) }
@@ -265,7 +265,8 @@ fn starts_of(units: &[u8], count: usize) -> [usize; 256]
     starts
 }
 
-/// Where the addresses with this first byte begin among so many IPv4 units. By halving.
+/// The index of the first unit with this first byte, among the first `count` IPv4 units, by a
+/// binary search.
 fn start_of(units: &[u8], count: usize, byte: usize) -> usize
     requires room { count * 20 ≤ length units.now }
     requires byte { byte < 256 }

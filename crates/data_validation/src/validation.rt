@@ -80,7 +80,7 @@ pub fn validate_by_walk(data: &[u8], tables: &Tables, route: &Route) -> Validity
     look_through(units, false, ipv6, address, len, asn)
 }
 
-/// Whether so many units of the family fit into a slice.
+/// Reports whether `count` units of the family fit into a slice.
 #[inline(always)]
 pub(crate) fn has_room(units: &[u8], is_v4: bool, count: usize) -> bool
     ensures { IsTrue result ↔ (count * prefix_size (family_of is_v4) ≤ length units.now) }

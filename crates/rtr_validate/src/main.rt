@@ -3,11 +3,10 @@
 
 mod progress;
 
-use progress::{Counting, Screen};
+use data_slurm::Slurm;
 use program_exceptions::{read_files, split_words};
 use program_frame::{Escaped, Front, Manual, Prompt, Shared, about, usage, words_after_name};
-use validate_work::{Named, Request, asked, can_compare, run, run_against};
-use data_slurm::Slurm;
+use progress::{Counting, Screen};
 use rtr_units::buffered::BufferedSource;
 use rtr_units::source::Counted;
 use std::cell::{Cell, RefCell};
@@ -17,6 +16,7 @@ use std::os::fd::AsRawFd;
 use std::process::ExitCode;
 use std::time::{SystemTime, UNIX_EPOCH};
 use std::{env, io};
+use validate_work::{Named, Request, asked, can_compare, run, run_against};
 
 /// How many bytes of standard input are read at once, and of output written at once.
 const BUFFER_SIZE: usize = 65536;
@@ -29,7 +29,7 @@ const STANDARD_DESCRIPTOR: i32 = 0;
 /// The status where reading, writing or memory failed.
 const FAILED: u8 = 3;
 
-/// What the program says of itself.
+/// The texts of --help and --version.
 const MANUAL: Manual = Manual {
     name: "rtr_validate",
     version: "rtr_validate 0.3.0\n",
@@ -222,7 +222,7 @@ fn open_files(
     }
 }
 
-/// Opens the files, answers the routes that are asked for, and answers the status.
+/// Opens the files, returns the routes that are asked for, and returns the status.
 fn validate(
     ends: Ends<'_>,
     request: Request<'_>,
@@ -316,7 +316,7 @@ fn asked_words(rt: &HostRuntime) -> Option<Asked> {
     })
 }
 
-/// Runs what the words ask for, and answers the status.
+/// Runs what the words ask for, and returns the status.
 fn start(ends: Ends<'_>, all: &Asked, faults: &mut Faults<'_>) -> u8 {
     let words = words_after_name(&all.words);
     let Some(request) = asked(words) else {

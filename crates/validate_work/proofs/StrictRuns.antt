@@ -4,7 +4,8 @@ use Rattle.std.proofs.Common.{Option, Result, Ok, Err, refl, sym, ap, ◌∙◌,
 use Rattle.std.proofs.lemmas.Bool.{false≢true}
 use Rattle.std.specs.Io.KnownBytes.{Appends, Consumes, IsAtEnd}
 use Rattle.rtr_units.specs.StopCauses.{ReaderState, WriterState, cause_of}
-use Rattle.validate_work.specs.LinesAnswered.{AnswersLines, AreDone, CountsRefused, EndsLine, IsLine}
+use Rattle.validate_work.specs.LinesAnswered.{AnswersLines, AreDone, CountsRefused, EndsLine}
+use Rattle.validate_work.specs.LinesAnswered.{IsLine}
 use Rattle.validate_work.specs.LinesAnswered.{EndsAnswering}
 use Rattle.validate_work.specs.LinesAnswered.{IsLineAnswer, IsLineDone, StopsAnswering, lines_bytes}
 use Rattle.validate_work.specs.LinesAnswered.{reads_after, writes_after}

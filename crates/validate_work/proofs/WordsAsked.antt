@@ -1,7 +1,8 @@
 -- What words ask for, option by option.
 use Rattle.std.proofs.Common.{◌≡◌, List, [], ◌∷◌, ℕ, Option, Some, None, refl, sym, ap, ◌∙◌}
 use Rattle.std.specs.Option.{option_and_then}
-use Rattle.validate_work.specs.RouteWords.{RoutesAsked, as_json, at_time, by_flag, flag_named, named}
+use Rattle.validate_work.specs.RouteWords.{RoutesAsked, as_json, at_time, by_flag, flag_named}
+use Rattle.validate_work.specs.RouteWords.{named}
 use Rattle.validate_work.specs.RouteWords.{of_format, routes_by_texts, strictly, summarily}
 use Rattle.validate_work.specs.declared.words.Flag.{Flag}
 use Rattle.validate_work.specs.declared.words.Flag.TheVariants as flags

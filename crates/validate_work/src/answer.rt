@@ -13,11 +13,11 @@ ghost use Rattle.validate_work.specs.declared.form.Form.TheVariants.{Text, Json}
 use crate::form::Form;
 use crate::route_text::TableRoute;
 use crate::vrps::Vrps;
+use data_validation::{Mismatch, Route, Validity};
+use list_lines::Line;
 use rtr_base::addr::Prefix;
 use rtr_base::asn::Asn;
-use list_lines::Line;
 use rtr_payload::payload::RouteOrigin;
-use data_validation::{Mismatch, Route, Validity};
 use std::alloc::AllocError;
 
 /// Adds the answer on a route, with a line feed: the route, its validity (RFC 6811 section 2), and

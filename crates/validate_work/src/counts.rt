@@ -1,4 +1,4 @@
-//! What is counted of a table of routes.
+//! Counts of a table of routes.
 
 ghost use Rattle.std.specs.Prelude.{◌≡◌, ◌≤◌, ◌<◌, ◌+◌, [], OnOk};
 ghost use Rattle.validate_work.specs.PrivateCounts.{CountsLine, CountsRoute};
@@ -13,11 +13,11 @@ use crate::refusals::Refusals;
 use crate::route_text::TableRoute;
 use crate::states::{States, Turns};
 use crate::table::{Table, read_table};
-use rtr_base::asn::Asn;
+use data_validation::Validity;
 use list_lines::Line;
+use rtr_base::asn::Asn;
 use rtr_units::fault::Fault;
 use rtr_units::source::Source;
-use data_validation::Validity;
 use std::alloc::{AllocError, Global};
 use std::collections::BTreeMap;
 
@@ -80,7 +80,7 @@ impl Counts {
     }
 }
 
-/// What is counted of a table of routes.
+/// The counts of a table of routes.
 #[derive(Drop)]
 pub struct Summary {
     /// How many routes have each validity by the list in use, and how many lines are refused.
@@ -107,10 +107,10 @@ impl Summary {
 }
 
 /// Reads routes, one on a line, up to the end of the input, and counts those of each validity, by
-/// origin AS too, or where two lists are compared how they turn. A line that is refused is told to
+/// origin AS too, or if two lists are compared how they turn. A line that is refused is reported to
 /// `refusals`, with its number, and counted; a strict run ends at the first one instead. The faults
-/// are `Reader` and `Memory`, and `TooMany` after 2^64 - 1 lines. It takes memory for the longest
-/// line and for each origin AS.
+/// are `Reader` and `Memory`, and `TooMany` after 2^64 - 1 lines. It allocates for the longest line
+/// and for each origin AS.
 pub fn count_lines<R: Source, T: Refusals>(
     alloc: Global,
     program: &str,
@@ -153,7 +153,7 @@ pub fn count_lines<R: Source, T: Refusals>(
     Err(Stop::Fault(Fault::TooMany))
 }
 
-/// Counts the line of this number. One that is refused is told, unless the run is strict. The only
+/// Counts the line of this number. A refused one is reported, unless the run is strict. The only
 /// fault is `Memory`.
 fn count_line<T: Refusals>(
     program: &str,

@@ -12,15 +12,13 @@ ghost use Rattle.validate_work.specs.PrivateFiles.{LoadsTaken};
 
 use crate::recorded::take_payloads;
 use crate::vrps::Vrps;
-use json::Scratch;
 use data_recordings::{Recording, Stop, read_recording};
 use data_slurm::Slurm;
-use rtr_units::source::SliceSource;
+use json::Scratch;
 use make_work::{Expired, Gathered, Gathering, Refusal, read_csv, read_json};
+use rtr_units::header::LAST_VERSION;
+use rtr_units::source::SliceSource;
 use std::alloc::Global;
-
-/// The version of the protocol that has all payloads.
-const LAST_VERSION: u8 = 2;
 
 /// What a file is.
 #[derive(Clone, Copy)]
@@ -52,7 +50,7 @@ pub struct Loaded {
     /// Whether an answer of a recording was left out, since the next one began before its end of
     /// data.
     pub has_cut: bool,
-    /// What had expired of the items of a list, if a time is asked for.
+    /// What had expired of the items of a list, if a time is given.
     pub expired: Option<Expired>,
 }
 

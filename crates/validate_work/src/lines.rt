@@ -39,10 +39,10 @@ pub(crate) enum Ending {
 
 /// Reads routes, one on a line, up to the end of the input, and writes the answer on each, by
 /// `add_list_answer`, before the next line is read. A line without a route, as a blank one, has no
-/// answer. A line that is refused is told to `refusals`, with its number, and skipped; returns how
-/// many were. A strict run stops at the first such line instead, with its number, after the answers
-/// on those before it. The faults are `Reader`, `Writer` and `Memory`, and `TooMany` after 2^64 - 1
-/// lines. It takes memory for the longest line, and for the longest answer.
+/// answer. A line that is refused is reported to `refusals`, with its number, and skipped; returns
+/// how many were. A strict run stops at the first such line instead, with its number, after the
+/// answers on those before it. The faults are `Reader`, `Writer` and `Memory`, and `TooMany` after
+/// 2^64 - 1 lines. It allocates for the longest line, and for the longest answer.
 pub fn answer_lines<R: Source, W: Sink, T: Refusals>(
     alloc: Global,
     program: &str,
@@ -90,8 +90,8 @@ pub fn answer_lines<R: Source, W: Sink, T: Refusals>(
 }
 
 /// Writes the answer on the route of the line of this number, unless it is blank. A line that isn't
-/// a route is told, unless the run is strict. Answers how many were told. The faults are `Writer`
-/// and `Memory`.
+/// a route is reported, unless the run is strict. Returns how many were reported. The faults are
+/// `Writer` and `Memory`.
 fn pass_line<W: Sink, T: Refusals>(
     program: &str,
     strict: bool,
@@ -117,7 +117,7 @@ fn pass_line<W: Sink, T: Refusals>(
     }
 }
 
-/// Reads a line, without its line feed, and answers how it ended. The faults are `Reader` and
+/// Reads a line, without its line feed, and returns how it ended. The faults are `Reader` and
 /// `Memory`.
 pub(crate) fn read_line<R: Source>(input: &mut R, line: &mut Line) -> Result<Ending, Fault>
     ensures { TakesLine result line.new (R.state input.old) (R.state input.new) }

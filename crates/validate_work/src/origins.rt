@@ -2,14 +2,15 @@
 
 ghost use Rattle.std.specs.Prelude.{◌≡◌, ◌++◌, OnOk};
 ghost use Rattle.validate_work.specs.RouteOrigins.{AddsRows, IsNextRow, first_label, is_left};
-ghost use Rattle.validate_work.specs.RouteOrigins.{nearer, row_states_text, row_text, stands_before};
+ghost use Rattle.validate_work.specs.RouteOrigins.{nearer, row_states_text, row_text};
+ghost use Rattle.validate_work.specs.RouteOrigins.{stands_before};
 ghost use Rattle.validate_work.specs.RouteOrigins.{states_at, with_origin};
 
 use crate::form::Form;
 use crate::states::{States, add_states};
-use rtr_base::asn::Asn;
-use list_lines::Line;
 use data_validation::Validity;
+use list_lines::Line;
+use rtr_base::asn::Asn;
 use std::alloc::AllocError;
 use std::collections::BTreeMap;
 

@@ -2,7 +2,8 @@
 
 ghost use Rattle.std.specs.Prelude.{◌≡◌, false, is_ok, is_some, unwrap_or, IfOk, Some};
 ghost use Rattle.make_work.specs.MakeStatus.{IsWholeInput};
-ghost use Rattle.validate_work.specs.RoutesStatus.{AnswersAsked, AnswersRead, ReadsAsked, ReadsList};
+ghost use Rattle.validate_work.specs.RoutesStatus.{AnswersAsked, AnswersRead, ReadsAsked};
+ghost use Rattle.validate_work.specs.RoutesStatus.{ReadsList};
 ghost use Rattle.validate_work.specs.RoutesStatus.{RunsAgainst, RunsAnswers, RunsRoutes};
 ghost use Rattle.validate_work.specs.RoutesStatus.{SummarizesLines, answer_status, count_expired};
 ghost use Rattle.validate_work.specs.RoutesStatus.{formats_of, load_status, recording_status};
@@ -17,15 +18,15 @@ use crate::route_text::{RouteError, TableRoute, route_of};
 use crate::summary_text::write_summary;
 use crate::vrps::Vrps;
 use crate::words::{Options, Request, RouteWords};
-use json::Scratch;
 use data_memory::ChangeError;
-use list_lines::Line;
-use program_frame::{Escaped, Failed, Front, hint, report};
 use data_recordings::{Refusal, StopCause};
 use data_slurm::Slurm;
+use json::Scratch;
+use list_lines::Line;
+use make_work::{Expired, Reason};
+use program_frame::{Escaped, Failed, Front, hint, report};
 use rtr_units::fault::Fault;
 use rtr_units::source::{Sink, Source};
-use make_work::{Expired, Reason};
 use std::alloc::Global;
 use std::io;
 use std::io::{ErrorKind, Read, Write};
@@ -42,10 +43,10 @@ const WRONG_WORDS: u8 = 2;
 /// The status where reading, writing or memory failed.
 const FAILED: u8 = 3;
 
-/// Reads the file, of a list without items that have expired at the time that is asked for, or else
+/// Reads the file, of a list without items that have expired at the requested time, or else
 /// `now`: seconds after the epoch. The filters of `slurm` remove payloads, and then its assertions
 /// are added (RFC 8416). Writes the answer on the route that is asked for, or else on those that
-/// are read from `routes`, as `answer_lines` does, flushes the output once, and answers the exit
+/// are read from `routes`, as `answer_lines` does, flushes the output once, and returns the exit
 /// status:
 /// - 0 if all that succeeded, whatever the routes' validity;
 /// - 1 if the file is refused, or has no VRPs, or a line is no route;
@@ -53,8 +54,8 @@ const FAILED: u8 = 3;
 /// - 3 if reading, writing, flushing or memory failed.
 ///
 /// Statuses other than 0 come with a line on `faults`, which begins with the program's name, and so
-/// does an answer of a recording that was left out, and items that have expired; of a pipe that
-/// nobody reads any more nothing is said. If a line can't be written, nothing else changes.
+/// does an answer of a recording that was left out, and items that have expired; a broken pipe is
+/// not reported. If a line can't be written, nothing else changes.
 pub fn run<I: Read, R: Source, W: Sink, F: Write + Refusals>(
     alloc: Global,
     name: &str,
@@ -206,7 +207,7 @@ fn read_file<I: Read>(alloc: Global, file: &mut I) -> Result<Vec<u8>, Fault>
     }
 }
 
-/// Writes the answers, flushes the output, and answers the status.
+/// Writes the answers, flushes the output, and returns the status.
 fn answer<R: Source, W: Sink, F: Write + Refusals>(
     alloc: Global,
     name: &str,
@@ -226,7 +227,7 @@ fn answer<R: Source, W: Sink, F: Write + Refusals>(
     tell(name, answer, flushed, faults)
 }
 
-/// Writes the answer on the route that is asked for, or else on those that are read. Answers how
+/// Writes the answer on the route that is asked for, or else on those that are read. Returns how
 /// many lines were no routes.
 fn answer_asked<R: Source, W: Sink, F: Write + Refusals>(
     alloc: Global,
@@ -252,7 +253,7 @@ fn answer_asked<R: Source, W: Sink, F: Write + Refusals>(
     }
 }
 
-/// Writes the answer on each route that is read, or a summary. Answers how many lines were no
+/// Writes the answer on each route that is read, or a summary. Returns how many lines were no
 /// routes.
 fn answer_read<R: Source, W: Sink, F: Write + Refusals>(
     alloc: Global,
@@ -282,7 +283,7 @@ fn answer_read<R: Source, W: Sink, F: Write + Refusals>(
     )
 }
 
-/// Counts the routes that are read, and writes the counts. Answers how many lines were no routes.
+/// Counts the routes that are read, and writes the counts. Returns how many lines were no routes.
 fn summarize<R: Source, W: Sink, F: Write + Refusals>(
     alloc: Global,
     name: &str,
@@ -324,8 +325,8 @@ fn formats_of(options: Options) -> Formats
     }
 }
 
-/// Says how many lines were no routes, or what stopped the answers, and answers the status to end
-/// with. Where the flush failed, that is said of the output alone: reading may have failed since it
+/// Says how many lines were no routes, or what stopped the answers, and returns the exit status.
+/// Where the flush failed, that is said of the output alone: reading may have failed since it
 /// flushes first.
 fn tell<F: Write>(
     name: &str,
@@ -354,7 +355,7 @@ fn tell<F: Write>(
     }
 }
 
-/// Says how many lines were no routes, and answers the status.
+/// Says how many lines were no routes, and returns the status.
 fn tell_refused<F: Write>(name: &str, refused: u64, faults: &mut F) -> u8
     ensures { result ≡ 1 }
 {
@@ -365,7 +366,7 @@ fn tell_refused<F: Write>(name: &str, refused: u64, faults: &mut F) -> u8
     REFUSED
 }
 
-/// Says why the words aren't a route, and answers the status.
+/// Says why the words aren't a route, and returns the status.
 fn tell_words<F: Write>(
     name: &str,
     words: Option<RouteWords<'_>>,
@@ -382,7 +383,7 @@ fn tell_words<F: Write>(
     WRONG_WORDS
 }
 
-/// Says why a file couldn't be read, and answers the status.
+/// Says why a file couldn't be read, and returns the status.
 fn tell_file<F: Write>(name: &str, file: &str, fault: &Fault, faults: &mut F) -> u8
     ensures { result ≡ 3 }
 {
@@ -392,7 +393,7 @@ fn tell_file<F: Write>(name: &str, file: &str, fault: &Fault, faults: &mut F) ->
     FAILED
 }
 
-/// Says that a file has no VRPs, after what was left out of it, and answers the status.
+/// Says that a file has no VRPs, after what was left out of it, and returns the status.
 fn tell_none<F: Write>(name: &str, file: &str, loaded: &Loaded, faults: &mut F) -> u8
     ensures { result ≡ 1 }
 {
@@ -405,7 +406,7 @@ fn tell_none<F: Write>(name: &str, file: &str, loaded: &Loaded, faults: &mut F) 
     REFUSED
 }
 
-/// Says what was left out of this file, if something was: an answer, or items that have expired.
+/// Reports which part of this file was left out: an answer, or expired items.
 fn tell_left_out<F: Write>(name: &str, file: &str, loaded: &Loaded, faults: &mut F)
     ensures { loaded.now.has_cut ≡ false → count_expired loaded.now.expired ≡ 0 →
         faults.new ≡ faults.old }
@@ -436,7 +437,7 @@ fn count_expired(expired: Option<Expired>) -> usize
     }
 }
 
-/// Says why a file of these bytes is refused, and what it looks like, and answers the status.
+/// Reports why a file of these bytes is refused, and what it looks like, and returns the status.
 fn tell_load<F: Write>(
     name: &str,
     file: &str,

@@ -8,8 +8,8 @@ ghost use Rattle.data_memory.specs.Contents.{entry_of};
 ghost use Rattle.data_memory.specs.Data.{IsData};
 ghost use Rattle.data_memory.specs.Sequences.{IsInRange, IsSendable};
 
-use rtr_base::asn::Asn;
 use data_memory::{Data, KeptOrigin};
+use rtr_base::asn::Asn;
 use rtr_payload::payload::{RouteOrigin, RouterKey};
 use rtr_payload::pdu::ProviderAsns;
 use std::collections::{btree_map, btree_set};

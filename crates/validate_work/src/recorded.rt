@@ -5,11 +5,11 @@ ghost use Rattle.rtr_payload.specs.Meanings.{key_of, origin_of, payload_of};
 ghost use Rattle.data_memory.specs.Contents.{entry_of};
 ghost use Rattle.validate_work.specs.PrivateFiles.{TakesPayloads};
 
-use rtr_base::asn::Asn;
 use data_memory::{Data, KeptOrigin};
+use make_work::{Expiry, Gathering, Item, Place, Reason};
+use rtr_base::asn::Asn;
 use rtr_payload::payload::{Payload, RouterKey};
 use rtr_payload::pdu::ProviderAsns;
-use make_work::{Expiry, Gathering, Item, Place, Reason};
 use std::collections::{btree_map, btree_set};
 
 /// Takes all payloads, none of which expires. Fails only with `Memory`.

@@ -1,4 +1,4 @@
-//! Who is told of lines that are no routes.
+//! Reports of lines that are no routes.
 
 ghost use Rattle.std.specs.Prelude.{⊤};
 ghost use Rattle.validate_work.specs.RefusedLines.{RefusedLine};
@@ -7,9 +7,9 @@ use crate::route_text::RouteError;
 use std::io;
 use std::io::Write;
 
-/// Someone who is told of lines that are no routes.
+/// A listener for lines that are no routes.
 pub trait Refusals {
-    /// What being told of a line leaves of the one who is told.
+    /// The listener after it heard of a line.
     ghost hears: { Self → RefusedLine → Self → Type 0 };
 
     /// Tells that the line of this number, of which the first is 1, isn't a route, and why.
@@ -24,7 +24,7 @@ pub struct Named<F> {
 }
 
 impl<F: Write> Named<F> {
-    /// The one that names them to this writer.
+    /// A listener that prints the lines to this writer.
     pub fn new(faults: F) -> Self {
         Named { faults }
     }

@@ -4,10 +4,10 @@ ghost use Rattle.std.specs.Prelude.{◌≡◌};
 ghost use Rattle.validate_work.specs.RouteTexts.{DecidesAsSet, ReadsLine, ReadsOrigin, ReadsWords};
 ghost use Rattle.validate_work.specs.RouteTexts.{DecidesAsn, DecidesAsns, origin_asn};
 
+use data_validation::Route;
 use rtr_base::addr::Prefix;
 use rtr_base::asn::Asn;
 use rtr_base::parse::ParsePrefixError;
-use data_validation::Route;
 use std::str;
 
 /// A route, as a table of routes has it.

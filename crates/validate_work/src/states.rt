@@ -4,8 +4,8 @@ ghost use Rattle.std.specs.Prelude.{◌≡◌, OnOk, ◌++◌};
 ghost use Rattle.validate_work.specs.RouteStates.{no_states, no_turns, states_text, with_state};
 ghost use Rattle.validate_work.specs.RouteStates.{with_turn};
 
-use list_lines::Line;
 use data_validation::Validity;
+use list_lines::Line;
 use std::alloc::AllocError;
 
 /// How many routes have each validity (RFC 6811 section 2): 2^64 - 1 stands for more.

@@ -3,13 +3,15 @@
 ghost use Rattle.std.specs.Prelude.{◌≡◌, ◌<◌, option_map};
 ghost use Rattle.validate_work.specs.PrivateTexts.{both_texts, only_text};
 ghost use Rattle.validate_work.specs.TableTexts.{ReadsPrinted, ReadsTable, after_char, after_codes};
-ghost use Rattle.validate_work.specs.TableTexts.{bgpdump_entry, bird_entry, bird_origin, words_entry};
+ghost use Rattle.validate_work.specs.TableTexts.{bgpdump_entry, bird_entry, bird_origin};
+ghost use Rattle.validate_work.specs.TableTexts.{words_entry};
 ghost use Rattle.validate_work.specs.TableTexts.{field_at, first_word, frr_entry};
 ghost use Rattle.validate_work.specs.TableTexts.{frr_origin, frr_path, is_bird_heading};
 ghost use Rattle.validate_work.specs.TableTexts.{is_frr_heading, is_frr_state, is_origin_code};
 ghost use Rattle.validate_work.specs.TableTexts.{is_table_dump, is_text, is_weight, last_word};
 ghost use Rattle.validate_work.specs.TableTexts.{origin_before, origin_in_brackets, path_origin};
-ghost use Rattle.validate_work.specs.TableTexts.{printed_entry, split_first, split_last, text_entry};
+ghost use Rattle.validate_work.specs.TableTexts.{printed_entry, split_first, split_last};
+ghost use Rattle.validate_work.specs.TableTexts.{text_entry};
 ghost use Rattle.validate_work.specs.TableTexts.{without_byte};
 
 use crate::route_text::{RouteError, TableRoute, read_route, route_of};

@@ -1,7 +1,8 @@
 //! What a change of the list turns a route into.
 
 ghost use Rattle.std.specs.Prelude.{◌≡◌, ◌++◌, OnOk};
-ghost use Rattle.validate_work.specs.PrivateAnswers.{AddsListAnswer, AddsTold, AddsTurn, AddsTurned};
+ghost use Rattle.validate_work.specs.PrivateAnswers.{AddsListAnswer, AddsTold, AddsTurn};
+ghost use Rattle.validate_work.specs.PrivateAnswers.{AddsTurned};
 ghost use Rattle.validate_work.specs.Turned.{before_origin, before_prefix, is_reported};
 ghost use Rattle.validate_work.specs.Turned.{states_between, turn_head};
 ghost use Rattle.validate_work.specs.declared.form.Form.TheVariants.{Text, Json};
@@ -11,8 +12,8 @@ use crate::form::Form;
 use crate::lists::Lists;
 use crate::route_text::TableRoute;
 use crate::vrps::Vrps;
-use list_lines::Line;
 use data_validation::{Route, Validity};
+use list_lines::Line;
 use std::alloc::AllocError;
 
 /// Adds the answer on a route, by `add_answer`. Where two lists are compared, adds instead from
@@ -33,7 +34,7 @@ pub fn add_list_answer(
     }
 }
 
-/// Adds how the route turns, if that is told.
+/// Adds how the route turns, if that is reported.
 fn add_turn(
     line: &mut Line,
     form: Form,
@@ -50,7 +51,7 @@ fn add_turn(
     add_if_reported(line, form, other, route, state, next)
 }
 
-/// Adds how a route turns that has these validities, if that is told.
+/// Adds how a route with these validities turns, if that is reported.
 fn add_if_reported(
     line: &mut Line,
     form: Form,
@@ -71,7 +72,7 @@ fn add_if_reported(
     }
 }
 
-/// Whether a route is told of that turns so: if it becomes invalid, or was invalid.
+/// Reports whether a turn of a route is printed: if it becomes invalid, or was invalid.
 fn is_reported(state: Validity, next: Validity) -> bool
     ensures { result ≡ is_reported state next }
 {

@@ -11,22 +11,22 @@ ghost use Rattle.data_validation.specs.Validity.{IsValidity};
 ghost use Rattle.validate_work.specs.PrivateVrps.{kept_end};
 
 use crate::ranges::are_sendable;
+use data_memory::Data;
+use data_validation::{CoveringVrp, Route, Tables, Validity, first_covering, validate};
+use make_work::has_none;
 use rtr_base::addr::Prefix;
 use rtr_base::state::{Serial, State};
 use rtr_base::timing::Timing;
-use data_memory::Data;
 use rtr_units::end::EndOfData;
 use rtr_units::fault::Fault;
 use rtr_units::source::{Counted, Sink};
-use data_validation::{CoveringVrp, Route, Tables, Validity, first_covering, validate};
-use make_work::has_none;
 use std::alloc::{AllocError, Global};
 use std::marker::Model;
 
 /// The version of the units in which the payloads are kept, which has all kinds.
 const KEPT_VERSION: u8 = 2;
 
-/// The version of the units that has origins alone.
+/// The version whose units are only origins.
 const VRPS_ALONE: u8 = 0;
 
 /// Payloads, whose origins are the VRPs that routes are asked of. They are kept in canonical form

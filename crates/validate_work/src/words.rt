@@ -42,8 +42,8 @@ pub struct Options {
     pub strict: bool,
     /// Whether only counts are printed.
     pub summary: bool,
-    /// The time at which items of a list have to be good: seconds after the epoch, the first second
-    /// of 1970.
+    /// The time at which items of a list must be good: seconds after the epoch, the first second of
+    /// 1970.
     pub at: Option<u64>,
     /// In which format routes are read.
     pub table: Table,
@@ -240,8 +240,8 @@ pub fn can_compare(request: &Request<'_>, name: &str) -> bool
     request.route.is_none() && is_name(name, false)
 }
 
-/// Whether the word may be the name of a file: one that doesn't begin with `-`, or `-` where
-/// standard input isn't read for routes.
+/// Reports whether the word may name a file: a word that doesn't begin with `-`, or `-` if standard
+/// input isn't read for routes.
 fn is_name(word: &str, has_route: bool) -> bool
     ensures { result ≡ is_vrps_name word.now has_route }
 {
