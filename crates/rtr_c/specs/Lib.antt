@@ -20,6 +20,8 @@ pub mod GroupsShown
 pub mod Caches
 pub mod Checks
 pub mod Servings
+pub mod Servers
+pub mod ServerConnections
 pub mod TimeRules
 pub mod Texts
 pub mod Links

@@ -58,22 +58,22 @@ pub(crate) const WRITER: u8 = 255;
 #[repr(C)]
 #[derive(Drop)]
 pub struct RtrAnswer {
-    /// Payload units that were taken.
+    /// Payload units that were read, without the end of data.
     pub units: u64,
-    /// How many of them were written.
+    /// Payload units that were written; fewer than `units` only for one version.
     pub forms: u64,
-    /// Bytes of the input that were taken.
+    /// Bytes of the input that were read: whole units, and the end of data. If the call stopped,
+    /// the offset of the unit at which it stopped.
     pub taken: usize,
-    /// Bytes of the output that were written.
+    /// Bytes of the output that were written, from its start.
     pub written: usize,
-    /// With `SHORT`, how many bytes from `taken` on are needed at least: 8 without a whole
-    /// header, and then the length of the unit. Otherwise 0.
+    /// After RTR_SHORT, the least number of bytes needed from input + taken on, as in an rtr_unit;
+    /// else 0.
     pub wanted: usize,
-    /// How the call ended.
+    /// The result of the call, an rtr_status, which the call returns too.
     pub status: u8,
-    /// With `UNIT_TYPE` the refused type, with `UNIT_VERSION` the refused version. With `PREFIX` 1
-    /// if the prefix length is above that of an address, 2 if the max length is, and 3 if the max
-    /// length is below the prefix length. Otherwise 0.
+    /// The type, version or rule that RTR_UNIT_TYPE, RTR_UNIT_VERSION or RTR_PREFIX refuses, as
+    /// enum rtr_status says; else 0.
     pub detail: u8,
 }
 

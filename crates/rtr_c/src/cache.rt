@@ -11,8 +11,11 @@ use session_cache::settings::CacheSettings;
 #[repr(C)]
 #[derive(Clone, Copy)]
 pub struct RtrPresent {
+    /// The serial number of the newest data.
     pub serial: u32,
+    /// The session of the newest data.
     pub session: u16,
+    /// Whether there are data; if not, the two other fields are ignored.
     pub has: bool,
 }
 
@@ -23,9 +26,14 @@ const _: () = prove!(size_of::<RtrPresent>() == 8);
 #[repr(C)]
 #[derive(Clone, Copy)]
 pub struct RtrCacheSettings {
+    /// The time limit to the first query; default 30 seconds.
     pub first_limit: u32,
+    /// The time limit from a query to the next; default 25 hours.
     pub idle_limit: u32,
+    /// The least time between two notifies; default 1 minute.
     pub pause: u32,
+    /// Whether a serial query whose changes aren't known is answered by a report of code 0 and the
+    /// end, instead of a cache reset; default false.
     pub refuses: bool,
 }
 
@@ -39,8 +47,11 @@ pub struct RtrCache {
     pub settings: RtrCacheSettings,
     pub notify_from: u64,
     pub due: u64,
+    /// The serial number of the newest data that the router was `told` of, or of the newest data
+    /// when a cache reset made it ask for all, `reset`.
     pub serial: u32,
     pub session: u16,
+    /// The version of the connection, once a query came, `asked`.
     pub version: u8,
     pub live: bool,
     pub asked: bool,

@@ -20,10 +20,10 @@ use crate::next::wanted;
 use crate::numbers::clock;
 use crate::router_action::refusal_from;
 use crate::serving::{RtrServing, answer_from, serving_to, state_from, waiting};
+use session_bytes::{Served, place_opening, place_owed, serve};
 use session_cache::cache::Cache;
 use session_cache::event::{CacheEvent, Present};
 use session_cache::settings::CacheSettings;
-use session_bytes::{Served, place_opening, place_owed, serve};
 
 /// The usual settings, as `session_cache::settings::CacheSettings::usual`.
 #[unsafe(no_mangle)]

@@ -4,8 +4,8 @@ ghost use Rattle.std.specs.Prelude.{◌≡◌, map};
 ghost use Rattle.rtr_c.specs.Checks.{no_checked, no_named, numbered_finding, numbered_stage};
 ghost use Rattle.rtr_c.specs.Checks.{numbered_layout, numbered_time_rule, check_state};
 
-use text_findings::{Finding, Layout, SequenceState, Stage};
 use session_times::TimeRule;
+use text_findings::{Finding, Layout, SequenceState, Stage};
 
 /// What is known of the sequence that is read: as `text_findings::SequenceState`. All zero before
 /// the first unit.
@@ -26,8 +26,11 @@ const _: () = prove!(size_of::<RtrCheck>() == 6);
 #[repr(C)]
 #[derive(Clone, Copy)]
 pub struct RtrFinding {
+    /// The value that enum rtr_rule describes for this rule; else 0.
     pub value: u16,
+    /// What the sequence or the answer began with, if enum rtr_rule names it; else 0.
     pub begun: u16,
+    /// The rule that is broken, an rtr_rule.
     pub rule: u8,
 }
 
@@ -40,13 +43,13 @@ const _: () = prove!(size_of::<RtrFinding>() == 6);
 pub struct RtrChecked {
     /// Bytes of the unit in the input.
     pub size: usize,
-    /// With `SHORT`, how many bytes of the input are wanted, as in an `RtrLine`. Otherwise 0.
+    /// After RTR_SHORT, the least number of input bytes needed, as in an rtr_unit; else 0.
     pub wanted: usize,
-    /// A place for each rule, in their order, in which rule 0 stands where none is broken.
+    /// The broken rules, in the order of rtr_list's lines; RTR_RULE_NONE may be between them.
     pub findings: [RtrFinding; 7],
-    /// How the call ended.
+    /// The result of the call, an rtr_status, which the call returns too.
     pub status: u8,
-    /// As in an `RtrLine`.
+    /// The detail of the status, as in an rtr_answer.
     pub detail: u8,
 }
 
@@ -59,18 +62,17 @@ const _: () = prove!(size_of::<RtrChecked>() == 64);
 pub struct RtrNaming {
     /// Bytes of the unit in the input.
     pub size: usize,
-    /// Bytes of the name, also of one that the output is too short for: 0 where the unit names no
-    /// payload.
+    /// Bytes of the name, even if the output is shorter; 0 if the unit names no payload.
     pub length: usize,
-    /// As in an `RtrLine`.
+    /// After RTR_SHORT, the least number of input bytes needed, as in an rtr_unit; else 0.
     pub wanted: usize,
-    /// How the call ended.
+    /// The result of the call, an rtr_status, which the call returns too.
     pub status: u8,
-    /// As in an `RtrLine`.
+    /// The detail of the status, as in an rtr_answer.
     pub detail: u8,
-    /// Whether a sequence begins with the unit.
+    /// Whether the unit begins a sequence.
     pub begins: bool,
-    /// Whether the unit announces a payload.
+    /// Whether the payload is announced.
     pub announces: bool,
 }
 

@@ -98,9 +98,9 @@ pub extern "C" fn rtr_check_end(check: &RtrCheck, finding: &mut RtrFinding)
     *finding = finding_to(check_from(check).missing());
 }
 
-/// Lays the line of a finding over the front of the output, as far as there is room, and answers
-/// its length: as `rtr_list --check` prints it of a unit that stands after so many bytes, without
-/// its end; of none nothing.
+/// Writes the line that `rtr_list --check` prints of a finding about a unit at `offset`, without its
+/// newline, to the front of the output as far as that has room, and returns its length; 0 for no
+/// finding.
 #[unsafe(no_mangle)]
 pub extern "C" fn rtr_finding_line_nonnull(
     finding: &RtrFinding,

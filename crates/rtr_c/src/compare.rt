@@ -15,19 +15,18 @@ use rtr_wire::{ComparisonFault, Side, compare_meanings};
 #[repr(C)]
 #[derive(Drop)]
 pub struct RtrComparison {
-    /// Where the unit begins that the comparison stopped at, in its input. If both inputs are
-    /// accepted it is 0.
+    /// The offset of the unit at which the call stopped, in the input of `side`; 0 after RTR_OK.
     pub offset: usize,
-    /// With `SHORT`, how many bytes from there on are needed at least, as in an `RtrAnswer`.
-    /// Otherwise 0.
+    /// After RTR_SHORT, the least number of bytes of that input needed from `offset` on, as in an
+    /// rtr_unit; else 0.
     pub wanted: usize,
-    /// How the call ended.
+    /// The result of the call, an rtr_status, which the call returns too.
     pub status: u8,
-    /// 1 if the left input is at fault, 2 if the right one is, and else 0.
+    /// An rtr_side: the input in which the call stopped; 0 after RTR_OK.
     pub side: u8,
-    /// As in an `RtrAnswer`.
+    /// The detail of the status, as in an rtr_answer.
     pub detail: u8,
-    /// Whether both inputs mean the same. If one is at fault it is false.
+    /// Whether both inputs mean the same; false unless the status is RTR_OK.
     pub same: bool,
 }
 

@@ -18,15 +18,16 @@ pub(crate) const NEITHER: u8 = 0;
 #[repr(C)]
 #[derive(Drop)]
 pub struct RtrDataAnswer {
-    /// Bytes of the output that were written. Unless the call succeeded it is 0.
+    /// After RTR_OK the bytes of the output that were written, from its start; else 0. After
+    /// RTR_NO_ROOM the output's contents are unspecified, after any other status unchanged.
     pub written: usize,
-    /// Where the unit at fault begins in its input, or 0 if no unit is at fault.
+    /// The offset of the unit at fault in its input; 0 if no unit is at fault.
     pub offset: usize,
-    /// How the call ended.
+    /// The result of the call, an rtr_status, which the call returns too.
     pub status: u8,
-    /// 1 if the first input is at fault, 2 if the second is, and else 0.
+    /// 1 or 2 if the first or the second input is at fault, else 0.
     pub side: u8,
-    /// As in an `RtrAnswer`.
+    /// The detail of the status, as in an rtr_answer.
     pub detail: u8,
 }
 
@@ -34,7 +35,7 @@ pub struct RtrDataAnswer {
 const _: () = prove!(size_of::<RtrDataAnswer>() == 24);
 
 impl RtrDataAnswer {
-    /// The call succeeded, and wrote so many bytes.
+    /// The call succeeded, and wrote this number of bytes.
     pub(crate) fn wrote(written: usize) -> Self
         ensures { result ≡ written_told written }
     {

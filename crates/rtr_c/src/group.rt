@@ -12,7 +12,11 @@ use session_group::settings::Settings;
 #[repr(C)]
 #[derive(Clone, Copy)]
 pub struct RtrGroupSettings {
+    /// How long, in milliseconds, a member may have no whole answer before the next one is started
+    /// too, while none is current; default 5 seconds.
     pub patience: u32,
+    /// Whether a whole answer without payloads counts as data, and not as a failure that drops
+    /// them; default false.
     pub empty_is_data: bool,
 }
 
@@ -23,30 +27,39 @@ const _: () = prove!(size_of::<RtrGroupSettings>() == 8);
 #[repr(C)]
 #[derive(Clone, Copy)]
 pub struct RtrGroup {
+    /// The settings of the group.
     pub settings: RtrGroupSettings,
+    /// The number of members.
     pub count: usize,
+    /// The number of members that run, from the first on.
     pub runs: usize,
+    /// When the next member is started, while none is current.
     pub due: u64,
+    /// Whether each member that runs has data.
     pub has: [bool; 16],
+    /// Whether the last member that runs is current.
     pub current: bool,
 }
 
 // The fields stand one after the other, and seven bytes are left at the end.
 const _: () = prove!(size_of::<RtrGroup>() == 56);
 
-/// What its caller does: as `session_group::event::Answer`. Fields that an answer doesn't have are 0.
+/// What its caller does: as `session_group::event::Answer`. Fields that an answer doesn't have are
+/// 0.
 #[repr(C)]
 #[derive(Clone, Copy)]
 pub struct RtrGroupAnswer {
-    /// Whose data are shown.
+    /// The member whose data to show, for RTR_GROUP_DATA.
     pub member: usize,
-    /// The first of those that stop, if it `stops`.
+    /// The first member to stop, if `stops`.
     pub stop: usize,
-    /// Who is started, if it `starts`.
+    /// The member to start, if `starts`.
     pub start: usize,
-    /// 0 where what is shown stays, 1 for the data of `member`, 2 for none.
+    /// How the shown data change, an rtr_group_shown.
     pub shown: u8,
+    /// Whether members have to be stopped.
     pub stops: bool,
+    /// Whether a member has to be started.
     pub starts: bool,
 }
 

@@ -28,8 +28,8 @@ pub extern "C" fn rtr_group_usual(settings: &mut RtrGroupSettings)
 }
 
 /// Begins a group of this number of members, whatever the struct holds, as
-/// `session_group::group::Group::new`. If there are more than 16, it returns a status that says so, and
-/// the group has no members.
+/// `session_group::group::Group::new`. If there are more than 16, it returns a status that says so,
+/// and the group has no members.
 #[unsafe(no_mangle)]
 pub extern "C" fn rtr_group_init(
     group: &mut RtrGroup,
@@ -59,8 +59,8 @@ pub extern "C" fn rtr_group_init(
     }
 }
 
-/// The member whose data are shown, as `session_group::group::Group::best`: returns whether there is
-/// one, and 0 if there is none.
+/// The member whose data are shown, as `session_group::group::Group::best`: returns whether there
+/// is one, and 0 if there is none.
 #[unsafe(no_mangle)]
 pub extern "C" fn rtr_group_best(group: &RtrGroup, member: &mut usize) -> bool
     ensures some { result ≡ is_some (best_of (group_of group.now)) }

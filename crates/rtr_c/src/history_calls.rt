@@ -10,13 +10,14 @@ ghost use Rattle.rtr_c.specs.StoresAnswers.{since_told};
 ghost use Rattle.rtr_c.specs.StoresCalls.{TellsSince};
 
 use crate::stores_answer::RtrStoresAnswer;
-use rtr_base::state::Serial;
 use data_history::{data_at, knows, open_saved, seal_head, since_into};
+use rtr_base::state::Serial;
 
 /// The head of a file that has a store behind it.
 #[repr(C)]
 #[derive(Clone, Copy)]
 pub struct RtrStoreHead {
+    /// The head, as it begins the file.
     pub bytes: [u8; 24],
 }
 

@@ -11,11 +11,9 @@ ghost use Rattle.rtr_c.specs.LineAnswers.{TellsLine, line_status, no_line};
 ghost use Rattle.rtr_c.specs.PrivateLines.{IsUnitOf, TellsRefusal};
 
 use crate::answer::{ACCEPTED, NO_ROOM, SHORT, fault_detail, fault_status};
-use unit_any::length::unit_length;
+use rtr_units::header::HEADER_SIZE;
 use text_lines::{describe, describe_change, describe_change_json, describe_json, listed_unit};
-
-/// The bytes of a header.
-const HEADER: usize = 8;
+use unit_any::length::unit_length;
 
 /// How a call that writes a line or an object ended.
 #[repr(C)]
@@ -23,23 +21,22 @@ const HEADER: usize = 8;
 pub struct RtrLine {
     /// Bytes of the unit in the input.
     pub size: usize,
-    /// Bytes of the line or the object, also of one that the output is too short for.
+    /// Bytes of the whole line, even if the output is shorter.
     pub length: usize,
-    /// With `SHORT`, how many bytes of the input are wanted for certain: 8 without a whole header,
-    /// and then the length of the unit. Otherwise 0.
+    /// After RTR_SHORT, the least number of input bytes needed, as in an rtr_unit; else 0.
     pub wanted: usize,
-    /// How the call ended.
+    /// The result of the call, an rtr_status, which the call returns too.
     pub status: u8,
-    /// With `UNIT_TYPE` the refused type, with `UNIT_VERSION` the refused version. Otherwise 0.
+    /// The detail of the status, as in an rtr_answer.
     pub detail: u8,
 }
 
 // The fields stand one after the other, and six bytes are left at the end.
 const _: () = prove!(size_of::<RtrLine>() == 32);
 
-/// The line of the unit that the input begins with, as `rtr_list` prints it of one that stands
-/// after so many bytes, without its end. It is laid over the front of the output as far as that has
-/// room, and if it has not, the status is `NO_ROOM` and `length` says how many bytes are wanted.
+/// Writes the line that `rtr_list` prints of the first unit of the input if it stands at `offset`,
+/// without its newline, to the front of the output as far as that has room. If the line is longer,
+/// the status is `NO_ROOM`; `length` is the length of the line.
 ///
 /// Statuses before it, with nothing written: those of `rtr_unit_size`, and `SHORT` if not all of
 /// the unit is there.
@@ -66,8 +63,8 @@ pub extern "C" fn rtr_line_nonnull(
     answer.status
 }
 
-/// The JSON object of the unit that the input begins with, as `rtr_list --json` prints it of one
-/// that stands after so many bytes, without its end. Otherwise as `rtr_line_nonnull`.
+/// Writes the JSON object that `rtr_list --json` prints of the first unit of the input if it stands
+/// at `offset`, without its newline. Otherwise as `rtr_line_nonnull`.
 #[unsafe(no_mangle)]
 pub extern "C" fn rtr_json_nonnull(
     input: &[u8],
@@ -152,7 +149,7 @@ pub(crate) fn first_unit(input: &[u8]) -> Result<&[u8], RtrLine>
             }
             Ok(&input[..size])
         }
-        Ok(None) => Err(refused(SHORT, 0, HEADER)),
+        Ok(None) => Err(refused(SHORT, 0, HEADER_SIZE)),
         Err(fault) => Err(refused(fault_status(&fault), fault_detail(&fault), 0)),
     }
 }
@@ -189,7 +186,7 @@ fn written(size: usize, length: usize, room: usize) -> RtrLine
     }
 }
 
-/// Whether so many bytes fit an output with so much room.
+/// Whether a text of this length fits the room that is left in the output.
 pub(crate) fn room_status(length: usize, room: usize) -> u8
     ensures { result ≡ line_status length room }
 {

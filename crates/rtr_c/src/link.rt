@@ -20,8 +20,8 @@ const UNITS: u8 = 1;
 
 const ANSWER: u8 = 2;
 
-/// A router's end of a session: as `session_client::Client`. All fields are numbers, so that each call
-/// reads any bytes; a flag is 0 or 1.
+/// A router's end of a session: as `session_client::Client`. All fields are numbers, so that each
+/// call reads any bytes; a flag is 0 or 1.
 #[repr(C)]
 #[derive(Clone, Copy)]
 pub struct RtrLink {

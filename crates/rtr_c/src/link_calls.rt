@@ -80,7 +80,7 @@ pub extern "C" fn rtr_link_lost(link: &mut RtrLink) -> u8
     status
 }
 
-/// So many bytes were read into the input, as `session_client::Client::received`.
+/// Reports that `size` bytes were read into the input, as `session_client::Client::received`.
 #[unsafe(no_mangle)]
 pub extern "C" fn rtr_link_received_nonnull(link: &mut RtrLink, input: &[u8], size: usize) -> u8
     ensures status { result ≡ received_status link.old (length input.now) size }
@@ -102,7 +102,7 @@ pub extern "C" fn rtr_link_received_nonnull(link: &mut RtrLink, input: &[u8], si
     status
 }
 
-/// So many bytes of the output were sent, as `session_client::Client::sent`.
+/// Reports that `size` bytes of the output were sent, as `session_client::Client::sent`.
 #[unsafe(no_mangle)]
 pub extern "C" fn rtr_link_sent_nonnull(link: &mut RtrLink, output: &mut [u8], size: usize) -> u8
     ensures status { result ≡ sent_status link.old (length output.old) size }

@@ -12,23 +12,24 @@ use session_client::client::Client;
 #[repr(C)]
 #[derive(Clone, Copy)]
 pub struct RtrLinkState {
-    /// When to call again, if nothing comes before.
+    /// When to call rtr_link_next, if nothing comes before. It may have passed.
     pub wakes: u64,
     /// The offset in the input at which the next bytes are read.
     pub filled: usize,
-    /// How many bytes of the output are to be sent, from its front.
+    /// The number of bytes of the output that are to be sent, from its front.
     pub unsent: usize,
-    /// The length of the data, or 0.
+    /// The length of the data, in canonical form; 0 if there are none.
     pub shown: usize,
-    /// The length of the payload units of a whole answer at the front of the input, or 0.
+    /// The length of the payload units of a whole answer, at the front of the input, which the next
+    /// rtr_link_next applies; or 0.
     pub answer: usize,
-    /// Whether there are data, which haven't expired.
+    /// Whether there are data, which haven't expired at this time.
     pub has_data: bool,
-    /// Whether the data are in the second data buffer.
+    /// Whether the data are in the second buffer.
     pub second: bool,
-    /// Whether a whole answer is there, whose changes the next call makes; and whether they are
-    /// changes of the data, and not of no data.
+    /// Whether a whole answer is there.
     pub answers: bool,
+    /// Whether its units are changes of the data, and not all payloads.
     pub since: bool,
 }
 

@@ -156,7 +156,7 @@ fn is_linked(link: &RtrLink) -> bool
     (link.phase >= 2 || (link.phase == 1 && flag_from(link.opened))) && !flag_from(link.closed)
 }
 
-/// The status where so many bytes were read into an input of this length.
+/// The status after `size` bytes were read into an input of this length.
 pub(crate) fn received_status(link: &RtrLink, input: usize, size: usize) -> u8
     ensures status { result ≡ received_status link.now input size }
     ensures begun { result ≡ link_ok → is_begun link.now ≡ true }
@@ -175,7 +175,7 @@ pub(crate) fn received_status(link: &RtrLink, input: usize, size: usize) -> u8
     }
 }
 
-/// The status where so many bytes were sent of an output of this length.
+/// The status after `size` bytes were sent of an output of this length.
 pub(crate) fn sent_status(link: &RtrLink, output: usize, size: usize) -> u8
     ensures status { result ≡ sent_status link.now output size }
     ensures begun { result ≡ link_ok → is_begun link.now ≡ true }

@@ -9,8 +9,8 @@ use crate::answer::{
     UNIT_VERSION, UNKNOWN, rule_number,
 };
 use crate::router_action::cause_to;
-use session_client::next::Todo;
 use session_bytes::Refusal;
+use session_client::next::Todo;
 use session_router::event::Ending;
 
 const NOTHING: u8 = 0;
@@ -43,25 +43,25 @@ const OUTPUT_ROOM: u8 = 12;
 #[repr(C)]
 #[derive(Clone, Copy)]
 pub struct RtrTodo {
-    /// When to call again, if nothing comes before; 0 where the call was refused.
+    /// When to call rtr_link_next, if nothing comes before. It may have passed.
     pub wakes: u64,
-    /// The length that a buffer needs.
+    /// The length that a buffer needs: in bytes, of the index in entries.
     pub room: usize,
-    /// The offset in the input of the unit that ends the connection, or of the report that says
-    /// that there are no data.
+    /// The offset in the input of the unit that it is about.
     pub offset: usize,
-    /// The code of the report that is owed.
+    /// The error code of the report that the output ends with.
     pub code: u16,
-    /// What is to be done.
+    /// What to do, an rtr_todo_kind.
     pub kind: u8,
-    /// Why the connection ends.
+    /// Why the connection ends, an rtr_cause.
     pub cause: u8,
-    /// The status of a unit or a change that is refused, and its detail.
+    /// Why a unit or a change is refused, an rtr_status; else 0.
     pub status: u8,
+    /// The detail of the status, as in an rtr_answer.
     pub detail: u8,
     /// Whether there are no data any more.
     pub drops: bool,
-    /// Whether a report is owed.
+    /// Whether the output ends with a report.
     pub reports: bool,
 }
 

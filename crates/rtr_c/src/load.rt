@@ -15,8 +15,8 @@ use crate::answer::{
     fault_status,
 };
 use crate::next::wanted;
-use data_memory::ChangeError;
 use data_loading::{LoadFault, LoadReason, Loaded};
+use data_memory::ChangeError;
 use data_recordings::Refusal;
 use rtr_wire::pdu::ViewFault;
 
@@ -24,30 +24,32 @@ use rtr_wire::pdu::ViewFault;
 #[repr(C)]
 #[derive(Drop)]
 pub struct RtrLoaded {
-    /// The length of the data in bytes. Unless the call succeeded it is 0.
+    /// Bytes of the data, from the front of the output; like all that describes data, 0 unless the
+    /// status is RTR_OK.
     pub length: usize,
-    /// Where the unit at fault begins in the input, or 0 if none is at fault.
+    /// The offset of the unit at fault in the input; 0 if no unit is at fault.
     pub offset: usize,
-    /// With `SHORT`, how many bytes from there on are needed at least, as in an `RtrAnswer`. With
-    /// `NO_INDEX`, how many places the index needs at least. Otherwise 0.
+    /// After RTR_SHORT, the least number of bytes needed from input + offset on, as in an rtr_unit;
+    /// after RTR_NO_INDEX, the least number of entries that the index needs; else 0.
     pub wanted: usize,
     /// The serial number of the data.
     pub serial: u32,
-    /// The refresh interval of the data, in seconds; 0 in version 0.
+    /// The refresh time of the data, in seconds; 0 in version 0.
     pub refresh: u32,
-    /// The retry interval, as the refresh interval.
+    /// The retry time of the data, likewise.
     pub retry: u32,
-    /// The expire interval, as the refresh interval.
+    /// The expire time of the data, likewise.
     pub expire: u32,
     /// The session of the data.
     pub session: u16,
-    /// The protocol version of the data.
+    /// The protocol version of the data, and of each of their units.
     pub version: u8,
-    /// Whether an answer was left out, since the next one began before its end of data.
+    /// Whether an answer was left out: the next one began before its end.
     pub has_cut: bool,
-    /// How the call ended.
+    /// The result of the call, an rtr_status, which the call returns too.
     pub status: u8,
-    /// With `OTHER_VERSION` the version of the unit at fault, else as in an `RtrAnswer`.
+    /// The version that RTR_OTHER_VERSION refuses; else the detail of the status, as in an
+    /// rtr_answer.
     pub detail: u8,
 }
 

@@ -44,8 +44,8 @@ impl RtrLookup {
     }
 }
 
-/// As `data_slices::check_data`: where the input begins with data, the lookup is theirs, and else it
-/// is of none.
+/// As `data_slices::check_data`: where the input begins with data, the lookup is theirs, and else
+/// it is of none.
 #[unsafe(no_mangle)]
 pub extern "C" fn rtr_check_data_nonnull(
     data: &[u8],

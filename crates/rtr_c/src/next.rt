@@ -14,7 +14,6 @@ ghost use Rattle.rtr_c.specs.ShownUnits.{ShowsFirst, ShowsReport, none, bare_sho
 
 use crate::answer::{ACCEPTED, fault_detail, fault_status};
 use crate::unit::RtrUnit;
-use unit_any::{ReportView, SessionFault, SessionView};
 use rtr_units::fixed_unit::FixedUnit;
 use rtr_units::numbers::{u32_at, u128_bytes};
 use rtr_wire::payload::Action;
@@ -22,6 +21,7 @@ use rtr_wire::pdu::{
     Aspa, AspaView, CacheResponse, EndOfData, Error, Ipv4Prefix, Ipv6Prefix, OriginView, RouterKey,
     RouterKeyView, SerialNotify, SerialQuery, Unit, UnitView, ViewFault,
 };
+use unit_any::{ReportView, SessionFault, SessionView};
 
 /// The bytes of a report beside its parts: a header and two lengths.
 pub(crate) const REPORT_FIXED: usize = 16;

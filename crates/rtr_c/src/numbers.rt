@@ -66,8 +66,8 @@ pub extern "C" fn rtr_version_has(version: u8, kind: u8) -> bool
 }
 
 /// Whether a report is owed to the peer for this status of the unit that the input begins with, as
-/// `unit_views::fault::owed_code`: none for an error report. The error code is put into `code`, or 0
-/// if none is owed.
+/// `unit_views::fault::owed_code`: none for an error report. The error code is put into `code`, or
+/// 0 if none is owed.
 #[unsafe(no_mangle)]
 pub extern "C" fn rtr_error_code_nonnull(status: u8, input: &[u8], code: &mut u16) -> bool
     ensures { TellsCode (code_owed status input.now) code.new result }

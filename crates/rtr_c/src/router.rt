@@ -11,15 +11,25 @@ use session_router::settings::Settings;
 #[repr(C)]
 #[derive(Clone, Copy)]
 pub struct RtrSettings {
+    /// The most bytes of an answer's payload units; default 128 MiB.
     pub most_bytes: u64,
+    /// The least time between two queries or connections; default 1 s.
     pub pause: u32,
+    /// The time limit for connecting; default 30 seconds.
     pub connect_limit: u32,
+    /// The time limit from a query to its end of data; default 2 minutes.
     pub response_limit: u32,
+    /// The refresh time, used instead of the cache's (RFC 8210 section 6) if it isn't 0.
     pub refresh: u32,
+    /// The retry time, likewise.
     pub retry: u32,
+    /// The expire time, likewise.
     pub expire: u32,
+    /// The most payload units of an answer; default 4 million.
     pub most_units: u32,
+    /// A random number: growing waits are shortened by chance / 131072.
     pub chance: u16,
+    /// The version in which a connection begins: 0, 1 or 2.
     pub highest: u8,
 }
 
@@ -30,11 +40,17 @@ const _: () = prove!(size_of::<RtrSettings>() == 40);
 #[repr(C)]
 #[derive(Clone, Copy)]
 pub struct RtrKnown {
+    /// The serial number of the data.
     pub serial: u32,
+    /// The refresh time of the data, in seconds.
     pub refresh: u32,
+    /// The retry time of the data, in seconds.
     pub retry: u32,
+    /// The expire time of the data, in seconds.
     pub expire: u32,
+    /// The session of the data.
     pub session: u16,
+    /// The protocol version of the data.
     pub version: u8,
 }
 
@@ -53,16 +69,16 @@ pub struct RtrRouter {
     pub due: u64,
     pub rises: u64,
     pub bytes: u64,
+    /// The session, serial number and times of the data, if `has_data`.
     pub known: RtrKnown,
     pub answer: RtrKnown,
     pub wait: u32,
     pub rise_wait: u32,
+    /// The number of payload units of the response so far.
     pub units: u32,
     pub note: u32,
     pub session: u16,
-    /// 0 without a connection, 1 while one is made, 2 while the first unit of an answer is awaited,
-    /// 3 in a response, 4 while its changes are made, 5 while the router waits. Any other number
-    /// stands for 0.
+    /// The state of the router, an rtr_phase; any other number stands for RTR_PHASE_OFFLINE.
     pub phase: u8,
     pub version: u8,
     pub floor: u8,

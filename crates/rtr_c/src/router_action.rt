@@ -9,10 +9,10 @@ use crate::answer::{
     DUPLICATE, EMPTY_PROVIDERS, PREFIX, SHORT, TOO_LONG, UNIT_LENGTH, UNIT_TYPE, UNIT_VERSION,
     UNKNOWN,
 };
+use rtr_wire::pdu::PrefixRule;
 use session_bytes::Refusal;
 use session_router::event::{Action, Cause, Ending};
 use session_router::head::Query;
-use rtr_wire::pdu::PrefixRule;
 
 const WAIT: u8 = 0;
 
@@ -21,7 +21,7 @@ const CONNECT: u8 = 1;
 const ASK: u8 = 2;
 
 const BEGIN: u8 = 3;
-/// Keep so many bytes of the input.
+/// Keep the first bytes of the input, of this number.
 pub(crate) const KEEP: u8 = 4;
 
 const APPLY: u8 = 5;
@@ -42,28 +42,32 @@ const EXPIRED: u8 = 13;
 #[repr(C)]
 #[derive(Clone, Copy)]
 pub struct RtrAction {
-    /// Where the unit begins that the action is about.
+    /// The offset in the input of the unit that the action is about.
     pub start: usize,
-    /// Where it ends, and with it what was taken of the input.
+    /// The number of bytes of the input that were consumed, that unit included; a unit that is
+    /// refused isn't consumed, since the connection ends.
     pub taken: usize,
-    /// Where no whole unit is there, how many bytes of the input are needed at least.
+    /// After rtr_router_read, if there is no whole unit, the least number of input bytes needed, as
+    /// in an rtr_unit.
     pub wanted: usize,
     /// The serial number of a serial query.
     pub serial: u32,
     /// The session of a serial query.
     pub session: u16,
-    /// The code of the report that the end of the connection owes.
+    /// The error code of the report.
     pub code: u16,
-    /// What is to be done.
+    /// What to do, an rtr_action_kind.
     pub kind: u8,
-    /// The version of a query, or of the connection that ends.
+    /// The version of a query or a report.
     pub version: u8,
-    /// Why the connection ends.
+    /// Why the connection ends, an rtr_cause.
     pub cause: u8,
-    /// The status of a unit or a change that is refused, and its detail.
+    /// Why a unit or a change is refused, an rtr_status; else 0.
     pub status: u8,
+    /// The detail of the status, as in an rtr_answer.
     pub detail: u8,
-    /// Whether a query is a serial query; whether changes are to be made of the data, or of none.
+    /// For RTR_ASK, whether the query is a serial query; for RTR_APPLY, whether the units change
+    /// the data.
     pub changes: bool,
     /// Whether there are no data any more.
     pub drops: bool,

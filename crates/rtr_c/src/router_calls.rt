@@ -43,7 +43,8 @@ pub extern "C" fn rtr_settings_usual(settings: &mut RtrSettings, highest: u8)
     *settings = settings_to(&Settings::usual(highest));
 }
 
-/// Begins a router without data, whatever the struct holds, as `session_router::router::Router::new`.
+/// Begins a router without data, whatever the struct holds, as
+/// `session_router::router::Router::new`.
 #[unsafe(no_mangle)]
 pub extern "C" fn rtr_router_init(router: &mut RtrRouter, settings: &RtrSettings)
     ensures { router_of router.new ≡ new_router (settings_of settings.now) }

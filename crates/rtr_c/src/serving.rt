@@ -23,29 +23,33 @@ const END: u8 = 6;
 /// The code of a report that there are no data yet (RFC 8210 section 12).
 const NO_DATA_CODE: u16 = 2;
 
-/// What the machine answers: as `session_cache::event::Answer`, with what is needed to send it. Fields
-/// that an answer doesn't have are zero.
+/// What the machine answers: as `session_cache::event::Answer`, with what is needed to send it.
+/// Fields that an answer doesn't have are zero.
 #[repr(C)]
 #[derive(Clone, Copy)]
 pub struct RtrServing {
-    /// What was taken of the input.
+    /// The number of bytes of the input that were consumed: its first unit; a unit that is refused
+    /// isn't consumed, since the connection ends.
     pub taken: usize,
-    /// Where no whole unit is there, how many bytes of the input are needed at least.
+    /// After rtr_cache_read, if there is no whole unit, the least number of input bytes needed, as
+    /// in an rtr_unit.
     pub wanted: usize,
-    /// The serial number of all data or of a notify, or that which changes lead from.
+    /// The serial number of all data or a notify; for RTR_SERVE_CHANGES, that of the data from
+    /// which they lead.
     pub serial: u32,
-    /// The session of data, of changes or of a notify.
+    /// The session of all data, changes or a notify.
     pub session: u16,
-    /// The code of a report.
+    /// The error code of the report.
     pub code: u16,
-    /// What is to be sent.
+    /// What to send, an rtr_serving_kind.
     pub kind: u8,
-    /// The version of all that is sent.
+    /// The protocol version of what is sent.
     pub version: u8,
-    /// Why the connection ends.
+    /// Why the connection ends, an rtr_reason.
     pub reason: u8,
-    /// The status of a unit that is refused, and its detail.
+    /// Why a unit is refused, an rtr_status; else 0.
     pub status: u8,
+    /// The detail of the status, as in an rtr_answer.
     pub detail: u8,
     /// Whether a report is owed.
     pub reports: bool,

@@ -7,10 +7,8 @@ ghost use Rattle.unit_any.specs.Lengths.{SaysLength, IsBounded};
 ghost use Rattle.rtr_c.specs.Sizes.{TellsSize};
 
 use crate::answer::{ACCEPTED, SHORT, fault_detail, fault_status};
+use rtr_units::header::HEADER_SIZE;
 use unit_any::length::unit_length;
-
-/// The bytes of a header.
-const HEADER: usize = 8;
 
 /// As `unit_any::length::unit_length`. If fewer bytes than a header's are there, `size` is how
 /// many are wanted.
@@ -23,7 +21,7 @@ pub extern "C" fn rtr_unit_size_nonnull(input: &[u8], size: &mut usize, detail: 
 {
     let (status, length, refused) = match unit_length(input) {
         Ok(Some(length)) => (ACCEPTED, length, 0),
-        Ok(None) => (SHORT, HEADER, 0),
+        Ok(None) => (SHORT, HEADER_SIZE, 0),
         Err(fault) => (fault_status(&fault), 0, fault_detail(&fault)),
     };
     *size = length;

@@ -20,13 +20,13 @@ const OTHER_SESSION: u8 = 5;
 const SESSION_LEFT: u8 = 6;
 /// The data are of another protocol version than those before.
 const OTHER_VERSION: u8 = 7;
-/// The data are those that are served.
+/// The data equal the served ones.
 const SAME_DATA: u8 = 8;
-/// Only the times of the data differ from those that are served.
+/// Only the times differ from those of the served data.
 const OTHER_TIMES: u8 = 9;
 /// The serial number of the data isn't later than that of the data before.
 const OLD_SERIAL: u8 = 10;
-/// The bytes are no store, or no history.
+/// The bytes aren't a store, or aren't a history.
 const MALFORMED: u8 = 11;
 /// A buffer is too short.
 const NO_ROOM: u8 = 12;
@@ -52,19 +52,20 @@ const SECOND: u8 = 6;
 #[repr(C)]
 #[derive(Drop)]
 pub struct RtrStoresAnswer {
-    /// The length of what was written. Unless the call succeeded it is 0.
+    /// The length of the store or the changes that were written.
     pub length: usize,
-    /// With `FLAW`, where the unit at fault begins in the data. Otherwise 0.
+    /// After RTR_STORES_FLAW, the offset of the unit at fault in the data.
     pub offset: usize,
-    /// With `NO_ROOM`, how long the buffer has to be. Otherwise 0.
+    /// After RTR_STORES_NO_ROOM, the length that suffices for this call; of the index in entries.
     pub wanted: usize,
-    /// How the call ended.
+    /// The result of the call, an rtr_stores_status.
     pub status: u8,
-    /// With `NO_ROOM`, which buffer is too short. Otherwise 0.
+    /// After RTR_STORES_NO_ROOM, the buffer that is too short, an rtr_room.
     pub room: u8,
-    /// With `FLAW`, the status of the flaw, as in an `RtrDataAnswer`. Otherwise 0.
+    /// After RTR_STORES_FLAW, why the unit is refused, an rtr_status.
     pub flaw: u8,
-    /// With `FLAW` as in an `RtrDataAnswer`, with `OTHER_VERSION` the version of the data.
+    /// After RTR_STORES_FLAW, the detail of that, as in an rtr_data_answer; after
+    /// RTR_STORES_OTHER_VERSION, the version of the data.
     pub detail: u8,
 }
 
@@ -72,7 +73,7 @@ pub struct RtrStoresAnswer {
 const _: () = prove!(size_of::<RtrStoresAnswer>() == 32);
 
 impl RtrStoresAnswer {
-    /// The call succeeded, and wrote so many bytes.
+    /// The call succeeded, and wrote this number of bytes.
     pub(crate) fn wrote(length: usize) -> Self
         ensures { result ≡ wrote_answer length }
     {

@@ -26,7 +26,7 @@ use data_history::{Limits, Stores};
 pub struct RtrHistoryLimits {
     /// A step is kept for this many milliseconds after it was made.
     pub time: u64,
-    /// The steps have at most this many bytes, with the 16 bytes before each.
+    /// The steps have at most this many bytes, with 16 bytes for each step.
     pub bytes: usize,
 }
 

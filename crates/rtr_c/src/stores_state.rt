@@ -12,17 +12,17 @@ use data_history::Stores;
 #[repr(C)]
 #[derive(Clone, Copy)]
 pub struct RtrStoresState {
-    /// The offset of the history that is served, in the buffer of its store, or 0.
+    /// The offset of the history that is served, in the buffer of its store.
     pub offset: usize,
-    /// The length of the history, or 0.
+    /// The length of that history.
     pub length: usize,
-    /// The length of the store to save, at the front of the other buffer, or 0.
+    /// The length of the store to save, at the front of the other buffer.
     pub taken: usize,
     /// Whether a history is served.
     pub serves: bool,
-    /// Whether a store waits to be saved.
+    /// Whether a store has to be saved.
     pub waits: bool,
-    /// Whether the store that is served is in the second buffer.
+    /// Whether the second buffer has the store that is served, and the first the other one.
     pub second: bool,
 }
 

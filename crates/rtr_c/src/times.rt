@@ -8,8 +8,8 @@ ghost use Rattle.rtr_c.specs.TimeRules.{time_rule_name, time_rule_number};
 use rtr_base::timing::Timing;
 use session_times::{TimeRule, broken_time_rule};
 
-/// The first rule that these times break, in seconds, as `session_times::broken_time_rule`: 1 to 5, or
-/// 0 if they keep all rules.
+/// The first rule that these times break, in seconds, as `session_times::broken_time_rule`: 1 to 5,
+/// or 0 if they keep all rules.
 #[unsafe(no_mangle)]
 pub extern "C" fn rtr_times_rule(refresh: u32, retry: u32, expire: u32) -> u8
     ensures { result ≡ time_rule_number (broken_time_rule (record {

@@ -7,56 +7,55 @@ ghost use Rattle.rtr_c.specs.ShownUnits.{none};
 #[repr(C)]
 #[derive(Drop)]
 pub struct RtrUnit {
-    /// Bytes of the unit in the input. Of a unit that is refused for its prefix lengths, too.
+    /// Bytes of the unit in the input, header included; also set if rtr_next returns RTR_PREFIX.
     pub size: usize,
-    /// If the input is too short, how many bytes of it are needed at least: 8 without a whole
-    /// header, and then the length of the unit.
+    /// If rtr_next returns RTR_SHORT, the least number of input bytes needed: 8 without a whole
+    /// header, else the length of the unit.
     pub wanted: usize,
-    /// Where the key info of a router key, the providers of an ASPA, or the unit that an error
-    /// report is about begin in the input.
+    /// The offset in the unit of a router key's key info, an ASPA's providers, or the unit that a
+    /// report encloses.
     pub part_start: usize,
-    /// Their length in bytes: four for each provider.
+    /// The length of that part in bytes; a provider has 4, in network byte order.
     pub part_length: usize,
-    /// Where the text of an error report begins in the input. Of a report whose inner lengths don't
-    /// fit, part and text are 0.
+    /// The offset in the unit of a report's text. A report whose inner lengths don't fit has 0 here
+    /// and in part_start and both lengths.
     pub text_start: usize,
-    /// Its length in bytes.
+    /// The length of a report's text in bytes; it should be UTF-8, which isn't checked.
     pub text_length: usize,
-    /// The autonomous system of a prefix or a router key.
+    /// The AS of a prefix or a router key.
     pub asn: u32,
-    /// The customer of an ASPA.
+    /// The customer AS of an ASPA.
     pub customer: u32,
     /// The serial number of a serial notify, a serial query or an end of data.
     pub serial: u32,
-    /// The refresh interval of an end of data, in seconds; 0 in version 0.
+    /// The refresh time of an end of data, in seconds; 0 in version 0.
     pub refresh: u32,
-    /// The retry interval, as the refresh interval.
+    /// The retry time of an end of data, likewise.
     pub retry: u32,
-    /// The expire interval, as the refresh interval.
+    /// The expire time of an end of data, likewise.
     pub expire: u32,
     /// The session of a serial notify, a serial query, a cache response or an end of data.
     pub session: u16,
-    /// The error code of an error report.
+    /// The error code of a report (RFC 8210 section 12).
     pub code: u16,
-    /// The type of the unit (RFC 8210 sections 5.2 to 5.11): 0 for a serial notify, 1 for a serial
-    /// query, 2 for a reset query, 3 for a cache response, 4 and 6 for a prefix, 7 for an end of
-    /// data, 8 for a cache reset, 9 for a router key, 10 for an error report, 11 for an ASPA.
+    /// The kind of the unit, an rtr_kind.
     pub kind: u8,
-    /// The version of the protocol.
+    /// The protocol version of the unit.
     pub version: u8,
-    /// 1 if the payload is announced, 0 if it is withdrawn, and 0 for what has no payload.
+    /// 1 if the payload is announced, 0 if it is withdrawn; 0 for what has no payload.
     pub action: u8,
-    /// 4 for IPv4 and 6 for IPv6.
+    /// The address family of a prefix, 4 or 6.
     pub family: u8,
-    /// The prefix length.
+    /// The length of a prefix.
     pub prefix_length: u8,
-    /// The max length.
+    /// The max length of a prefix.
     pub max_length: u8,
-    /// The address; for IPv4 the first four bytes. The bits after the prefix length are zero.
+    /// The address of a prefix, in network byte order, the bits after the prefix length zero; for
+    /// IPv4 the first 4 bytes.
     pub address: [u8; 16],
     /// The subject key identifier of a router key.
     pub key_identifier: [u8; 20],
-    /// If a unit is refused, the detail of the status.
+    /// If rtr_next returns a fault, its detail, as in an rtr_answer; else 0.
     pub detail: u8,
 }
 

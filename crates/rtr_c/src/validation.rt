@@ -7,8 +7,8 @@ ghost use Rattle.rtr_c.specs.Routes.{ShowsCovering, ShowsNone, ShowsOne, TellsCo
 ghost use Rattle.rtr_c.specs.Routes.{TellsValidity, mismatch_number, route_prefix, validity_number};
 
 use crate::lookup::RtrLookup;
-use rtr_units::numbers::{u32_at, u128_at};
 use data_validation::{CoveringVrp, Mismatch, Route, Tables, Validity, first_covering, validate};
+use rtr_units::numbers::{u32_at, u128_at};
 use rtr_wire::base::{Asn, Prefix};
 
 /// The family or the prefix length of a route is none.
@@ -29,13 +29,15 @@ const COVERS_UNCHECKED: u8 = 3;
 #[repr(C)]
 #[derive(Clone, Copy)]
 pub struct RtrRoute {
-    /// Its origin AS, or 0.
+    /// The origin AS; 0 if there is no single one, as with an AS_SET at the end of the path: then
+    /// no VRP matches.
     pub asn: u32,
-    /// 4 or 6.
+    /// The address family, 4 or 6.
     pub family: u8,
-    /// The length of its prefix.
+    /// The length of the prefix.
     pub prefix_length: u8,
-    /// The address of its prefix; one of IPv4 is in the first four bytes. Host bits don't count.
+    /// The address, in network byte order, for IPv4 the first 4 bytes; the bits after the prefix
+    /// length are ignored.
     pub address: [u8; 16],
 }
 
@@ -46,23 +48,23 @@ const _: () = prove!(size_of::<RtrRoute>() == 24);
 #[repr(C)]
 #[derive(Clone, Copy)]
 pub struct RtrCovering {
-    /// Which payload of the data it is, from 0.
+    /// The index of the payload in the data, from 0.
     pub place: usize,
-    /// Its AS.
+    /// The AS of the VRP.
     pub asn: u32,
     /// The length of its prefix.
     pub prefix_length: u8,
-    /// The longest prefix length that is meant.
+    /// Its max length.
     pub max_length: u8,
-    /// Why it doesn't match the route, or 0 where it does.
+    /// Why it doesn't match the route, an rtr_mismatch.
     pub mismatch: u8,
 }
 
 // The fields stand one after the other, and a byte is left at the end.
 const _: () = prove!(size_of::<RtrCovering>() == 16);
 
-/// As `data_validation::validate`: 0 not found, 1 valid, 2 invalid; 3 where the family or the prefix
-/// length is none; 4 where these aren't the data that the lookup was made of.
+/// As `data_validation::validate`: 0 not found, 1 valid, 2 invalid; 3 where the family or the
+/// prefix length is none; 4 where these aren't the data that the lookup was made of.
 #[unsafe(no_mangle)]
 pub extern "C" fn rtr_validate_nonnull(data: &[u8], lookup: &RtrLookup, route: &RtrRoute) -> u8
     ensures { TellsValidity (is_sealed «data».now lookup.now) (route_prefix route.now) «data».now

@@ -17,9 +17,7 @@ use crate::answer::{
 use crate::next::REPORT_FIXED;
 use crate::unit::RtrUnit;
 use rtr_payload::pdu::{PrefixUnit, flagged_header};
-use unit_any::placing::place_report;
 use rtr_units::header::{LAST_VERSION, MAX_SIZE};
-use unit_views::placing::place;
 use rtr_wire::base::Asn;
 use rtr_wire::payload::{RouteOrigin, Timing};
 use rtr_wire::pdu::{
@@ -27,6 +25,8 @@ use rtr_wire::pdu::{
     ProviderAsns, ResetQuery, RouterKey, SerialNotify, SerialQuery, Unit,
 };
 use rtr_wire::state::{Serial, State};
+use unit_any::placing::place_report;
+use unit_views::placing::place;
 
 /// The most bytes of key info in a router key that is read.
 const MAX_KEY_INFO: usize = MAX_SIZE as usize - RouterKey::FIXED;
@@ -263,7 +263,7 @@ pub(crate) fn part_of<'a>(unit: &RtrUnit, input: &'a [u8]) -> Option<&'a [u8]>
     piece_of(unit.part_start, unit.part_length, input)
 }
 
-/// So many bytes of the input from this place on, if they lie in it.
+/// The bytes of the input from this offset on, of this number, if they lie in it.
 #[inline(always)]
 fn piece_of(start: usize, size: usize, input: &[u8]) -> Option<&[u8]>
     ensures piece { option_copied result ≡ piece_said start size input.now }
