@@ -1,9 +1,9 @@
 //! A list of VRPs as CSV.
 
 use csv::{ReaderBuilder, StringRecord};
+use data_memory::{ChangeError, Data};
 use rtr_base::addr::{MaxLenPrefix, Prefix};
 use rtr_base::asn::Asn;
-use data_memory::{ChangeError, Data};
 use rtr_payload::payload::Payload;
 use std::alloc::Global;
 

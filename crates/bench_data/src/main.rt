@@ -1,5 +1,5 @@
-//! What `bench/data` and `bench/vrps` measure of `Data`. It reads standard input, and does what its
-//! argument says.
+//! What `bench/data.py` and `bench/vrps.py` measure of `Data`. It reads standard input, and does what
+//! its argument says.
 //!
 //! Of two sequences of units `units` makes a payload of each unit of the first; `announce` also
 //! announces it to a `Data`; `both` does so with the second and another `Data`, too; `delta` also

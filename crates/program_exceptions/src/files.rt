@@ -1,9 +1,9 @@
 //! SLURM files.
 
+use data_slurm::{JoinError, Slurm, SlurmReason, SlurmRefusal, read_slurm};
 use json::Scratch;
 use program_files::Input;
 use program_frame::Escaped;
-use data_slurm::{JoinError, Slurm, SlurmReason, SlurmRefusal, read_slurm};
 use std::io::{Read, Write};
 use std::{fmt, io};
 

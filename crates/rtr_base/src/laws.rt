@@ -58,7 +58,7 @@ pub fn serial_half_circle()
         serial_cmp ((a + m) % 2 ^ 32) ((a + n) % 2 ^ 32) ≡ Some (nat_cmp m n) }
 {}
 
-/// `FromStr` gives back what `Display` wrote: on the text of a value its answer is that value.
+/// `FromStr` reads what `Display` wrote: from the text of a value it returns that value.
 pub fn texts_read_back()
     ensures asn { (n : ℕ) (read : Result ℕ ParseAsnError) → n < 2 ^ 32 →
         ParsesAsn (asn_text n) read → read ≡ Ok n }

@@ -21,7 +21,6 @@ use crate::flushing::{Flushed, flush};
 use crate::wanted::WantedForm;
 use rtr_payload::payload;
 use rtr_payload::pdu::{Aspa, Payload, PayloadUnit, RouterKey};
-use unit_any::AnyUnit;
 use rtr_units::end::EndOfData;
 use rtr_units::fault::Fault;
 use rtr_units::prefixes::Ipv4Prefix;
@@ -29,9 +28,10 @@ use rtr_units::queries::{CacheReset, ResetQuery};
 use rtr_units::source::{Sink, Source};
 use rtr_units::unit::Unit;
 use std::alloc::Global;
+use unit_any::AnyUnit;
 
-/// Reads units up to the end of the input, and writes what is wanted of each before it reads on.
-/// Memory is asked for one unit at a time.
+/// Reads units up to the end of the input, and writes what is wanted of each before it reads on. It
+/// allocates one unit at a time.
 ///
 /// The output is flushed after each unit that ends an answer: all do but a cache response and
 /// payload units, after which an end of data comes. So what a peer waits for never waits here. Of
@@ -71,7 +71,7 @@ pub enum PassedUnit {
     Answer(Flushed),
 }
 
-/// Reads a unit and writes what is wanted of it, and adds its size to the offset. Answers none
+/// Reads a unit and writes what is wanted of it, and adds its size to the offset. Returns none
 /// where the input has ended.
 fn pass<R: Source, W: Sink>(
     alloc: Global,

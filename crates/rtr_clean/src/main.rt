@@ -24,7 +24,7 @@ const REFUSED: u8 = 1;
 /// The status if a file can't be opened.
 const FAILED: u8 = 3;
 
-/// What the program says of itself.
+/// The texts of --help and --version.
 const MANUAL: Manual = Manual {
     name: "rtr_clean",
     version: "rtr_clean 0.3.0\n",
@@ -89,7 +89,7 @@ fn unread(name: &str, error: &io::Error, faults: &mut Stderr) -> u8 {
     FAILED
 }
 
-/// Does what the words ask for with the file of this name, and answers the status. Faults are told
+/// Does what the words ask for with the file of this name, and returns the status. Faults are told
 /// of the name that is shown.
 fn clean_file(
     rt: &HostRuntime,

@@ -24,7 +24,7 @@ const REFUSED: u8 = 1;
 /// The status if reading, writing, flushing or memory failed.
 const FAILED: u8 = 3;
 
-/// Runs the program with the words that it was started with, its name first, and answers the exit
+/// Runs the program with the words that it was started with, its name first, and returns the exit
 /// status. Where they ask for units, they are read up to the end of the input, what is wanted of
 /// them is written, and the output is flushed once more:
 /// - 0 if both succeeded;
@@ -34,8 +34,8 @@ const FAILED: u8 = 3;
 /// A flush that fails after another status doesn't change it. Where they ask for help or the
 /// version that is written, with 0 or 3. Otherwise, and where there are no words, since they can't
 /// be had as texts, a line on `faults` says how the program is called, and the status is 2.
-/// Statuses 1 and 3 come with a line there that begins with the program's name; of a pipe that
-/// nobody reads any more nothing is said. If a line can't be written, nothing else changes.
+/// Statuses 1 and 3 come with a line there that begins with the program's name; a broken pipe is
+/// not reported. If a line can't be written, nothing else changes.
 pub fn program<R: Source, W: Sink, F: Write>(
     alloc: Global,
     manual: &Manual,
@@ -75,7 +75,7 @@ pub fn program<R: Source, W: Sink, F: Write>(
 }
 
 /// Reads units up to the end of the input and writes what is wanted, flushes the output once more,
-/// and answers the exit status, as `program` says.
+/// and returns the exit status, as `program` says.
 fn run<R: Source, W: Sink, F: Write>(
     alloc: Global,
     name: &str,
@@ -103,7 +103,7 @@ fn run<R: Source, W: Sink, F: Write>(
     }
 }
 
-/// Says what the fault is, with the place of its unit where it is the input's, and answers the
+/// Says what the fault is, with the place of its unit where it is the input's, and returns the
 /// status.
 fn tell<F: Write>(name: &str, fault: &Fault, offset: u64, faults: &mut F) -> u8
     ensures { result ≡ clean_status (Err (cause_of fault.now)) true }

@@ -70,8 +70,8 @@ impl RouterKey {
         }
     }
 
-    /// The same key once more. The bytes of its info are shared: no memory is asked for, and
-    /// `AllocError` says that the count of those that share them is full.
+    /// Another handle to the same key. It shares the bytes of its info, so nothing is allocated;
+    /// `AllocError` comes if the count of handles is at its maximum.
     pub fn clone(&self) -> Result<Self, AllocError>
         ensures { IfOk result (λ k. k ≡ self.now) }
     {
@@ -122,8 +122,8 @@ impl Aspa {
         Ok(Aspa::new(self.customer, providers))
     }
 
-    /// The same ASPA once more. The bytes of its providers are shared: no memory is asked for, and
-    /// `AllocError` says that the count of those that share them is full.
+    /// Another handle to the same ASPA. It shares the bytes of its providers, so nothing is
+    /// allocated; `AllocError` comes if the count of handles is at its maximum.
     pub fn clone(&self) -> Result<Self, AllocError>
         ensures { IfOk result (λ a. a ≡ self.now) }
     {

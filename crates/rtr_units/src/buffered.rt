@@ -41,7 +41,7 @@ impl<R> BufferedSource<R> {
         }
     }
 
-    /// Gives back the reader.
+    /// Returns the reader.
     pub fn into_inner(self) -> BufReader<R>
         ensures { result ≡ self.inner }
     {
@@ -148,14 +148,14 @@ impl<W: Write + Drop> BufferedSink<W> {
         }
     }
 
-    /// Gives back the writer, which may hold bytes that aren't written yet.
+    /// Returns the writer, which may hold bytes that aren't written yet.
     pub fn into_inner(self) -> BufWriter<W>
         ensures { result ≡ self.inner }
     {
         self.counted.into_inner()
     }
 
-    /// Whether the buffer has room for so many bytes, and more.
+    /// Reports whether the buffer has room for `size` bytes and one more.
     #[inline(always)]
     fn has_room(&self, size: usize) -> bool {
         let writer = &self.counted.inner;

@@ -2,8 +2,7 @@
 
 ghost use Rattle.std.specs.Prelude.{◌≡◌, ◌≤◌, length};
 
-/// The bytes of a header.
-const HEADER: usize = 8;
+use crate::header::HEADER_SIZE;
 
 /// The bytes that follow the header of an IPv4 prefix.
 const IPV4_REST: usize = 12;
@@ -22,7 +21,7 @@ pub(crate) fn copy(piece: &mut [u8], bytes: &[u8])
     ensures { piece.new ≡ bytes.now }
 {
     match bytes.len() {
-        HEADER => copy_word::<8>(piece, bytes),
+        HEADER_SIZE => copy_word::<8>(piece, bytes),
         IPV4_REST => {
             let (word, rest) = piece.split_at_mut(4);
             let (word_bytes, rest_bytes) = bytes.split_at(4);

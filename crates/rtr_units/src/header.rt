@@ -22,6 +22,9 @@ use crate::source::{Sink, Source};
 /// Rust crate `rpki`).
 pub const MAX_SIZE: u32 = 65535;
 
+/// The bytes of a header.
+pub const HEADER_SIZE: usize = 8;
+
 /// The last known version of the protocol. No end of data of a later version is read, and no
 /// sequence is written in one, which is this library's own.
 pub const LAST_VERSION: u8 = 2;

@@ -65,7 +65,7 @@ impl SerialNotify {
     }
 }
 
-/// A router asks for what is new since a state (section 5.3): 12 bytes.
+/// A router's query for the changes since a state (section 5.3): 12 bytes.
 pub type SerialQuery = FixedUnit<1, 12>;
 
 impl SerialQuery {
@@ -192,7 +192,7 @@ impl CacheResponse {
     }
 }
 
-/// The cache can't say what is new since the state asked for (section 5.9): 8 bytes.
+/// The cache doesn't have the changes since the state of the query (section 5.9): 8 bytes.
 pub type CacheReset = FixedUnit<8, 8>;
 
 impl CacheReset {

@@ -18,9 +18,9 @@ use unit_views::fault::ViewFault;
 use unit_views::placing::place;
 use unit_views::view::UnitView;
 
-/// How far a call came: whole units taken from the front of the input, and what is written of them
-/// at the front of the output. Of a unit that is refused no byte counts, whereas `normalise` has
-/// taken those that show its fault from its reader.
+/// How far a call came: whole units read from the front of the input, and the bytes written of them
+/// to the front of the output. No byte of a refused unit counts, whereas `normalise` has taken the
+/// bytes that show its fault from its reader.
 #[derive(Clone, Copy, Debug, PartialEq, Eq)]
 pub struct Progress {
     /// Payload units that were taken.
@@ -36,7 +36,7 @@ pub struct Progress {
 /// Why a call stopped before an end of data.
 #[derive(Debug, Drop, thiserror::Error)]
 pub enum IntoFault {
-    /// The output has no room for what is to be written next.
+    /// The output has no room for the next bytes.
     #[error("no room in the output")]
     NoRoom,
     /// As many units as were allowed were taken.
@@ -47,13 +47,13 @@ pub enum IntoFault {
     Refused(ViewFault),
 }
 
-/// As `normalise_slice`, into a slice. It says how far it came, also where it stops early: what it
-/// wrote then is the form of the whole units before the one that it stopped at, none of whose
-/// bytes count as taken. What follows in the output is as it was.
+/// As `normalise_slice`, into a slice. It returns how far it came, also at an early stop: the
+/// output then begins with the form of the whole units before the one at which it stopped, and no
+/// byte of that one counts as taken. The rest of the output is unchanged.
 ///
-/// At most `limit` units are viewed, the end of data included: `TooMany` comes before the next
-/// one. Then `Refused`, with the faults of `UnitView::first`, and then `NoRoom`, which never comes
-/// where the output is at least as long as the input.
+/// At most `limit` units are read, the end of data included: `TooMany` comes before the next one.
+/// Then `Refused`, with the faults of `UnitView::first`, and then `NoRoom`, which never comes if
+/// the output is at least as long as the input.
 pub fn normalise_into(
     input: &[u8],
     output: &mut [u8],

@@ -2,10 +2,10 @@
 
 use crate::expect::{expect, expect_equal, expect_text};
 use crate::support::filler;
+use data_memory::{ChangeError, Data};
 use rtr_base::asn::Asn;
 use rtr_base::error_code::ErrorCode;
 use rtr_base::keys::KeyIdentifier;
-use data_memory::{ChangeError, Data};
 use rtr_payload::payload::Payload;
 use rtr_payload::pdu::{ProviderAsns, RouterKeyInfo};
 use std::alloc::Global;

@@ -6,9 +6,9 @@ mod flushes;
 mod reports;
 mod units;
 
-use unit_any::AnyUnit;
 use rtr_units::source::Source;
 use std::alloc::Global;
+use unit_any::AnyUnit;
 
 /// What comes of reading the next unit: a name, or the text of the fault.
 fn next<R: Source>(alloc: Global, reader: &mut R) -> Option<String> {

@@ -3,7 +3,6 @@
 //! `docs/RATTLE.md` shows some of them.
 
 use data_memory::Data;
-use unit_any::answering::{Reply, reply_to_fault};
 use rtr_wire::base::{Asn, MaxLenPrefix, ParseMaxLenPrefixError};
 use rtr_wire::payload::{Action, Aspa, Payload, RouteOrigin, Timing};
 use rtr_wire::pdu::{
@@ -16,6 +15,7 @@ use std::alloc::{AllocError, Global};
 use std::env;
 use std::fs::File;
 use std::io::{self, BufReader, BufWriter};
+use unit_any::answering::{Reply, reply_to_fault};
 
 mod tests;
 
@@ -30,7 +30,7 @@ pub fn words(rt: &HostRuntime) -> io::Result<Vec<String>> {
     Ok(env::args(rt)?.collect(rt.alloc())?)
 }
 
-/// Writes the form of the sequence in one file to another. Answers the number of payload units.
+/// Writes the form of the sequence in one file to another. Returns the number of payload units.
 pub fn normalise_file(rt: &HostRuntime, from: &str, to: &str) -> Result<u64, Fault> {
     let input = File::open(rt, from).map_err(Fault::Reader)?;
     let output = File::create(rt, to).map_err(Fault::Writer)?;
@@ -44,7 +44,7 @@ pub fn normalise_file(rt: &HostRuntime, from: &str, to: &str) -> Result<u64, Fau
 }
 
 /// Takes a cache response and the sequence after it from one reader, and writes the form of the
-/// sequence. Answers the session and the number of payload units.
+/// sequence. Returns the session and the number of payload units.
 pub fn take_response<R: Source, W: Sink>(
     alloc: Global,
     reader: &mut R,
@@ -73,7 +73,7 @@ pub fn compare(alloc: Global, left: &[u8], right: &[u8]) -> Result<bool, Fault> 
     same_meaning(alloc, left, right, MOST_UNITS)
 }
 
-/// Makes all changes of the next sequence to what a client has of its cache, or none. Answers the
+/// Makes all changes of the next sequence to what a client has of its cache, or none. Returns the
 /// end of data, or the error code that is owed to the cache, if one is.
 pub fn update<R: Source>(
     alloc: Global,

@@ -1,11 +1,11 @@
-//! Answers as text.
+//! Returns as text.
 
-use test_library::support::Recorder;
 use rtr_wire::pdu::{Fault, PrefixRule, ViewFault};
 use std::alloc::{AllocError, Global};
 use std::fmt::Display;
 use std::io;
 use std::io::ErrorKind;
+use test_library::support::Recorder;
 
 /// Words with spaces between them. Bytes are hex; consecutive bytes are one word.
 #[derive(Drop)]

@@ -7,7 +7,7 @@ use crate::{
     variable, views,
 };
 
-/// Makes the call of a row in one way, and answers its result, if there is such a call. All modules
+/// Makes the call of a row in one way, and returns its result, if there is such a call. All modules
 /// are asked, and those that don't have it do nothing.
 pub fn call(row: &Row<'_>, way: Way) -> Option<Answer> {
     sequences::answer(row, way)

@@ -4,10 +4,10 @@ use crate::answer::Answer;
 use crate::row::{Row, Way};
 use crate::views::tell_end;
 use data_memory::{ApplyCause, ChangeError, Data};
-use test_library::support::{Pieces, Recorder};
 use rtr_wire::payload;
 use rtr_wire::payload::Action;
 use rtr_wire::pdu::{Counted, Fault, Payload, SliceSource};
+use test_library::support::{Pieces, Recorder};
 
 /// More units than any row has.
 const LIMIT: u64 = 4294967295;

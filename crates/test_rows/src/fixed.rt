@@ -3,12 +3,12 @@
 use crate::answer::Answer;
 use crate::row::{Row, Way};
 use crate::views::tell_end;
-use test_library::support::{Pieces, Recorder};
 use rtr_wire::pdu::{
     CacheReset, CacheResponse, Counted, EndOfData, EndOfDataV0, EndOfDataV1, Fault, Header,
     Ipv4Prefix, Ipv6Prefix, Payload, ResetQuery, SerialNotify, SerialQuery, SerialQueryPayload,
     SliceSource, Unit,
 };
+use test_library::support::{Pieces, Recorder};
 
 /// Makes the call of a row if it is one of these: for a unit `TYPE::read`, `TYPE::try_read`,
 /// `TYPE::read_payload` or `TYPE::write`, and calls of headers and ends of data.

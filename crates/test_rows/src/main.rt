@@ -10,8 +10,8 @@
 //!   `;` between. With none after it the call allocates nothing.
 //!
 //! With an argument the program marks each call by an allocation of that many bytes before it and
-//! one after it, so that `tests/programs/growth` can make those between fail. Then each row prints
-//! `whole`, or `refused` and which of its answers that is.
+//! one after it, so that `tests/programs/growth.py` can make those between fail. Then each row
+//! prints `whole`, or `refused` and which of its answers that is.
 #![tactic(auto)]
 
 mod answer;
@@ -47,7 +47,7 @@ fn mark(rt: &HostRuntime) -> Result<usize, Fail> {
     }
 }
 
-/// Goes through a line, and prints what there is to print for it. Answers whether it is met.
+/// Goes through a line, and prints what there is to print for it. Reports whether it is met.
 fn is_met(rt: &HostRuntime, table: &mut Table, line: &str) -> Result<bool, Fail> {
     let Some(seen) = table.line(line)? else {
         return Ok(true);

@@ -4,8 +4,8 @@ use crate::answer::Answer;
 use crate::fixed::{alter, told_put};
 use crate::row::{Row, Way};
 use crate::views::tell_end;
-use test_library::support::{Recorder, hash_of};
 use rtr_wire::pdu::{Counted, Payload, SliceSource};
+use test_library::support::{Recorder, hash_of};
 
 /// Makes the call of a row if it is one of these.
 pub fn answer(row: &Row<'_>, way: Way) -> Option<Answer> {

@@ -3,10 +3,10 @@
 use crate::answer::Answer;
 use crate::into::{output, tell_output};
 use crate::row::Row;
+use rtr_wire::pdu::{EndOfData, ErrorCode, Payload, SliceSource};
 use unit_any::answering::{Reply, reply_to_fault, reply_to_view_fault, reply_with_code};
 use unit_any::placing::{place_report, place_unit};
 use unit_any::{AnyUnit, SessionView};
-use rtr_wire::pdu::{EndOfData, ErrorCode, Payload, SliceSource};
 
 /// Makes the call of a row if it is one of these. The setting `room` says how many bytes the
 /// output has; without it, more than enough. The versions and codes of reports are settings, their

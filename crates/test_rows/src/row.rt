@@ -1,8 +1,8 @@
 //! A row's call, and what it is given.
 
 use crate::answer::Answer;
-use test_library::support::{ONES, Pieces, Recorder, STEPS, WHOLE};
 use std::alloc::{AllocError, Global};
+use test_library::support::{ONES, Pieces, Recorder, STEPS, WHOLE};
 
 /// A setting of a row, `KEY=VALUE`.
 #[derive(Clone, Copy, Drop)]

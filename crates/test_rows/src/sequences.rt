@@ -2,12 +2,12 @@
 
 use crate::answer::Answer;
 use crate::row::{Row, Way};
-use test_library::support::{Pieces, Recorder};
 use rtr_wire::pdu::{CacheResponse, Counted, Fault, PrefixRule, Unit, ViewFault};
 use rtr_wire::{
     Side, compare_meanings, normalise, normalise_for, normalise_slice, same_meaning,
     same_meaning_slice,
 };
+use test_library::support::{Pieces, Recorder};
 
 /// More units than any row has.
 const LIMIT: u64 = 4294967295;

@@ -4,12 +4,12 @@ use crate::answer::Answer;
 use crate::fixed::{header, tell_taken, told_put};
 use crate::row::{Row, Way};
 use crate::views::tell_view;
-use unit_any::length::unit_length;
-use unit_any::{AnyUnit, Report, ReportView, SessionView};
-use test_library::support::Recorder;
 use rtr_wire::pdu::{
     Counted, ErrorCode, Fault, Header, Payload, SliceSource, Unit, UnitView, owed_code,
 };
+use test_library::support::Recorder;
+use unit_any::length::unit_length;
+use unit_any::{AnyUnit, Report, ReportView, SessionView};
 
 /// Makes the call of a row if it is one of these.
 pub fn answer(row: &Row<'_>, way: Way) -> Option<Answer> {

@@ -3,9 +3,9 @@
 use crate::answer::Answer;
 use crate::call::call;
 use crate::row::{Row, Setting, Way};
-use test_library::support::{WHOLE, filler};
 use std::alloc::{AllocError, Global};
 use std::test::Fail;
+use test_library::support::{WHOLE, filler};
 
 /// Bytes that have a name.
 #[derive(Drop)]
@@ -49,7 +49,7 @@ impl Table {
         }
     }
 
-    /// Goes through a line. Answers what to print for it.
+    /// Goes through a line. Returns what to print for it.
     pub fn line(&mut self, line: &str) -> Result<Option<Seen>, Fail> {
         let line = line.split("//").next().unwrap_or("").trim();
         if line.is_empty() {
@@ -94,7 +94,7 @@ impl Table {
         Ok(())
     }
 
-    /// Appends the bytes that a word stands for; for `WORD*N` N times those of the word. Answers
+    /// Appends the bytes that a word stands for; for `WORD*N` N times those of the word. Reports
     /// whether the word stands for bytes.
     fn append(&self, word: &str, bytes: &mut Vec<u8>) -> Result<bool, Fail> {
         let (word, times) = match word.split_once("*") {

@@ -3,8 +3,8 @@
 use crate::answer::Answer;
 use crate::fixed::{header, tell_taken};
 use crate::row::{Row, Way};
-use test_library::support::Recorder;
 use rtr_wire::pdu::{Aspa, Counted, Fault, RouterKey, SliceSource};
+use test_library::support::Recorder;
 
 /// Makes the call of a row if it is one of these.
 pub fn answer(row: &Row<'_>, way: Way) -> Option<Answer> {

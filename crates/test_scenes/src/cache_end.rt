@@ -3,10 +3,10 @@
 use crate::buffer::take;
 use crate::deed::{Deed, What};
 use crate::editions::Editions;
+use session_bytes::{Refusal, Served, place_opening, place_owed, serve};
 use session_cache::cache::Cache;
 use session_cache::event::{Answer, CacheEvent};
 use session_cache::settings::CacheSettings;
-use session_bytes::{Refusal, Served, place_opening, place_owed, serve};
 use std::alloc::Global;
 use std::mem;
 use std::test::Fail;
@@ -139,7 +139,7 @@ impl CacheEnd {
         }
     }
 
-    /// Has the machine go on until it waits. Answers whether it did something.
+    /// Has the machine go on until it waits. Reports whether it did something.
     fn settle(&mut self) -> Result<bool, Fail> {
         for steps in 0..MOST {
             if !self.tick()? && !self.read()? {
@@ -149,7 +149,7 @@ impl CacheEnd {
         Err(Fail::new("the machine doesn't wait"))
     }
 
-    /// Tells the machine that time passed. Answers whether it did something.
+    /// Tells the machine that time passed. Reports whether it did something.
     fn tick(&mut self) -> Result<bool, Fail> {
         match self.step(CacheEvent::Tick) {
             Answer::Wait => Ok(false),
@@ -174,7 +174,7 @@ impl CacheEnd {
         self.act(answer, about)
     }
 
-    /// Tells the machine of what was read. Answers whether there was something.
+    /// Tells the machine of what was read. Reports whether there was something.
     fn read(&mut self) -> Result<bool, Fail> {
         let now = self.now.min(u64::MAX / 4);
         let present = self.editions.present();

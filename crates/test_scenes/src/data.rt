@@ -1,7 +1,7 @@
 //! The data of a router, in a slice.
 
-use session_bytes::Refusal;
 use data_slices::{InOrderFault, apply_in_order};
+use session_bytes::Refusal;
 use std::alloc::{AllocError, Global};
 use std::test::Fail;
 

@@ -1,8 +1,8 @@
 //! What an end does that is played.
 
-use unit_any::SessionView;
 use std::alloc::Global;
 use std::test::Fail;
+use unit_any::SessionView;
 
 /// What an end does, and when.
 #[derive(Drop)]

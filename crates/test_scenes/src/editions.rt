@@ -1,8 +1,8 @@
 //! The data that a cache has, and those that it had before.
 
-use session_cache::event::Present;
 use data_slices::{check_data, delta_into};
 use rtr_wire::normalise_for_into;
+use session_cache::event::Present;
 use std::alloc::Global;
 use std::test::Fail;
 

@@ -1,8 +1,8 @@
 //! The pipe between two ends.
 
-use unit_any::SessionView;
 use std::alloc::Global;
 use std::test::Fail;
+use unit_any::SessionView;
 
 /// A connection, if there is one, and what is on its way.
 #[derive(Drop)]

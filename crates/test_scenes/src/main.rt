@@ -1,7 +1,8 @@
-//! Plays scenes of a router and its cache by the machines of `session_router` and `session_cache`, with a
-//! made clock, and prints what they do otherwise than the scenes say. A line `simulate SEED STEPS`
-//! among them joins both machines by a pipe of bytes, and has so many things happen to them: units
-//! that come byte by byte, cuts, bursts of new data, restarts, other sessions. It is a scene, too.
+//! Plays scenes of a router and its cache by the machines of `session_router` and `session_cache`,
+//! with a made clock, and prints what they do otherwise than the scenes say. A line `simulate SEED
+//! STEPS` among them joins both machines by a pipe of bytes, and has so many things happen to them:
+//! units that come byte by byte, cuts, bursts of new data, restarts, other sessions. It is a scene,
+//! too.
 //!
 //! The scenes are standard input, in the form that `tests/transcripts/README.md` describes. The
 //! last line says how many were played, and how many differ; the status is 1 where one does.
@@ -52,7 +53,7 @@ fn main(rt: HostRuntime) -> Result<ExitCode, Fail> {
     Ok(ExitCode::from((differ > 0) as u8))
 }
 
-/// Runs a simulation of a seed and so many steps, and prints what was wrong. Answers whether
+/// Runs a simulation of a seed and so many steps, and prints what was wrong. Reports whether
 /// something was.
 fn simulate(rt: &HostRuntime, words: &str) -> Result<bool, Fail> {
     let (seed, steps) = words.trim().split_once(" ").unwrap_or((words, "0"));
@@ -69,7 +70,7 @@ fn simulate(rt: &HostRuntime, words: &str) -> Result<bool, Fail> {
     Ok(true)
 }
 
-/// Ends a scene, and prints where it differs first. Answers whether it does.
+/// Ends a scene, and prints where it differs first. Reports whether it does.
 fn finish(rt: &HostRuntime, scene: &mut Scene) -> Result<bool, Fail> {
     let Some(other) = scene.end()? else {
         return Ok(false);

@@ -129,7 +129,7 @@ impl RouterEnd {
         Ok(())
     }
 
-    /// Has the machine go on until it waits. Answers whether it did something.
+    /// Has the machine go on until it waits. Reports whether it did something.
     fn settle(&mut self) -> Result<bool, Fail> {
         for steps in 0..MOST {
             if !self.tick()? && !self.read()? {
@@ -139,7 +139,7 @@ impl RouterEnd {
         Err(Fail::new("the machine doesn't wait"))
     }
 
-    /// Tells the machine that time passed. Answers whether it did something.
+    /// Tells the machine that time passed. Reports whether it did something.
     fn tick(&mut self) -> Result<bool, Fail> {
         match self.step(Event::Tick) {
             Action::Wait => Ok(false),
@@ -168,7 +168,7 @@ impl RouterEnd {
         self.act(action, self.about_none())
     }
 
-    /// Tells the machine of what was read. Answers whether there was something.
+    /// Tells the machine of what was read. Reports whether there was something.
     fn read(&mut self) -> Result<bool, Fail> {
         let now = self.now.min(u64::MAX / 2);
         match tell(&mut self.router, now, &self.input, self.is_closed) {

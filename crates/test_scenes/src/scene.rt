@@ -55,7 +55,7 @@ impl Scene {
         Ok(())
     }
 
-    /// Ends the scene. Answers where the end did otherwise first, if it did.
+    /// Ends the scene. Returns where the end did otherwise first, if it did.
     pub fn end(&mut self) -> Result<Option<String>, Fail> {
         self.compare()?;
         Ok(self.other.take())

@@ -25,13 +25,13 @@ pub enum Reply {
 }
 
 /// Answers a fault of a call that reads: writes the error report that is owed to the peer, if one
-/// is, to the front of the output (RFC 8210 section 5.11). If none is owed or there is no room for
-/// it, the output is unchanged. It allocates nothing.
+/// is, to the front of the output (RFC 8210 section 5.11). If none is owed or it doesn't fit, the
+/// output is unchanged. Nothing is allocated.
 ///
 /// The report has this version, the code of the fault (`Fault::code`), and this text; the unit in
-/// it is `refused`, the bytes of the refused unit as far as the report is to hold them: the header
-/// alone, or all that came. If `refused` has fewer than two bytes, it isn't known to be of an error
-/// report. Both are cut as `place_report` cuts them, so 65535 bytes of output are always enough.
+/// it is `refused`, the part of the refused unit that the report copies: only the header, or all
+/// that came. If `refused` has fewer than two bytes, it isn't known to be of an error report. Both
+/// are cut as `place_report` cuts them, so 65535 bytes of output are always enough.
 pub fn reply_to_fault(
     version: u8,
     refused: &[u8],

@@ -24,7 +24,7 @@ use std::alloc::Global;
 pub enum AnyUnit {
     /// The cache says that it has new data (RFC 8210 section 5.2).
     SerialNotify(SerialNotify),
-    /// A router asks for what is new since a state (RFC 8210 section 5.3).
+    /// A router's query for the changes since a state (RFC 8210 section 5.3).
     SerialQuery(SerialQuery),
     /// A router asks for all data (RFC 8210 section 5.4).
     ResetQuery(ResetQuery),
@@ -49,7 +49,7 @@ impl AnyUnit {
     ///
     /// Faults, in this order: `Short` or `Reader` inside the header; those of `read_payload`.
     /// `Short` has taken at least one byte. `UnitType`, `UnitVersion`, `TooLong`, `UnitLength` and
-    /// `EmptyProviders` take the header alone.
+    /// `EmptyProviders` take only the header.
     pub fn read<R: Source>(alloc: Global, reader: &mut R) -> Result<Option<Self>, Fault>
         ensures bytes { ReadsAny result (R.state reader.old) (R.state reader.new) }
         ensures error { IfErr result (HoldsReadError (R.fails reader.new)) }

@@ -16,12 +16,12 @@ use rtr_units::queries::{CacheReset, CacheResponse, ResetQuery, SerialNotify, Se
 use rtr_units::unit::Unit;
 use unit_views::fault::ViewFault;
 
-/// How many bytes the unit has that the bytes begin, by its header (RFC 8210 section 5.1), or none
+/// Returns the size of the unit that the bytes begin, by its header (RFC 8210 section 5.1), or none
 /// if fewer than the eight bytes of a header are there. What follows the header isn't read, and may
-/// be missing. It allocates nothing.
+/// be missing. Nothing is allocated.
 ///
-/// The answer is the size of the type, where that is fixed; of a router key, an error report and an
-/// ASPA unit it is at most 65535. So no length is believed that no unit has.
+/// The result is the size of the type, if that is fixed; of a router key, an error report and an
+/// ASPA unit it is at most 65535. So no length is trusted that no unit can have.
 ///
 /// Faults, in this order: `UnitType` for a type that no unit has; `UnitVersion` for an end of data
 /// of a version above 2; `TooLong` for a router key, an ASPA unit or an error report of more than
@@ -60,7 +60,7 @@ fn header_size(version: u8, pdu: u8, flags: u8, size: u32) -> Result<u32, ViewFa
     }
 }
 
-/// The size in a header, which has to be this.
+/// The size in a header, which must be this.
 #[inline(always)]
 fn exact(size: u32, want: u32) -> Result<u32, ViewFault>
     ensures { SaysSize size (exact_length want size) result }
@@ -72,7 +72,7 @@ fn exact(size: u32, want: u32) -> Result<u32, ViewFault>
     }
 }
 
-/// The size in a header, which has to be this at least, and 65535 at most.
+/// The size in a header, which must be at least this, and at most 65535.
 #[inline(always)]
 fn at_least(size: u32, least: u32) -> Result<u32, ViewFault>
     ensures { SaysSize size (least_length least size) result }

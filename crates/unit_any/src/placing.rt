@@ -29,13 +29,13 @@ pub fn place_unit<U: Unit>(unit: &U, output: &mut [u8]) -> Option<usize>
 }
 
 impl<'a> SessionView<'a> {
-    /// Writes the written form of the unit to the front of the output and answers its length in
-    /// bytes, at most 65535. If the output is shorter, it answers none and leaves the output
-    /// unchanged. It allocates nothing.
+    /// Writes the written form of the unit to the front of the output and returns its length in
+    /// bytes, at most 65535. If the output is shorter, it returns none and leaves the output
+    /// unchanged. Nothing is allocated.
     ///
-    /// The form of a payload unit is that of what it means: all free bytes are zero, and a
-    /// withdrawn ASPA has no providers. A reset query and a cache reset have zero where others have
-    /// a session (RFC 8210 sections 5.4 and 5.9). All other units are written as they are.
+    /// The form of a payload unit is that of its meaning: all free bytes are zero, and a withdrawn
+    /// ASPA has no providers. A reset query and a cache reset have zero where others have a session
+    /// (RFC 8210 sections 5.4 and 5.9). All other units are written as they are.
     #[inline(always)]
     pub fn place_form(&self, output: &mut [u8]) -> Option<usize>
         ensures { Places result (shown_form self.now) output.old output.new }
@@ -53,12 +53,12 @@ impl<'a> SessionView<'a> {
 }
 
 /// Writes the error report (RFC 8210 section 5.11) with this version and error code, the unit that
-/// it is about (or none) and text to the front of the output, and answers its length in bytes. If
-/// the output is shorter, it answers none and leaves the output unchanged. It allocates nothing.
+/// it is about (or none) and text to the front of the output, and returns its length in bytes. If
+/// the output is shorter, it returns none and leaves the output unchanged. Nothing is allocated.
 ///
-/// A report has at most 65535 bytes: of the unit it holds the first 65519 bytes, and of the text as
-/// many as are then left. So 65535 bytes of output are always enough. The RFC wants the text in
-/// UTF-8; where it is cut, its last character may be cut too.
+/// A report has at most 65535 bytes: the first 65519 bytes of the unit, and as many bytes of the
+/// text as then fit. So 65535 bytes of output are always enough. The RFC wants the text in UTF-8;
+/// if it is cut, its last character may be cut too.
 pub fn place_report(
     version: u8,
     code: ErrorCode,

@@ -56,7 +56,7 @@ impl Report {
     /// Reads an error report.
     ///
     /// Faults, in this order: `Short` or `Reader` inside the header; those of `read_payload`, of
-    /// which `UnitType` and the two after it take the header alone.
+    /// which `UnitType` and the two after it take only the header.
     pub fn read<R: Source>(alloc: Global, reader: &mut R) -> Result<Self, Fault>
         ensures { ReadsFrom R.Source (λ report. report) result reader.old reader.new
             (Reads report_unit []) }

@@ -26,7 +26,7 @@ use unit_views::view::UnitView;
 pub enum SessionView<'a> {
     /// The cache says that it has new data (RFC 8210 section 5.2).
     SerialNotify(SerialNotify),
-    /// A router asks for what is new since a state (RFC 8210 section 5.3).
+    /// A router's query for the changes since a state (RFC 8210 section 5.3).
     SerialQuery(SerialQuery),
     /// A router asks for all data (RFC 8210 section 5.4).
     ResetQuery(ResetQuery),

@@ -125,8 +125,8 @@ impl RouterKeyInfo {
         self.0
     }
 
-    /// The same key info once more. Its bytes are shared: no memory is asked for, and `AllocError`
-    /// says that the count of those that share them is full.
+    /// Another handle to the same key info. It shares the bytes, so nothing is allocated;
+    /// `AllocError` comes if the count of handles is at its maximum.
     pub fn clone(&self) -> Result<Self, AllocError>
         ensures { IfOk result (λ k. k ≡ self.now) }
     {

@@ -55,12 +55,10 @@ impl Payload {
     ghost use Rattle.rtr_payload.specs.UnitBytes.{IsSupported};
 
     /// The unit of this version and these flags that has the payload. Free bytes are zero. The
-    /// bytes
-    /// of keys and ASPAs are shared: no memory is asked for, and `AllocError` says that the count
-    /// of
-    /// those that share them is full.
+    /// bytes of keys and ASPAs are shared, so nothing is allocated; `AllocError` comes if their
+    /// count of handles is at its maximum.
     ///
-    /// All providers of an ASPA are written, with even flags too: a withdrawal is made of
+    /// All providers of an ASPA are written, also with even flags: a withdrawal is made of
     /// `payload::Aspa::withdraw`.
     #[inline(always)]
     pub fn new(version: u8, flags: u8, payload: &PayloadRef<'_>) -> Result<Self, AllocError>
@@ -131,13 +129,13 @@ impl Payload {
         Ok(Some(unit))
     }
 
-    /// Reads one payload unit, or an end of data in its place. Never answers none.
+    /// Reads one payload unit, or an end of data in its place. Never returns none.
     ///
     /// Faults, in this order: `Short` or `Reader` inside the header; `UnitType`; `UnitVersion` for
     /// an end of data of a version above 2; `TooLong` for a key or an ASPA unit of more than 65535
     /// bytes; `UnitLength`; `EmptyProviders` for an ASPA that is announced without providers;
     /// `Memory` for a key or an ASPA unit, right after its header or after its last byte; `Short`
-    /// or `Reader` inside the unit. `UnitType` and the next four take the header alone.
+    /// or `Reader` inside the unit. `UnitType` and the next four take only the header.
     #[inline(always)]
     pub fn read<R: Source>(
         alloc: Global,
@@ -191,7 +189,7 @@ impl Payload {
         }
     }
 
-    /// The flags, of which the lowest bit alone counts.
+    /// The flags, of which only the lowest bit counts.
     #[inline(always)]
     pub fn flags(&self) -> u8
         ensures { result ≡ flags_in self.now }
@@ -228,9 +226,9 @@ impl Payload {
     /// The action and the payload that the unit means, by its variant, whatever its type and length
     /// bytes say. The bytes of keys and ASPAs are shared.
     ///
-    /// `Refused` holds the report on a prefix that breaks the rule on its lengths. `Memory` says
-    /// that there was none for that report, or that the count of those that share the bytes is
-    /// full.
+    /// `Refused` holds the report on a prefix that breaks the rule on its lengths. `Memory` comes
+    /// if there was none for that report, or if the count of handles to the bytes is at its
+    /// maximum.
     pub fn to_payload(&self, alloc: Global) -> Result<(Action, payload::Payload), Fault>
         ensures ok { IfOk result (λ m. MeansPayload self.now m.0 m.1) }
         ensures err { IfErr result (λ e. HasNoPayload self.now (cause_of e)) }
@@ -241,9 +239,8 @@ impl Payload {
         }
     }
 
-    /// As `to_payload`, of a unit by value. Memory is asked for a report alone: `Refused` holds it,
-    /// and where there is none, `Memory` is answered for a prefix that breaks the rule on its
-    /// lengths.
+    /// As `to_payload`, of a unit by value. Only a report is allocated: `Refused` holds it, and if
+    /// there is no memory for it, `Memory` comes for a prefix that breaks the rule on its lengths.
     pub fn into_payload(self, alloc: Global) -> Result<(Action, payload::Payload), Fault>
         ensures ok { IfOk result (λ m. MeansPayload self m.0 m.1) }
         ensures err { IfErr result (λ e. HasNoPayload self (cause_of e)) }
@@ -270,8 +267,8 @@ impl Payload {
         }
     }
 
-    /// The same unit once more. The bytes of keys and ASPAs are shared: no memory is asked for, and
-    /// `AllocError` says that the count of those that share them is full.
+    /// Another handle to the same unit. The bytes of keys and ASPAs are shared, so nothing is
+    /// allocated; `AllocError` comes if their count of handles is at its maximum.
     pub fn clone(&self) -> Result<Self, AllocError>
         ensures same { IfOk result (λ u. u ≡ self.now) }
         ensures prefix { IsPrefixUnit self.now → IsOk result }

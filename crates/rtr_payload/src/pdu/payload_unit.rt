@@ -62,8 +62,7 @@ pub trait PayloadUnit: Drop {
     /// The smallest version of the protocol that has such units.
     const SMALLEST_VERSION: u8;
 
-    /// Reads what follows a header of this type. Memory is asked for a router key or an ASPA unit
-    /// alone.
+    /// Reads what follows a header of this type. Only router keys and ASPA units allocate.
     ///
     /// Faults are those of `pdu::Payload::read_payload`.
     fn read_after<R: Source>(alloc: Global, header: Header, reader: &mut R) -> Result<Self, Fault>
@@ -80,12 +79,12 @@ pub trait PayloadUnit: Drop {
     fn version_of(&self) -> u8
         ensures { result ≡ version_field (unit_bytes (unit self.now)) };
 
-    /// The flags, of which the lowest bit alone counts.
+    /// The flags, of which only the lowest bit counts.
     fn flags_of(&self) -> u8
         ensures { result ≡ flags_in (unit self.now) };
 
-    /// The action and the meaning of the unit, whatever its type and length bytes say. Memory is
-    /// asked for a report alone.
+    /// The action and the meaning of the unit, whatever its type and length bytes say. Only a
+    /// report allocates.
     fn into_meaning(self, alloc: Global) -> Result<(Action, Self::Meaning), Fault>
         ensures ok { IfOk result (λ m. MeansPayload (unit self) m.0 (value m.1)) }
         ensures holds { IfOk result (λ m. holds m.1) }

@@ -173,8 +173,8 @@ impl ProviderAsns {
         self.0.as_slice()
     }
 
-    /// The same providers once more. Their bytes are shared: no memory is asked for, and
-    /// `AllocError` says that the count of those that share them is full.
+    /// Another handle to the same providers. It shares their bytes, so nothing is allocated;
+    /// `AllocError` comes if the count of handles is at its maximum.
     pub fn clone(&self) -> Result<Self, AllocError>
         ensures { IfOk result (λ p. p ≡ self.now) }
     {

@@ -269,8 +269,8 @@ impl<const FIXED: usize, B: Body<FIXED>> VariableUnit<FIXED, B> {
         self.body
     }
 
-    /// The same unit once more. The bytes of its body are shared: no memory is asked for, and
-    /// `AllocError` says that the count of those that share them is full.
+    /// Another handle to the same unit. It shares the bytes of its body, so nothing is allocated;
+    /// `AllocError` comes if the count of handles is at its maximum.
     pub fn clone(&self) -> Result<Self, AllocError>
         ensures { IfOk result (λ u. u ≡ self.now) }
     {

@@ -38,7 +38,7 @@ rtr_list --json --check; 0 0; 01 02 00 00 00 00 00 08 -> 0
 ; 0 0; -> 0
 ";
 
-/// What the program says of itself.
+/// The texts of --help and --version.
 const MANUAL: Manual = Manual {
     name: "rtr_list",
     version: "rtr_list 0\n",

@@ -4,12 +4,12 @@ use crate::base::rows::named;
 use crate::expect::{expect, expect_equal};
 use crate::samples::{REPORT, bytes, decoded, expect_rows};
 use crate::support::{filler, hash_of};
-use unit_any::Report;
 use rtr_units::fault::Fault;
 use rtr_units::header::Header;
 use rtr_units::source::SliceSource;
 use std::alloc::Global;
 use std::test::Fail;
+use unit_any::Report;
 
 /// Reports whose lengths make them up, with the version, the code, and the unit and the text inside
 /// in hex; then reports whose first or second length is too great, is cut, or leaves bytes over.

@@ -7,12 +7,12 @@ use crate::samples::{
 use crate::session::next;
 use crate::support::{ONES, Pieces, Recorder, STEPS, WHOLE};
 use rtr_payload::pdu::Payload;
-use unit_any::AnyUnit;
 use rtr_units::header::Header;
 use rtr_units::source::{Counted, SliceSource};
 use std::alloc::Global;
 use std::process::Abort;
 use std::test::Fail;
+use unit_any::AnyUnit;
 
 /// A unit: its kind, its version, the session that it names, and its bytes.
 struct Row {

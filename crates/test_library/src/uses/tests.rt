@@ -6,7 +6,6 @@ use super::{
 };
 use crate::expect::{expect, expect_equal};
 use data_memory::Data;
-use unit_any::answering::Reply;
 use rtr_wire::base::Asn;
 use rtr_wire::payload::{Action, Payload};
 use rtr_wire::pdu::{Counted, EndOfData, ErrorCode, Fault, Header, Unit, ViewFault};
@@ -15,6 +14,7 @@ use rtr_wire::{payload, pdu};
 use std::alloc::Global;
 use std::test::Fail;
 use std::{fs, io};
+use unit_any::answering::Reply;
 
 /// A cache response of session 0x1234.
 const RESPONSE: &[u8] = &[2, 3, 0x12, 0x34, 0, 0, 0, 8];
