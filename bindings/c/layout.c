@@ -1,5 +1,5 @@
 /* The sizes of structs and the places of their fields, if a size_t has eight bytes. `generate` made
- * this file of rtr.h: don't edit it. */
+ * this file of the crate rtr_c: don't edit it. */
 #include "rtr.h"
 
 #define AT(type, field, offset) \
@@ -315,6 +315,36 @@ AT(rtr_serving, reason, 26);
 AT(rtr_serving, status, 27);
 AT(rtr_serving, detail, 28);
 AT(rtr_serving, reports, 29);
+
+_Static_assert(sizeof(struct rtr_server_settings) == 64, "rtr_server_settings");
+AT(rtr_server_settings, cache, 0);
+AT(rtr_server_settings, keep, 16);
+AT(rtr_server_settings, keep_bytes, 24);
+AT(rtr_server_settings, unit_limit, 32);
+AT(rtr_server_settings, write_limit, 36);
+AT(rtr_server_settings, response_limit, 40);
+AT(rtr_server_settings, report_limit, 44);
+AT(rtr_server_settings, most_connections, 48);
+AT(rtr_server_settings, most_refused, 52);
+AT(rtr_server_settings, most_behind, 56);
+
+_Static_assert(sizeof(struct rtr_door) == 16, "rtr_door");
+AT(rtr_door, most_connections, 0);
+AT(rtr_door, most_refused, 4);
+AT(rtr_door, served, 8);
+AT(rtr_door, refused, 12);
+
+_Static_assert(sizeof(struct rtr_connection) == 120, "rtr_connection");
+AT(rtr_connection, settings, 0);
+AT(rtr_connection, begun, 64);
+AT(rtr_connection, taken, 72);
+AT(rtr_connection, until, 80);
+AT(rtr_connection, number, 88);
+AT(rtr_connection, filled, 96);
+AT(rtr_connection, unsent, 104);
+AT(rtr_connection, state, 112);
+AT(rtr_connection, fresh, 113);
+AT(rtr_connection, closed, 114);
 
 _Static_assert(sizeof(struct rtr_stores) == 32, "rtr_stores");
 AT(rtr_stores, served, 0);

@@ -6,8 +6,8 @@
  *
  * The functions are proved to meet their contracts. docs/PROTOCOL.md says in prose what is
  * accepted, in which order faults are checked, and what the written form is. This header is not
- * proved: its numbers, structs and prototypes are compared with the proved code, and tests run its
- * examples. All lengths are in bytes.
+ * proved: its numbers, structs, prototypes and texts are generated from the proved code, and tests
+ * run its examples. All lengths are in bytes.
  *
  * Preconditions of every call:
  *   - a slice is passed as a pointer and a length: that many bytes can be read there, or written if
@@ -43,7 +43,7 @@
 /* The same as a number: 10000 times the first number, 100 times the second, and the third. */
 #define RTR_WIRE_VERSION_NUMBER 300
 
-/* Numbers of the protocol, which are compared with the proved code. Sizes are in bytes. */
+/* Numbers of the protocol, as laws of the proved code state them. Sizes are in bytes. */
 #define RTR_HIGHEST_VERSION 2         /* the highest protocol version; the lowest is 0 */
 #define RTR_HEADER_SIZE 8             /* the size of a header, which is a whole reset query */
 #define RTR_SERIAL_SIZE 12            /* the size of a serial notify or a serial query */
@@ -81,41 +81,59 @@
 #define RTR_LINE_ROOM 160    /* for rtr_line of most units: not of long keys, ASPAs and reports */
 #define RTR_FINDING_ROOM 128 /* for rtr_finding_line */
 
+/* Texts of failures of clients and caches that no call has a text for, in all languages. A failure
+ * by a peer's error report has the text of RTR_CAUSE_REPORTED or RTR_REASON_REPORTED, the name of
+ * the error code, and the first bytes of the report's text, of which any but printable ASCII is a
+ * question mark: `the cache reports an error: No Data Available, "later"`. */
+#define RTR_FAILURE_NO_MEMORY "no memory"
+#define RTR_FAILURE_EMPTY "the cache has no payloads"
+#define RTR_FAILURE_STOPPED "the client was stopped"
+#define RTR_FAILURE_BEHIND "the router is too far behind"
+#define RTR_FAILURE_CLOSED "the server is closed"
+#define RTR_FAILURE_OLD_SERIAL "the serial number isn't later than that of the present data"
+#define RTR_FAILURE_OTHER_TIMES "only the times differ from those of the present data"
+#define RTR_FAILURE_SESSION_LEFT "the cache left this session: the data need a new one"
+#define RTR_FAILURE_OTHER_SESSION "a cache that doesn't save has one session"
+#define RTR_FAILURE_HIGHER_VERSION "the saved data are of a lower version: the data need a new session"
+#define RTR_FAILURE_DAMAGED "the saved file is damaged: the data need a new session"
+#define RTR_MOST_QUOTED 100 /* the most bytes of a report's text that a failure shows */
+
 #ifdef __cplusplus
 extern "C" {
 #endif
 
 /* The result of a call; each call below lists the statuses that it returns. The faults of a unit
- * are 1 to 7, checked in the order of docs/PROTOCOL.md. */
+ * are 1 to 7, checked in the order of docs/PROTOCOL.md. Number 11 was "out of memory", which no
+ * call returns any more. */
 enum rtr_status {
-    RTR_OK = 0,              /* the call succeeded */
-    RTR_SHORT = 1,           /* the input ends inside a unit, or before one */
-    RTR_UNIT_TYPE = 2,       /* `detail` is a type that is not allowed here */
-    RTR_UNIT_VERSION = 3,    /* `detail` is a version that is not allowed here */
-    RTR_TOO_LONG = 4,        /* a router key, an ASPA or a report of more than 65535 bytes */
-    RTR_UNIT_LENGTH = 5,     /* the length is wrong for the type */
-    RTR_EMPTY_PROVIDERS = 6, /* an ASPA is announced without providers */
-    RTR_PREFIX = 7,          /* a prefix breaks the rule `detail`, an rtr_prefix_rule */
-    RTR_TOO_MANY = 8,        /* `limit` units were read, none of them an end of data */
-    RTR_NO_ROOM = 9,         /* the output is too short for the next unit or text */
-    RTR_NO_FORM = 10,        /* rtr_write_unit: no such action, family or part */
-                             /* 11 was "out of memory", which no call returns any more */
-    RTR_NOT_CANONICAL = 12,  /* a unit or an end of data breaks the canonical form of data or
-                                changes */
-    RTR_OTHER_SESSION = 13,  /* the second input is of another session than the first, or an end of
-                                data of another session than its answer */
-    RTR_DUPLICATE = 14,      /* a payload other than an ASPA is announced that is already present */
-    RTR_UNKNOWN = 15,        /* a payload is withdrawn that isn't present */
-    RTR_UNDECIDED = 16,      /* rtr_order: an ASPA is announced and then withdrawn, so the net
-                                change depends on the data */
-    RTR_NO_INDEX = 17,       /* the index has fewer entries than there are units */
+    RTR_OK = 0,                /* the call succeeded */
+    RTR_SHORT = 1,             /* the input ends inside a unit, or before one */
+    RTR_UNIT_TYPE = 2,         /* `detail` is a type that is not allowed here */
+    RTR_UNIT_VERSION = 3,      /* `detail` is a version that is not allowed here */
+    RTR_TOO_LONG = 4,          /* a router key, an ASPA or a report of more than 65535 bytes */
+    RTR_UNIT_LENGTH = 5,       /* the length is wrong for the type */
+    RTR_EMPTY_PROVIDERS = 6,   /* an ASPA is announced without providers */
+    RTR_PREFIX = 7,            /* a prefix breaks the rule `detail`, an rtr_prefix_rule */
+    RTR_TOO_MANY = 8,          /* `limit` units were read, none of them an end of data */
+    RTR_NO_ROOM = 9,           /* the output is too short for the next unit or text */
+    RTR_NO_FORM = 10,          /* rtr_write_unit: no such action, family or part */
+    RTR_NOT_CANONICAL = 12,    /* a unit or an end of data breaks the canonical form of data or
+                                  changes */
+    RTR_OTHER_SESSION = 13,    /* the second input is of another session than the first, or an
+                                  end of data of another session than its answer */
+    RTR_DUPLICATE = 14,        /* a payload other than an ASPA is announced that is already
+                                  present */
+    RTR_UNKNOWN = 15,          /* a payload is withdrawn that isn't present */
+    RTR_UNDECIDED = 16,        /* rtr_order: an ASPA is announced and then withdrawn, so the net
+                                  change depends on the data */
+    RTR_NO_INDEX = 17,         /* the index has fewer entries than there are units */
     RTR_TOO_MANY_MEMBERS = 18, /* a group would have more than RTR_MOST_MEMBERS members */
-    RTR_OTHER_VERSION = 19,  /* a recorded unit has version `detail`, and the units before
-                                it in its answer, or the data that it changes, have another */
-    RTR_OLD_SERIAL = 20,     /* the serial number of a recorded answer comes before that of the data
-                                that it changes */
-    RTR_RESET_INSIDE = 21,   /* a recording has a cache reset inside an answer */
-    RTR_REPORT_INSIDE = 22   /* a recording has an error report inside an answer */
+    RTR_OTHER_VERSION = 19,    /* a recorded unit has version `detail`, and the units before it
+                                  in its answer, or the data that it changes, have another */
+    RTR_OLD_SERIAL = 20,       /* the serial number of a recorded answer comes before that of the
+                                  data that it changes */
+    RTR_RESET_INSIDE = 21,     /* a recording has a cache reset inside an answer */
+    RTR_REPORT_INSIDE = 22     /* a recording has an error report inside an answer */
 };
 
 enum rtr_prefix_rule {
@@ -141,10 +159,11 @@ enum rtr_kind {
 
 /* The codes of error reports (RFC 8210 section 12); those above 8 are the Rust crate rpki's. */
 enum rtr_code {
-    RTR_CODE_CORRUPT_DATA = 0,        /* the data can't be parsed, or contradict themselves */
-    RTR_CODE_INTERNAL_ERROR = 1,      /* the peer failed for a reason of its own */
-    RTR_CODE_NO_DATA_AVAILABLE = 2,   /* the cache has no data yet */
-    RTR_CODE_INVALID_REQUEST = 3,     /* the request makes no sense to the cache */
+    RTR_CODE_CORRUPT_DATA = 0,                /* the data can't be parsed, or contradict
+                                                 themselves */
+    RTR_CODE_INTERNAL_ERROR = 1,              /* the peer failed for a reason of its own */
+    RTR_CODE_NO_DATA_AVAILABLE = 2,           /* the cache has no data yet */
+    RTR_CODE_INVALID_REQUEST = 3,             /* the request makes no sense to the cache */
     RTR_CODE_UNSUPPORTED_PROTOCOL_VERSION = 4,
     RTR_CODE_UNSUPPORTED_PDU_TYPE = 5,
     RTR_CODE_WITHDRAWAL_OF_UNKNOWN_RECORD = 6,
@@ -194,54 +213,56 @@ enum rtr_side {
 struct rtr_answer {
     uint64_t units; /* payload units that were read, without the end of data */
     uint64_t forms; /* payload units that were written; fewer than `units` only for one version */
-    size_t taken;   /* bytes of the input that were read: whole units, and the end of data. If the
-                       call stopped, the offset of the unit at which it stopped */
+    size_t taken;   /* bytes of the input that were read: whole units, and the end of data. If
+                       the call stopped, the offset of the unit at which it stopped */
     size_t written; /* bytes of the output that were written, from its start */
-    size_t wanted;  /* after RTR_SHORT, the least number of bytes needed from input + taken on, as
-                       in an rtr_unit; else 0 */
-    uint8_t status; /* an rtr_status, as the call returns it */
-    uint8_t detail; /* as enum rtr_status says of RTR_UNIT_TYPE, RTR_UNIT_VERSION and RTR_PREFIX;
-                       else 0 */
+    size_t wanted;  /* after RTR_SHORT, the least number of bytes needed from input + taken on,
+                       as in an rtr_unit; else 0 */
+    uint8_t status; /* the result of the call, an rtr_status, which the call returns too */
+    uint8_t detail; /* the type, version or rule that RTR_UNIT_TYPE, RTR_UNIT_VERSION or
+                       RTR_PREFIX refuses, as enum rtr_status says; else 0 */
 };
 
 /* The result of a call on data and changes. */
 struct rtr_data_answer {
-    size_t written; /* after RTR_OK the bytes of the output that were written, from its start; else
-                       0. After RTR_NO_ROOM the output's contents are unspecified, after any other
-                       status unchanged */
+    size_t written; /* after RTR_OK the bytes of the output that were written, from its start;
+                       else 0. After RTR_NO_ROOM the output's contents are unspecified, after any
+                       other status unchanged */
     size_t offset;  /* the offset of the unit at fault in its input; 0 if no unit is at fault */
-    uint8_t status; /* an rtr_status, as the call returns it */
+    uint8_t status; /* the result of the call, an rtr_status, which the call returns too */
     uint8_t side;   /* 1 or 2 if the first or the second input is at fault, else 0 */
-    uint8_t detail; /* as in an rtr_answer */
+    uint8_t detail; /* the detail of the status, as in an rtr_answer */
 };
 
 /* The result of rtr_load. Unless the status is RTR_OK, what describes data is 0. */
 struct rtr_loaded {
-    size_t length;    /* bytes of the data, from the front of the output */
-    size_t offset;    /* where the unit at fault begins in the input; 0 where no unit is at fault */
-    size_t wanted;    /* after RTR_SHORT, how many bytes from input + offset on are needed at least,
-                         as in an rtr_unit; after RTR_NO_INDEX, how many elements the index needs at
-                         least; else 0 */
-    uint32_t serial;  /* of the data */
-    uint32_t refresh; /* of the data, in seconds; 0 in version 0 */
-    uint32_t retry;
-    uint32_t expire;
-    uint16_t session; /* of the data */
-    uint8_t version;  /* of the data and of each of their units */
+    size_t length;    /* bytes of the data, from the front of the output; like all that describes
+                         data, 0 unless the status is RTR_OK */
+    size_t offset;    /* the offset of the unit at fault in the input; 0 if no unit is at fault */
+    size_t wanted;    /* after RTR_SHORT, the least number of bytes needed from input + offset
+                         on, as in an rtr_unit; after RTR_NO_INDEX, the least number of entries
+                         that the index needs; else 0 */
+    uint32_t serial;  /* the serial number of the data */
+    uint32_t refresh; /* the refresh time of the data, in seconds; 0 in version 0 */
+    uint32_t retry;   /* the retry time of the data, likewise */
+    uint32_t expire;  /* the expire time of the data, likewise */
+    uint16_t session; /* the session of the data */
+    uint8_t version;  /* the protocol version of the data, and of each of their units */
     bool has_cut;     /* whether an answer was left out: the next one began before its end */
-    uint8_t status;   /* an rtr_status, as the call returns it */
-    uint8_t detail;   /* the version that RTR_OTHER_VERSION refuses, else as in an rtr_answer */
+    uint8_t status;   /* the result of the call, an rtr_status, which the call returns too */
+    uint8_t detail;   /* the version that RTR_OTHER_VERSION refuses; else the detail of the
+                         status, as in an rtr_answer */
 };
 
 /* The result of a comparison. */
 struct rtr_comparison {
-    size_t offset;  /* the offset of the unit at which the call stopped, in the input of `side`; 0
-                       after RTR_OK */
-    size_t wanted;  /* after RTR_SHORT, the least number of bytes of that input needed from `offset`
-                       on, as in an rtr_unit; else 0 */
-    uint8_t status; /* an rtr_status, as the call returns it */
+    size_t offset;  /* the offset of the unit at which the call stopped, in the input of `side`;
+                       0 after RTR_OK */
+    size_t wanted;  /* after RTR_SHORT, the least number of bytes of that input needed from
+                       `offset` on, as in an rtr_unit; else 0 */
+    uint8_t status; /* the result of the call, an rtr_status, which the call returns too */
     uint8_t side;   /* an rtr_side: the input in which the call stopped; 0 after RTR_OK */
-    uint8_t detail; /* as in an rtr_answer */
+    uint8_t detail; /* the detail of the status, as in an rtr_answer */
     bool same;      /* whether both inputs mean the same; false unless the status is RTR_OK */
 };
 
@@ -249,42 +270,49 @@ struct rtr_comparison {
 struct rtr_line {
     size_t size;    /* bytes of the unit in the input */
     size_t length;  /* bytes of the whole line, even if the output is shorter */
-    size_t wanted;  /* after RTR_SHORT, the least number of input bytes needed, as in an rtr_unit;
-                       else 0 */
-    uint8_t status; /* an rtr_status, as the call returns it */
-    uint8_t detail; /* as in an rtr_answer */
+    size_t wanted;  /* after RTR_SHORT, the least number of input bytes needed, as in an
+                       rtr_unit; else 0 */
+    uint8_t status; /* the result of the call, an rtr_status, which the call returns too */
+    uint8_t detail; /* the detail of the status, as in an rtr_answer */
 };
 
 /* A unit of any kind. Fields that its kind doesn't have are 0. */
 struct rtr_unit {
-    size_t size;        /* bytes of the unit in the input, header included; also set if rtr_next
-                           returns RTR_PREFIX */
-    size_t wanted;      /* if rtr_next returns RTR_SHORT, the least number of input bytes needed: 8
-                           without a whole header, else the length of the unit */
-    size_t part_start;  /* the offset in the unit of a router key's key info, an ASPA's providers,
-                           or the unit that a report encloses */
-    size_t part_length; /* their length in bytes; a provider has 4, in network byte order */
-    size_t text_start;  /* the offset in the unit of a report's text. A report whose inner lengths
-                           don't fit has 0 here and in part_start and both lengths */
-    size_t text_length; /* its length in bytes; it should be UTF-8, which isn't checked */
-    uint32_t asn;       /* of a prefix or a router key */
-    uint32_t customer;  /* of an ASPA */
-    uint32_t serial;    /* of a serial notify, a serial query or an end of data */
-    uint32_t refresh;   /* of an end of data, in seconds; 0 in version 0 */
-    uint32_t retry;
-    uint32_t expire;
-    uint16_t session;   /* of a serial notify, a serial query, a cache response or an end of data */
-    uint16_t code;      /* the error code of a report (RFC 8210 section 12) */
-    uint8_t kind;       /* an rtr_kind */
-    uint8_t version;    /* of the protocol */
-    uint8_t action;     /* 1 if the payload is announced, 0 if it is withdrawn */
-    uint8_t family;     /* 4 or 6 for a prefix */
-    uint8_t prefix_length;
-    uint8_t max_length;
-    uint8_t address[16];        /* in network byte order, the bits after the prefix length zero; for
-                                   IPv4 the first 4 bytes */
+    size_t size;                /* bytes of the unit in the input, header included; also set if
+                                   rtr_next returns RTR_PREFIX */
+    size_t wanted;              /* if rtr_next returns RTR_SHORT, the least number of input bytes
+                                   needed: 8 without a whole header, else the length of the unit */
+    size_t part_start;          /* the offset in the unit of a router key's key info, an ASPA's
+                                   providers, or the unit that a report encloses */
+    size_t part_length;         /* the length of that part in bytes; a provider has 4, in network
+                                   byte order */
+    size_t text_start;          /* the offset in the unit of a report's text. A report whose
+                                   inner lengths don't fit has 0 here and in part_start and both
+                                   lengths */
+    size_t text_length;         /* the length of a report's text in bytes; it should be UTF-8,
+                                   which isn't checked */
+    uint32_t asn;               /* the AS of a prefix or a router key */
+    uint32_t customer;          /* the customer AS of an ASPA */
+    uint32_t serial;            /* the serial number of a serial notify, a serial query or an end
+                                   of data */
+    uint32_t refresh;           /* the refresh time of an end of data, in seconds; 0 in version 0 */
+    uint32_t retry;             /* the retry time of an end of data, likewise */
+    uint32_t expire;            /* the expire time of an end of data, likewise */
+    uint16_t session;           /* the session of a serial notify, a serial query, a cache
+                                   response or an end of data */
+    uint16_t code;              /* the error code of a report (RFC 8210 section 12) */
+    uint8_t kind;               /* the kind of the unit, an rtr_kind */
+    uint8_t version;            /* the protocol version of the unit */
+    uint8_t action;             /* 1 if the payload is announced, 0 if it is withdrawn; 0 for
+                                   what has no payload */
+    uint8_t family;             /* the address family of a prefix, 4 or 6 */
+    uint8_t prefix_length;      /* the length of a prefix */
+    uint8_t max_length;         /* the max length of a prefix */
+    uint8_t address[16];        /* the address of a prefix, in network byte order, the bits after
+                                   the prefix length zero; for IPv4 the first 4 bytes */
     uint8_t key_identifier[20]; /* the subject key identifier of a router key */
-    uint8_t detail;             /* if rtr_next returns a fault, as in an rtr_answer; else 0 */
+    uint8_t detail;             /* if rtr_next returns a fault, its detail, as in an rtr_answer;
+                                   else 0 */
 };
 
 /* The validation state of a route (RFC 6811 section 2). */
@@ -298,10 +326,10 @@ enum rtr_validity {
 
 /* Whether a VRP covers a route. */
 enum rtr_covers {
-    RTR_COVERS_NONE = 0,      /* no VRP covers it, or no further one */
-    RTR_COVERS_ONE = 1,       /* a VRP covers it */
-    RTR_COVERS_NO_ROUTE = 2,  /* as RTR_NO_ROUTE */
-    RTR_COVERS_UNCHECKED = 3  /* as RTR_UNCHECKED */
+    RTR_COVERS_NONE = 0,     /* no VRP covers it, or no further one */
+    RTR_COVERS_ONE = 1,      /* a VRP covers it */
+    RTR_COVERS_NO_ROUTE = 2, /* as RTR_NO_ROUTE */
+    RTR_COVERS_UNCHECKED = 3 /* as RTR_UNCHECKED */
 };
 
 /* Why a VRP that covers a route doesn't match it: the first of these that holds. */
@@ -314,28 +342,23 @@ enum rtr_mismatch {
 
 /* A route. */
 struct rtr_route {
-    uint32_t asn;          /* the origin AS; 0 if there is no single one, as with an AS_SET at the
-                              end of the path: then no VRP matches */
-    uint8_t family;        /* 4 or 6 */
-    uint8_t prefix_length;
-    uint8_t address[16];   /* in network byte order, for IPv4 the first 4 bytes; the bits after the
-                              prefix length are ignored */
+    uint32_t asn;          /* the origin AS; 0 if there is no single one, as with an AS_SET at
+                              the end of the path: then no VRP matches */
+    uint8_t family;        /* the address family, 4 or 6 */
+    uint8_t prefix_length; /* the length of the prefix */
+    uint8_t address[16];   /* the address, in network byte order, for IPv4 the first 4 bytes; the
+                              bits after the prefix length are ignored */
 };
 
 /* An index of the prefixes in data. Its fields are private to the calls of the archive. */
 struct rtr_tables {
-    size_t ipv4;
-    size_t ipv6;
-    size_t starts[256];
-    uint8_t shortest_ipv4;
-    uint8_t shortest_ipv6;
-    uint8_t shortest[256];
+    size_t ipv4, ipv6, starts[256];
+    uint8_t shortest_ipv4, shortest_ipv6, shortest[256];
 };
 
 /* The index of checked data, with their length and a seal; private, too. */
 struct rtr_lookup {
-    size_t length;
-    size_t seal;
+    size_t length, seal;
     struct rtr_tables tables;
 };
 
@@ -349,10 +372,10 @@ struct rtr_data {
 /* A VRP that covers a route. Its prefix is the first prefix_length bits of the route's address. */
 struct rtr_covering {
     size_t place;          /* the index of the payload in the data, from 0 */
-    uint32_t asn;
-    uint8_t prefix_length;
-    uint8_t max_length;
-    uint8_t mismatch;      /* an rtr_mismatch */
+    uint32_t asn;          /* the AS of the VRP */
+    uint8_t prefix_length; /* the length of its prefix */
+    uint8_t max_length;    /* its max length */
+    uint8_t mismatch;      /* why it doesn't match the route, an rtr_mismatch */
 };
 
 /* Returns the pointer of an input slice; for a null pointer, whose length is 0, another. */
@@ -388,11 +411,11 @@ static inline uint8_t *rtr_writable(uint8_t *bytes)
  * then the call never returns RTR_NO_ROOM. Two sequences have the same form if and only if they
  * mean the same. */
 static inline uint8_t rtr_normalise_slice(const uint8_t *input, size_t input_length,
-                                          uint8_t *output, size_t output_length,
-                                          uint64_t limit, struct rtr_answer *answer)
+                                          uint8_t *output, size_t output_length, uint64_t limit,
+                                          struct rtr_answer *answer)
 {
-    return rtr_normalise_slice_nonnull(rtr_readable(input), input_length, rtr_writable(output),
-                                       output_length, limit, answer);
+    return rtr_normalise_slice_nonnull(rtr_readable(input), input_length,
+                                       rtr_writable(output), output_length, limit, answer);
 }
 
 /* As rtr_normalise_slice, for clients of one protocol version. Units that the version doesn't have
@@ -405,9 +428,8 @@ static inline uint8_t rtr_normalise_slice(const uint8_t *input, size_t input_len
  * For a version above 2 the call returns RTR_UNIT_VERSION before any other fault, with that version
  * as `detail` and nothing taken or written. */
 static inline uint8_t rtr_normalise_for_slice(const uint8_t *input, size_t input_length,
-                                              uint8_t *output, size_t output_length,
-                                              uint64_t limit, uint8_t version,
-                                              struct rtr_answer *answer)
+                                              uint8_t *output, size_t output_length, uint64_t limit,
+                                              uint8_t version, struct rtr_answer *answer)
 {
     return rtr_normalise_for_slice_nonnull(rtr_readable(input), input_length,
                                            rtr_writable(output), output_length, limit, version,
@@ -447,12 +469,12 @@ static inline uint8_t rtr_next(const uint8_t *input, size_t input_length, struct
  * units[count] as rtr_next sets it. So whole units that don't fill the array end with RTR_SHORT,
  * and all of the input taken. Later elements are unchanged. */
 static inline uint8_t rtr_next_many(const uint8_t *input, size_t input_length,
-                                    struct rtr_unit *units, size_t units_length,
-                                    size_t *count, size_t *taken)
+                                    struct rtr_unit *units, size_t units_length, size_t *count,
+                                    size_t *taken)
 {
     static struct rtr_unit nowhere;
-    return rtr_next_many_nonnull(rtr_readable(input), input_length, units ? units : &nowhere,
-                                 units_length, count, taken);
+    return rtr_next_many_nonnull(rtr_readable(input), input_length,
+                                 units ? units : &nowhere, units_length, count, taken);
 }
 
 /* Writes the line that the program rtr_list prints for the unit at the start of the input, at this
@@ -464,8 +486,8 @@ static inline uint8_t rtr_next_many(const uint8_t *input, size_t input_length,
 static inline uint8_t rtr_line(const uint8_t *input, size_t input_length, uint64_t offset,
                                uint8_t *output, size_t output_length, struct rtr_line *answer)
 {
-    return rtr_line_nonnull(rtr_readable(input), input_length, offset, rtr_writable(output),
-                            output_length, answer);
+    return rtr_line_nonnull(rtr_readable(input), input_length, offset,
+                            rtr_writable(output), output_length, answer);
 }
 
 /* Writes the JSON object that rtr_list --json prints for the unit, in UTF-8. Otherwise as
@@ -473,8 +495,8 @@ static inline uint8_t rtr_line(const uint8_t *input, size_t input_length, uint64
 static inline uint8_t rtr_json(const uint8_t *input, size_t input_length, uint64_t offset,
                                uint8_t *output, size_t output_length, struct rtr_line *answer)
 {
-    return rtr_json_nonnull(rtr_readable(input), input_length, offset, rtr_writable(output),
-                            output_length, answer);
+    return rtr_json_nonnull(rtr_readable(input), input_length, offset,
+                            rtr_writable(output), output_length, answer);
 }
 
 /* Writes the line of a payload unit's change, as the program rtr_diff prints it, such as "+ IPv4
@@ -484,8 +506,8 @@ static inline uint8_t rtr_change_line(const uint8_t *input, size_t input_length,
                                       uint8_t *output, size_t output_length,
                                       struct rtr_line *answer)
 {
-    return rtr_change_line_nonnull(rtr_readable(input), input_length, rtr_writable(output),
-                                   output_length, answer);
+    return rtr_change_line_nonnull(rtr_readable(input), input_length,
+                                   rtr_writable(output), output_length, answer);
 }
 
 /* Writes the JSON object that rtr_diff --json prints for the change. Otherwise as rtr_line. */
@@ -493,8 +515,8 @@ static inline uint8_t rtr_change_json(const uint8_t *input, size_t input_length,
                                       uint8_t *output, size_t output_length,
                                       struct rtr_line *answer)
 {
-    return rtr_change_json_nonnull(rtr_readable(input), input_length, rtr_writable(output),
-                                   output_length, answer);
+    return rtr_change_json_nonnull(rtr_readable(input), input_length,
+                                   rtr_writable(output), output_length, answer);
 }
 
 /* Writes the text of a status with its detail, such as "unit type 5 is not allowed here", in ASCII
@@ -502,8 +524,8 @@ static inline uint8_t rtr_change_json(const uint8_t *input, size_t input_length,
  *
  * RTR_OK; or RTR_NO_ROOM, with the start of the text in the output. `length` is that of the whole
  * text. */
-static inline uint8_t rtr_text(uint8_t status, uint8_t detail, uint8_t *output,
-                               size_t output_length, size_t *length)
+static inline uint8_t rtr_text(uint8_t status, uint8_t detail,
+                               uint8_t *output, size_t output_length, size_t *length)
 {
     return rtr_text_nonnull(status, detail, rtr_writable(output), output_length, length);
 }
@@ -512,16 +534,17 @@ static inline uint8_t rtr_text(uint8_t status, uint8_t detail, uint8_t *output,
  * reason or an error code; or the text of a rule on times. A number without a name gets a text such
  * as "type 5" or "error code 12"; for any other `named` the text is empty. Otherwise as
  * rtr_text. */
-static inline uint8_t rtr_name(uint8_t named, uint16_t number, uint8_t *output,
-                               size_t output_length, size_t *length)
+static inline uint8_t rtr_name(uint8_t named, uint16_t number,
+                               uint8_t *output, size_t output_length, size_t *length)
 {
     return rtr_name_nonnull(named, number, rtr_writable(output), output_length, length);
 }
 
 /* Reports whether the unit is an ASPA with a provider at this index, from 0, and sets `provider` to
  * it, or else to 0. The input is the one from whose start part_start counts. */
-static inline bool rtr_provider(const struct rtr_unit *unit, const uint8_t *input,
-                                size_t input_length, size_t index, uint32_t *provider)
+static inline bool rtr_provider(const struct rtr_unit *unit,
+                                const uint8_t *input, size_t input_length, size_t index,
+                                uint32_t *provider)
 {
     return rtr_provider_nonnull(unit, rtr_readable(input), input_length, index, provider);
 }
@@ -589,8 +612,8 @@ static inline uint8_t rtr_write_unit(const struct rtr_unit *unit,
                                      const uint8_t *input, size_t input_length,
                                      uint8_t *output, size_t output_length, size_t *written)
 {
-    return rtr_write_unit_nonnull(unit, rtr_readable(input), input_length, rtr_writable(output),
-                                  output_length, written);
+    return rtr_write_unit_nonnull(unit, rtr_readable(input), input_length,
+                                  rtr_writable(output), output_length, written);
 }
 
 /* Reports whether both inputs begin with sequences that mean the same, of fewer than `limit`
@@ -600,11 +623,11 @@ static inline uint8_t rtr_write_unit(const struct rtr_unit *unit,
  * RTR_TOO_MANY: that of the left input, or if the left one is accepted, that of the right one.
  * `side` is the input at fault, and `offset` the unit in it at which rtr_normalise_slice stops. */
 static inline uint8_t rtr_same_meaning(const uint8_t *left, size_t left_length,
-                                       const uint8_t *right, size_t right_length,
-                                       uint64_t limit, struct rtr_comparison *answer)
+                                       const uint8_t *right, size_t right_length, uint64_t limit,
+                                       struct rtr_comparison *answer)
 {
-    return rtr_same_meaning_nonnull(rtr_readable(left), left_length, rtr_readable(right),
-                                    right_length, limit, answer);
+    return rtr_same_meaning_nonnull(rtr_readable(left), left_length,
+                                    rtr_readable(right), right_length, limit, answer);
 }
 
 /* Data and changes in canonical form.
@@ -622,8 +645,8 @@ static inline uint8_t rtr_same_meaning(const uint8_t *left, size_t left_length,
  * Bytes after the end of data in an input are ignored. */
 
 /* Writes the delta from the old data to the new (RFC 8210 section 8.2): changes in canonical form,
- * with the end of data of the new data. An output of old_length + new_length bytes always suffices.
- * rtr_apply turns the old data into the new with it.
+ * with the end of data of the new data. An output of old_data_length + new_data_length bytes always
+ * suffices. rtr_apply turns the old data into the new with it.
  *
  * RTR_OK; or, in this order,
  *   RTR_SHORT to RTR_PREFIX, RTR_NOT_CANONICAL   the first fault of the old data (side 1), or else
@@ -632,12 +655,13 @@ static inline uint8_t rtr_same_meaning(const uint8_t *left, size_t left_length,
  *                                                of `detail`
  *   RTR_OTHER_SESSION                            the new data are of another session than the old
  *   RTR_NO_ROOM                                  the output is shorter than the delta */
-static inline uint8_t rtr_delta(const uint8_t *old_data, size_t old_length,
-                                const uint8_t *new_data, size_t new_length,
+static inline uint8_t rtr_delta(const uint8_t *old_data, size_t old_data_length,
+                                const uint8_t *new_data, size_t new_data_length,
                                 uint8_t *output, size_t output_length,
                                 struct rtr_data_answer *answer)
 {
-    return rtr_delta_nonnull(rtr_readable(old_data), old_length, rtr_readable(new_data), new_length,
+    return rtr_delta_nonnull(rtr_readable(old_data), old_data_length,
+                             rtr_readable(new_data), new_data_length,
                              rtr_writable(output), output_length, answer);
 }
 
@@ -696,8 +720,9 @@ static inline uint8_t rtr_apply_in_order(const uint8_t *data, size_t data_length
                                          struct rtr_data_answer *answer)
 {
     static size_t nowhere;
-    return rtr_apply_in_order_nonnull(rtr_readable(data), data_length, rtr_readable(changes),
-                                      changes_length, index ? index : &nowhere, index_length,
+    return rtr_apply_in_order_nonnull(rtr_readable(data), data_length,
+                                      rtr_readable(changes), changes_length,
+                                      index ? index : &nowhere, index_length,
                                       rtr_writable(output), output_length, answer);
 }
 
@@ -728,8 +753,9 @@ static inline uint8_t rtr_order(const uint8_t *input, size_t input_length,
                                 struct rtr_data_answer *answer)
 {
     static size_t nowhere;
-    return rtr_order_nonnull(rtr_readable(input), input_length, index ? index : &nowhere,
-                             index_length, rtr_writable(output), output_length, answer);
+    return rtr_order_nonnull(rtr_readable(input), input_length,
+                             index ? index : &nowhere, index_length,
+                             rtr_writable(output), output_length, answer);
 }
 
 /* Loads a recording or a list: writes the data that it leaves in canonical form, whatever the order
@@ -740,11 +766,11 @@ static inline uint8_t rtr_order(const uint8_t *input, size_t input_length,
  * next cache response cuts off is left out, and `has_cut` reports it. Serial notifies, and error
  * reports between answers, are ignored. The input is loaded to its end: only units may follow.
  *
- * The index and `work` are room that the call works in: the index has as many elements as the
- * longest answer has payload units, and `work` is as long as the data of each answer, as the output
- * is. Always enough are input_length / RTR_SHORTEST_PAYLOAD elements, and input_length bytes for
- * `work` and for the output. What index and `work` hold afterwards is open; so is the output behind
- * `length`, and after a refusal all of it.
+ * The index and `work` are working memory: the index has an element for each payload unit of the
+ * longest answer, and `work` and the output are as long as the data of each answer.
+ * input_length / RTR_SHORTEST_PAYLOAD elements, and input_length bytes each for `work` and for the
+ * output, always suffice. The contents of index and `work` are unspecified afterwards; so is the
+ * output behind `length`, and after a refusal all of it.
  *
  * RTR_OK; or, of the first unit at which loading can't go on, with its offset:
  *   RTR_SHORT to RTR_PREFIX      it can't be read, as rtr_next refuses it. RTR_SHORT at the end of
@@ -768,9 +794,9 @@ static inline uint8_t rtr_load(const uint8_t *input, size_t input_length,
                                uint8_t *output, size_t output_length, struct rtr_loaded *loaded)
 {
     static size_t nowhere;
-    return rtr_load_nonnull(rtr_readable(input), input_length, index ? index : &nowhere,
-                            index_length, rtr_writable(work), work_length, rtr_writable(output),
-                            output_length, loaded);
+    return rtr_load_nonnull(rtr_readable(input), input_length,
+                            index ? index : &nowhere, index_length, rtr_writable(work), work_length,
+                            rtr_writable(output), output_length, loaded);
 }
 
 /* Route origin validation (RFC 6811 section 2) by the prefixes of data in canonical form, as
@@ -871,19 +897,21 @@ struct rtr_check {
 };
 
 struct rtr_finding {
-    uint16_t value; /* as enum rtr_rule says; else 0 */
-    uint16_t begun;
-    uint8_t rule;   /* an rtr_rule */
+    uint16_t value; /* the value that enum rtr_rule describes for this rule; else 0 */
+    uint16_t begun; /* what the sequence or the answer began with, if enum rtr_rule names it;
+                       else 0 */
+    uint8_t rule;   /* the rule that is broken, an rtr_rule */
 };
 
 /* The result of rtr_check_unit. */
 struct rtr_checked {
     size_t size;    /* bytes of the unit in the input */
-    size_t wanted;  /* as in an rtr_line */
-    struct rtr_finding findings[7]; /* in the order of rtr_list's lines; RTR_RULE_NONE may be
-                                       between them */
-    uint8_t status; /* an rtr_status, as the call returns it */
-    uint8_t detail; /* as in an rtr_answer */
+    size_t wanted;  /* after RTR_SHORT, the least number of input bytes needed, as in an
+                       rtr_unit; else 0 */
+    struct rtr_finding findings[7]; /* the broken rules, in the order of rtr_list's lines;
+                                       RTR_RULE_NONE may be between them */
+    uint8_t status; /* the result of the call, an rtr_status, which the call returns too */
+    uint8_t detail; /* the detail of the status, as in an rtr_answer */
 };
 
 /* The result of rtr_check_name. */
@@ -891,9 +919,10 @@ struct rtr_naming {
     size_t size;    /* bytes of the unit in the input */
     size_t length;  /* bytes of the name, even if the output is shorter; 0 if the unit names no
                        payload */
-    size_t wanted;  /* as in an rtr_line */
-    uint8_t status; /* an rtr_status, as the call returns it */
-    uint8_t detail; /* as in an rtr_answer */
+    size_t wanted;  /* after RTR_SHORT, the least number of input bytes needed, as in an
+                       rtr_unit; else 0 */
+    uint8_t status; /* the result of the call, an rtr_status, which the call returns too */
+    uint8_t detail; /* the detail of the status, as in an rtr_answer */
     bool begins;    /* whether the unit begins a sequence */
     bool announces; /* whether the payload is announced */
 };
@@ -907,8 +936,8 @@ static inline uint8_t rtr_check_name(const uint8_t *input, size_t input_length,
                                      uint8_t *output, size_t output_length,
                                      struct rtr_naming *answer)
 {
-    return rtr_check_name_nonnull(rtr_readable(input), input_length, rtr_writable(output),
-                                  output_length, answer);
+    return rtr_check_name_nonnull(rtr_readable(input), input_length,
+                                  rtr_writable(output), output_length, answer);
 }
 
 /* Finds the rules that the unit at the start of the input breaks; `was_there` is whether the
@@ -972,8 +1001,10 @@ struct rtr_settings {
     uint32_t pause;          /* the least time between two queries or connections; default 1 s */
     uint32_t connect_limit;  /* the time limit for connecting; default 30 seconds */
     uint32_t response_limit; /* the time limit from a query to its end of data; default 2 minutes */
-    uint32_t refresh, retry, expire; /* if not 0, used instead of the cache's (RFC 8210 section
-                                        6) */
+    uint32_t refresh;        /* the refresh time, used instead of the cache's (RFC 8210 section
+                                6) if it isn't 0 */
+    uint32_t retry;          /* the retry time, likewise */
+    uint32_t expire;         /* the expire time, likewise */
     uint32_t most_units;     /* the most payload units of an answer; default 4 million */
     uint16_t chance;         /* a random number: growing waits are shortened by chance / 131072 */
     uint8_t highest;         /* the version in which a connection begins: 0, 1 or 2 */
@@ -981,70 +1012,82 @@ struct rtr_settings {
 
 /* The session, serial number and version of data, and their times in seconds. */
 struct rtr_known {
-    uint32_t serial, refresh, retry, expire;
-    uint16_t session;
-    uint8_t version;
+    uint32_t serial;  /* the serial number of the data */
+    uint32_t refresh; /* the refresh time of the data, in seconds */
+    uint32_t retry;   /* the retry time of the data, in seconds */
+    uint32_t expire;  /* the expire time of the data, in seconds */
+    uint16_t session; /* the session of the data */
+    uint8_t version;  /* the protocol version of the data */
 };
 
 struct rtr_router {
     struct rtr_settings settings;
     uint64_t expires, came, asked, tried, due, rises, bytes;
-    struct rtr_known known;  /* of the data, if `has_data` */
+    struct rtr_known known; /* the session, serial number and times of the data, if `has_data` */
     struct rtr_known answer;
-    uint32_t wait, rise_wait, units, note; /* units: payload units of the response so far */
+    uint32_t wait, rise_wait;
+    uint32_t units;         /* the number of payload units of the response so far */
+    uint32_t note;
     uint16_t session;
-    uint8_t phase, version, floor;
+    uint8_t phase;          /* the state of the router, an rtr_phase; any other number stands for
+                               RTR_PHASE_OFFLINE */
+    uint8_t version, floor;
     bool agreed, fell, silent, changes, resync, answered, noted, has_data;
 };
 
 enum rtr_action_kind {
-    RTR_WAIT,
-    RTR_CONNECT,
-    RTR_ASK,
-    RTR_BEGIN,
-    RTR_KEEP,
-    RTR_APPLY,
-    RTR_SHOW,
-    RTR_NO_DATA,
-    RTR_DROP,
-    RTR_END
+    RTR_WAIT = 0,
+    RTR_CONNECT = 1,
+    RTR_ASK = 2,
+    RTR_BEGIN = 3,
+    RTR_KEEP = 4,
+    RTR_APPLY = 5,
+    RTR_SHOW = 6,
+    RTR_NO_DATA = 7,
+    RTR_DROP = 8,
+    RTR_END = 9
 };
 
 /* Why a connection ends; rtr_cause_text returns the text. */
 enum rtr_cause {
-    RTR_CAUSE_LOST,
-    RTR_CAUSE_SLOW,
-    RTR_CAUSE_FAULTY,          /* a unit is refused, for `status` */
-    RTR_CAUSE_REPORTED,        /* the cache reports an error, in the unit from `start` to `taken` */
-    RTR_CAUSE_OUT_OF_PLACE,
-    RTR_CAUSE_NO_SUCH_PAYLOAD,
-    RTR_CAUSE_OTHER_VERSION,
-    RTR_CAUSE_HIGHER_VERSION,
-    RTR_CAUSE_OTHER_SESSION,
-    RTR_CAUSE_OLD_SERIAL,
-    RTR_CAUSE_OTHER_DATA,
-    RTR_CAUSE_TOO_LONG,
-    RTR_CAUSE_NOT_APPLIED,     /* changes are refused, for `status` */
-    RTR_CAUSE_EXPIRED,
-    RTR_CAUSE_LOWER,           /* no failure: it reconnects at once, in a lower version */
-    RTR_CAUSE_HIGHER           /* no failure: it reconnects at once, in the highest version */
+    RTR_CAUSE_LOST = 0,
+    RTR_CAUSE_SLOW = 1,
+    RTR_CAUSE_FAULTY = 2,       /* a unit is refused, for `status` */
+    RTR_CAUSE_REPORTED = 3,     /* the cache reports an error, in the unit from `start` to
+                                   `taken` */
+    RTR_CAUSE_OUT_OF_PLACE = 4,
+    RTR_CAUSE_NO_SUCH_PAYLOAD = 5,
+    RTR_CAUSE_OTHER_VERSION = 6,
+    RTR_CAUSE_HIGHER_VERSION = 7,
+    RTR_CAUSE_OTHER_SESSION = 8,
+    RTR_CAUSE_OLD_SERIAL = 9,
+    RTR_CAUSE_OTHER_DATA = 10,
+    RTR_CAUSE_TOO_LONG = 11,
+    RTR_CAUSE_NOT_APPLIED = 12, /* changes are refused, for `status` */
+    RTR_CAUSE_EXPIRED = 13,
+    RTR_CAUSE_LOWER = 14,       /* no failure: it reconnects at once, in a lower version */
+    RTR_CAUSE_HIGHER = 15       /* no failure: it reconnects at once, in the highest version */
 };
 
 /* What the program has to do. Fields that an action doesn't have are 0. */
 struct rtr_action {
-    size_t start;    /* the offset in the input of the unit that it is about */
-    size_t taken;    /* how many bytes of the input were consumed, that unit included; a unit that
-                        is refused isn't consumed, since the connection ends */
-    size_t wanted;   /* after rtr_router_read, if there is no whole unit, as in an rtr_unit */
-    uint32_t serial; /* of a serial query */
-    uint16_t session;
-    uint16_t code;   /* of the report */
-    uint8_t kind;    /* an rtr_action_kind */
-    uint8_t version; /* of a query or a report */
-    uint8_t cause;   /* an rtr_cause */
-    uint8_t status;  /* an rtr_status, or 0 */
-    uint8_t detail;  /* as in an rtr_answer */
-    bool changes, drops, reports;
+    size_t start;     /* the offset in the input of the unit that the action is about */
+    size_t taken;     /* the number of bytes of the input that were consumed, that unit included;
+                         a unit that is refused isn't consumed, since the connection ends */
+    size_t wanted;    /* after rtr_router_read, if there is no whole unit, the least number of
+                         input bytes needed, as in an rtr_unit */
+    uint32_t serial;  /* the serial number of a serial query */
+    uint16_t session; /* the session of a serial query */
+    uint16_t code;    /* the error code of the report */
+    uint8_t kind;     /* what to do, an rtr_action_kind */
+    uint8_t version;  /* the version of a query or a report */
+    uint8_t cause;    /* why the connection ends, an rtr_cause */
+    uint8_t status;   /* why a unit or a change is refused, an rtr_status; else 0 */
+    uint8_t detail;   /* the detail of the status, as in an rtr_answer */
+    bool changes;     /* for RTR_ASK, whether the query is a serial query; for RTR_APPLY, whether
+                         the units change the data */
+    bool drops;       /* whether there are no data any more */
+    bool reports;     /* whether a report is owed */
 };
 
 /* Sets the default settings, with this version, or 2 if it is higher. */
@@ -1097,8 +1140,8 @@ static inline void rtr_router_read(struct rtr_router *router, uint64_t now,
 }
 
 /* Writes the query of RTR_ASK, and returns its length: 8 or 12; 0 if the output is shorter. */
-static inline size_t rtr_router_query(const struct rtr_action *action, uint8_t *output,
-                                      size_t output_length)
+static inline size_t rtr_router_query(const struct rtr_action *action,
+                                      uint8_t *output, size_t output_length)
 {
     return rtr_router_query_nonnull(action, rtr_writable(output), output_length);
 }
@@ -1135,7 +1178,34 @@ static inline const char *rtr_cause_text(uint8_t cause)
         "the cache may have a lower version",
         "the cache may have a higher version",
     };
-    return cause < sizeof texts / sizeof texts[0] ? texts[cause] : "unknown cause";
+    return cause < sizeof texts / sizeof *texts && texts[cause] ? texts[cause] : "unknown cause";
+}
+
+/* Writes the text of a failure by an error report that the peer sent, with a 0 at its end: `what`,
+ * the text of RTR_CAUSE_REPORTED or RTR_REASON_REPORTED, the name of the report's code, and the
+ * first RTR_MOST_QUOTED bytes of its text. The input is that of rtr_next, which returned the
+ * report. An output of 200 bytes suffices; a shorter one truncates the text. */
+static inline void rtr_reported_text(const char *what, const struct rtr_unit *report,
+                                     const uint8_t *input, char *output, size_t output_length)
+{
+    uint8_t name[RTR_TEXT_ROOM] = {0};
+    size_t at = 0, length;
+    rtr_name(RTR_NAMED_CODE, report->code, name, sizeof name - 1, &length);
+    const char *const parts[] = {what, ": ", (const char *)name, report->text_length ? ", \"" : ""};
+    for (size_t part = 0; part < sizeof parts / sizeof *parts; part++)
+        for (const char *from = parts[part]; *from && at + 1 < output_length; from++)
+            output[at++] = *from;
+    const uint8_t *text = input + report->text_start;
+    for (size_t i = 0; i < report->text_length && i < RTR_MOST_QUOTED; i++) {
+        uint8_t byte = text[i];
+        if (at + 1 >= output_length)
+            break;
+        output[at++] = byte >= ' ' && byte <= '~' ? (char)byte : '?';
+    }
+    if (report->text_length && at + 1 < output_length)
+        output[at++] = '"';
+    if (output_length)
+        output[at] = 0;
 }
 
 /* A router's end of a session with its bytes and its data, without sockets, clock and memory (RFC
@@ -1180,7 +1250,7 @@ enum rtr_link_status {
 };
 
 enum rtr_todo_kind {
-    RTR_TODO_NOTHING = 0,      /* the call was refused */
+    RTR_TODO_NOTHING = 0, /* the call was refused */
     RTR_TODO_GO = 1,
     RTR_TODO_WAIT = 2,
     RTR_TODO_CONNECT = 3,
@@ -1200,41 +1270,39 @@ struct rtr_link {
     struct rtr_settings settings;
     uint64_t expires, came, asked, tried, due, rises, bytes, latest;
     size_t kept, end_size, filled, shown, unsent;
-    struct rtr_known known;  /* of the data, for which it may be read */
-    struct rtr_known answer;
+    struct rtr_known known, answer;
     uint32_t wait, rise_wait, units, note, mark;
     uint16_t session;
-    uint8_t phase, version, floor;
-    uint8_t agreed, fell, silent, changes, resync, answered, noted, has_data;
-    uint8_t holding, since, shows, second, opened, closed;
+    uint8_t phase, version, floor, agreed, fell, silent, changes, resync, answered, noted;
+    uint8_t has_data, holding, since, shows, second, opened, closed;
 };
 
 /* What is to be done. Fields that it doesn't have are 0. */
 struct rtr_todo {
-    uint64_t wakes;  /* when to call rtr_link_next, if nothing comes before. It may have passed */
-    size_t room;     /* the length that a buffer needs: in bytes, of the index in entries */
-    size_t offset;   /* in the input */
-    uint16_t code;   /* of the report that the output ends with */
-    uint8_t kind;    /* an rtr_todo_kind */
-    uint8_t cause;   /* an rtr_cause */
-    uint8_t status;  /* an rtr_status of a unit or a change that is refused, or 0 */
-    uint8_t detail;  /* as in an rtr_answer */
-    bool drops;      /* there are no data any more */
-    bool reports;    /* the output ends with a report */
+    uint64_t wakes; /* when to call rtr_link_next, if nothing comes before. It may have passed */
+    size_t room;    /* the length that a buffer needs: in bytes, of the index in entries */
+    size_t offset;  /* the offset in the input of the unit that it is about */
+    uint16_t code;  /* the error code of the report that the output ends with */
+    uint8_t kind;   /* what to do, an rtr_todo_kind */
+    uint8_t cause;  /* why the connection ends, an rtr_cause */
+    uint8_t status; /* why a unit or a change is refused, an rtr_status; else 0 */
+    uint8_t detail; /* the detail of the status, as in an rtr_answer */
+    bool drops;     /* whether there are no data any more */
+    bool reports;   /* whether the output ends with a report */
 };
 
 /* What the buffers hold. */
 struct rtr_link_state {
-    uint64_t wakes;  /* as in an rtr_todo */
-    size_t filled;   /* the offset in the input at which the next bytes are read */
-    size_t unsent;   /* how many bytes of the output are to be sent, from its front */
-    size_t shown;    /* the length of the data, in canonical form; 0 if there are none */
-    size_t answer;   /* the length of the payload units of a whole answer, at the front of the
-                        input, which the next rtr_link_next applies; or 0 */
-    bool has_data;   /* there are data, which haven't expired at this time */
-    bool second;     /* they are in the second buffer */
-    bool answers;    /* a whole answer is there */
-    bool since;      /* its units are changes of the data, and not all payloads */
+    uint64_t wakes; /* when to call rtr_link_next, if nothing comes before. It may have passed */
+    size_t filled;  /* the offset in the input at which the next bytes are read */
+    size_t unsent;  /* the number of bytes of the output that are to be sent, from its front */
+    size_t shown;   /* the length of the data, in canonical form; 0 if there are none */
+    size_t answer;  /* the length of the payload units of a whole answer, at the front of the
+                       input, which the next rtr_link_next applies; or 0 */
+    bool has_data;  /* whether there are data, which haven't expired at this time */
+    bool second;    /* whether the data are in the second buffer */
+    bool answers;   /* whether a whole answer is there */
+    bool since;     /* whether its units are changes of the data, and not all payloads */
 };
 
 /* The buffers of a router's end, of any length at first. They don't overlap. */
@@ -1265,8 +1333,8 @@ uint8_t rtr_link_opened(struct rtr_link *link);
  * still taken. RTR_LINK_OUT_OF_TURN if there is none and none is being opened, or it was lost. */
 uint8_t rtr_link_lost(struct rtr_link *link);
 
-/* So many bytes were read to rtr_link_room. RTR_LINK_OUT_OF_TURN if there is no connection, or it
- * was lost; RTR_LINK_TOO_LONG if there is room for fewer. */
+/* Reports that `size` bytes were read to rtr_link_room. RTR_LINK_OUT_OF_TURN if there is no
+ * connection, or it was lost; RTR_LINK_TOO_LONG if the room is shorter. */
 static inline uint8_t rtr_link_received(struct rtr_link *link,
                                         const struct rtr_link_buffers *buffers, size_t size)
 {
@@ -1274,8 +1342,8 @@ static inline uint8_t rtr_link_received(struct rtr_link *link,
                                      size);
 }
 
-/* So many bytes at rtr_link_output were sent; the others move to the front of the output.
- * RTR_LINK_TOO_LONG if there are fewer. */
+/* Reports that the first `size` bytes at rtr_link_output were sent; the others move to the front of
+ * the output. RTR_LINK_TOO_LONG if there are fewer. */
 static inline uint8_t rtr_link_sent(struct rtr_link *link, const struct rtr_link_buffers *buffers,
                                     size_t size)
 {
@@ -1294,8 +1362,8 @@ static inline uint8_t rtr_link_next(struct rtr_link *link, const struct rtr_link
                                  rtr_writable(buffers->output), buffers->output_length, todo);
 }
 
-/* The program wants the present data: the cache is asked as soon as the pause allows it. The
- * program does what this returns, as for rtr_link_next; RTR_TODO_OUTPUT_ROOM: call it again. */
+/* Requests the present data: the client asks its cache as soon as the pause allows it. The program
+ * does what this returns, as for rtr_link_next; after RTR_TODO_OUTPUT_ROOM it calls again. */
 static inline uint8_t rtr_link_ask_now(struct rtr_link *link,
                                        const struct rtr_link_buffers *buffers, uint64_t now,
                                        struct rtr_todo *todo)
@@ -1374,21 +1442,21 @@ static inline const uint8_t *rtr_link_data(const struct rtr_link_buffers *buffer
 
 /* How the shown data change. */
 enum rtr_group_shown {
-    RTR_GROUP_SAME,
-    RTR_GROUP_DATA,
-    RTR_GROUP_NOTHING
+    RTR_GROUP_SAME = 0,
+    RTR_GROUP_DATA = 1,
+    RTR_GROUP_NOTHING = 2
 };
 
 /* What a program may set. */
 struct rtr_group_settings {
-    uint32_t patience;  /* how long, in milliseconds, a member may have no whole answer before the
-                           next one is started too, while none is current; default 5 seconds */
+    uint32_t patience;  /* how long, in milliseconds, a member may have no whole answer before
+                           the next one is started too, while none is current; default 5 seconds */
     bool empty_is_data; /* whether a whole answer without payloads counts as data, and not as a
                            failure that drops them; default false */
 };
 
 struct rtr_group {
-    struct rtr_group_settings settings;
+    struct rtr_group_settings settings; /* the settings of the group */
     size_t count; /* the number of members */
     size_t runs;  /* the number of members that run, from the first on */
     uint64_t due; /* when the next member is started, while none is current */
@@ -1401,8 +1469,9 @@ struct rtr_group_answer {
     size_t member; /* the member whose data to show, for RTR_GROUP_DATA */
     size_t stop;   /* the first member to stop, if `stops` */
     size_t start;  /* the member to start, if `starts` */
-    uint8_t shown; /* an rtr_group_shown */
-    bool stops, starts;
+    uint8_t shown; /* how the shown data change, an rtr_group_shown */
+    bool stops;    /* whether members have to be stopped */
+    bool starts;   /* whether a member has to be started */
 };
 
 /* Sets the default settings. */
@@ -1467,9 +1536,9 @@ void rtr_group_fails(struct rtr_group *group, uint64_t now, size_t member,
 
 /* The session and serial number of a cache's newest data. */
 struct rtr_present {
-    uint32_t serial;
-    uint16_t session;
-    bool has; /* whether there are data; if not, the two other fields are ignored */
+    uint32_t serial;  /* the serial number of the newest data */
+    uint16_t session; /* the session of the newest data */
+    bool has;         /* whether there are data; if not, the two other fields are ignored */
 };
 
 /* What a program may set. Times are in milliseconds. */
@@ -1485,51 +1554,52 @@ struct rtr_cache_settings {
 struct rtr_cache {
     struct rtr_cache_settings settings;
     uint64_t notify_from, due;
-    uint32_t serial; /* of the newest data that the router was `told` of, or of the newest data when
-                        a cache reset made it ask for all, `reset` */
+    uint32_t serial; /* the serial number of the newest data that the router was `told` of, or of
+                        the newest data when a cache reset made it ask for all, `reset` */
     uint16_t session;
-    uint8_t version; /* of the connection, once a query came, `asked` */
+    uint8_t version; /* the version of the connection, once a query came, `asked` */
     bool live, asked, told, reset;
 };
 
 enum rtr_serving_kind {
-    RTR_SERVE_WAIT,
-    RTR_SERVE_ALL,
-    RTR_SERVE_CHANGES,
-    RTR_SERVE_RESET,
-    RTR_SERVE_NO_DATA,
-    RTR_SERVE_NOTIFY,
-    RTR_SERVE_END
+    RTR_SERVE_WAIT = 0,
+    RTR_SERVE_ALL = 1,
+    RTR_SERVE_CHANGES = 2,
+    RTR_SERVE_RESET = 3,
+    RTR_SERVE_NO_DATA = 4,
+    RTR_SERVE_NOTIFY = 5,
+    RTR_SERVE_END = 6
 };
 
 /* Why a cache ends a connection; rtr_reason_text returns the text. */
 enum rtr_reason {
-    RTR_REASON_LOST,
-    RTR_REASON_SLOW,
-    RTR_REASON_FULL,
-    RTR_REASON_FAULTY,        /* a unit is refused, for `status` */
-    RTR_REASON_REPORTED,      /* the router reports an error, in `taken` bytes of input */
-    RTR_REASON_NO_QUERY,
-    RTR_REASON_OTHER_VERSION,
-    RTR_REASON_NO_VERSION,
-    RTR_REASON_NEW_SESSION,
-    RTR_REASON_UNKNOWN
+    RTR_REASON_LOST = 0,
+    RTR_REASON_SLOW = 1,
+    RTR_REASON_FULL = 2,
+    RTR_REASON_FAULTY = 3,   /* a unit is refused, for `status` */
+    RTR_REASON_REPORTED = 4, /* the router reports an error, in `taken` bytes of input */
+    RTR_REASON_NO_QUERY = 5,
+    RTR_REASON_OTHER_VERSION = 6,
+    RTR_REASON_NO_VERSION = 7,
+    RTR_REASON_NEW_SESSION = 8,
+    RTR_REASON_UNKNOWN = 9
 };
 
 /* What the program has to send. Fields that an answer doesn't have are 0. */
 struct rtr_serving {
-    size_t taken;     /* how many bytes of the input were consumed: its first unit; a unit that is
-                         refused isn't consumed, since the connection ends */
-    size_t wanted;    /* after rtr_cache_read, if there is no whole unit, as in an rtr_unit */
-    uint32_t serial;  /* of all data or a notify; for RTR_SERVE_CHANGES, of the data from which they
-                         lead */
-    uint16_t session; /* of all data, changes or a notify */
-    uint16_t code;    /* of the report */
-    uint8_t kind;     /* an rtr_serving_kind */
-    uint8_t version;  /* of what is sent */
-    uint8_t reason;   /* an rtr_reason */
-    uint8_t status;   /* an rtr_status, or 0 */
-    uint8_t detail;   /* as in an rtr_answer */
+    size_t taken;     /* the number of bytes of the input that were consumed: its first unit; a
+                         unit that is refused isn't consumed, since the connection ends */
+    size_t wanted;    /* after rtr_cache_read, if there is no whole unit, the least number of
+                         input bytes needed, as in an rtr_unit */
+    uint32_t serial;  /* the serial number of all data or a notify; for RTR_SERVE_CHANGES, that
+                         of the data from which they lead */
+    uint16_t session; /* the session of all data, changes or a notify */
+    uint16_t code;    /* the error code of the report */
+    uint8_t kind;     /* what to send, an rtr_serving_kind */
+    uint8_t version;  /* the protocol version of what is sent */
+    uint8_t reason;   /* why the connection ends, an rtr_reason */
+    uint8_t status;   /* why a unit is refused, an rtr_status; else 0 */
+    uint8_t detail;   /* the detail of the status, as in an rtr_answer */
     bool reports;     /* whether a report is owed */
 };
 
@@ -1562,20 +1632,20 @@ uint64_t rtr_cache_wakes(const struct rtr_cache *cache, const struct rtr_present
  * refused. RTR_SERVE_WAIT with nothing taken means that there is no whole unit. */
 static inline void rtr_cache_read(struct rtr_cache *cache, uint64_t now,
                                   const struct rtr_present *present,
-                                  const uint32_t *kept, size_t kept_count,
+                                  const uint32_t *kept, size_t kept_length,
                                   const uint8_t *input, size_t input_length, bool ended,
                                   struct rtr_serving *serving)
 {
-    static const uint32_t none = 0;
-    rtr_cache_read_nonnull(cache, now, present, kept ? kept : &none, kept_count,
+    static const uint32_t nowhere = 0;
+    rtr_cache_read_nonnull(cache, now, present, kept ? kept : &nowhere, kept_length,
                            rtr_readable(input), input_length, ended, serving);
 }
 
 /* Writes the first unit of an answer, and returns its length: 8 for a cache response (RTR_SERVE_ALL
  * and RTR_SERVE_CHANGES) or a cache reset, and 12 for a notify; 0 if the answer has none, or the
  * output is shorter. */
-static inline size_t rtr_cache_unit(const struct rtr_serving *serving, uint8_t *output,
-                                    size_t output_length)
+static inline size_t rtr_cache_unit(const struct rtr_serving *serving,
+                                    uint8_t *output, size_t output_length)
 {
     return rtr_cache_unit_nonnull(serving, rtr_writable(output), output_length);
 }
@@ -1590,6 +1660,135 @@ static inline bool rtr_cache_report(const struct rtr_serving *serving,
     return rtr_cache_report_nonnull(serving, rtr_readable(input), input_length,
                                     rtr_writable(output), output_length, written);
 }
+
+/* The limits of a server, and its door, which decides whether a new connection is served. A program
+ * calls rtr_door_next before it accepts a connection, and leaves it in the queue of the system if
+ * that returns RTR_ENTRY_WAIT; it calls rtr_door_enter when it has accepted one, and
+ * rtr_door_leave when it has closed one. A struct is plain data: it may be copied and read. */
+
+/* The limits of a server. Times are in milliseconds. */
+struct rtr_server_settings {
+    struct rtr_cache_settings cache;
+    uint64_t keep;             /* how long, at least, changes from data are kept after newer data
+                                  came; default 2 hours */
+    size_t keep_bytes;         /* the most bytes of changes that are kept; default 64 MiB */
+    uint32_t unit_limit;       /* from a unit's first byte to its last; default 10 seconds */
+    uint32_t write_limit;      /* without a byte of an answer sent; default 30 seconds */
+    uint32_t response_limit;   /* to send a whole answer; default 10 minutes */
+    uint32_t report_limit;     /* to send the last report, and for the router to read it; default
+                                  10 seconds */
+    uint32_t most_connections; /* the most connections that are served at once; default 1024 */
+    uint32_t most_refused;     /* the most connections above that limit that get a report of code
+                                  1 at once; default 64 */
+    uint32_t most_behind;      /* how many newer data may come while a connection is sent an
+                                  answer; default 2 */
+};
+
+/* The connections of a server, each from its entry until it is closed. */
+struct rtr_door {
+    uint32_t most_connections, most_refused;
+    uint32_t served;  /* the connections that are served */
+    uint32_t refused; /* the connections that are being refused */
+};
+
+/* What a new connection gets. */
+enum rtr_entry {
+    RTR_ENTRY_SERVE = 0,
+    RTR_ENTRY_REFUSE = 1, /* rtr_cache_full, its report, and the close */
+    RTR_ENTRY_WAIT = 2    /* it isn't accepted now; if it is already, it is closed without a
+                             report */
+};
+
+/* Sets the defaults. */
+void rtr_server_settings_usual(struct rtr_server_settings *settings);
+
+/* Initializes the door of a server without connections, whatever the struct holds. */
+void rtr_door_init(struct rtr_door *door, const struct rtr_server_settings *settings);
+
+/* Returns the rtr_entry that a new connection would get now. `spare`: whether the system has a
+ * descriptor beside that of the connection; without one it isn't served. */
+uint8_t rtr_door_next(const struct rtr_door *door, bool spare);
+
+/* Counts a connection that was accepted, and returns its rtr_entry. */
+uint8_t rtr_door_enter(struct rtr_door *door, bool spare);
+
+/* A connection with this rtr_entry was closed. Returns false, and changes nothing, if the door
+ * has counted none. */
+bool rtr_door_leave(struct rtr_door *door, uint8_t entry);
+
+/* A connection of a server: what its program does next, and when a limit of time, newer data or a
+ * new session end it. The program has the bytes, and a struct rtr_cache for the answers; it calls
+ * rtr_connection_next after each of the other calls, when there are new data, and at the time
+ * rtr_connection_wakes, and does what that returns. A struct is plain data: it may be copied and
+ * read. */
+struct rtr_connection {
+    struct rtr_server_settings settings;
+    uint64_t begun;  /* when the first unheard byte came */
+    uint64_t taken;  /* when a byte of the answer was sent last */
+    uint64_t until;  /* when all of the answer must be sent; at an end, when to close */
+    uint64_t number; /* the number of the newest data when the answer began */
+    size_t filled;   /* the bytes that came and weren't heard */
+    size_t unsent;   /* the bytes of the answer, or of the last report, that weren't sent */
+    uint8_t state;   /* 0 if it is served, 1 if it ended with a report, 2 if it ended without one */
+    bool fresh;      /* whether there may be a whole unit among the unheard bytes */
+    bool closed;     /* whether the router has closed */
+};
+
+/* What the program does next. After an answer, or an end, of the struct rtr_cache it calls
+ * rtr_connection_answers or rtr_connection_ends with the number of bytes that this sends. */
+enum rtr_step {
+    RTR_STEP_WAIT = 0,
+    RTR_STEP_HEAR = 1,   /* call rtr_cache_read, then rtr_connection_heard */
+    RTR_STEP_TICK = 2,   /* call rtr_cache_tick */
+    RTR_STEP_LOSE = 3,   /* call rtr_cache_lost */
+    RTR_STEP_SEND = 4,   /* send, then call rtr_connection_sent */
+    RTR_STEP_FINISH = 5, /* shut down for writing, and read until the router closes */
+    RTR_STEP_CLOSE = 6   /* close, for an rtr_cut */
+};
+
+/* The limit that ended a connection. */
+enum rtr_cut {
+    RTR_CUT_NONE = 0,        /* the rtr_cache ended it */
+    RTR_CUT_SLOW = 1,        /* a unit or an answer took too long */
+    RTR_CUT_NEW_SESSION = 2, /* there are data of another session */
+    RTR_CUT_BEHIND = 3       /* more than `most_behind` newer data came */
+};
+
+/* Initializes a connection that was accepted at this time, whatever the struct holds. */
+void rtr_connection_init(struct rtr_connection *connection, uint64_t now,
+                         const struct rtr_server_settings *settings);
+
+/* Reports that `size` bytes were read. */
+void rtr_connection_received(struct rtr_connection *connection, uint64_t now, size_t size);
+
+/* The router closed the connection. */
+void rtr_connection_closed(struct rtr_connection *connection);
+
+/* Reports that rtr_cache_read took `size` bytes: 0 if there is no whole unit. */
+void rtr_connection_heard(struct rtr_connection *connection, uint64_t now, size_t size);
+
+/* Begins an answer of `size` bytes, while the newest data have this number; data are numbered as
+ * they come. Returns false, and changes nothing, while another answer is unsent, or after the
+ * end. */
+bool rtr_connection_answers(struct rtr_connection *connection, uint64_t now, size_t size,
+                            uint64_t number);
+
+/* Reports that the rtr_cache ends the connection, with an error report of `size` bytes; 0 for none.
+ * Returns as rtr_connection_answers. */
+bool rtr_connection_ends(struct rtr_connection *connection, uint64_t now, size_t size);
+
+/* Reports that `size` bytes were sent. Returns false, and changes nothing, if fewer are unsent. */
+bool rtr_connection_sent(struct rtr_connection *connection, uint64_t now, size_t size);
+
+/* Returns the rtr_step to do now, and sets `cut` to an rtr_cut. `number` is that of the newest
+ * data, `present`. */
+uint8_t rtr_connection_next(const struct rtr_connection *connection, uint64_t now,
+                            const struct rtr_cache *cache, const struct rtr_present *present,
+                            uint64_t number, uint8_t *cut);
+
+/* Returns when to call rtr_connection_next, if nothing happens before. The time may be past. */
+uint64_t rtr_connection_wakes(const struct rtr_connection *connection,
+                              const struct rtr_cache *cache, const struct rtr_present *present);
 
 /* The data of a cache, with the changes since earlier data of its session, as bytes: without files,
  * a clock or memory (RFC 8210 sections 5.1, 5.3 and 8.2). A history is the present data and the
@@ -1617,20 +1816,20 @@ static inline bool rtr_cache_report(const struct rtr_serving *serving,
  * RTR_STORES_SHORT_BUFFER. */
 enum rtr_stores_status {
     RTR_STORES_OK = 0,
-    RTR_STORES_NOT_MADE = 1,       /* no call leaves the struct like this */
-    RTR_STORES_SHORT_BUFFER = 2,   /* a buffer is shorter than the store in it */
-    RTR_STORES_WAITS = 3,          /* a store waits to be saved or given up */
-    RTR_STORES_FLAW = 4,           /* the data aren't in canonical form */
-    RTR_STORES_OTHER_SESSION = 5,  /* the cache doesn't save, and started with another session */
-    RTR_STORES_SESSION_LEFT = 6,   /* the cache used the session of the data before another one */
-    RTR_STORES_OTHER_VERSION = 7,  /* the data before are of another protocol version */
-    RTR_STORES_SAME_DATA = 8,      /* the data are those that are served */
-    RTR_STORES_OTHER_TIMES = 9,    /* only the times differ from those of the data served */
-    RTR_STORES_OLD_SERIAL = 10,    /* the serial number isn't later than that of the data served */
-    RTR_STORES_MALFORMED = 11,     /* the bytes aren't a store, or aren't a history */
-    RTR_STORES_NO_ROOM = 12,       /* a buffer is too short for this call */
+    RTR_STORES_NOT_MADE = 1,        /* no call leaves the struct like this */
+    RTR_STORES_SHORT_BUFFER = 2,    /* a buffer is shorter than the store in it */
+    RTR_STORES_WAITS = 3,           /* a store waits to be saved or given up */
+    RTR_STORES_FLAW = 4,            /* the data aren't in canonical form */
+    RTR_STORES_OTHER_SESSION = 5,   /* the cache doesn't save, and started with another session */
+    RTR_STORES_SESSION_LEFT = 6,    /* the cache used the session of the data before another one */
+    RTR_STORES_OTHER_VERSION = 7,   /* the data before are of another protocol version */
+    RTR_STORES_SAME_DATA = 8,       /* the data equal the served ones */
+    RTR_STORES_OTHER_TIMES = 9,     /* only the times differ from those of the served data */
+    RTR_STORES_OLD_SERIAL = 10,     /* the serial number isn't later than that of the served data */
+    RTR_STORES_MALFORMED = 11,      /* the bytes aren't a store, or aren't a history */
+    RTR_STORES_NO_ROOM = 12,        /* a buffer is too short for this call */
     RTR_STORES_UNKNOWN_SERIAL = 13, /* the history has no data of this serial number */
-    RTR_STORES_UNIT_VERSION = 14   /* the protocol version is above RTR_HIGHEST_VERSION */
+    RTR_STORES_UNIT_VERSION = 14    /* the protocol version is above RTR_HIGHEST_VERSION */
 };
 
 /* The buffer that is too short. */
@@ -1659,30 +1858,31 @@ struct rtr_history_limits {
 
 /* How a call ended. Fields that an answer doesn't have are 0. */
 struct rtr_stores_answer {
-    size_t length;  /* of the store or the changes that were written */
-    size_t offset;  /* RTR_STORES_FLAW: where the unit at fault begins in the data */
-    size_t wanted;  /* RTR_STORES_NO_ROOM: the length that suffices for this call; of the index in
-                       entries */
-    uint8_t status; /* an rtr_stores_status */
-    uint8_t room;   /* RTR_STORES_NO_ROOM: an rtr_room */
-    uint8_t flaw;   /* RTR_STORES_FLAW: an rtr_status */
-    uint8_t detail; /* RTR_STORES_FLAW: as in an rtr_data_answer; RTR_STORES_OTHER_VERSION: the
-                       version of the data */
+    size_t length;  /* the length of the store or the changes that were written */
+    size_t offset;  /* after RTR_STORES_FLAW, the offset of the unit at fault in the data */
+    size_t wanted;  /* after RTR_STORES_NO_ROOM, the length that suffices for this call; of the
+                       index in entries */
+    uint8_t status; /* the result of the call, an rtr_stores_status */
+    uint8_t room;   /* after RTR_STORES_NO_ROOM, the buffer that is too short, an rtr_room */
+    uint8_t flaw;   /* after RTR_STORES_FLAW, why the unit is refused, an rtr_status */
+    uint8_t detail; /* after RTR_STORES_FLAW, the detail of that, as in an rtr_data_answer; after
+                       RTR_STORES_OTHER_VERSION, the version of the data */
 };
 
 /* What the two buffers have. */
 struct rtr_stores_state {
-    size_t offset; /* of the history that is served, in the buffer of its store */
-    size_t length; /* of that history */
+    size_t offset; /* the offset of the history that is served, in the buffer of its store */
+    size_t length; /* the length of that history */
     size_t taken;  /* the length of the store to save, at the front of the other buffer */
-    bool serves;   /* a history is served */
-    bool waits;    /* a store has to be saved */
-    bool second;   /* the second buffer has the store that is served, and the first the other one */
+    bool serves;   /* whether a history is served */
+    bool waits;    /* whether a store has to be saved */
+    bool second;   /* whether the second buffer has the store that is served, and the first the
+                      other one */
 };
 
 /* What a file begins with; the store follows. */
 struct rtr_store_head {
-    uint8_t bytes[24];
+    uint8_t bytes[24]; /* the head, as it begins the file */
 };
 
 /* The two buffers. A program that makes one of them longer keeps what it holds. */
@@ -1718,10 +1918,10 @@ static inline uint8_t rtr_stores_start(struct rtr_stores *stores, size_t size,
                                        struct rtr_stores_answer *answer)
 {
     static size_t nowhere;
-    return rtr_stores_start_nonnull(stores, size, rtr_readable(buffers->first),
-                                    buffers->first_length, work->index ? work->index : &nowhere,
-                                    work->index_length, rtr_writable(work->buffer),
-                                    work->buffer_length, answer);
+    return rtr_stores_start_nonnull(stores, size,
+                                    rtr_readable(buffers->first), buffers->first_length,
+                                    work->index ? work->index : &nowhere, work->index_length,
+                                    rtr_writable(work->buffer), work->buffer_length, answer);
 }
 
 /* Takes new data in canonical form, at this time: writes their store to the buffer without the one
@@ -1739,8 +1939,7 @@ static inline uint8_t rtr_stores_take(struct rtr_stores *stores,
                                       const uint8_t *data, size_t data_length, uint64_t now,
                                       const struct rtr_history_limits *limits,
                                       const struct rtr_stores_buffers *buffers,
-                                      const struct rtr_work *work,
-                                      struct rtr_stores_answer *answer)
+                                      const struct rtr_work *work, struct rtr_stores_answer *answer)
 {
     return rtr_stores_take_nonnull(stores, rtr_readable(data), data_length, now, limits,
                                    rtr_writable(work->buffer), work->buffer_length,
@@ -1822,8 +2021,7 @@ static inline const uint8_t *rtr_history_data(const uint8_t *history, size_t his
 
 /* Reports whether a history has data of this serial number, so that rtr_history_since writes the
  * changes since them. */
-static inline bool rtr_history_knows(const uint8_t *history, size_t history_length,
-                                     uint32_t serial)
+static inline bool rtr_history_knows(const uint8_t *history, size_t history_length, uint32_t serial)
 {
     return rtr_history_knows_nonnull(rtr_readable(history), history_length, serial);
 }
@@ -1854,7 +2052,7 @@ static inline const char *rtr_time_rule_text(uint8_t rule)
         "the expire time has to be longer than the refresh time",
         "the expire time has to be longer than the retry time",
     };
-    return rule && rule < sizeof texts / sizeof *texts ? texts[rule] : "unknown time rule";
+    return rule < sizeof texts / sizeof *texts && texts[rule] ? texts[rule] : "unknown time rule";
 }
 
 /* Returns the text of a reason, never null; any number may be passed. */
@@ -1872,7 +2070,8 @@ static inline const char *rtr_reason_text(uint8_t reason)
         "the data are of a new session",
         "no data of this session and serial number",
     };
-    return reason < sizeof texts / sizeof texts[0] ? texts[reason] : "unknown reason";
+    return reason < sizeof texts / sizeof *texts && texts[reason] ? texts[reason]
+                                                                  : "unknown reason";
 }
 
 /* Returns the text of a status, never null; any number may be passed. */
@@ -1903,8 +2102,8 @@ static inline const char *rtr_status_text(uint8_t status)
         "cache reset inside an answer",
         "error report inside an answer",
     };
-    return status < sizeof texts / sizeof texts[0] && texts[status] ? texts[status]
-                                                                    : "unknown status";
+    return status < sizeof texts / sizeof *texts && texts[status] ? texts[status]
+                                                                  : "unknown status";
 }
 
 /* Returns the name of a kind, never null; any number may be passed. */
@@ -1924,7 +2123,7 @@ static inline const char *rtr_kind_text(uint8_t kind)
         "error report",
         "ASPA",
     };
-    return kind < sizeof texts / sizeof texts[0] && texts[kind] ? texts[kind] : "unknown kind";
+    return kind < sizeof texts / sizeof *texts && texts[kind] ? texts[kind] : "unknown kind";
 }
 
 #ifdef __cplusplus

@@ -1,10 +1,11 @@
-// What rtr.h declares. `generate` made this file of it: don't edit it.
+// What the crate rtr_c declares. `generate` made this file of it: don't edit it.
 
 export const VERSION: "0.3.0";
 export const VERSION_NUMBER: 300;
 
 /** The result of a call; each call below lists the statuses that it returns. The faults of a
- * unit are 1 to 7, checked in the order of docs/PROTOCOL.md.
+ * unit are 1 to 7, checked in the order of docs/PROTOCOL.md. Number 11 was "out of memory",
+ * which no call returns any more.
  */
 export const Status: {
     /** The call succeeded. */
@@ -389,6 +390,49 @@ export const Reason: {
 };
 export type Reason = (typeof Reason)[keyof typeof Reason];
 
+/** What a new connection gets. */
+export const Entry: {
+    readonly SERVE: 0;
+    /** rtr_cache_full, its report, and the close. */
+    readonly REFUSE: 1;
+    /** It isn't accepted now; if it is already, it is closed without a report. */
+    readonly WAIT: 2;
+};
+export type Entry = (typeof Entry)[keyof typeof Entry];
+
+/** What the program does next. After an answer, or an end, of the struct rtr_cache it calls
+ * rtr_connection_answers or rtr_connection_ends with the number of bytes that this sends.
+ */
+export const Step: {
+    readonly WAIT: 0;
+    /** Call rtr_cache_read, then rtr_connection_heard. */
+    readonly HEAR: 1;
+    /** Call rtr_cache_tick. */
+    readonly TICK: 2;
+    /** Call rtr_cache_lost. */
+    readonly LOSE: 3;
+    /** Send, then call rtr_connection_sent. */
+    readonly SEND: 4;
+    /** Shut down for writing, and read until the router closes. */
+    readonly FINISH: 5;
+    /** Close, for an rtr_cut. */
+    readonly CLOSE: 6;
+};
+export type Step = (typeof Step)[keyof typeof Step];
+
+/** The limit that ended a connection. */
+export const Cut: {
+    /** The rtr_cache ended it. */
+    readonly NONE: 0;
+    /** A unit or an answer took too long. */
+    readonly SLOW: 1;
+    /** There are data of another session. */
+    readonly NEW_SESSION: 2;
+    /** More than `most_behind` newer data came. */
+    readonly BEHIND: 3;
+};
+export type Cut = (typeof Cut)[keyof typeof Cut];
+
 /** How a call on stores or on a history ended. RTR_STORES_NOT_MADE is checked first, and then
  * RTR_STORES_SHORT_BUFFER.
  */
@@ -408,11 +452,11 @@ export const StoresStatus: {
     readonly SESSION_LEFT: 6;
     /** The data before are of another protocol version. */
     readonly OTHER_VERSION: 7;
-    /** The data are those that are served. */
+    /** The data equal the served ones. */
     readonly SAME_DATA: 8;
-    /** Only the times differ from those of the data served. */
+    /** Only the times differ from those of the served data. */
     readonly OTHER_TIMES: 9;
-    /** The serial number isn't later than that of the data served. */
+    /** The serial number isn't later than that of the served data. */
     readonly OLD_SERIAL: 10;
     /** The bytes aren't a store, or aren't a history. */
     readonly MALFORMED: 11;
@@ -438,25 +482,41 @@ export type Room = (typeof Room)[keyof typeof Room];
 
 /** The settings of a router: rtr.h describes each. Times are in milliseconds. */
 export interface Settings {
+    /** The most bytes of an answer's payload units; default 128 MiB. */
     mostBytes: number;
+    /** The least time between two queries or connections; default 1 s. */
     pause: number;
+    /** The time limit for connecting; default 30 seconds. */
     connectLimit: number;
+    /** The time limit from a query to its end of data; default 2 minutes. */
     responseLimit: number;
+    /** The refresh time, used instead of the cache's (RFC 8210 section 6) if it isn't 0. */
     refresh: number;
+    /** The retry time, likewise. */
     retry: number;
+    /** The expire time, likewise. */
     expire: number;
+    /** The most payload units of an answer; default 4 million. */
     mostUnits: number;
+    /** A random number: growing waits are shortened by chance / 131072. */
     chance: number;
+    /** The version in which a connection begins: 0, 1 or 2. */
     highest: number;
 }
 
 /** The session, serial number and version of data, and their times in seconds. */
 export interface Known {
+    /** The serial number of the data. */
     serial: number;
+    /** The refresh time of the data, in seconds. */
     refresh: number;
+    /** The retry time of the data, in seconds. */
     retry: number;
+    /** The expire time of the data, in seconds. */
     expire: number;
+    /** The session of the data. */
     session: number;
+    /** The protocol version of the data. */
     version: number;
 }
 
@@ -470,13 +530,16 @@ export interface RouterState {
     due: number;
     rises: number;
     bytes: number;
+    /** The session, serial number and times of the data, if `has_data`. */
     known: Known;
     answer: Known;
     wait: number;
     riseWait: number;
+    /** The number of payload units of the response so far. */
     units: number;
     note: number;
     session: number;
+    /** The state of the router, an rtr_phase; any other number stands for RTR_PHASE_OFFLINE. */
     phase: number;
     version: number;
     floor: number;
@@ -492,43 +555,117 @@ export interface RouterState {
 
 /** What the program has to do: rtr.h describes each field. */
 export interface Action {
+    /** The offset in the input of the unit that the action is about. */
     start: number;
+    /** The number of bytes of the input that were consumed, that unit included; a unit that is
+     * refused isn't consumed, since the connection ends.
+     */
     taken: number;
+    /** After rtr_router_read, if there is no whole unit, the least number of input bytes needed,
+     * as in an rtr_unit.
+     */
     wanted: number;
+    /** The serial number of a serial query. */
     serial: number;
+    /** The session of a serial query. */
     session: number;
+    /** The error code of the report. */
     code: number;
+    /** What to do, an rtr_action_kind. */
     kind: ActionKind;
+    /** The version of a query or a report. */
     version: number;
+    /** Why the connection ends, an rtr_cause. */
     cause: Cause;
+    /** Why a unit or a change is refused, an rtr_status; else 0. */
     status: Status;
+    /** The detail of the status, as in an rtr_answer. */
     detail: number;
+    /** For RTR_ASK, whether the query is a serial query; for RTR_APPLY, whether the units change
+     * the data.
+     */
     changes: boolean;
+    /** Whether there are no data any more. */
     drops: boolean;
+    /** Whether a report is owed. */
     reports: boolean;
 }
 
 /** What the program has to do: rtr.h describes each field. */
 export interface TodoFields {
+    /** When to call rtr_link_next, if nothing comes before. It may have passed. */
     wakes: number;
+    /** The length that a buffer needs: in bytes, of the index in entries. */
     room: number;
+    /** The offset in the input of the unit that it is about. */
     offset: number;
+    /** The error code of the report that the output ends with. */
     code: number;
+    /** What to do, an rtr_todo_kind. */
     kind: TodoKind;
+    /** Why the connection ends, an rtr_cause. */
     cause: Cause;
+    /** Why a unit or a change is refused, an rtr_status; else 0. */
     status: Status;
+    /** The detail of the status, as in an rtr_answer. */
     detail: number;
+    /** Whether there are no data any more. */
     drops: boolean;
+    /** Whether the output ends with a report. */
     reports: boolean;
 }
 
 /** The settings of a group: rtr.h describes each. Times are in milliseconds. */
 export interface GroupSettings {
+    /** How long, in milliseconds, a member may have no whole answer before the next one is
+     * started too, while none is current; default 5 seconds.
+     */
     patience: number;
+    /** Whether a whole answer without payloads counts as data, and not as a failure that drops
+     * them; default false.
+     */
     emptyIsData: boolean;
+}
+
+/** The settings of a cache: rtr.h describes each. Times are in milliseconds. */
+export interface CacheSettings {
+    /** The time limit to the first query; default 30 seconds. */
+    firstLimit: number;
+    /** The time limit from a query to the next; default 25 hours. */
+    idleLimit: number;
+    /** The least time between two notifies; default 1 minute. */
+    pause: number;
+    /** Whether a serial query whose changes aren't known is answered by a report of code 0 and
+     * the end, instead of a cache reset; default false.
+     */
+    refuses: boolean;
+}
+
+/** The limits of a server: rtr.h describes each. Times are in milliseconds. */
+export interface ServerSettings {
+    cache: CacheSettings;
+    /** How long, at least, changes from data are kept after newer data came; default 2 hours. */
+    keep: number;
+    /** The most bytes of changes that are kept; default 64 MiB. */
+    keepBytes: number;
+    /** From a unit's first byte to its last; default 10 seconds. */
+    unitLimit: number;
+    /** Without a byte of an answer sent; default 30 seconds. */
+    writeLimit: number;
+    /** To send a whole answer; default 10 minutes. */
+    responseLimit: number;
+    /** To send the last report, and for the router to read it; default 10 seconds. */
+    reportLimit: number;
+    /** The most connections that are served at once; default 1024. */
+    mostConnections: number;
+    /** The most connections above that limit that get a report of code 1 at once; default 64. */
+    mostRefused: number;
+    /** How many newer data may come while a connection is sent an answer; default 2. */
+    mostBehind: number;
 }
 
 export function statusText(number: number): string;
 export function kindText(number: number): string;
 export function causeText(number: number): string;
 export function reasonText(number: number): string;
+export function codeText(number: number): string;

@@ -1,4 +1,4 @@
-// What rtr.h declares. `generate` made this file of it: don't edit it.
+// What the crate rtr_c declares. `generate` made this file of it: don't edit it.
 
 export const VERSION = "0.3.0";
 export const VERSION_NUMBER = 300;
@@ -31,6 +31,18 @@ export const TEXT_ROOM = 64;
 export const NAME_ROOM = 65528;
 export const LINE_ROOM = 160;
 export const FINDING_ROOM = 128;
+export const MOST_QUOTED = 100;
+export const FAILURE_NO_MEMORY = "no memory";
+export const FAILURE_EMPTY = "the cache has no payloads";
+export const FAILURE_STOPPED = "the client was stopped";
+export const FAILURE_BEHIND = "the router is too far behind";
+export const FAILURE_CLOSED = "the server is closed";
+export const FAILURE_OLD_SERIAL = "the serial number isn't later than that of the present data";
+export const FAILURE_OTHER_TIMES = "only the times differ from those of the present data";
+export const FAILURE_SESSION_LEFT = "the cache left this session: the data need a new one";
+export const FAILURE_OTHER_SESSION = "a cache that doesn't save has one session";
+export const FAILURE_HIGHER_VERSION = "the saved data are of a lower version: the data need a new session";
+export const FAILURE_DAMAGED = "the saved file is damaged: the data need a new session";
 
 export const Status = Object.freeze({
     OK: 0,
@@ -259,6 +271,29 @@ export const Reason = Object.freeze({
     NO_VERSION: 7,
     NEW_SESSION: 8,
     UNKNOWN: 9,
+});
+
+export const Entry = Object.freeze({
+    SERVE: 0,
+    REFUSE: 1,
+    WAIT: 2,
+});
+
+export const Step = Object.freeze({
+    WAIT: 0,
+    HEAR: 1,
+    TICK: 2,
+    LOSE: 3,
+    SEND: 4,
+    FINISH: 5,
+    CLOSE: 6,
+});
+
+export const Cut = Object.freeze({
+    NONE: 0,
+    SLOW: 1,
+    NEW_SESSION: 2,
+    BEHIND: 3,
 });
 
 export const StoresStatus = Object.freeze({
@@ -597,6 +632,36 @@ export const STRUCTS = Object.freeze({
         ["detail", 28, "uint8"],
         ["reports", 29, "bool"],
     ] },
+    serverSettings: { size: 64, fields: [
+        ["cache", 0, "cacheSettings"],
+        ["keep", 16, "uint64"],
+        ["keepBytes", 24, "size"],
+        ["unitLimit", 32, "uint32"],
+        ["writeLimit", 36, "uint32"],
+        ["responseLimit", 40, "uint32"],
+        ["reportLimit", 44, "uint32"],
+        ["mostConnections", 48, "uint32"],
+        ["mostRefused", 52, "uint32"],
+        ["mostBehind", 56, "uint32"],
+    ] },
+    door: { size: 16, fields: [
+        ["mostConnections", 0, "uint32"],
+        ["mostRefused", 4, "uint32"],
+        ["served", 8, "uint32"],
+        ["refused", 12, "uint32"],
+    ] },
+    connection: { size: 120, fields: [
+        ["settings", 0, "serverSettings"],
+        ["begun", 64, "uint64"],
+        ["taken", 72, "uint64"],
+        ["until", 80, "uint64"],
+        ["number", 88, "uint64"],
+        ["filled", 96, "size"],
+        ["unsent", 104, "size"],
+        ["state", 112, "uint8"],
+        ["fresh", 113, "bool"],
+        ["closed", 114, "bool"],
+    ] },
     stores: { size: 32, fields: [
         ["served", 0, "size"],
         ["taken", 8, "size"],
@@ -647,6 +712,10 @@ export const FUNCTIONS = Object.freeze({
     rtr_name_nonnull: ["uint8", "uint8", "uint16", "*", "size", "*"],
     rtr_provider_nonnull: ["bool", "*", "*", "size", "size", "*"],
     rtr_error_code_nonnull: ["bool", "uint8", "*", "size", "*"],
+    rtr_serial_order: ["uint8", "uint32", "uint32"],
+    rtr_version_has: ["bool", "uint8", "uint8"],
+    rtr_times_rule: ["uint8", "uint32", "uint32", "uint32"],
+    rtr_wire_version: ["uint32"],
     rtr_write_unit_nonnull: ["uint8", "*", "*", "size", "*", "size", "*"],
     rtr_same_meaning_nonnull: ["uint8", "*", "size", "*", "size", "uint64", "*"],
     rtr_delta_nonnull: ["uint8", "*", "size", "*", "size", "*", "size", "*"],
@@ -657,14 +726,10 @@ export const FUNCTIONS = Object.freeze({
     rtr_check_data_nonnull: ["uint8", "*", "size", "*", "*"],
     rtr_validate_nonnull: ["uint8", "*", "size", "*", "*"],
     rtr_covering_nonnull: ["uint8", "*", "size", "*", "*", "size", "*"],
-    rtr_serial_order: ["uint8", "uint32", "uint32"],
-    rtr_version_has: ["bool", "uint8", "uint8"],
-    rtr_times_rule: ["uint8", "uint32", "uint32", "uint32"],
-    rtr_wire_version: ["uint32"],
     rtr_check_name_nonnull: ["uint8", "*", "size", "*", "size", "*"],
     rtr_check_unit_nonnull: ["uint8", "*", "*", "size", "bool", "*"],
-    rtr_finding_line_nonnull: ["size", "*", "uint64", "*", "size"],
     rtr_check_end: ["void", "*", "*"],
+    rtr_finding_line_nonnull: ["size", "*", "uint64", "*", "size"],
     rtr_settings_usual: ["void", "*", "uint8"],
     rtr_router_init: ["void", "*", "*"],
     rtr_router_again: ["void", "*"],
@@ -706,18 +771,32 @@ export const FUNCTIONS = Object.freeze({
     rtr_cache_read_nonnull: ["void", "*", "uint64", "*", "*", "size", "*", "size", "bool", "*"],
     rtr_cache_unit_nonnull: ["size", "*", "*", "size"],
     rtr_cache_report_nonnull: ["bool", "*", "*", "size", "*", "size", "*"],
+    rtr_server_settings_usual: ["void", "*"],
+    rtr_door_init: ["void", "*", "*"],
+    rtr_door_next: ["uint8", "*", "bool"],
+    rtr_door_enter: ["uint8", "*", "bool"],
+    rtr_door_leave: ["bool", "*", "uint8"],
+    rtr_connection_init: ["void", "*", "uint64", "*"],
+    rtr_connection_received: ["void", "*", "uint64", "size"],
+    rtr_connection_closed: ["void", "*"],
+    rtr_connection_heard: ["void", "*", "uint64", "size"],
+    rtr_connection_answers: ["bool", "*", "uint64", "size", "uint64"],
+    rtr_connection_ends: ["bool", "*", "uint64", "size"],
+    rtr_connection_sent: ["bool", "*", "uint64", "size"],
+    rtr_connection_next: ["uint8", "*", "uint64", "*", "*", "uint64", "*"],
+    rtr_connection_wakes: ["uint64", "*", "*", "*"],
     rtr_stores_new: ["void", "*"],
     rtr_stores_unsaved: ["void", "*", "uint16"],
     rtr_stores_start_nonnull: ["uint8", "*", "size", "*", "size", "*", "size", "*", "size", "*"],
     rtr_stores_take_nonnull: ["uint8", "*", "*", "size", "uint64", "*", "*", "size", "*", "size", "*", "size", "*", "size", "*"],
+    rtr_stores_saved: ["uint8", "*"],
+    rtr_stores_give_up: ["uint8", "*"],
     rtr_stores_state_nonnull: ["uint8", "*", "*", "size", "*", "size", "*"],
     rtr_history_since_nonnull: ["uint8", "*", "size", "uint32", "uint8", "*", "size", "*", "size", "*", "size", "*", "size", "*"],
     rtr_history_data_nonnull: ["bool", "*", "size", "*", "*"],
     rtr_history_knows_nonnull: ["bool", "*", "size", "uint32"],
     rtr_store_seal_nonnull: ["void", "*", "size", "*"],
     rtr_store_open_nonnull: ["bool", "*", "size"],
-    rtr_stores_saved: ["uint8", "*"],
-    rtr_stores_give_up: ["uint8", "*"],
 });
 
 const statusTexts = [
@@ -807,4 +886,23 @@ const reasonTexts = [
 
 export function reasonText(number) {
     return reasonTexts[number] ?? "unknown reason";
+}
+
+const codeTexts = [
+    "Corrupt Data",
+    "Internal Error",
+    "No Data Available",
+    "Invalid Request",
+    "Unsupported Protocol Version",
+    "Unsupported PDU Type",
+    "Withdrawal of Unknown Record",
+    "Duplicate Announcement Received",
+    "Unexpected Protocol Version",
+    "ASPA Provider List Error",
+    "Transport Error",
+    "Ordering Error",
+];
+
+export function codeText(number) {
+    return codeTexts[number] ?? `error code ${number}`;
 }

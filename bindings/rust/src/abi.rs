@@ -1,4 +1,4 @@
-//! What `rtr.h` declares. `generate` made this file of it: don't edit it.
+//! What the crate `rtr_c` declares. `generate` made this file of it: don't edit it.
 #![allow(dead_code)]
 
 /// The highest protocol version; the lowest is 0.
@@ -49,9 +49,38 @@ pub(crate) const NAME_ROOM: usize = 65528;
 pub(crate) const LINE_ROOM: usize = 160;
 /// For rtr_finding_line.
 pub(crate) const FINDING_ROOM: usize = 128;
+/// The most bytes of a report's text that a failure shows.
+pub(crate) const MOST_QUOTED: usize = 100;
 
-/// The result of a call; each call below lists the statuses that it returns. The faults of a
-/// unit are 1 to 7, checked in the order of docs/PROTOCOL.md.
+/// Texts of failures that no call returns.
+pub(crate) mod failure {
+    pub(crate) const NO_MEMORY: &str =
+        "no memory";
+    pub(crate) const EMPTY: &str =
+        "the cache has no payloads";
+    pub(crate) const STOPPED: &str =
+        "the client was stopped";
+    pub(crate) const BEHIND: &str =
+        "the router is too far behind";
+    pub(crate) const CLOSED: &str =
+        "the server is closed";
+    pub(crate) const OLD_SERIAL: &str =
+        "the serial number isn't later than that of the present data";
+    pub(crate) const OTHER_TIMES: &str =
+        "only the times differ from those of the present data";
+    pub(crate) const SESSION_LEFT: &str =
+        "the cache left this session: the data need a new one";
+    pub(crate) const OTHER_SESSION: &str =
+        "a cache that doesn't save has one session";
+    pub(crate) const HIGHER_VERSION: &str =
+        "the saved data are of a lower version: the data need a new session";
+    pub(crate) const DAMAGED: &str =
+        "the saved file is damaged: the data need a new session";
+}
+
+/// The result of a call; each call below lists the statuses that it returns. The faults of a unit
+/// are 1 to 7, checked in the order of docs/PROTOCOL.md. Number 11 was "out of memory", which no
+/// call returns any more.
 pub(crate) mod status {
     /// The call succeeded.
     pub(crate) const OK: u8 = 0;
@@ -77,25 +106,23 @@ pub(crate) mod status {
     pub(crate) const NO_FORM: u8 = 10;
     /// A unit or an end of data breaks the canonical form of data or changes.
     pub(crate) const NOT_CANONICAL: u8 = 12;
-    /// The second input is of another session than the first, or an end of data of another
-    /// session than its answer.
+    /// The second input is of another session than the first, or an end of data of another session
+    /// than its answer.
     pub(crate) const OTHER_SESSION: u8 = 13;
     /// A payload other than an ASPA is announced that is already present.
     pub(crate) const DUPLICATE: u8 = 14;
     /// A payload is withdrawn that isn't present.
     pub(crate) const UNKNOWN: u8 = 15;
-    /// rtr_order: an ASPA is announced and then withdrawn, so the net change depends on
-    /// the data.
+    /// rtr_order: an ASPA is announced and then withdrawn, so the net change depends on the data.
     pub(crate) const UNDECIDED: u8 = 16;
     /// The index has fewer entries than there are units.
     pub(crate) const NO_INDEX: u8 = 17;
     /// A group would have more than RTR_MOST_MEMBERS members.
     pub(crate) const TOO_MANY_MEMBERS: u8 = 18;
-    /// A recorded unit has version `detail`, and the units before it in its answer, or the
-    /// data that it changes, have another.
+    /// A recorded unit has version `detail`, and the units before it in its answer, or the data
+    /// that it changes, have another.
     pub(crate) const OTHER_VERSION: u8 = 19;
-    /// The serial number of a recorded answer comes before that of the data that it
-    /// changes.
+    /// The serial number of a recorded answer comes before that of the data that it changes.
     pub(crate) const OLD_SERIAL: u8 = 20;
     /// A recording has a cache reset inside an answer.
     pub(crate) const RESET_INSIDE: u8 = 21;
@@ -189,8 +216,8 @@ pub(crate) mod named {
     pub(crate) const TIME_RULE: u8 = 5;
 }
 
-/// The rules on the times that a cache sends, in seconds (RFC 8210 section 6);
-/// rtr_time_rule_text returns their texts.
+/// The rules on the times that a cache sends, in seconds (RFC 8210 section 6); rtr_time_rule_text
+/// returns their texts.
 pub(crate) mod time_rule {
     pub(crate) const NONE: u8 = 0;
     /// The refresh time is 1 to 86400.
@@ -274,8 +301,7 @@ pub(crate) mod rule {
     pub(crate) const RULE_NO_ANSWER: u8 = 10;
     /// The version, `value`, has such units.
     pub(crate) const RULE_LACKS: u8 = 11;
-    /// A withdrawn ASPA has no providers; with `value` 1 the unit reads as one of an older
-    /// draft.
+    /// A withdrawn ASPA has no providers; with `value` 1 the unit reads as one of an older draft.
     pub(crate) const RULE_WITHDRAWN_PROVIDERS: u8 = 12;
     /// A payload is announced once.
     pub(crate) const RULE_TWICE: u8 = 13;
@@ -351,8 +377,8 @@ pub(crate) mod link_status {
     pub(crate) const OK: u8 = 0;
     /// No call leaves the struct like this.
     pub(crate) const NOT_BEGUN: u8 = 1;
-    /// A buffer is shorter than what it holds; for rtr_link_give_up, the output is shorter
-    /// than RTR_LONGEST_UNIT.
+    /// A buffer is shorter than what it holds; for rtr_link_give_up, the output is shorter than
+    /// RTR_LONGEST_UNIT.
     pub(crate) const SHORT_BUFFER: u8 = 2;
     /// The time is before that of an earlier call, or not below 2^63.
     pub(crate) const BAD_TIME: u8 = 3;
@@ -414,6 +440,45 @@ pub(crate) mod reason {
     pub(crate) const UNKNOWN: u8 = 9;
 }
 
+/// What a new connection gets.
+pub(crate) mod entry {
+    pub(crate) const ENTRY_SERVE: u8 = 0;
+    /// rtr_cache_full, its report, and the close.
+    pub(crate) const ENTRY_REFUSE: u8 = 1;
+    /// It isn't accepted now; if it is already, it is closed without a report.
+    pub(crate) const ENTRY_WAIT: u8 = 2;
+}
+
+/// What the program does next. After an answer, or an end, of the struct rtr_cache it calls
+/// rtr_connection_answers or rtr_connection_ends with the number of bytes that this sends.
+pub(crate) mod step {
+    pub(crate) const STEP_WAIT: u8 = 0;
+    /// Call rtr_cache_read, then rtr_connection_heard.
+    pub(crate) const STEP_HEAR: u8 = 1;
+    /// Call rtr_cache_tick.
+    pub(crate) const STEP_TICK: u8 = 2;
+    /// Call rtr_cache_lost.
+    pub(crate) const STEP_LOSE: u8 = 3;
+    /// Send, then call rtr_connection_sent.
+    pub(crate) const STEP_SEND: u8 = 4;
+    /// Shut down for writing, and read until the router closes.
+    pub(crate) const STEP_FINISH: u8 = 5;
+    /// Close, for an rtr_cut.
+    pub(crate) const STEP_CLOSE: u8 = 6;
+}
+
+/// The limit that ended a connection.
+pub(crate) mod cut {
+    /// The rtr_cache ended it.
+    pub(crate) const CUT_NONE: u8 = 0;
+    /// A unit or an answer took too long.
+    pub(crate) const CUT_SLOW: u8 = 1;
+    /// There are data of another session.
+    pub(crate) const CUT_NEW_SESSION: u8 = 2;
+    /// More than `most_behind` newer data came.
+    pub(crate) const CUT_BEHIND: u8 = 3;
+}
+
 /// How a call on stores or on a history ended. RTR_STORES_NOT_MADE is checked first, and then
 /// RTR_STORES_SHORT_BUFFER.
 pub(crate) mod stores_status {
@@ -432,11 +497,11 @@ pub(crate) mod stores_status {
     pub(crate) const SESSION_LEFT: u8 = 6;
     /// The data before are of another protocol version.
     pub(crate) const OTHER_VERSION: u8 = 7;
-    /// The data are those that are served.
+    /// The data equal the served ones.
     pub(crate) const SAME_DATA: u8 = 8;
-    /// Only the times differ from those of the data served.
+    /// Only the times differ from those of the served data.
     pub(crate) const OTHER_TIMES: u8 = 9;
-    /// The serial number isn't later than that of the data served.
+    /// The serial number isn't later than that of the served data.
     pub(crate) const OLD_SERIAL: u8 = 10;
     /// The bytes aren't a store, or aren't a history.
     pub(crate) const MALFORMED: u8 = 11;
@@ -461,97 +526,173 @@ pub(crate) mod room {
 #[repr(C)]
 #[derive(Clone, Copy, Debug, Default, PartialEq, Eq, Hash)]
 pub(crate) struct Answer {
+    /// Payload units that were read, without the end of data.
     pub(crate) units: u64,
+    /// Payload units that were written; fewer than `units` only for one version.
     pub(crate) forms: u64,
+    /// Bytes of the input that were read: whole units, and the end of data. If the call stopped,
+    /// the offset of the unit at which it stopped.
     pub(crate) taken: usize,
+    /// Bytes of the output that were written, from its start.
     pub(crate) written: usize,
+    /// After RTR_SHORT, the least number of bytes needed from input + taken on, as in an rtr_unit;
+    /// else 0.
     pub(crate) wanted: usize,
+    /// The result of the call, an rtr_status, which the call returns too.
     pub(crate) status: u8,
+    /// The type, version or rule that RTR_UNIT_TYPE, RTR_UNIT_VERSION or RTR_PREFIX refuses, as
+    /// enum rtr_status says; else 0.
     pub(crate) detail: u8,
 }
 
 #[repr(C)]
 #[derive(Clone, Copy, Debug, Default, PartialEq, Eq, Hash)]
 pub(crate) struct DataAnswer {
+    /// After RTR_OK the bytes of the output that were written, from its start; else 0. After
+    /// RTR_NO_ROOM the output's contents are unspecified, after any other status unchanged.
     pub(crate) written: usize,
+    /// The offset of the unit at fault in its input; 0 if no unit is at fault.
     pub(crate) offset: usize,
+    /// The result of the call, an rtr_status, which the call returns too.
     pub(crate) status: u8,
+    /// 1 or 2 if the first or the second input is at fault, else 0.
     pub(crate) side: u8,
+    /// The detail of the status, as in an rtr_answer.
     pub(crate) detail: u8,
 }
 
 #[repr(C)]
 #[derive(Clone, Copy, Debug, Default, PartialEq, Eq, Hash)]
 pub(crate) struct Loaded {
+    /// Bytes of the data, from the front of the output; like all that describes data, 0 unless the
+    /// status is RTR_OK.
     pub(crate) length: usize,
+    /// The offset of the unit at fault in the input; 0 if no unit is at fault.
     pub(crate) offset: usize,
+    /// After RTR_SHORT, the least number of bytes needed from input + offset on, as in an
+    /// rtr_unit; after RTR_NO_INDEX, the least number of entries that the index needs; else 0.
     pub(crate) wanted: usize,
+    /// The serial number of the data.
     pub(crate) serial: u32,
+    /// The refresh time of the data, in seconds; 0 in version 0.
     pub(crate) refresh: u32,
+    /// The retry time of the data, likewise.
     pub(crate) retry: u32,
+    /// The expire time of the data, likewise.
     pub(crate) expire: u32,
+    /// The session of the data.
     pub(crate) session: u16,
+    /// The protocol version of the data, and of each of their units.
     pub(crate) version: u8,
+    /// Whether an answer was left out: the next one began before its end.
     pub(crate) has_cut: bool,
+    /// The result of the call, an rtr_status, which the call returns too.
     pub(crate) status: u8,
+    /// The version that RTR_OTHER_VERSION refuses; else the detail of the status, as in an
+    /// rtr_answer.
     pub(crate) detail: u8,
 }
 
 #[repr(C)]
 #[derive(Clone, Copy, Debug, Default, PartialEq, Eq, Hash)]
 pub(crate) struct Comparison {
+    /// The offset of the unit at which the call stopped, in the input of `side`; 0 after RTR_OK.
     pub(crate) offset: usize,
+    /// After RTR_SHORT, the least number of bytes of that input needed from `offset` on, as in an
+    /// rtr_unit; else 0.
     pub(crate) wanted: usize,
+    /// The result of the call, an rtr_status, which the call returns too.
     pub(crate) status: u8,
+    /// An rtr_side: the input in which the call stopped; 0 after RTR_OK.
     pub(crate) side: u8,
+    /// The detail of the status, as in an rtr_answer.
     pub(crate) detail: u8,
+    /// Whether both inputs mean the same; false unless the status is RTR_OK.
     pub(crate) same: bool,
 }
 
 #[repr(C)]
 #[derive(Clone, Copy, Debug, Default, PartialEq, Eq, Hash)]
 pub(crate) struct Line {
+    /// Bytes of the unit in the input.
     pub(crate) size: usize,
+    /// Bytes of the whole line, even if the output is shorter.
     pub(crate) length: usize,
+    /// After RTR_SHORT, the least number of input bytes needed, as in an rtr_unit; else 0.
     pub(crate) wanted: usize,
+    /// The result of the call, an rtr_status, which the call returns too.
     pub(crate) status: u8,
+    /// The detail of the status, as in an rtr_answer.
     pub(crate) detail: u8,
 }
 
 #[repr(C)]
 #[derive(Clone, Copy, Debug, Default, PartialEq, Eq, Hash)]
 pub(crate) struct Unit {
+    /// Bytes of the unit in the input, header included; also set if rtr_next returns RTR_PREFIX.
     pub(crate) size: usize,
+    /// If rtr_next returns RTR_SHORT, the least number of input bytes needed: 8 without a whole
+    /// header, else the length of the unit.
     pub(crate) wanted: usize,
+    /// The offset in the unit of a router key's key info, an ASPA's providers, or the unit that a
+    /// report encloses.
     pub(crate) part_start: usize,
+    /// The length of that part in bytes; a provider has 4, in network byte order.
     pub(crate) part_length: usize,
+    /// The offset in the unit of a report's text. A report whose inner lengths don't fit has 0
+    /// here and in part_start and both lengths.
     pub(crate) text_start: usize,
+    /// The length of a report's text in bytes; it should be UTF-8, which isn't checked.
     pub(crate) text_length: usize,
+    /// The AS of a prefix or a router key.
     pub(crate) asn: u32,
+    /// The customer AS of an ASPA.
     pub(crate) customer: u32,
+    /// The serial number of a serial notify, a serial query or an end of data.
     pub(crate) serial: u32,
+    /// The refresh time of an end of data, in seconds; 0 in version 0.
     pub(crate) refresh: u32,
+    /// The retry time of an end of data, likewise.
     pub(crate) retry: u32,
+    /// The expire time of an end of data, likewise.
     pub(crate) expire: u32,
+    /// The session of a serial notify, a serial query, a cache response or an end of data.
     pub(crate) session: u16,
+    /// The error code of a report (RFC 8210 section 12).
     pub(crate) code: u16,
+    /// The kind of the unit, an rtr_kind.
     pub(crate) kind: u8,
+    /// The protocol version of the unit.
     pub(crate) version: u8,
+    /// 1 if the payload is announced, 0 if it is withdrawn; 0 for what has no payload.
     pub(crate) action: u8,
+    /// The address family of a prefix, 4 or 6.
     pub(crate) family: u8,
+    /// The length of a prefix.
     pub(crate) prefix_length: u8,
+    /// The max length of a prefix.
     pub(crate) max_length: u8,
+    /// The address of a prefix, in network byte order, the bits after the prefix length zero; for
+    /// IPv4 the first 4 bytes.
     pub(crate) address: [u8; 16],
+    /// The subject key identifier of a router key.
     pub(crate) key_identifier: [u8; 20],
+    /// If rtr_next returns a fault, its detail, as in an rtr_answer; else 0.
     pub(crate) detail: u8,
 }
 
 #[repr(C)]
 #[derive(Clone, Copy, Debug, Default, PartialEq, Eq, Hash)]
 pub(crate) struct Route {
+    /// The origin AS; 0 if there is no single one, as with an AS_SET at the end of the path: then
+    /// no VRP matches.
     pub(crate) asn: u32,
+    /// The address family, 4 or 6.
     pub(crate) family: u8,
+    /// The length of the prefix.
     pub(crate) prefix_length: u8,
+    /// The address, in network byte order, for IPv4 the first 4 bytes; the bits after the prefix
+    /// length are ignored.
     pub(crate) address: [u8; 16],
 }
 
@@ -560,15 +701,19 @@ pub(crate) struct Route {
 pub(crate) struct Tables {
     pub(crate) ipv4: usize,
     pub(crate) ipv6: usize,
+    /// For each first byte the IPv4 unit at which its addresses begin.
     pub(crate) starts: [usize; 256],
+    /// The length of the shortest IPv4 prefix; 255 where there is none.
     pub(crate) shortest_ipv4: u8,
+    /// That of the shortest IPv6 prefix.
     pub(crate) shortest_ipv6: u8,
+    /// The same of IPv4 prefixes of eight bits or more, for each first byte.
     pub(crate) shortest: [u8; 256],
 }
 
 impl Default for Tables {
     fn default() -> Self {
-        Self {
+        Tables {
             ipv4: 0,
             ipv6: 0,
             starts: [0; 256],
@@ -582,18 +727,26 @@ impl Default for Tables {
 #[repr(C)]
 #[derive(Clone, Copy, Debug, Default, PartialEq, Eq, Hash)]
 pub(crate) struct Lookup {
+    /// How many bytes the data are of, or 0.
     pub(crate) length: usize,
+    /// What this length is below the greatest number.
     pub(crate) seal: usize,
+    /// The tables of the data.
     pub(crate) tables: Tables,
 }
 
 #[repr(C)]
 #[derive(Clone, Copy, Debug, Default, PartialEq, Eq, Hash)]
 pub(crate) struct Covering {
+    /// The index of the payload in the data, from 0.
     pub(crate) place: usize,
+    /// The AS of the VRP.
     pub(crate) asn: u32,
+    /// The length of its prefix.
     pub(crate) prefix_length: u8,
+    /// Its max length.
     pub(crate) max_length: u8,
+    /// Why it doesn't match the route, an rtr_mismatch.
     pub(crate) mismatch: u8,
 }
 
@@ -610,56 +763,87 @@ pub(crate) struct Check {
 #[repr(C)]
 #[derive(Clone, Copy, Debug, Default, PartialEq, Eq, Hash)]
 pub(crate) struct Finding {
+    /// The value that enum rtr_rule describes for this rule; else 0.
     pub(crate) value: u16,
+    /// What the sequence or the answer began with, if enum rtr_rule names it; else 0.
     pub(crate) begun: u16,
+    /// The rule that is broken, an rtr_rule.
     pub(crate) rule: u8,
 }
 
 #[repr(C)]
 #[derive(Clone, Copy, Debug, Default, PartialEq, Eq, Hash)]
 pub(crate) struct Checked {
+    /// Bytes of the unit in the input.
     pub(crate) size: usize,
+    /// After RTR_SHORT, the least number of input bytes needed, as in an rtr_unit; else 0.
     pub(crate) wanted: usize,
+    /// The broken rules, in the order of rtr_list's lines; RTR_RULE_NONE may be between them.
     pub(crate) findings: [Finding; 7],
+    /// The result of the call, an rtr_status, which the call returns too.
     pub(crate) status: u8,
+    /// The detail of the status, as in an rtr_answer.
     pub(crate) detail: u8,
 }
 
 #[repr(C)]
 #[derive(Clone, Copy, Debug, Default, PartialEq, Eq, Hash)]
 pub(crate) struct Naming {
+    /// Bytes of the unit in the input.
     pub(crate) size: usize,
+    /// Bytes of the name, even if the output is shorter; 0 if the unit names no payload.
     pub(crate) length: usize,
+    /// After RTR_SHORT, the least number of input bytes needed, as in an rtr_unit; else 0.
     pub(crate) wanted: usize,
+    /// The result of the call, an rtr_status, which the call returns too.
     pub(crate) status: u8,
+    /// The detail of the status, as in an rtr_answer.
     pub(crate) detail: u8,
+    /// Whether the unit begins a sequence.
     pub(crate) begins: bool,
+    /// Whether the payload is announced.
     pub(crate) announces: bool,
 }
 
 #[repr(C)]
 #[derive(Clone, Copy, Debug, Default, PartialEq, Eq, Hash)]
 pub(crate) struct Settings {
+    /// The most bytes of an answer's payload units; default 128 MiB.
     pub(crate) most_bytes: u64,
+    /// The least time between two queries or connections; default 1 s.
     pub(crate) pause: u32,
+    /// The time limit for connecting; default 30 seconds.
     pub(crate) connect_limit: u32,
+    /// The time limit from a query to its end of data; default 2 minutes.
     pub(crate) response_limit: u32,
+    /// The refresh time, used instead of the cache's (RFC 8210 section 6) if it isn't 0.
     pub(crate) refresh: u32,
+    /// The retry time, likewise.
     pub(crate) retry: u32,
+    /// The expire time, likewise.
     pub(crate) expire: u32,
+    /// The most payload units of an answer; default 4 million.
     pub(crate) most_units: u32,
+    /// A random number: growing waits are shortened by chance / 131072.
     pub(crate) chance: u16,
+    /// The version in which a connection begins: 0, 1 or 2.
     pub(crate) highest: u8,
 }
 
 #[repr(C)]
 #[derive(Clone, Copy, Debug, Default, PartialEq, Eq, Hash)]
 pub(crate) struct Known {
+    /// The serial number of the data.
     pub(crate) serial: u32,
+    /// The refresh time of the data, in seconds.
     pub(crate) refresh: u32,
+    /// The retry time of the data, in seconds.
     pub(crate) retry: u32,
+    /// The expire time of the data, in seconds.
     pub(crate) expire: u32,
+    /// The session of the data.
     pub(crate) session: u16,
+    /// The protocol version of the data.
     pub(crate) version: u8,
 }
 
@@ -674,13 +858,16 @@ pub(crate) struct Router {
     pub(crate) due: u64,
     pub(crate) rises: u64,
     pub(crate) bytes: u64,
+    /// The session, serial number and times of the data, if `has_data`.
     pub(crate) known: Known,
     pub(crate) answer: Known,
     pub(crate) wait: u32,
     pub(crate) rise_wait: u32,
+    /// The number of payload units of the response so far.
     pub(crate) units: u32,
     pub(crate) note: u32,
     pub(crate) session: u16,
+    /// The state of the router, an rtr_phase; any other number stands for RTR_PHASE_OFFLINE.
     pub(crate) phase: u8,
     pub(crate) version: u8,
     pub(crate) floor: u8,
@@ -697,19 +884,36 @@ pub(crate) struct Router {
 #[repr(C)]
 #[derive(Clone, Copy, Debug, Default, PartialEq, Eq, Hash)]
 pub(crate) struct Action {
+    /// The offset in the input of the unit that the action is about.
     pub(crate) start: usize,
+    /// The number of bytes of the input that were consumed, that unit included; a unit that is
+    /// refused isn't consumed, since the connection ends.
     pub(crate) taken: usize,
+    /// After rtr_router_read, if there is no whole unit, the least number of input bytes needed,
+    /// as in an rtr_unit.
     pub(crate) wanted: usize,
+    /// The serial number of a serial query.
     pub(crate) serial: u32,
+    /// The session of a serial query.
     pub(crate) session: u16,
+    /// The error code of the report.
     pub(crate) code: u16,
+    /// What to do, an rtr_action_kind.
     pub(crate) kind: u8,
+    /// The version of a query or a report.
     pub(crate) version: u8,
+    /// Why the connection ends, an rtr_cause.
     pub(crate) cause: u8,
+    /// Why a unit or a change is refused, an rtr_status; else 0.
     pub(crate) status: u8,
+    /// The detail of the status, as in an rtr_answer.
     pub(crate) detail: u8,
+    /// For RTR_ASK, whether the query is a serial query; for RTR_APPLY, whether the units change
+    /// the data.
     pub(crate) changes: bool,
+    /// Whether there are no data any more.
     pub(crate) drops: bool,
+    /// Whether a report is owed.
     pub(crate) reports: bool,
 }
 
@@ -724,11 +928,17 @@ pub(crate) struct Link {
     pub(crate) due: u64,
     pub(crate) rises: u64,
     pub(crate) bytes: u64,
+    /// The latest time that was passed.
     pub(crate) latest: u64,
+    /// The length of the payload units at the front of the input.
     pub(crate) kept: usize,
+    /// The length of the end of data behind them, in a whole answer, or 0.
     pub(crate) end_size: usize,
+    /// The offset in the input at which the next bytes are read.
     pub(crate) filled: usize,
+    /// The length of the data, or 0.
     pub(crate) shown: usize,
+    /// How many bytes of the output are still to be sent.
     pub(crate) unsent: usize,
     pub(crate) known: Known,
     pub(crate) answer: Known,
@@ -738,6 +948,7 @@ pub(crate) struct Link {
     pub(crate) note: u32,
     pub(crate) mark: u32,
     pub(crate) session: u16,
+    /// As in an `RtrRouter`.
     pub(crate) phase: u8,
     pub(crate) version: u8,
     pub(crate) floor: u8,
@@ -749,9 +960,14 @@ pub(crate) struct Link {
     pub(crate) answered: u8,
     pub(crate) noted: u8,
     pub(crate) has_data: u8,
+    /// What the first bytes of the input are: 0 nothing that counts, 1 payload units, 2 a whole
+    /// answer.
     pub(crate) holding: u8,
+    /// Whether an answer is changes of the data, and not of no data.
     pub(crate) since: u8,
+    /// Whether there are data.
     pub(crate) shows: u8,
+    /// Whether they are in the second data buffer.
     pub(crate) second: u8,
     pub(crate) opened: u8,
     pub(crate) closed: u8,
@@ -760,75 +976,119 @@ pub(crate) struct Link {
 #[repr(C)]
 #[derive(Clone, Copy, Debug, Default, PartialEq, Eq, Hash)]
 pub(crate) struct Todo {
+    /// When to call rtr_link_next, if nothing comes before. It may have passed.
     pub(crate) wakes: u64,
+    /// The length that a buffer needs: in bytes, of the index in entries.
     pub(crate) room: usize,
+    /// The offset in the input of the unit that it is about.
     pub(crate) offset: usize,
+    /// The error code of the report that the output ends with.
     pub(crate) code: u16,
+    /// What to do, an rtr_todo_kind.
     pub(crate) kind: u8,
+    /// Why the connection ends, an rtr_cause.
     pub(crate) cause: u8,
+    /// Why a unit or a change is refused, an rtr_status; else 0.
     pub(crate) status: u8,
+    /// The detail of the status, as in an rtr_answer.
     pub(crate) detail: u8,
+    /// Whether there are no data any more.
     pub(crate) drops: bool,
+    /// Whether the output ends with a report.
     pub(crate) reports: bool,
 }
 
 #[repr(C)]
 #[derive(Clone, Copy, Debug, Default, PartialEq, Eq, Hash)]
 pub(crate) struct LinkState {
+    /// When to call rtr_link_next, if nothing comes before. It may have passed.
     pub(crate) wakes: u64,
+    /// The offset in the input at which the next bytes are read.
     pub(crate) filled: usize,
+    /// The number of bytes of the output that are to be sent, from its front.
     pub(crate) unsent: usize,
+    /// The length of the data, in canonical form; 0 if there are none.
     pub(crate) shown: usize,
+    /// The length of the payload units of a whole answer, at the front of the input, which the
+    /// next rtr_link_next applies; or 0.
     pub(crate) answer: usize,
+    /// Whether there are data, which haven't expired at this time.
     pub(crate) has_data: bool,
+    /// Whether the data are in the second buffer.
     pub(crate) second: bool,
+    /// Whether a whole answer is there.
     pub(crate) answers: bool,
+    /// Whether its units are changes of the data, and not all payloads.
     pub(crate) since: bool,
 }
 
 #[repr(C)]
 #[derive(Clone, Copy, Debug, Default, PartialEq, Eq, Hash)]
 pub(crate) struct GroupSettings {
+    /// How long, in milliseconds, a member may have no whole answer before the next one is started
+    /// too, while none is current; default 5 seconds.
     pub(crate) patience: u32,
+    /// Whether a whole answer without payloads counts as data, and not as a failure that drops
+    /// them; default false.
     pub(crate) empty_is_data: bool,
 }
 
 #[repr(C)]
 #[derive(Clone, Copy, Debug, Default, PartialEq, Eq, Hash)]
 pub(crate) struct Group {
+    /// The settings of the group.
     pub(crate) settings: GroupSettings,
+    /// The number of members.
     pub(crate) count: usize,
+    /// The number of members that run, from the first on.
     pub(crate) runs: usize,
+    /// When the next member is started, while none is current.
     pub(crate) due: u64,
+    /// Whether each member that runs has data.
     pub(crate) has: [bool; 16],
+    /// Whether the last member that runs is current.
     pub(crate) current: bool,
 }
 
 #[repr(C)]
 #[derive(Clone, Copy, Debug, Default, PartialEq, Eq, Hash)]
 pub(crate) struct GroupAnswer {
+    /// The member whose data to show, for RTR_GROUP_DATA.
     pub(crate) member: usize,
+    /// The first member to stop, if `stops`.
     pub(crate) stop: usize,
+    /// The member to start, if `starts`.
     pub(crate) start: usize,
+    /// How the shown data change, an rtr_group_shown.
     pub(crate) shown: u8,
+    /// Whether members have to be stopped.
     pub(crate) stops: bool,
+    /// Whether a member has to be started.
     pub(crate) starts: bool,
 }
 
 #[repr(C)]
 #[derive(Clone, Copy, Debug, Default, PartialEq, Eq, Hash)]
 pub(crate) struct Present {
+    /// The serial number of the newest data.
     pub(crate) serial: u32,
+    /// The session of the newest data.
     pub(crate) session: u16,
+    /// Whether there are data; if not, the two other fields are ignored.
     pub(crate) has: bool,
 }
 
 #[repr(C)]
 #[derive(Clone, Copy, Debug, Default, PartialEq, Eq, Hash)]
 pub(crate) struct CacheSettings {
+    /// The time limit to the first query; default 30 seconds.
     pub(crate) first_limit: u32,
+    /// The time limit from a query to the next; default 25 hours.
     pub(crate) idle_limit: u32,
+    /// The least time between two notifies; default 1 minute.
     pub(crate) pause: u32,
+    /// Whether a serial query whose changes aren't known is answered by a report of code 0 and the
+    /// end, instead of a cache reset; default false.
     pub(crate) refuses: bool,
 }
 
@@ -838,8 +1098,11 @@ pub(crate) struct Cache {
     pub(crate) settings: CacheSettings,
     pub(crate) notify_from: u64,
     pub(crate) due: u64,
+    /// The serial number of the newest data that the router was `told` of, or of the newest data
+    /// when a cache reset made it ask for all, `reset`.
     pub(crate) serial: u32,
     pub(crate) session: u16,
+    /// The version of the connection, once a query came, `asked`.
     pub(crate) version: u8,
     pub(crate) live: bool,
     pub(crate) asked: bool,
@@ -850,65 +1113,162 @@ pub(crate) struct Cache {
 #[repr(C)]
 #[derive(Clone, Copy, Debug, Default, PartialEq, Eq, Hash)]
 pub(crate) struct Serving {
+    /// The number of bytes of the input that were consumed: its first unit; a unit that is refused
+    /// isn't consumed, since the connection ends.
     pub(crate) taken: usize,
+    /// After rtr_cache_read, if there is no whole unit, the least number of input bytes needed, as
+    /// in an rtr_unit.
     pub(crate) wanted: usize,
+    /// The serial number of all data or a notify; for RTR_SERVE_CHANGES, that of the data from
+    /// which they lead.
     pub(crate) serial: u32,
+    /// The session of all data, changes or a notify.
     pub(crate) session: u16,
+    /// The error code of the report.
     pub(crate) code: u16,
+    /// What to send, an rtr_serving_kind.
     pub(crate) kind: u8,
+    /// The protocol version of what is sent.
     pub(crate) version: u8,
+    /// Why the connection ends, an rtr_reason.
     pub(crate) reason: u8,
+    /// Why a unit is refused, an rtr_status; else 0.
     pub(crate) status: u8,
+    /// The detail of the status, as in an rtr_answer.
     pub(crate) detail: u8,
+    /// Whether a report is owed.
     pub(crate) reports: bool,
 }
 
 #[repr(C)]
 #[derive(Clone, Copy, Debug, Default, PartialEq, Eq, Hash)]
+pub(crate) struct ServerSettings {
+    pub(crate) cache: CacheSettings,
+    /// How long, at least, changes from data are kept after newer data came; default 2 hours.
+    pub(crate) keep: u64,
+    /// The most bytes of changes that are kept; default 64 MiB.
+    pub(crate) keep_bytes: usize,
+    /// From a unit's first byte to its last; default 10 seconds.
+    pub(crate) unit_limit: u32,
+    /// Without a byte of an answer sent; default 30 seconds.
+    pub(crate) write_limit: u32,
+    /// To send a whole answer; default 10 minutes.
+    pub(crate) response_limit: u32,
+    /// To send the last report, and for the router to read it; default 10 seconds.
+    pub(crate) report_limit: u32,
+    /// The most connections that are served at once; default 1024.
+    pub(crate) most_connections: u32,
+    /// The most connections above that limit that get a report of code 1 at once; default 64.
+    pub(crate) most_refused: u32,
+    /// How many newer data may come while a connection is sent an answer; default 2.
+    pub(crate) most_behind: u32,
+}
+
+#[repr(C)]
+#[derive(Clone, Copy, Debug, Default, PartialEq, Eq, Hash)]
+pub(crate) struct Door {
+    pub(crate) most_connections: u32,
+    pub(crate) most_refused: u32,
+    /// The connections that are served.
+    pub(crate) served: u32,
+    /// The connections that are being refused.
+    pub(crate) refused: u32,
+}
+
+#[repr(C)]
+#[derive(Clone, Copy, Debug, Default, PartialEq, Eq, Hash)]
+pub(crate) struct Connection {
+    pub(crate) settings: ServerSettings,
+    /// When the first unheard byte came.
+    pub(crate) begun: u64,
+    /// When a byte of the answer was sent last.
+    pub(crate) taken: u64,
+    /// When all of the answer must be sent; at an end, when to close.
+    pub(crate) until: u64,
+    /// The number of the newest data when the answer began.
+    pub(crate) number: u64,
+    /// The bytes that came and weren't heard.
+    pub(crate) filled: usize,
+    /// The bytes of the answer, or of the last report, that weren't sent.
+    pub(crate) unsent: usize,
+    /// 0 if it is served, 1 if it ended with a report, 2 if it ended without one.
+    pub(crate) state: u8,
+    /// Whether there may be a whole unit among the unheard bytes.
+    pub(crate) fresh: bool,
+    /// Whether the router has closed.
+    pub(crate) closed: bool,
+}
+
+#[repr(C)]
+#[derive(Clone, Copy, Debug, Default, PartialEq, Eq, Hash)]
 pub(crate) struct Stores {
+    /// The length of the store that is served, or 0.
     pub(crate) served: usize,
+    /// The length of the store that waits to be saved, or 0.
     pub(crate) taken: usize,
     pub(crate) mark: u32,
+    /// The session of a start that doesn't save, or 0.
     pub(crate) session: u16,
+    /// Whether a store is served.
     pub(crate) serves: u8,
+    /// Whether a store waits to be saved.
     pub(crate) waits: u8,
+    /// Whether the store that is served is in the second buffer.
     pub(crate) second: u8,
+    /// Whether the cache doesn't save.
     pub(crate) unsaved: u8,
 }
 
 #[repr(C)]
 #[derive(Clone, Copy, Debug, Default, PartialEq, Eq, Hash)]
 pub(crate) struct HistoryLimits {
+    /// A step is kept for this many milliseconds after it was made.
     pub(crate) time: u64,
+    /// The steps have at most this many bytes, with 16 bytes for each step.
     pub(crate) bytes: usize,
 }
 
 #[repr(C)]
 #[derive(Clone, Copy, Debug, Default, PartialEq, Eq, Hash)]
 pub(crate) struct StoresAnswer {
+    /// The length of the store or the changes that were written.
     pub(crate) length: usize,
+    /// After RTR_STORES_FLAW, the offset of the unit at fault in the data.
     pub(crate) offset: usize,
+    /// After RTR_STORES_NO_ROOM, the length that suffices for this call; of the index in entries.
     pub(crate) wanted: usize,
+    /// The result of the call, an rtr_stores_status.
     pub(crate) status: u8,
+    /// After RTR_STORES_NO_ROOM, the buffer that is too short, an rtr_room.
     pub(crate) room: u8,
+    /// After RTR_STORES_FLAW, why the unit is refused, an rtr_status.
     pub(crate) flaw: u8,
+    /// After RTR_STORES_FLAW, the detail of that, as in an rtr_data_answer; after
+    /// RTR_STORES_OTHER_VERSION, the version of the data.
     pub(crate) detail: u8,
 }
 
 #[repr(C)]
 #[derive(Clone, Copy, Debug, Default, PartialEq, Eq, Hash)]
 pub(crate) struct StoresState {
+    /// The offset of the history that is served, in the buffer of its store.
     pub(crate) offset: usize,
+    /// The length of that history.
     pub(crate) length: usize,
+    /// The length of the store to save, at the front of the other buffer.
     pub(crate) taken: usize,
+    /// Whether a history is served.
     pub(crate) serves: bool,
+    /// Whether a store has to be saved.
     pub(crate) waits: bool,
+    /// Whether the second buffer has the store that is served, and the first the other one.
     pub(crate) second: bool,
 }
 
 #[repr(C)]
 #[derive(Clone, Copy, Debug, Default, PartialEq, Eq, Hash)]
 pub(crate) struct StoreHead {
+    /// The head, as it begins the file.
     pub(crate) bytes: [u8; 24],
 }
 
@@ -984,14 +1344,14 @@ extern "C" {
         detail: u8,
         output: *mut u8,
         output_length: usize,
-        length: *mut usize,
+        text_length: *mut usize,
     ) -> u8;
     pub(crate) fn rtr_name_nonnull(
         named: u8,
         number: u16,
         output: *mut u8,
         output_length: usize,
-        length: *mut usize,
+        text_length: *mut usize,
     ) -> u8;
     pub(crate) fn rtr_provider_nonnull(
         unit: *const Unit,
@@ -1006,6 +1366,21 @@ extern "C" {
         input_length: usize,
         code: *mut u16,
     ) -> bool;
+    pub(crate) fn rtr_serial_order(
+        left: u32,
+        right: u32,
+    ) -> u8;
+    pub(crate) fn rtr_version_has(
+        version: u8,
+        kind: u8,
+    ) -> bool;
+    pub(crate) fn rtr_times_rule(
+        refresh: u32,
+        retry: u32,
+        expire: u32,
+    ) -> u8;
+    pub(crate) fn rtr_wire_version(
+    ) -> u32;
     pub(crate) fn rtr_write_unit_nonnull(
         unit: *const Unit,
         input: *const u8,
@@ -1024,9 +1399,9 @@ extern "C" {
     ) -> u8;
     pub(crate) fn rtr_delta_nonnull(
         old_data: *const u8,
-        old_length: usize,
+        old_data_length: usize,
         new_data: *const u8,
-        new_length: usize,
+        new_data_length: usize,
         output: *mut u8,
         output_length: usize,
         answer: *mut DataAnswer,
@@ -1091,21 +1466,6 @@ extern "C" {
         from: usize,
         covering: *mut Covering,
     ) -> u8;
-    pub(crate) fn rtr_serial_order(
-        left: u32,
-        right: u32,
-    ) -> u8;
-    pub(crate) fn rtr_version_has(
-        version: u8,
-        kind: u8,
-    ) -> bool;
-    pub(crate) fn rtr_times_rule(
-        refresh: u32,
-        retry: u32,
-        expire: u32,
-    ) -> u8;
-    pub(crate) fn rtr_wire_version(
-    ) -> u32;
     pub(crate) fn rtr_check_name_nonnull(
         input: *const u8,
         input_length: usize,
@@ -1120,16 +1480,16 @@ extern "C" {
         was_there: bool,
         answer: *mut Checked,
     ) -> u8;
+    pub(crate) fn rtr_check_end(
+        check: *const Check,
+        finding: *mut Finding,
+    );
     pub(crate) fn rtr_finding_line_nonnull(
         finding: *const Finding,
         offset: u64,
         output: *mut u8,
         output_length: usize,
     ) -> usize;
-    pub(crate) fn rtr_check_end(
-        check: *const Check,
-        finding: *mut Finding,
-    );
     pub(crate) fn rtr_settings_usual(
         settings: *mut Settings,
         highest: u8,
@@ -1261,10 +1621,10 @@ extern "C" {
     pub(crate) fn rtr_link_state_of(
         link: *const Link,
         now: u64,
-        input_length: usize,
-        first_length: usize,
-        second_length: usize,
-        output_length: usize,
+        input: usize,
+        first: usize,
+        second: usize,
+        output: usize,
         state: *mut LinkState,
     ) -> u8;
     pub(crate) fn rtr_group_usual(
@@ -1342,7 +1702,7 @@ extern "C" {
         now: u64,
         present: *const Present,
         kept: *const u32,
-        kept_count: usize,
+        kept_length: usize,
         input: *const u8,
         input_length: usize,
         ended: bool,
@@ -1361,6 +1721,72 @@ extern "C" {
         output_length: usize,
         written: *mut usize,
     ) -> bool;
+    pub(crate) fn rtr_server_settings_usual(
+        settings: *mut ServerSettings,
+    );
+    pub(crate) fn rtr_door_init(
+        door: *mut Door,
+        settings: *const ServerSettings,
+    );
+    pub(crate) fn rtr_door_next(
+        door: *const Door,
+        spare: bool,
+    ) -> u8;
+    pub(crate) fn rtr_door_enter(
+        door: *mut Door,
+        spare: bool,
+    ) -> u8;
+    pub(crate) fn rtr_door_leave(
+        door: *mut Door,
+        entry: u8,
+    ) -> bool;
+    pub(crate) fn rtr_connection_init(
+        connection: *mut Connection,
+        now: u64,
+        settings: *const ServerSettings,
+    );
+    pub(crate) fn rtr_connection_received(
+        connection: *mut Connection,
+        now: u64,
+        size: usize,
+    );
+    pub(crate) fn rtr_connection_closed(
+        connection: *mut Connection,
+    );
+    pub(crate) fn rtr_connection_heard(
+        connection: *mut Connection,
+        now: u64,
+        size: usize,
+    );
+    pub(crate) fn rtr_connection_answers(
+        connection: *mut Connection,
+        now: u64,
+        size: usize,
+        number: u64,
+    ) -> bool;
+    pub(crate) fn rtr_connection_ends(
+        connection: *mut Connection,
+        now: u64,
+        size: usize,
+    ) -> bool;
+    pub(crate) fn rtr_connection_sent(
+        connection: *mut Connection,
+        now: u64,
+        size: usize,
+    ) -> bool;
+    pub(crate) fn rtr_connection_next(
+        connection: *const Connection,
+        now: u64,
+        cache: *const Cache,
+        present: *const Present,
+        number: u64,
+        cut: *mut u8,
+    ) -> u8;
+    pub(crate) fn rtr_connection_wakes(
+        connection: *const Connection,
+        cache: *const Cache,
+        present: *const Present,
+    ) -> u64;
     pub(crate) fn rtr_stores_new(
         stores: *mut Stores,
     );
@@ -1381,8 +1807,8 @@ extern "C" {
     ) -> u8;
     pub(crate) fn rtr_stores_take_nonnull(
         stores: *mut Stores,
-        data: *const u8,
-        data_length: usize,
+        new: *const u8,
+        new_length: usize,
         now: u64,
         limits: *const HistoryLimits,
         buffer: *mut u8,
@@ -1394,6 +1820,12 @@ extern "C" {
         second: *mut u8,
         second_length: usize,
         answer: *mut StoresAnswer,
+    ) -> u8;
+    pub(crate) fn rtr_stores_saved(
+        stores: *mut Stores,
+    ) -> u8;
+    pub(crate) fn rtr_stores_give_up(
+        stores: *mut Stores,
     ) -> u8;
     pub(crate) fn rtr_stores_state_nonnull(
         stores: *const Stores,
@@ -1438,12 +1870,6 @@ extern "C" {
         file: *const u8,
         file_length: usize,
     ) -> bool;
-    pub(crate) fn rtr_stores_saved(
-        stores: *mut Stores,
-    ) -> u8;
-    pub(crate) fn rtr_stores_give_up(
-        stores: *mut Stores,
-    ) -> u8;
 }
 
 #[cfg(all(test, target_pointer_width = "64"))]
@@ -1768,6 +2194,36 @@ mod tests {
         assert_eq!(place!(value.status), 27);
         assert_eq!(place!(value.detail), 28);
         assert_eq!(place!(value.reports), 29);
+        let value = super::ServerSettings::default();
+        assert_eq!(size_of::<super::ServerSettings>(), 64);
+        assert_eq!(place!(value.cache), 0);
+        assert_eq!(place!(value.keep), 16);
+        assert_eq!(place!(value.keep_bytes), 24);
+        assert_eq!(place!(value.unit_limit), 32);
+        assert_eq!(place!(value.write_limit), 36);
+        assert_eq!(place!(value.response_limit), 40);
+        assert_eq!(place!(value.report_limit), 44);
+        assert_eq!(place!(value.most_connections), 48);
+        assert_eq!(place!(value.most_refused), 52);
+        assert_eq!(place!(value.most_behind), 56);
+        let value = super::Door::default();
+        assert_eq!(size_of::<super::Door>(), 16);
+        assert_eq!(place!(value.most_connections), 0);
+        assert_eq!(place!(value.most_refused), 4);
+        assert_eq!(place!(value.served), 8);
+        assert_eq!(place!(value.refused), 12);
+        let value = super::Connection::default();
+        assert_eq!(size_of::<super::Connection>(), 120);
+        assert_eq!(place!(value.settings), 0);
+        assert_eq!(place!(value.begun), 64);
+        assert_eq!(place!(value.taken), 72);
+        assert_eq!(place!(value.until), 80);
+        assert_eq!(place!(value.number), 88);
+        assert_eq!(place!(value.filled), 96);
+        assert_eq!(place!(value.unsent), 104);
+        assert_eq!(place!(value.state), 112);
+        assert_eq!(place!(value.fresh), 113);
+        assert_eq!(place!(value.closed), 114);
         let value = super::Stores::default();
         assert_eq!(size_of::<super::Stores>(), 32);
         assert_eq!(place!(value.served), 0);

@@ -1,4 +1,4 @@
-"""What rtr.h declares. `generate` made this file of it: don't edit it."""
+"""What the crate rtr_c declares. `generate` made this file of it: don't edit it."""
 from __future__ import annotations
 
 import enum
@@ -37,11 +37,24 @@ TEXT_ROOM = 64
 NAME_ROOM = 65528
 LINE_ROOM = 160
 FINDING_ROOM = 128
+MOST_QUOTED = 100
+FAILURE_NO_MEMORY = "no memory"
+FAILURE_EMPTY = "the cache has no payloads"
+FAILURE_STOPPED = "the client was stopped"
+FAILURE_BEHIND = "the router is too far behind"
+FAILURE_CLOSED = "the server is closed"
+FAILURE_OLD_SERIAL = "the serial number isn't later than that of the present data"
+FAILURE_OTHER_TIMES = "only the times differ from those of the present data"
+FAILURE_SESSION_LEFT = "the cache left this session: the data need a new one"
+FAILURE_OTHER_SESSION = "a cache that doesn't save has one session"
+FAILURE_HIGHER_VERSION = "the saved data are of a lower version: the data need a new session"
+FAILURE_DAMAGED = "the saved file is damaged: the data need a new session"
 
 
 class Status(enum.IntEnum):
     """The result of a call; each call below lists the statuses that it returns. The faults of a
-    unit are 1 to 7, checked in the order of docs/PROTOCOL.md.
+    unit are 1 to 7, checked in the order of docs/PROTOCOL.md. Number 11 was "out of memory",
+    which no call returns any more.
     """
 
     # The call succeeded.
@@ -425,6 +438,49 @@ class Reason(enum.IntEnum):
     UNKNOWN = 9
 
 
+class Entry(enum.IntEnum):
+    """What a new connection gets."""
+
+    SERVE = 0
+    # rtr_cache_full, its report, and the close.
+    REFUSE = 1
+    # It isn't accepted now; if it is already, it is closed without a report.
+    WAIT = 2
+
+
+class Step(enum.IntEnum):
+    """What the program does next. After an answer, or an end, of the struct rtr_cache it calls
+    rtr_connection_answers or rtr_connection_ends with the number of bytes that this sends.
+    """
+
+    WAIT = 0
+    # Call rtr_cache_read, then rtr_connection_heard.
+    HEAR = 1
+    # Call rtr_cache_tick.
+    TICK = 2
+    # Call rtr_cache_lost.
+    LOSE = 3
+    # Send, then call rtr_connection_sent.
+    SEND = 4
+    # Shut down for writing, and read until the router closes.
+    FINISH = 5
+    # Close, for an rtr_cut.
+    CLOSE = 6
+
+
+class Cut(enum.IntEnum):
+    """The limit that ended a connection."""
+
+    # The rtr_cache ended it.
+    NONE = 0
+    # A unit or an answer took too long.
+    SLOW = 1
+    # There are data of another session.
+    NEW_SESSION = 2
+    # More than `most_behind` newer data came.
+    BEHIND = 3
+
+
 class StoresStatus(enum.IntEnum):
     """How a call on stores or on a history ended. RTR_STORES_NOT_MADE is checked first, and then
     RTR_STORES_SHORT_BUFFER.
@@ -445,11 +501,11 @@ class StoresStatus(enum.IntEnum):
     SESSION_LEFT = 6
     # The data before are of another protocol version.
     OTHER_VERSION = 7
-    # The data are those that are served.
+    # The data equal the served ones.
     SAME_DATA = 8
-    # Only the times differ from those of the data served.
+    # Only the times differ from those of the served data.
     OTHER_TIMES = 9
-    # The serial number isn't later than that of the data served.
+    # The serial number isn't later than that of the served data.
     OLD_SERIAL = 10
     # The bytes aren't a store, or aren't a history.
     MALFORMED = 11
@@ -473,12 +529,22 @@ class Room(enum.IntEnum):
 
 
 class rtr_answer(Structure):
+    # Payload units that were read, without the end of data.
     units: int
+    # Payload units that were written; fewer than `units` only for one version.
     forms: int
+    # Bytes of the input that were read: whole units, and the end of data. If the call stopped,
+    # the offset of the unit at which it stopped.
     taken: int
+    # Bytes of the output that were written, from its start.
     written: int
+    # After RTR_SHORT, the least number of bytes needed from input + taken on, as in an
+    # rtr_unit; else 0.
     wanted: int
+    # The result of the call, an rtr_status, which the call returns too.
     status: int
+    # The type, version or rule that RTR_UNIT_TYPE, RTR_UNIT_VERSION or RTR_PREFIX refuses, as
+    # enum rtr_status says; else 0.
     detail: int
 
     _fields_ = [
@@ -493,10 +559,16 @@ class rtr_answer(Structure):
 
 
 class rtr_data_answer(Structure):
+    # After RTR_OK the bytes of the output that were written, from its start; else 0. After
+    # RTR_NO_ROOM the output's contents are unspecified, after any other status unchanged.
     written: int
+    # The offset of the unit at fault in its input; 0 if no unit is at fault.
     offset: int
+    # The result of the call, an rtr_status, which the call returns too.
     status: int
+    # 1 or 2 if the first or the second input is at fault, else 0.
     side: int
+    # The detail of the status, as in an rtr_answer.
     detail: int
 
     _fields_ = [
@@ -509,17 +581,32 @@ class rtr_data_answer(Structure):
 
 
 class rtr_loaded(Structure):
+    # Bytes of the data, from the front of the output; like all that describes data, 0 unless
+    # the status is RTR_OK.
     length: int
+    # The offset of the unit at fault in the input; 0 if no unit is at fault.
     offset: int
+    # After RTR_SHORT, the least number of bytes needed from input + offset on, as in an
+    # rtr_unit; after RTR_NO_INDEX, the least number of entries that the index needs; else 0.
     wanted: int
+    # The serial number of the data.
     serial: int
+    # The refresh time of the data, in seconds; 0 in version 0.
     refresh: int
+    # The retry time of the data, likewise.
     retry: int
+    # The expire time of the data, likewise.
     expire: int
+    # The session of the data.
     session: int
+    # The protocol version of the data, and of each of their units.
     version: int
+    # Whether an answer was left out: the next one began before its end.
     has_cut: bool
+    # The result of the call, an rtr_status, which the call returns too.
     status: int
+    # The version that RTR_OTHER_VERSION refuses; else the detail of the status, as in an
+    # rtr_answer.
     detail: int
 
     _fields_ = [
@@ -539,11 +626,18 @@ class rtr_loaded(Structure):
 
 
 class rtr_comparison(Structure):
+    # The offset of the unit at which the call stopped, in the input of `side`; 0 after RTR_OK.
     offset: int
+    # After RTR_SHORT, the least number of bytes of that input needed from `offset` on, as in
+    # an rtr_unit; else 0.
     wanted: int
+    # The result of the call, an rtr_status, which the call returns too.
     status: int
+    # An rtr_side: the input in which the call stopped; 0 after RTR_OK.
     side: int
+    # The detail of the status, as in an rtr_answer.
     detail: int
+    # Whether both inputs mean the same; false unless the status is RTR_OK.
     same: bool
 
     _fields_ = [
@@ -557,10 +651,15 @@ class rtr_comparison(Structure):
 
 
 class rtr_line(Structure):
+    # Bytes of the unit in the input.
     size: int
+    # Bytes of the whole line, even if the output is shorter.
     length: int
+    # After RTR_SHORT, the least number of input bytes needed, as in an rtr_unit; else 0.
     wanted: int
+    # The result of the call, an rtr_status, which the call returns too.
     status: int
+    # The detail of the status, as in an rtr_answer.
     detail: int
 
     _fields_ = [
@@ -573,28 +672,55 @@ class rtr_line(Structure):
 
 
 class rtr_unit(Structure):
+    # Bytes of the unit in the input, header included; also set if rtr_next returns RTR_PREFIX.
     size: int
+    # If rtr_next returns RTR_SHORT, the least number of input bytes needed: 8 without a whole
+    # header, else the length of the unit.
     wanted: int
+    # The offset in the unit of a router key's key info, an ASPA's providers, or the unit that
+    # a report encloses.
     part_start: int
+    # The length of that part in bytes; a provider has 4, in network byte order.
     part_length: int
+    # The offset in the unit of a report's text. A report whose inner lengths don't fit has 0
+    # here and in part_start and both lengths.
     text_start: int
+    # The length of a report's text in bytes; it should be UTF-8, which isn't checked.
     text_length: int
+    # The AS of a prefix or a router key.
     asn: int
+    # The customer AS of an ASPA.
     customer: int
+    # The serial number of a serial notify, a serial query or an end of data.
     serial: int
+    # The refresh time of an end of data, in seconds; 0 in version 0.
     refresh: int
+    # The retry time of an end of data, likewise.
     retry: int
+    # The expire time of an end of data, likewise.
     expire: int
+    # The session of a serial notify, a serial query, a cache response or an end of data.
     session: int
+    # The error code of a report (RFC 8210 section 12).
     code: int
+    # The kind of the unit, an rtr_kind.
     kind: int
+    # The protocol version of the unit.
     version: int
+    # 1 if the payload is announced, 0 if it is withdrawn; 0 for what has no payload.
     action: int
+    # The address family of a prefix, 4 or 6.
     family: int
+    # The length of a prefix.
     prefix_length: int
+    # The max length of a prefix.
     max_length: int
+    # The address of a prefix, in network byte order, the bits after the prefix length zero;
+    # for IPv4 the first 4 bytes.
     address: Any
+    # The subject key identifier of a router key.
     key_identifier: Any
+    # If rtr_next returns a fault, its detail, as in an rtr_answer; else 0.
     detail: int
 
     _fields_ = [
@@ -625,9 +751,15 @@ class rtr_unit(Structure):
 
 
 class rtr_route(Structure):
+    # The origin AS; 0 if there is no single one, as with an AS_SET at the end of the path:
+    # then no VRP matches.
     asn: int
+    # The address family, 4 or 6.
     family: int
+    # The length of the prefix.
     prefix_length: int
+    # The address, in network byte order, for IPv4 the first 4 bytes; the bits after the prefix
+    # length are ignored.
     address: Any
 
     _fields_ = [
@@ -641,9 +773,13 @@ class rtr_route(Structure):
 class rtr_tables(Structure):
     ipv4: int
     ipv6: int
+    # For each first byte the IPv4 unit at which its addresses begin.
     starts: Any
+    # The length of the shortest IPv4 prefix; 255 where there is none.
     shortest_ipv4: int
+    # That of the shortest IPv6 prefix.
     shortest_ipv6: int
+    # The same of IPv4 prefixes of eight bits or more, for each first byte.
     shortest: Any
 
     _fields_ = [
@@ -657,8 +793,11 @@ class rtr_tables(Structure):
 
 
 class rtr_lookup(Structure):
+    # How many bytes the data are of, or 0.
     length: int
+    # What this length is below the greatest number.
     seal: int
+    # The tables of the data.
     tables: rtr_tables
 
     _fields_ = [
@@ -669,10 +808,15 @@ class rtr_lookup(Structure):
 
 
 class rtr_covering(Structure):
+    # The index of the payload in the data, from 0.
     place: int
+    # The AS of the VRP.
     asn: int
+    # The length of its prefix.
     prefix_length: int
+    # Its max length.
     max_length: int
+    # Why it doesn't match the route, an rtr_mismatch.
     mismatch: int
 
     _fields_ = [
@@ -701,8 +845,11 @@ class rtr_check(Structure):
 
 
 class rtr_finding(Structure):
+    # The value that enum rtr_rule describes for this rule; else 0.
     value: int
+    # What the sequence or the answer began with, if enum rtr_rule names it; else 0.
     begun: int
+    # The rule that is broken, an rtr_rule.
     rule: int
 
     _fields_ = [
@@ -713,10 +860,15 @@ class rtr_finding(Structure):
 
 
 class rtr_checked(Structure):
+    # Bytes of the unit in the input.
     size: int
+    # After RTR_SHORT, the least number of input bytes needed, as in an rtr_unit; else 0.
     wanted: int
+    # The broken rules, in the order of rtr_list's lines; RTR_RULE_NONE may be between them.
     findings: Any
+    # The result of the call, an rtr_status, which the call returns too.
     status: int
+    # The detail of the status, as in an rtr_answer.
     detail: int
 
     _fields_ = [
@@ -729,12 +881,19 @@ class rtr_checked(Structure):
 
 
 class rtr_naming(Structure):
+    # Bytes of the unit in the input.
     size: int
+    # Bytes of the name, even if the output is shorter; 0 if the unit names no payload.
     length: int
+    # After RTR_SHORT, the least number of input bytes needed, as in an rtr_unit; else 0.
     wanted: int
+    # The result of the call, an rtr_status, which the call returns too.
     status: int
+    # The detail of the status, as in an rtr_answer.
     detail: int
+    # Whether the unit begins a sequence.
     begins: bool
+    # Whether the payload is announced.
     announces: bool
 
     _fields_ = [
@@ -749,15 +908,25 @@ class rtr_naming(Structure):
 
 
 class rtr_settings(Structure):
+    # The most bytes of an answer's payload units; default 128 MiB.
     most_bytes: int
+    # The least time between two queries or connections; default 1 s.
     pause: int
+    # The time limit for connecting; default 30 seconds.
     connect_limit: int
+    # The time limit from a query to its end of data; default 2 minutes.
     response_limit: int
+    # The refresh time, used instead of the cache's (RFC 8210 section 6) if it isn't 0.
     refresh: int
+    # The retry time, likewise.
     retry: int
+    # The expire time, likewise.
     expire: int
+    # The most payload units of an answer; default 4 million.
     most_units: int
+    # A random number: growing waits are shortened by chance / 131072.
     chance: int
+    # The version in which a connection begins: 0, 1 or 2.
     highest: int
 
     _fields_ = [
@@ -775,11 +944,17 @@ class rtr_settings(Structure):
 
 
 class rtr_known(Structure):
+    # The serial number of the data.
     serial: int
+    # The refresh time of the data, in seconds.
     refresh: int
+    # The retry time of the data, in seconds.
     retry: int
+    # The expire time of the data, in seconds.
     expire: int
+    # The session of the data.
     session: int
+    # The protocol version of the data.
     version: int
 
     _fields_ = [
@@ -801,13 +976,16 @@ class rtr_router(Structure):
     due: int
     rises: int
     bytes: int
+    # The session, serial number and times of the data, if `has_data`.
     known: rtr_known
     answer: rtr_known
     wait: int
     rise_wait: int
+    # The number of payload units of the response so far.
     units: int
     note: int
     session: int
+    # The state of the router, an rtr_phase; any other number stands for RTR_PHASE_OFFLINE.
     phase: int
     version: int
     floor: int
@@ -851,19 +1029,36 @@ class rtr_router(Structure):
 
 
 class rtr_action(Structure):
+    # The offset in the input of the unit that the action is about.
     start: int
+    # The number of bytes of the input that were consumed, that unit included; a unit that is
+    # refused isn't consumed, since the connection ends.
     taken: int
+    # After rtr_router_read, if there is no whole unit, the least number of input bytes needed,
+    # as in an rtr_unit.
     wanted: int
+    # The serial number of a serial query.
     serial: int
+    # The session of a serial query.
     session: int
+    # The error code of the report.
     code: int
+    # What to do, an rtr_action_kind.
     kind: int
+    # The version of a query or a report.
     version: int
+    # Why the connection ends, an rtr_cause.
     cause: int
+    # Why a unit or a change is refused, an rtr_status; else 0.
     status: int
+    # The detail of the status, as in an rtr_answer.
     detail: int
+    # For RTR_ASK, whether the query is a serial query; for RTR_APPLY, whether the units change
+    # the data.
     changes: bool
+    # Whether there are no data any more.
     drops: bool
+    # Whether a report is owed.
     reports: bool
 
     _fields_ = [
@@ -893,11 +1088,17 @@ class rtr_link(Structure):
     due: int
     rises: int
     bytes: int
+    # The latest time that was passed.
     latest: int
+    # The length of the payload units at the front of the input.
     kept: int
+    # The length of the end of data behind them, in a whole answer, or 0.
     end_size: int
+    # The offset in the input at which the next bytes are read.
     filled: int
+    # The length of the data, or 0.
     shown: int
+    # How many bytes of the output are still to be sent.
     unsent: int
     known: rtr_known
     answer: rtr_known
@@ -907,6 +1108,7 @@ class rtr_link(Structure):
     note: int
     mark: int
     session: int
+    # As in an `RtrRouter`.
     phase: int
     version: int
     floor: int
@@ -918,9 +1120,14 @@ class rtr_link(Structure):
     answered: int
     noted: int
     has_data: int
+    # What the first bytes of the input are: 0 nothing that counts, 1 payload units, 2 a whole
+    # answer.
     holding: int
+    # Whether an answer is changes of the data, and not of no data.
     since: int
+    # Whether there are data.
     shows: int
+    # Whether they are in the second data buffer.
     second: int
     opened: int
     closed: int
@@ -969,15 +1176,25 @@ class rtr_link(Structure):
 
 
 class rtr_todo(Structure):
+    # When to call rtr_link_next, if nothing comes before. It may have passed.
     wakes: int
+    # The length that a buffer needs: in bytes, of the index in entries.
     room: int
+    # The offset in the input of the unit that it is about.
     offset: int
+    # The error code of the report that the output ends with.
     code: int
+    # What to do, an rtr_todo_kind.
     kind: int
+    # Why the connection ends, an rtr_cause.
     cause: int
+    # Why a unit or a change is refused, an rtr_status; else 0.
     status: int
+    # The detail of the status, as in an rtr_answer.
     detail: int
+    # Whether there are no data any more.
     drops: bool
+    # Whether the output ends with a report.
     reports: bool
 
     _fields_ = [
@@ -995,14 +1212,24 @@ class rtr_todo(Structure):
 
 
 class rtr_link_state(Structure):
+    # When to call rtr_link_next, if nothing comes before. It may have passed.
     wakes: int
+    # The offset in the input at which the next bytes are read.
     filled: int
+    # The number of bytes of the output that are to be sent, from its front.
     unsent: int
+    # The length of the data, in canonical form; 0 if there are none.
     shown: int
+    # The length of the payload units of a whole answer, at the front of the input, which the
+    # next rtr_link_next applies; or 0.
     answer: int
+    # Whether there are data, which haven't expired at this time.
     has_data: bool
+    # Whether the data are in the second buffer.
     second: bool
+    # Whether a whole answer is there.
     answers: bool
+    # Whether its units are changes of the data, and not all payloads.
     since: bool
 
     _fields_ = [
@@ -1019,7 +1246,11 @@ class rtr_link_state(Structure):
 
 
 class rtr_group_settings(Structure):
+    # How long, in milliseconds, a member may have no whole answer before the next one is
+    # started too, while none is current; default 5 seconds.
     patience: int
+    # Whether a whole answer without payloads counts as data, and not as a failure that drops
+    # them; default false.
     empty_is_data: bool
 
     _fields_ = [
@@ -1029,11 +1260,17 @@ class rtr_group_settings(Structure):
 
 
 class rtr_group(Structure):
+    # The settings of the group.
     settings: rtr_group_settings
+    # The number of members.
     count: int
+    # The number of members that run, from the first on.
     runs: int
+    # When the next member is started, while none is current.
     due: int
+    # Whether each member that runs has data.
     has: Any
+    # Whether the last member that runs is current.
     current: bool
 
     _fields_ = [
@@ -1047,11 +1284,17 @@ class rtr_group(Structure):
 
 
 class rtr_group_answer(Structure):
+    # The member whose data to show, for RTR_GROUP_DATA.
     member: int
+    # The first member to stop, if `stops`.
     stop: int
+    # The member to start, if `starts`.
     start: int
+    # How the shown data change, an rtr_group_shown.
     shown: int
+    # Whether members have to be stopped.
     stops: bool
+    # Whether a member has to be started.
     starts: bool
 
     _fields_ = [
@@ -1065,8 +1308,11 @@ class rtr_group_answer(Structure):
 
 
 class rtr_present(Structure):
+    # The serial number of the newest data.
     serial: int
+    # The session of the newest data.
     session: int
+    # Whether there are data; if not, the two other fields are ignored.
     has: bool
 
     _fields_ = [
@@ -1077,9 +1323,14 @@ class rtr_present(Structure):
 
 
 class rtr_cache_settings(Structure):
+    # The time limit to the first query; default 30 seconds.
     first_limit: int
+    # The time limit from a query to the next; default 25 hours.
     idle_limit: int
+    # The least time between two notifies; default 1 minute.
     pause: int
+    # Whether a serial query whose changes aren't known is answered by a report of code 0 and
+    # the end, instead of a cache reset; default false.
     refuses: bool
 
     _fields_ = [
@@ -1094,8 +1345,11 @@ class rtr_cache(Structure):
     settings: rtr_cache_settings
     notify_from: int
     due: int
+    # The serial number of the newest data that the router was `told` of, or of the newest data
+    # when a cache reset made it ask for all, `reset`.
     serial: int
     session: int
+    # The version of the connection, once a query came, `asked`.
     version: int
     live: bool
     asked: bool
@@ -1117,16 +1371,30 @@ class rtr_cache(Structure):
 
 
 class rtr_serving(Structure):
+    # The number of bytes of the input that were consumed: its first unit; a unit that is
+    # refused isn't consumed, since the connection ends.
     taken: int
+    # After rtr_cache_read, if there is no whole unit, the least number of input bytes needed,
+    # as in an rtr_unit.
     wanted: int
+    # The serial number of all data or a notify; for RTR_SERVE_CHANGES, that of the data from
+    # which they lead.
     serial: int
+    # The session of all data, changes or a notify.
     session: int
+    # The error code of the report.
     code: int
+    # What to send, an rtr_serving_kind.
     kind: int
+    # The protocol version of what is sent.
     version: int
+    # Why the connection ends, an rtr_reason.
     reason: int
+    # Why a unit is refused, an rtr_status; else 0.
     status: int
+    # The detail of the status, as in an rtr_answer.
     detail: int
+    # Whether a report is owed.
     reports: bool
 
     _fields_ = [
@@ -1144,14 +1412,107 @@ class rtr_serving(Structure):
     ]
 
 
-class rtr_stores(Structure):
+class rtr_server_settings(Structure):
+    cache: rtr_cache_settings
+    # How long, at least, changes from data are kept after newer data came; default 2 hours.
+    keep: int
+    # The most bytes of changes that are kept; default 64 MiB.
+    keep_bytes: int
+    # From a unit's first byte to its last; default 10 seconds.
+    unit_limit: int
+    # Without a byte of an answer sent; default 30 seconds.
+    write_limit: int
+    # To send a whole answer; default 10 minutes.
+    response_limit: int
+    # To send the last report, and for the router to read it; default 10 seconds.
+    report_limit: int
+    # The most connections that are served at once; default 1024.
+    most_connections: int
+    # The most connections above that limit that get a report of code 1 at once; default 64.
+    most_refused: int
+    # How many newer data may come while a connection is sent an answer; default 2.
+    most_behind: int
+
+    _fields_ = [
+        ("cache", rtr_cache_settings),
+        ("keep", c_uint64),
+        ("keep_bytes", c_size_t),
+        ("unit_limit", c_uint32),
+        ("write_limit", c_uint32),
+        ("response_limit", c_uint32),
+        ("report_limit", c_uint32),
+        ("most_connections", c_uint32),
+        ("most_refused", c_uint32),
+        ("most_behind", c_uint32),
+    ]
+
+
+class rtr_door(Structure):
+    most_connections: int
+    most_refused: int
+    # The connections that are served.
     served: int
+    # The connections that are being refused.
+    refused: int
+
+    _fields_ = [
+        ("most_connections", c_uint32),
+        ("most_refused", c_uint32),
+        ("served", c_uint32),
+        ("refused", c_uint32),
+    ]
+
+
+class rtr_connection(Structure):
+    settings: rtr_server_settings
+    # When the first unheard byte came.
+    begun: int
+    # When a byte of the answer was sent last.
+    taken: int
+    # When all of the answer must be sent; at an end, when to close.
+    until: int
+    # The number of the newest data when the answer began.
+    number: int
+    # The bytes that came and weren't heard.
+    filled: int
+    # The bytes of the answer, or of the last report, that weren't sent.
+    unsent: int
+    # 0 if it is served, 1 if it ended with a report, 2 if it ended without one.
+    state: int
+    # Whether there may be a whole unit among the unheard bytes.
+    fresh: bool
+    # Whether the router has closed.
+    closed: bool
+
+    _fields_ = [
+        ("settings", rtr_server_settings),
+        ("begun", c_uint64),
+        ("taken", c_uint64),
+        ("until", c_uint64),
+        ("number", c_uint64),
+        ("filled", c_size_t),
+        ("unsent", c_size_t),
+        ("state", c_uint8),
+        ("fresh", c_bool),
+        ("closed", c_bool),
+    ]
+
+
+class rtr_stores(Structure):
+    # The length of the store that is served, or 0.
+    served: int
+    # The length of the store that waits to be saved, or 0.
     taken: int
     mark: int
+    # The session of a start that doesn't save, or 0.
     session: int
+    # Whether a store is served.
     serves: int
+    # Whether a store waits to be saved.
     waits: int
+    # Whether the store that is served is in the second buffer.
     second: int
+    # Whether the cache doesn't save.
     unsaved: int
 
     _fields_ = [
@@ -1167,7 +1528,9 @@ class rtr_stores(Structure):
 
 
 class rtr_history_limits(Structure):
+    # A step is kept for this many milliseconds after it was made.
     time: int
+    # The steps have at most this many bytes, with 16 bytes for each step.
     bytes: int
 
     _fields_ = [
@@ -1177,12 +1540,21 @@ class rtr_history_limits(Structure):
 
 
 class rtr_stores_answer(Structure):
+    # The length of the store or the changes that were written.
     length: int
+    # After RTR_STORES_FLAW, the offset of the unit at fault in the data.
     offset: int
+    # After RTR_STORES_NO_ROOM, the length that suffices for this call; of the index in
+    # entries.
     wanted: int
+    # The result of the call, an rtr_stores_status.
     status: int
+    # After RTR_STORES_NO_ROOM, the buffer that is too short, an rtr_room.
     room: int
+    # After RTR_STORES_FLAW, why the unit is refused, an rtr_status.
     flaw: int
+    # After RTR_STORES_FLAW, the detail of that, as in an rtr_data_answer; after
+    # RTR_STORES_OTHER_VERSION, the version of the data.
     detail: int
 
     _fields_ = [
@@ -1197,11 +1569,17 @@ class rtr_stores_answer(Structure):
 
 
 class rtr_stores_state(Structure):
+    # The offset of the history that is served, in the buffer of its store.
     offset: int
+    # The length of that history.
     length: int
+    # The length of the store to save, at the front of the other buffer.
     taken: int
+    # Whether a history is served.
     serves: bool
+    # Whether a store has to be saved.
     waits: bool
+    # Whether the second buffer has the store that is served, and the first the other one.
     second: bool
 
     _fields_ = [
@@ -1215,6 +1593,7 @@ class rtr_stores_state(Structure):
 
 
 class rtr_store_head(Structure):
+    # The head, as it begins the file.
     bytes: Any
 
     _fields_ = [
@@ -1226,7 +1605,7 @@ class rtr_store_head(Structure):
 UNIT_LETTERS = "@NNNNNNIIIIIIHHBBBBBB16s20sB0N"
 ROUTE_LETTERS = "@IBB16s0I"
 
-# What each function of the library answers, and what it takes.
+# What each function of the library returns, and what it takes.
 PROTOTYPES: dict[str, tuple[Any, list[Any]]] = {
     "rtr_normalise_slice_nonnull": (c_uint8, [c_void_p, c_size_t, c_void_p, c_size_t, c_uint64,
         POINTER(rtr_answer)]),
@@ -1248,6 +1627,10 @@ PROTOTYPES: dict[str, tuple[Any, list[Any]]] = {
     "rtr_name_nonnull": (c_uint8, [c_uint8, c_uint16, c_void_p, c_size_t, c_void_p]),
     "rtr_provider_nonnull": (c_bool, [POINTER(rtr_unit), c_void_p, c_size_t, c_size_t, c_void_p]),
     "rtr_error_code_nonnull": (c_bool, [c_uint8, c_void_p, c_size_t, c_void_p]),
+    "rtr_serial_order": (c_uint8, [c_uint32, c_uint32]),
+    "rtr_version_has": (c_bool, [c_uint8, c_uint8]),
+    "rtr_times_rule": (c_uint8, [c_uint32, c_uint32, c_uint32]),
+    "rtr_wire_version": (c_uint32, []),
     "rtr_write_unit_nonnull": (c_uint8, [POINTER(rtr_unit), c_void_p, c_size_t, c_void_p, c_size_t,
         c_void_p]),
     "rtr_same_meaning_nonnull": (c_uint8, [c_void_p, c_size_t, c_void_p, c_size_t, c_uint64,
@@ -1268,16 +1651,12 @@ PROTOTYPES: dict[str, tuple[Any, list[Any]]] = {
         POINTER(rtr_route)]),
     "rtr_covering_nonnull": (c_uint8, [c_void_p, c_size_t, POINTER(rtr_lookup), POINTER(rtr_route),
         c_size_t, POINTER(rtr_covering)]),
-    "rtr_serial_order": (c_uint8, [c_uint32, c_uint32]),
-    "rtr_version_has": (c_bool, [c_uint8, c_uint8]),
-    "rtr_times_rule": (c_uint8, [c_uint32, c_uint32, c_uint32]),
-    "rtr_wire_version": (c_uint32, []),
     "rtr_check_name_nonnull": (c_uint8, [c_void_p, c_size_t, c_void_p, c_size_t,
         POINTER(rtr_naming)]),
     "rtr_check_unit_nonnull": (c_uint8, [POINTER(rtr_check), c_void_p, c_size_t, c_bool,
         POINTER(rtr_checked)]),
-    "rtr_finding_line_nonnull": (c_size_t, [POINTER(rtr_finding), c_uint64, c_void_p, c_size_t]),
     "rtr_check_end": (None, [POINTER(rtr_check), POINTER(rtr_finding)]),
+    "rtr_finding_line_nonnull": (c_size_t, [POINTER(rtr_finding), c_uint64, c_void_p, c_size_t]),
     "rtr_settings_usual": (None, [POINTER(rtr_settings), c_uint8]),
     "rtr_router_init": (None, [POINTER(rtr_router), POINTER(rtr_settings)]),
     "rtr_router_again": (None, [POINTER(rtr_router)]),
@@ -1332,6 +1711,23 @@ PROTOTYPES: dict[str, tuple[Any, list[Any]]] = {
     "rtr_cache_unit_nonnull": (c_size_t, [POINTER(rtr_serving), c_void_p, c_size_t]),
     "rtr_cache_report_nonnull": (c_bool, [POINTER(rtr_serving), c_void_p, c_size_t, c_void_p,
         c_size_t, c_void_p]),
+    "rtr_server_settings_usual": (None, [POINTER(rtr_server_settings)]),
+    "rtr_door_init": (None, [POINTER(rtr_door), POINTER(rtr_server_settings)]),
+    "rtr_door_next": (c_uint8, [POINTER(rtr_door), c_bool]),
+    "rtr_door_enter": (c_uint8, [POINTER(rtr_door), c_bool]),
+    "rtr_door_leave": (c_bool, [POINTER(rtr_door), c_uint8]),
+    "rtr_connection_init": (None, [POINTER(rtr_connection), c_uint64,
+        POINTER(rtr_server_settings)]),
+    "rtr_connection_received": (None, [POINTER(rtr_connection), c_uint64, c_size_t]),
+    "rtr_connection_closed": (None, [POINTER(rtr_connection)]),
+    "rtr_connection_heard": (None, [POINTER(rtr_connection), c_uint64, c_size_t]),
+    "rtr_connection_answers": (c_bool, [POINTER(rtr_connection), c_uint64, c_size_t, c_uint64]),
+    "rtr_connection_ends": (c_bool, [POINTER(rtr_connection), c_uint64, c_size_t]),
+    "rtr_connection_sent": (c_bool, [POINTER(rtr_connection), c_uint64, c_size_t]),
+    "rtr_connection_next": (c_uint8, [POINTER(rtr_connection), c_uint64, POINTER(rtr_cache),
+        POINTER(rtr_present), c_uint64, c_void_p]),
+    "rtr_connection_wakes": (c_uint64, [POINTER(rtr_connection), POINTER(rtr_cache),
+        POINTER(rtr_present)]),
     "rtr_stores_new": (None, [POINTER(rtr_stores)]),
     "rtr_stores_unsaved": (None, [POINTER(rtr_stores), c_uint16]),
     "rtr_stores_start_nonnull": (c_uint8, [POINTER(rtr_stores), c_size_t, c_void_p, c_size_t,
@@ -1339,6 +1735,8 @@ PROTOTYPES: dict[str, tuple[Any, list[Any]]] = {
     "rtr_stores_take_nonnull": (c_uint8, [POINTER(rtr_stores), c_void_p, c_size_t, c_uint64,
         POINTER(rtr_history_limits), c_void_p, c_size_t, c_void_p, c_size_t, c_void_p, c_size_t,
         c_void_p, c_size_t, POINTER(rtr_stores_answer)]),
+    "rtr_stores_saved": (c_uint8, [POINTER(rtr_stores)]),
+    "rtr_stores_give_up": (c_uint8, [POINTER(rtr_stores)]),
     "rtr_stores_state_nonnull": (c_uint8, [POINTER(rtr_stores), c_void_p, c_size_t, c_void_p,
         c_size_t, POINTER(rtr_stores_state)]),
     "rtr_history_since_nonnull": (c_uint8, [c_void_p, c_size_t, c_uint32, c_uint8, c_void_p,
@@ -1348,6 +1746,4 @@ PROTOTYPES: dict[str, tuple[Any, list[Any]]] = {
     "rtr_history_knows_nonnull": (c_bool, [c_void_p, c_size_t, c_uint32]),
     "rtr_store_seal_nonnull": (None, [c_void_p, c_size_t, POINTER(rtr_store_head)]),
     "rtr_store_open_nonnull": (c_bool, [c_void_p, c_size_t]),
-    "rtr_stores_saved": (c_uint8, [POINTER(rtr_stores)]),
-    "rtr_stores_give_up": (c_uint8, [POINTER(rtr_stores)]),
 }

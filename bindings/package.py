@@ -1,9 +1,9 @@
 #!/usr/bin/env python3
 """Makes self-contained packages, or installs the library for C.
 
-usage: package [--archives FOLDER] [--module PATH] [--repository URL] FOLDER
-       package [--archives FOLDER] [--machine NAME] --prefix FOLDER
-       package [--archives FOLDER] [--machine NAME] --library FILE
+usage: package.py [--archives FOLDER] [--module PATH] [--repository URL] FOLDER
+       package.py [--archives FOLDER] [--machine NAME] --prefix FOLDER
+       package.py [--archives FOLDER] [--machine NAME] --library FILE
 
 The first form makes in FOLDER, which must not have any of them yet,
 
@@ -92,7 +92,7 @@ ENDS = ("client", "cache")
 CALLS = ("rtr.h", "rtr_abi.h")
 HEADERS = (*CALLS, *(f"rtr_{name}.h" for name in ENDS))
 SOURCES = (*(file for name in ENDS for file in (f"rtr_{name}.c", f"{name}.c")), "client_tls.c",
-           "link.c")
+           "link.c", "rtr_shared.h")
 
 # The pages that comments name, and how files and folders of the repository are named.
 DOCUMENTS = ("PROTOCOL.md", "SESSIONS.md")
@@ -229,6 +229,7 @@ def go_module(archives, module, to):
         copy(archives / machine / ARCHIVE, to / archive)
         flags.append(f"#cgo linux,{name} LDFLAGS: ${{SRCDIR}}/{archive}")
     calls(to)
+    copy(bindings / "go" / "calls.h", to / "calls.h")
     go_files(bindings / "go", module, to, "\n".join(flags) + "\n")
     portable(archives, to)
     if (to / "portable").exists():
@@ -304,7 +305,7 @@ def portable(archives, to):
     """Puts the C file for platforms without an archive below a folder."""
     found = portable_file(archives)
     if found is None:
-        print(f"bindings/package: no portable/{NAME}.c here: {to.name} is for Linux on x86-64 and "
+        print(f"bindings/package.py: no portable/{NAME}.c here: {to.name} is for Linux on x86-64 and "
               "aarch64 alone", file=sys.stderr)
         return
     copy(found, to / "portable" / found.name)
@@ -313,7 +314,7 @@ def portable(archives, to):
 def rust_crate(archives, repository, to):
     """Makes the crate: its build.rs takes the archives from the folder lib beside it. That for
     tokio needs this version of it."""
-    left_out = shutil.ignore_patterns("target", "tests", "Cargo.lock", "generate")
+    left_out = shutil.ignore_patterns("target", "tests", "Cargo.lock", "generate.py")
     shutil.copytree(TOP / "bindings" / "rust", to, ignore=left_out)
     for machine in MACHINES:
         copy(archives / machine / ARCHIVE, to / "lib" / machine / ARCHIVE)
@@ -360,7 +361,7 @@ def python_packages(archives, repository, to):
     for machine in MACHINES:
         compiler = compiler_for(machine)
         if compiler is None:
-            print(f"!!! bindings/package: nothing here links for {machine}: its wheel is left out",
+            print(f"!!! bindings/package.py: nothing here links for {machine}: it has no wheel",
                   file=sys.stderr)
             continue
         with tempfile.TemporaryDirectory() as folder:
@@ -377,10 +378,11 @@ def js_package(archives, repository, to):
         module = pathlib.Path(memory, f"{NAME}.wasm")
         found = [folder / module for folder in (archives, PREBUILT) if (folder / module).exists()]
         if not found:
-            print(f"bindings/package: no {module} here: no package for JavaScript", file=sys.stderr)
+            print(f"bindings/package.py: no {module} here: no package for JavaScript",
+                  file=sys.stderr)
             return
         copy(found[0], to / name)
-    left_out = shutil.ignore_patterns("tests", "generate")
+    left_out = shutil.ignore_patterns("tests", "generate.py")
     shutil.copytree(TOP / "bindings" / "js", to, ignore=left_out, dirs_exist_ok=True)
     shutil.copytree(TOP / "inspector", to / "inspector")
     copy(TOP / "bindings" / "c" / "rtr.h", to / "rtr.h")

@@ -1,7 +1,7 @@
 #!/usr/bin/env python3
 """Prints the calls of rtr.h as a C file for any platform, made of the proved module rtr_wire.wasm.
 
-usage: portable MODULE MOVED
+usage: portable.py MODULE MOVED
 
 MODULE is the module with 32-bit memory. wabt's wasm2c, in the version of Debian 12, makes C of it,
 in which this script puts the host's memory in the place of the module's:
@@ -27,7 +27,7 @@ HERE = pathlib.Path(__file__).resolve().parent
 sys.dont_write_bytecode = True
 sys.path.insert(0, str(HERE))
 
-import header
+import calls as model
 
 # The version of wabt, whose C the patterns below match.
 WABT = "1.0.32"
@@ -58,7 +58,7 @@ DEEPEST = 128
 
 
 def refuse(reason):
-    sys.exit(f"bindings/portable: {reason}")
+    sys.exit(f"bindings/portable.py: {reason}")
 
 
 def translated(module):
@@ -194,24 +194,26 @@ def depths(functions):
 
 def fields(name, structs, prefix="", start=0):
     """The numbers of a struct: name, how many bytes each has in the module, where, and how many."""
-    for field, kind, many, at in structs[name][0]:
-        if kind.startswith("struct "):
-            for index in range(many or 1):
-                inner = f"{prefix}{field}[{index}]." if many else f"{prefix}{field}."
-                yield from fields(kind[7:], structs, inner,
-                                  start + at + index * structs[kind[7:]][1])
+    for field in structs[name].fields:
+        one, at = f"{prefix}{field.name}", start + field.offset
+        if field.kind in structs:
+            for index in range(field.many or 1):
+                inner = f"{one}[{index}]." if field.many else f"{one}."
+                yield from fields(field.kind, structs, inner,
+                                  at + index * structs[field.kind].size)
         else:
-            yield f"{prefix}{field}", header.SIZES[kind], start + at, many or 1
+            yield one, model.TYPES[field.kind][1], at, field.many or 1
 
 
 def layouts(structs, used):
     """Checks of structs that aren't copied, and the tables by which those are that calls use."""
-    for name, (_, size) in structs.items():
-        yield f"SAME_SIZE({name}, {size})"
+    sizes = dict(model.TYPES.values())
+    for name, struct in structs.items():
+        yield f"SAME_SIZE({name}, {struct.size})"
     yield "\n#ifdef COPIES"
     for name in sorted(used):
         if name in structs:
-            size = structs[name][1]
+            size = structs[name].size
             yield f"static const struct field {name}_fields[] = {{"
             for field, width, at, many in fields(name, structs):
                 here = f"offsetof(struct {name}, {field})"
@@ -219,7 +221,7 @@ def layouts(structs, used):
                 yield f"    {{{here}, {each}, {at}, {width}, {many}}},"
             yield f"}};\nLAYOUT({name}, struct {name}, {size});"
         else:
-            size = header.SIZES[name]
+            size = sizes[name]
             yield (f"static const struct field {name}_fields[] = "
                    f"{{{{0, sizeof({name}), 0, {size}, 1}}}};\nLAYOUT({name}, {name}, {size});")
     yield "#endif\n"
@@ -230,7 +232,7 @@ def lent(kind, name, after):
     if not kind.endswith("*") or kind.removeprefix("const ") == "uint8_t *":
         return None
     what = kind.removeprefix("const ").removeprefix("struct ").rstrip(" *")
-    return what, after if after in (f"{name}_length", f"{name}_count") else None
+    return what, after if after == f"{name}_length" else None
 
 
 def call(name, answer, taken, depth):
@@ -258,13 +260,25 @@ def call(name, answer, taken, depth):
     return f"{answer} {name}({head})\n{{\n" + "\n".join(f"    {line}" for line in lines) + "\n}\n"
 
 
-def calls(text, depth):
+def in_c(call):
+    """A function of the archive in C: its name, its result, and each parameter's type and name."""
+    taken = []
+    for one in call.parameters:
+        kind = model.TYPES[one.kind][0] if one.kind in model.TYPES else f"struct {one.kind}"
+        const = "const " if one.pointer == "const" else ""
+        taken.append((f"{const}{kind} {'*' if one.pointer else ''}", one.name))
+        taken += [("size_t ", f"{one.name}_length")] if one.slice else []
+    return call.name, model.TYPES[call.result][0] if call.result else "void", taken
+
+
+def calls(depth):
     """The code of all calls of rtr.h, which are those that the module has."""
-    declared = list(header.functions(text, constant=True))
+    declared = [in_c(call) for call in model.calls()]
     exported = {name[4:] for name in depth if name.startswith(CALLED)}
     if exported != {name for name, _, _ in declared}:
-        refuse(f"rtr.h and the module differ in {exported ^ {name for name, _, _ in declared}}")
-    structs = {name: (listed, size) for name, listed, size in header.structs(text)}
+        others = exported ^ {name for name, _, _ in declared}
+        refuse(f"crates/rtr_c and the module differ in {others}")
+    structs = {struct.name: struct for struct in model.structs()}
     used = {pointed[0] for _, _, taken in declared for kind, name in taken
             if (pointed := lent(kind, name, None))}
     yield from layouts(structs, used)
@@ -274,7 +288,6 @@ def calls(text, depth):
 
 def portable(module, moved):
     """The whole file."""
-    text = header.whole()
     declared, start, data, functions = parts(module)
     _, other_start, other_data, others = parts(moved)
     by = other_start - start
@@ -287,7 +300,7 @@ def portable(module, moved):
     front = (HERE / "c" / "portable_front.h").read_text()
     rows = ",\n".join(cells(data, other_data, start, by))
     return "\n".join([front.replace("/* rows */", rows), shortened(declared), made,
-                      "/* The calls of rtr.h. */\n", *calls(text, depth)])
+                      "/* The calls of rtr.h. */\n", *calls(depth)])
 
 
 if __name__ == "__main__":

@@ -1,7 +1,7 @@
 #!/usr/bin/env python3
-"""Writes rtr_table.js and rtr_table.d.ts: the declarations of rtr.h.
+"""Writes rtr_table.js and rtr_table.d.ts: the declarations of crates/rtr_c.
 
-usage: generate [--check]    with --check it writes nothing, and exits with status 1 if the files
+usage: generate.py [--check]    with --check it writes nothing, and exits with status 1 if the files
                              are outdated
 """
 import json
@@ -14,7 +14,7 @@ HERE = pathlib.Path(__file__).resolve().parent
 sys.dont_write_bytecode = True
 sys.path.insert(0, str(HERE.parent))
 
-import header
+import calls
 
 # The enums, with their names in JavaScript and the prefix that is cut off their members.
 ENUMS = {"rtr_status": ("Status", "RTR_"), "rtr_prefix_rule": ("PrefixRule", "RTR_"),
@@ -29,6 +29,8 @@ ENUMS = {"rtr_status": ("Status", "RTR_"), "rtr_prefix_rule": ("PrefixRule", "RT
          "rtr_todo_kind": ("TodoKind", "RTR_TODO_"),
          "rtr_group_shown": ("GroupShown", "RTR_GROUP_"),
          "rtr_serving_kind": ("ServingKind", "RTR_SERVE_"), "rtr_reason": ("Reason", "RTR_REASON_"),
+         "rtr_entry": ("Entry", "RTR_ENTRY_"), "rtr_step": ("Step", "RTR_STEP_"),
+         "rtr_cut": ("Cut", "RTR_CUT_"),
          "rtr_stores_status": ("StoresStatus", "RTR_STORES_"), "rtr_room": ("Room", "RTR_ROOM_"),
          "rtr_time_rule": ("TimeRule", "RTR_TIME_RULE_")}
 
@@ -44,9 +46,16 @@ OBJECTS = {
     "rtr_todo": ("TodoFields", "What the program has to do: rtr.h describes each field.",
                  {"kind": "TodoKind", "cause": "Cause", "status": "Status"}),
     "rtr_group_settings": ("GroupSettings", "The settings of a group: rtr.h describes each. Times "
-                           "are in milliseconds.", {})}
+                           "are in milliseconds.", {}),
+    "rtr_cache_settings": ("CacheSettings", "The settings of a cache: rtr.h describes each. Times "
+                           "are in milliseconds.", {}),
+    "rtr_server_settings": ("ServerSettings", "The limits of a server: rtr.h describes each. Times "
+                            "are in milliseconds.", {})}
 
-FRONT = "// What rtr.h declares. `generate` made this file of it: don't edit it.\n"
+# The texts that programs see, by the enum of their numbers.
+TEXTS = ("rtr_status", "rtr_kind", "rtr_cause", "rtr_reason", "rtr_code")
+
+FRONT = "// What the crate rtr_c declares. `generate` made this file of it: don't edit it.\n"
 
 
 def camel(name):
@@ -65,101 +74,113 @@ def documented(comment, indent):
         yield f"{indent} */"
 
 
-def enum_lines(text):
+def enum_lines():
     """Yields the enums, as frozen objects."""
-    for name, _, members in header.enums(text):
-        if name not in ENUMS:
+    for enum in calls.enums():
+        if enum.name not in ENUMS:
             continue
-        js_name, prefix = ENUMS[name]
+        js_name, prefix = ENUMS[enum.name]
         yield f"\nexport const {js_name} = Object.freeze({{"
-        yield from (f"    {member[len(prefix):]}: {number}," for member, number, _ in members)
+        yield from (f"    {member[len(prefix):]}: {number}," for member, number, _ in enum.members)
         yield "});"
 
 
-def enum_types(text):
+def enum_types():
     """Yields the types of the enums."""
-    for name, about, members in header.enums(text):
-        if name not in ENUMS:
+    for enum in calls.enums():
+        if enum.name not in ENUMS:
             continue
-        js_name, prefix = ENUMS[name]
+        js_name, prefix = ENUMS[enum.name]
         yield ""
-        yield from documented(about, "")
+        yield from documented(enum.about, "")
         yield f"export const {js_name}: {{"
-        for member, number, comment in members:
-            yield from documented(header.sentence(comment), "    ")
+        for member, number, comment in enum.members:
+            yield from documented(calls.sentence(comment), "    ")
             yield f"    readonly {member[len(prefix):]}: {number};"
         yield "};"
         yield f"export type {js_name} = (typeof {js_name})[keyof typeof {js_name}];"
 
 
-def object_types(text):
+def object_types():
     """Yields the types of the structs that programs see."""
-    for name, fields, _ in header.structs(text):
-        if name not in OBJECTS:
+    for struct in calls.structs():
+        if struct.name not in OBJECTS:
             continue
-        js_name, about, enums = OBJECTS[name]
+        js_name, about, enums = OBJECTS[struct.name]
         yield ""
         yield from documented(about, "")
         yield f"export interface {js_name} {{"
-        for field, kind, _, _ in fields:
-            shown = enums.get(field) or ("boolean" if kind == "bool" else "number")
-            shown = OBJECTS[kind[7:]][0] if kind.startswith("struct ") else shown
-            yield f"    {camel(field)}: {shown};"
+        for field in struct.fields:
+            shown = enums.get(field.name) or ("boolean" if field.kind == "bool" else "number")
+            shown = OBJECTS[field.kind][0] if field.kind not in calls.TYPES else shown
+            yield from documented(field.about, "    ")
+            yield f"    {camel(field.name)}: {shown};"
         yield "}"
 
 
-def struct_lines(text):
+def in_js(kind):
+    """Returns a type as the code of the tables calls it: a number's as C does, or a struct."""
+    return calls.TYPES[kind][0].removesuffix("_t") if kind in calls.TYPES else camel(kind[4:])
+
+
+def struct_lines():
     """Yields the structs: sizes, and the name, offset, type and array length of each field."""
     yield "\nexport const STRUCTS = Object.freeze({"
-    for name, fields, size in header.structs(text):
-        yield f"    {camel(name[4:])}: {{ size: {size}, fields: ["
-        for field, kind, many, offset in fields:
-            js_type = camel(kind[11:]) if kind.startswith("struct ") else kind.removesuffix("_t")
-            row = f", {many}" if many else ""
-            yield f'        ["{camel(field)}", {offset}, "{js_type}"{row}],'
+    for struct in calls.structs():
+        yield f"    {camel(struct.name[4:])}: {{ size: {struct.size}, fields: ["
+        for field in struct.fields:
+            row = f", {field.many}" if field.many else ""
+            yield f'        ["{camel(field.name)}", {field.offset}, "{in_js(field.kind)}"{row}],'
         yield "    ] },"
     yield "});"
 
 
-def function_lines(text):
-    """Yields the functions: the types of the result and the arguments; a star is a pointer."""
+def taken(parameter):
+    """Yields the types of a parameter: a star is a pointer, and a slice has a length, too."""
+    yield "*" if parameter.pointer else in_js(parameter.kind)
+    if parameter.slice:
+        yield "size"
+
+
+def function_lines():
+    """Yields the functions: the types of the result and the arguments."""
     yield "\nexport const FUNCTIONS = Object.freeze({"
-    for name, answer, taken in header.functions(text):
-        kinds = ["*" if kind.endswith("*") else kind for kind, _ in taken]
-        words = [json.dumps(kind.strip().removesuffix("_t")) for kind in [answer, *kinds]]
-        yield f"    {name}: [{', '.join(words)}],"
+    for call in calls.calls():
+        kinds = [in_js(call.result) if call.result else "void"]
+        kinds += [kind for one in call.parameters for kind in taken(one)]
+        yield f"    {call.name}: [{', '.join(map(json.dumps, kinds))}],"
     yield "});"
 
 
-def text_lines(text):
+def text_lines():
     """Yields the functions that return the text of a number."""
-    for function in header.TEXTS:
-        listed, other = header.texts(text, function)
-        name = camel(function.removeprefix("rtr_"))
+    for enum in TEXTS:
+        listed, other = calls.texts(enum)
+        name = camel(f"{enum.removeprefix('rtr_')}_text")
         yield f"\nconst {name}s = ["
         yield from (f"    {json.dumps(label)}," for label in listed)
         yield "];\n"
         yield f"export function {name}(number) {{"
-        yield f"    return {name}s[number] ?? {json.dumps(other)};"
+        other = "`error code ${number}`" if enum == "rtr_code" else json.dumps(other)
+        yield f"    return {name}s[number] ?? {other};"
         yield "}"
 
 
-def files(text):
+def files():
     """Returns the content of both files."""
-    version, number = header.version(text)
+    version, number = calls.version()
     front = [FRONT, f'export const VERSION = "{version}";',
              f"export const VERSION_NUMBER = {number};"]
-    front += [f"export const {name[4:]} = {value};" for name, value, _ in header.constants(text)]
+    front += [f"export const {name[4:]} = {value};" for name, value, _ in calls.constants()]
+    front += [f"export const {name} = {json.dumps(text)};" for name, text in calls.failures()]
     types = [FRONT, f'export const VERSION: "{version}";',
              f"export const VERSION_NUMBER: {number};"]
-    names = [camel(function.removeprefix("rtr_")) for function in header.TEXTS]
-    declarations = ["", *(f"export function {name}(number: number): string;" for name in names)]
-    code = [*front, *enum_lines(text), *struct_lines(text), *function_lines(text),
-            *text_lines(text)]
+    declarations = ["", *(f"export function {camel(enum.removeprefix('rtr_') + '_text')}"
+                          "(number: number): string;" for enum in TEXTS)]
+    code = [*front, *enum_lines(), *struct_lines(), *function_lines(), *text_lines()]
     return {HERE / "rtr_table.js": "\n".join(code) + "\n",
-            HERE / "rtr_table.d.ts": "\n".join([*types, *enum_types(text), *object_types(text),
+            HERE / "rtr_table.d.ts": "\n".join([*types, *enum_types(), *object_types(),
                                                     *declarations]) + "\n"}
 
 
-if __name__ == "__main__":
-    header.write(files(header.whole()), "bindings/js/generate")
+calls.write(files(), "bindings/js/generate.py")
