@@ -8,15 +8,19 @@
  *
  * The file is a recording of one or more answers, or a list in any order; the cache serves the
  * data that it results in. Replace it by renaming. If a new file is refused, the cache logs why
- * and keeps its present data. It saves its state in FILE.kept, so that after a restart routers
- * still get changes. With --refuse it answers a serial query for changes that it doesn't have by a
- * report of code 0. On standard error it logs, with the time in UTC, where it listens, which data
- * it took, and why it refused a file or a router. It exits with status 0 after a signal, 1 if it
- * can't listen, and 2 for wrong arguments. */
+ * and keeps its present data. It saves data in FILE.kept before it serves them, so that after a
+ * restart, or a power cut, routers still get changes; if that fails, it logs why, serves the data
+ * before, and tries again after 1 second, 2 seconds, and so on up to a minute. With --refuse it
+ * answers a serial query for changes that it doesn't have by a report of code 0. On standard error
+ * it logs, with the time in UTC, where it listens, which data it serves, and why it refused a file
+ * or a router. It exits with status 0 after a signal, 1 if it can't listen or can't read FILE.kept,
+ * and 2 for wrong arguments. If FILE.kept is damaged or lost, remove what is left, and give the
+ * data a session that was never used. */
 #define _GNU_SOURCE
 #include <errno.h>
 #include <fcntl.h>
 #include <inttypes.h>
+#include <libgen.h>
 #include <malloc.h>
 #include <netdb.h>
 #include <netinet/in.h>
@@ -34,20 +38,21 @@
 #include "rtr_cache.h"
 
 /* Times in milliseconds: between two checks of the file, before accepting again after a failure,
- * and to read what a router still sends after it was sent the last bytes. */
-enum { LOOK = 250, REST = 100, LINGER = 200 };
+ * and before saving again after a failure: the first time, and at most. */
+enum { LOOK = 250, REST = 100, FIRST_PAUSE = 1000, LONGEST_PAUSE = 60000 };
 
-/* The most connections above the limit that get a report at once; the most listeners; events per
- * wait; sizes of send buffers, and of blocks that are mapped; and the longest file. */
-enum { MOST_REFUSED = 64, LISTENERS = 16, EVENTS = 64, BUFFER = 1 << 17, MAPPED = 1 << 16 };
+/* The most listeners; events per wait; answers to a connection before the others get their turn;
+ * sizes of send buffers, and of blocks that are mapped; and the longest file. */
+enum { LISTENERS = 16, EVENTS = 64, TURNS = 64, BUFFER = 1 << 17, MAPPED = 1 << 16 };
 static const off_t most_bytes = 1 << 28;
 
 /* A connection, in the list of all. */
 struct connection {
     struct connection *next, **link; /* `link`: the pointer that leads here */
     int socket;
-    bool closing, sending; /* whether it is closing, and whether it waits until it can send */
-    int64_t until;         /* its deadline */
+    bool sending, finishing; /* whether it waits until it can send; whether its report is sent */
+    bool logged;             /* whether the log has why it ends */
+    int64_t until;           /* its deadline */
     char name[80];
     struct rtr_served served;
 };
@@ -62,7 +67,6 @@ struct stamp {
 
 static struct rtr_server server;
 static struct connection *connections;
-static size_t taken; /* connections, including those above the limit */
 static int64_t due = INT64_MAX; /* the first of their deadlines */
 static char *addresses[LISTENERS];
 static int poller, listeners[LISTENERS], listening, named;
@@ -104,8 +108,9 @@ static void name_of(int fd, bool peer, char *name, size_t size)
     struct sockaddr_storage address;
     socklen_t length = sizeof address;
     int failed = (peer ? getpeername : getsockname)(fd, (struct sockaddr *)&address, &length);
-    if (failed || getnameinfo((struct sockaddr *)&address, length, host, sizeof host, port,
-                              sizeof port, NI_NUMERICHOST | NI_NUMERICSERV))
+    if (failed
+        || getnameinfo((struct sockaddr *)&address, length, host, sizeof host, port, sizeof port,
+                       NI_NUMERICHOST | NI_NUMERICSERV))
         snprintf(name, size, "unknown");
     else
         snprintf(name, size, strchr(host, ':') ? "[%s]:%s" : "%s:%s", host, port);
@@ -128,7 +133,6 @@ static void wait_until(struct connection *c, int64_t until)
 
 static void forget(struct connection *c)
 {
-    taken -= 1;
     *c->link = c->next;
     if (c->next)
         c->next->link = c->link;
@@ -187,76 +191,70 @@ static bool read_some(struct connection *c)
     return true;
 }
 
-/* Sends the last bytes of a connection, and then reads until the router closes, or for a moment:
- * with bytes unread, the system would reset the connection and the last bytes would be lost. */
-static void go_on_closing(struct connection *c)
+/* Sends and reads; returns whether the connection has more to do at once. */
+static bool exchange(struct connection *c)
 {
-    uint8_t lost[4096];
     struct rtr_part parts[2];
-    bool sends = send_some(c), sent = sends && !rtr_served_output(&c->served, parts);
-    if (sent && c->sending) {
-        shutdown(c->socket, SHUT_WR);
-        wait_until(c, now() + LINGER);
-        wait_for(c, EPOLL_CTL_MOD, false);
-    }
-    ssize_t count = 1;
-    while (sent && count > 0)
-        count = recv(c->socket, lost, sizeof lost, MSG_DONTWAIT);
-    bool reads = !sent || (count < 0 && errno == EAGAIN);
-    if (!sends || !reads || now() >= c->until)
-        forget(c);
+    bool had_output = rtr_served_output(&c->served, parts) > 0;
+    if (!send_some(c))
+        return true;
+    return !rtr_served_output(&c->served, parts) && (had_output || read_some(c));
 }
 
-static void begin_closing(struct connection *c)
+/* Shuts a connection down for writing once its report is sent, and ignores what comes: with bytes
+ * unread, the system would reset the connection at its close, and the report would be lost. Returns
+ * whether the router has closed it. */
+static bool finish(struct connection *c)
 {
-    if (c->served.text[0])
-        say("%s: %s", c->name, c->served.text);
-    c->closing = true;
-    wait_until(c, c->served.wakes);
-    wait_for(c, EPOLL_CTL_MOD, true);
-    go_on_closing(c);
+    uint8_t ignored[4096];
+    if (!c->finishing)
+        shutdown(c->socket, SHUT_WR);
+    c->finishing = true;
+    ssize_t count = recv(c->socket, ignored, sizeof ignored, MSG_DONTWAIT);
+    bool closed = count == 0 || (count < 0 && errno != EAGAIN && errno != EINTR);
+    if (closed)
+        rtr_served_lost(&c->served, NULL);
+    return closed;
 }
 
-/* Sends and reads until the connection has to wait or close. */
-static void go_on(struct connection *c)
+/* Logs why a connection ends, once. */
+static void log_end(struct connection *c)
+{
+    if (c->served.text[0] && !c->logged)
+        say("%s: %s", c->name, c->served.text);
+    c->logged = c->served.text[0];
+}
+
+/* Advances a connection after an event, a deadline or new data, until it has to wait, or closes
+ * it. A router that sends queries without a pause is continued after other connections. */
+static void act(struct connection *c)
 {
     struct rtr_part parts[2];
     bool more = true;
-    while (more) {
-        if (rtr_served_next(&c->served, now()) == RTR_SERVED_CLOSE) {
-            begin_closing(c);
+    for (int turns = 0; more && turns < TURNS; turns++) {
+        enum rtr_served_event event = rtr_served_next(&c->served, now());
+        log_end(c);
+        if (event == RTR_SERVED_CLOSE) {
+            forget(c);
             return;
         }
-        bool had_output = rtr_served_output(&c->served, parts) > 0;
-        more = !send_some(c)
-               || (!rtr_served_output(&c->served, parts) && (had_output || read_some(c)));
+        more = event == RTR_SERVED_FINISH ? finish(c) : exchange(c);
     }
     bool sending = rtr_served_output(&c->served, parts) > 0;
     if (sending != c->sending)
         wait_for(c, EPOLL_CTL_MOD, sending);
-    wait_until(c, c->served.wakes);
-}
-
-/* Advances a connection after an event, a deadline or new data. */
-static void act(struct connection *c)
-{
-    if (c->closing)
-        go_on_closing(c);
-    else
-        go_on(c);
+    wait_until(c, more ? now() : c->served.wakes);
 }
 
 /* Accepts a connection. */
 static void take(int fd)
 {
     int bytes = BUFFER;
-    bool refused = taken - server.connections >= MOST_REFUSED;
-    struct connection *c = refused ? NULL : calloc(1, sizeof *c);
+    struct connection *c = calloc(1, sizeof *c);
     if (!c) {
         close(fd);
         return;
     }
-    taken += 1;
     setsockopt(fd, SOL_SOCKET, SO_SNDBUF, &bytes, sizeof bytes);
     c->socket = fd;
     name_of(fd, true, c->name, sizeof c->name);
@@ -267,16 +265,26 @@ static void take(int fd)
     connections = c;
     rtr_served_init(&c->served, &server, now());
     wait_for(c, EPOLL_CTL_ADD, false);
-    go_on(c);
+    act(c);
 }
 
-/* Accepts the waiting connections; returns false if accepting has to pause. */
+/* Reports whether a connection may be accepted now. */
+static bool is_door_open(void)
+{
+    return rtr_door_next(&server.door, server.spare) != RTR_ENTRY_WAIT;
+}
+
+/* Accepts the waiting connections that the door lets in; returns false if accepting failed, and has
+ * to pause. */
 static bool take_all(int listener)
 {
-    int fd;
-    while ((fd = accept4(listener, NULL, NULL, SOCK_NONBLOCK | SOCK_CLOEXEC)) >= 0)
+    while (is_door_open()) {
+        int fd = accept4(listener, NULL, NULL, SOCK_NONBLOCK | SOCK_CLOEXEC);
+        if (fd < 0)
+            return errno == EAGAIN || errno == EINTR || errno == ECONNABORTED;
         take(fd);
-    return errno == EAGAIN || errno == EINTR || errno == ECONNABORTED;
+    }
+    return true;
 }
 
 /* Serves the connections whose deadline has passed, or all of them if there are new data. */
@@ -295,14 +303,14 @@ static void act_all(bool all)
 
 /* ---- the file */
 
-/* The file of data, with a descriptor that is kept in reserve for it. */
+/* The file of data, with a descriptor that is kept in reserve for it and for saving. */
 struct watched {
     const char *path;
     char kept[4096], beside[4096]; /* the file of saved data, and the temporary file for it */
     struct stamp seen;
     char failed[200]; /* why it couldn't be read */
-    int spare;
-    bool unsaved;
+    int64_t retry;    /* when data that wait are saved, `pause` after a failure */
+    int pause, spare;
 };
 
 static struct stamp stamp_of(const char *path)
@@ -320,13 +328,27 @@ static struct stamp stamp_of(const char *path)
     return stamp;
 }
 
-/* Reads a file into memory that the caller frees; null if that fails, with the reason in errno. */
-static uint8_t *read_file(const char *path, size_t *length)
+/* Closes the descriptor in reserve, before a file is opened. */
+static void give_spare(struct watched *w)
+{
+    if (w->spare >= 0)
+        close(w->spare);
+}
+
+static void take_spare(struct watched *w)
+{
+    w->spare = open("/dev/null", O_RDONLY | O_CLOEXEC);
+    server.spare = w->spare >= 0;
+}
+
+/* Reads a file of at most `most` bytes, or of any size for 0, into memory that the caller frees;
+ * null if that fails, with the reason in errno. */
+static uint8_t *read_file(const char *path, off_t most, size_t *length)
 {
     struct stat now;
     int file = open(path, O_RDONLY | O_CLOEXEC);
     ssize_t count = file < 0 || fstat(file, &now) ? -1 : 1;
-    bool too_long = count > 0 && now.st_size > most_bytes;
+    bool too_long = count > 0 && most && now.st_size > most;
     uint8_t *bytes = count > 0 && !too_long ? malloc((size_t)now.st_size + 1) : NULL;
     errno = too_long ? EFBIG : errno;
     for (*length = 0; bytes && count > 0; *length += count > 0 ? (size_t)count : 0)
@@ -342,57 +364,128 @@ static uint8_t *read_file(const char *path, size_t *length)
     return bytes;
 }
 
-/* Logs which data the server has now, or why it refuses new ones. */
+/* Logs which data the server serves now. */
+static void say_data(const char *path)
+{
+    say("%s: session %u serial %" PRIu32 ": %zu payload%s", path, server.present.session,
+        server.present.serial, server.payloads, server.payloads == 1 ? "" : "s");
+    if (!server.present.serial)
+        say("%s: serial number 0: a router that lost its first answer may ask with it, and keep a "
+            "part of the data",
+            path);
+}
+
+/* Logs why the server refuses data, or what it leaves out. */
 static void say_update(const char *path, enum rtr_update update)
 {
-    if (update == RTR_UPDATE_TAKEN) {
-        say("%s: session %u serial %" PRIu32 ": %zu payload%s", path, server.present.session,
-            server.present.serial, server.payloads, server.payloads == 1 ? "" : "s");
-        if (server.has_cut)
-            say("%s: left out: an answer without an end of data", path);
-        if (!server.present.serial)
-            say("%s: serial number 0: a router that lost its first answer may ask with it, and keep "
-                "a part of the data", path);
-    }
+    if (update == RTR_UPDATE_TAKEN && server.has_cut)
+        say("%s: left out: an answer without an end of data", path);
     else if (update == RTR_UPDATE_REFUSED)
         say("%s: %s, at byte %zu", path, rtr_update_text(&server, update), server.offset);
     else if (update == RTR_UPDATE_SERIAL)
-        say("%s: serial %" PRIu32 " of other data isn't after serial %" PRIu32, path,
+        say("%s: %s: new %" PRIu32 ", present %" PRIu32, path, rtr_update_text(&server, update),
             server.refused, server.present.serial);
-    else if (update != RTR_UPDATE_SAME)
+    else if (update != RTR_UPDATE_SAME && update != RTR_UPDATE_TAKEN)
         say("%s: %s", path, rtr_update_text(&server, update));
 }
 
-static bool write_to(void *file, const void *bytes, size_t length)
+/* Writes all bytes to a file; returns false, with the reason in errno, if that fails. */
+static bool write_all(int file, const void *bytes, size_t length)
 {
-    return fwrite(bytes, 1, length, file) == length;
+    const uint8_t *at = bytes;
+    while (length) {
+        ssize_t count = write(file, at, length);
+        if (count < 0 && errno != EINTR)
+            return false;
+        at += count > 0 ? count : 0;
+        length -= count > 0 ? (size_t)count : 0;
+    }
+    return true;
 }
 
-/* Saves the server's data in a temporary file, which is synced and then renamed: without the sync
- * an error of the disk could come after the name is that of a file without all bytes. */
+/* Closes a file or a folder; returns whether that succeeded, and what was `done` with it before.
+ * errno is that of the first failure. */
+static bool closes(int file, bool done)
+{
+    int error = errno;
+    bool closed = close(file) == 0;
+    errno = done ? errno : error;
+    return done && closed;
+}
+
+/* Syncs the folder of a file; returns false, with the reason in errno, if that fails. */
+static bool sync_folder(const char *path)
+{
+    char copy[4096];
+    snprintf(copy, sizeof copy, "%s", path);
+    int folder = open(dirname(copy), O_RDONLY | O_DIRECTORY | O_CLOEXEC);
+    return folder >= 0 && closes(folder, fsync(folder) == 0);
+}
+
+/* Replaces the file of saved data: syncs a new one, renames it, and syncs the folder. If that fails
+ * it removes the new one, and returns false with the reason in errno. */
+static bool write_kept(const struct watched *w, const struct rtr_store_head *head,
+                       const uint8_t *store, size_t length)
+{
+    int file = open(w->beside, O_WRONLY | O_CREAT | O_TRUNC | O_CLOEXEC, 0666);
+    if (file < 0)
+        return false;
+    bool written = closes(file, write_all(file, head, sizeof *head)
+                                    && write_all(file, store, length) && fsync(file) == 0);
+    if (written && rename(w->beside, w->kept) == 0)
+        return sync_folder(w->kept);
+    int error = errno;
+    unlink(w->beside);
+    errno = error;
+    return false;
+}
+
+/* Saves data that wait to be saved, unless it is too early to try again, and serves them. */
 static void save(struct watched *w)
 {
-    FILE *file = fopen(w->beside, "wbe");
-    bool written = file && rtr_server_save(&server, now(), time_of(CLOCK_REALTIME), write_to, file)
-                   && !fflush(file) && !fsync(fileno(file));
-    if (file && fclose(file))
-        written = false;
-    if (!written || rename(w->beside, w->kept))
-        say("%s: %s", w->kept, strerror(errno));
-    w->unsaved = false;
+    struct rtr_store_head head;
+    size_t length;
+    const uint8_t *store = now() < w->retry ? NULL : rtr_server_to_save(&server, &head, &length);
+    if (!store)
+        return;
+    give_spare(w);
+    bool written = write_kept(w, &head, store, length);
+    int error = errno, longer = w->pause ? 2 * w->pause : FIRST_PAUSE;
+    take_spare(w);
+    if (written) {
+        w->pause = 0;
+        rtr_server_saved(&server);
+        say_data(w->path);
+        act_all(true);
+        return;
+    }
+    w->pause = longer < LONGEST_PAUSE ? longer : LONGEST_PAUSE;
+    w->retry = now() + w->pause;
+    say("%s: %s: new data aren't served before they are saved; trying again in %d second%s",
+        w->kept, strerror(error), w->pause / 1000, w->pause == 1000 ? "" : "s");
 }
 
-/* Loads what the cache saved before its restart. */
-static void restore(struct watched *w)
+/* Loads what the cache saved before its restart; returns false if it can't. It may have ended
+ * before the name of the file was on the disk: the folder is synced before the data are served. */
+static bool restore(const struct watched *w)
 {
     size_t length;
-    uint8_t *bytes = read_file(w->kept, &length);
-    if (bytes)
-        say_update(w->kept, rtr_server_restore(&server, now(), time_of(CLOCK_REALTIME), bytes,
-                                               length));
-    else if (errno != ENOENT)
+    unlink(w->beside);
+    uint8_t *bytes = read_file(w->kept, 0, &length);
+    if (!bytes && errno == ENOENT)
+        return true;
+    if (!bytes || !sync_folder(w->kept)) {
         say("%s: %s", w->kept, strerror(errno));
+        free(bytes);
+        return false;
+    }
+    enum rtr_update update = rtr_server_restore(&server, bytes, length);
     free(bytes);
+    if (update == RTR_UPDATE_TAKEN)
+        say_data(w->kept);
+    else
+        say_update(w->kept, update);
+    return update == RTR_UPDATE_TAKEN;
 }
 
 /* Logs that the file can't be read, once for each reason. */
@@ -403,20 +496,17 @@ static void fail(struct watched *w, const char *reason)
     snprintf(w->failed, sizeof w->failed, "%s", reason);
 }
 
-/* Loads the file if it changed, or couldn't be read before; then lets connections send it. */
+/* Loads the file if it changed, or couldn't be read before. */
 static void look(struct watched *w)
 {
     size_t length;
     struct stamp stamp = stamp_of(w->path);
-    if (w->unsaved)
-        save(w);
     if (!w->failed[0] && !memcmp(&stamp, &w->seen, sizeof stamp))
         return;
-    if (w->spare >= 0)
-        close(w->spare);
-    uint8_t *bytes = read_file(w->path, &length);
+    give_spare(w);
+    uint8_t *bytes = read_file(w->path, most_bytes, &length);
     int error = errno;
-    w->spare = open("/dev/null", O_RDONLY | O_CLOEXEC);
+    take_spare(w);
     w->seen = stamp;
     if (!bytes && error == EFBIG) {
         w->failed[0] = 0;
@@ -425,12 +515,10 @@ static void look(struct watched *w)
         fail(w, strerror(error));
     } else {
         w->failed[0] = 0;
-        enum rtr_update update = rtr_server_update(&server, now(), bytes, length);
+        enum rtr_update update = rtr_server_update(&server, time_of(CLOCK_REALTIME), bytes, length);
         free(bytes);
         say_update(w->path, update);
-        w->unsaved = update == RTR_UPDATE_TAKEN;
-        if (w->unsaved)
-            act_all(true);
+        w->retry = update == RTR_UPDATE_TAKEN ? 0 : w->retry;
     }
 }
 
@@ -464,8 +552,8 @@ static int open_listener(const struct addrinfo *address, int only_v6)
     setsockopt(listener, SOL_SOCKET, SO_REUSEADDR, &yes, sizeof yes);
     if (address->ai_family == AF_INET6)
         setsockopt(listener, IPPROTO_IPV6, IPV6_V6ONLY, &only_v6, sizeof only_v6);
-    if (listener < 0 || (!bind(listener, address->ai_addr, address->ai_addrlen)
-                         && !listen(listener, SOMAXCONN)))
+    if (listener < 0
+        || (!bind(listener, address->ai_addr, address->ai_addrlen) && !listen(listener, SOMAXCONN)))
         return listener;
     int error = errno;
     close(listener);
@@ -511,9 +599,13 @@ static bool listen_at(const char *word)
     return good && listening > before;
 }
 
-/* Makes epoll watch the listeners, or stop that after accept failed. */
+/* Makes epoll watch the listeners, or stop watching them. */
 static void look_at_listeners(bool looked_at)
 {
+    static bool before;
+    if (looked_at == before)
+        return;
+    before = looked_at;
     for (int i = 0; i < listening; i++) {
         struct epoll_event event = {.events = EPOLLIN, .data.ptr = &listeners[i]};
         epoll_ctl(poller, looked_at ? EPOLL_CTL_ADD : EPOLL_CTL_DEL, listeners[i], &event);
@@ -529,6 +621,14 @@ static void end(int number)
 {
     (void)number;
     ended = 1;
+}
+
+/* Reports whether a signal to end has come. epoll_pwait delivers none while sockets are ready. */
+static bool has_ended(void)
+{
+    sigset_t waiting;
+    sigpending(&waiting);
+    return ended || sigismember(&waiting, SIGINT) || sigismember(&waiting, SIGTERM);
 }
 
 /* Waits for events until this time at most, and handles them; returns false if a listener failed.
@@ -550,34 +650,35 @@ static bool serve(int64_t until, const sigset_t *signals)
     return good;
 }
 
-/* Serves until a signal arrives. */
+/* Serves until a signal arrives. New connections stay in the system's queue while the door is shut,
+ * and for a moment after accepting failed. */
 static void run(struct watched *w, const sigset_t *signals)
 {
-    int64_t next = now(), again = INT64_MAX;
-    look_at_listeners(true);
-    while (!ended) {
+    int64_t next = now(), again = next;
+    while (!has_ended()) {
         if (now() >= next) {
             look(w);
+            save(w);
+            if (w->spare < 0)
+                take_spare(w);
             next = now() + LOOK;
         }
-        if (!serve(next < again ? next : again, signals)) {
-            look_at_listeners(false);
+        bool rests = now() < again;
+        look_at_listeners(!rests && is_door_open());
+        if (!serve(rests && again < next ? again : next, signals))
             again = now() + REST;
-        } else if (now() >= again) {
-            look_at_listeners(true);
-            again = INT64_MAX;
-        }
     }
-    if (w->unsaved)
-        save(w);
+    w->retry = 0;
+    save(w);
 }
 
-/* Parses a limit: a number above 0. */
-static bool read_count(const char *word, size_t *number)
+/* Parses a limit: a number above 0, of at most 32 bits. */
+static bool read_count(const char *word, uint32_t *number)
 {
     char *end;
-    *number = strtoul(word, &end, 10);
-    return word[0] >= '1' && word[0] <= '9' && !*end;
+    unsigned long long count = strtoull(word, &end, 10);
+    *number = (uint32_t)count;
+    return word[0] >= '1' && word[0] <= '9' && !*end && count <= UINT32_MAX;
 }
 
 /* Parses the command line; returns false if it is wrong. */
@@ -587,10 +688,10 @@ static bool read_words(int count, char **words, struct watched *w)
         if (!strcmp(words[i], "--listen") && i + 1 < count && named < LISTENERS)
             addresses[named++] = words[++i];
         else if (!strcmp(words[i], "--max-clients") && i + 1 < count
-                 && read_count(words[i + 1], &server.most_connections))
+                 && read_count(words[i + 1], &server.settings.most_connections))
             i += 1;
         else if (!strcmp(words[i], "--refuse"))
-            server.settings.refuses = true;
+            server.settings.cache.refuses = true;
         else if (words[i][0] != '-' && words[i][0] && !w->path)
             w->path = words[i];
         else
@@ -605,7 +706,8 @@ int main(int count, char **words)
     static struct watched w = {.failed = "not tried", .spare = -1};
     rtr_server_init(&server);
     if (!read_words(count, words, &w)) {
-        fprintf(stderr, "usage: cache FILE [--listen ADDRESS:PORT].. [--max-clients N] [--refuse]\n");
+        fprintf(stderr,
+                "usage: cache FILE [--listen ADDRESS:PORT].. [--max-clients N] [--refuse]\n");
         return 2;
     }
     if (!named)
@@ -622,7 +724,8 @@ int main(int count, char **words)
     signal(SIGTERM, end);
     mallopt(M_MMAP_THRESHOLD, MAPPED); /* so that freed memory of data returns to the system */
     poller = epoll_create1(EPOLL_CLOEXEC);
-    restore(&w);
+    if (!restore(&w))
+        return 1;
     for (int i = 0; i < named; i++)
         if (!listen_at(addresses[i]))
             return 1;

@@ -10,12 +10,14 @@ import contextlib
 import os
 import re
 import resource
+import select
 import signal
 import socket
 import struct
 import subprocess
 import sys
 import tempfile
+import threading
 import time
 
 PROGRAM = sys.argv[1] if len(sys.argv) > 1 else sys.exit(__doc__)
@@ -79,8 +81,9 @@ class Cache:
         return self
 
     def __exit__(self, *_):
-        self.process.send_signal(signal.SIGTERM)
-        assert self.process.wait(PATIENCE) == 0
+        if self.process.poll() is None:
+            self.process.send_signal(signal.SIGTERM)
+            assert self.process.wait(PATIENCE) == 0
 
     def lines(self, text):
         """Counts the log lines that match this after their time."""
@@ -107,9 +110,15 @@ class Cache:
             time.sleep(0.02)
 
     def takes(self, serial, count, session=SESSION):
-        """Waits until it has loaded these data."""
+        """Waits until it serves these data."""
         payloads = "1 payload" if count == 1 else f"{count} payloads"
         self.says(rf"{re.escape(self.path)}: session {session} serial {serial}: {payloads}")
+
+    def seconds(self):
+        """Returns the processor time that it has taken."""
+        with open(f"/proc/{self.process.pid}/stat", encoding="ascii") as file:
+            fields = file.read().rpartition(")")[2].split()
+        return (int(fields[11]) + int(fields[12])) / os.sysconf("SC_CLK_TCK")
 
     def memory(self):
         """Returns its memory in bytes."""
@@ -118,12 +127,12 @@ class Cache:
 
 
 @contextlib.contextmanager
-def started(content, **settings):
-    """A cache over a file with this content."""
-    with tempfile.TemporaryDirectory() as folder:
+def started(content, folder=None, **settings):
+    """A cache over a file with this content, in a folder or in a temporary one."""
+    with contextlib.ExitStack() as stack:
+        folder = folder or stack.enter_context(tempfile.TemporaryDirectory())
         put(os.path.join(folder, "data"), content)
-        with Cache(folder, **settings) as cache:
-            yield cache
+        yield stack.enter_context(Cache(folder, **settings))
 
 
 def put(path, content):
@@ -169,6 +178,10 @@ class Router:
         assert head[:4] == struct.pack(">BBH", version, 10, code), head.hex()
         self.socket.recv(struct.unpack(">I", head[4:])[0] - 8, socket.MSG_WAITALL)
         self.ends()
+
+    def is_quiet(self, seconds):
+        """Reports whether nothing comes for so long."""
+        return not select.select([self.socket], [], [], seconds)[0]
 
     def ends(self):
         """Expects the cache to close the connection."""
@@ -275,6 +288,58 @@ def test_max_clients():
         router.asks(RESET_QUERY, response(data(1, [1])))
 
 
+def test_door():
+    """Connections above both limits wait in the system's queue, at no cost, until one leaves: a
+    router that closes, or that still reads its report after 10 seconds."""
+    with started(data(1, [1]), words=["--max-clients", "1"]) as cache, \
+            contextlib.ExitStack() as stack:
+        served = stack.enter_context(Router(cache))
+        served.asks(RESET_QUERY, response(data(1, [1])))
+        refused = [stack.enter_context(Router(cache)) for _ in range(64)]
+        for router in refused:
+            router.gets_report(2, 1)
+        waiting = [stack.enter_context(Router(cache)) for _ in range(3)]
+        before = cache.seconds()
+        assert waiting[0].is_quiet(1) and cache.seconds() - before < 0.05
+        begun = time.monotonic()
+        refused[0].socket.close()
+        waiting[0].gets_report(2, 1)
+        assert time.monotonic() - begun < 5
+        assert waiting[1].is_quiet(0.2)
+        served.socket.close()
+        waiting[1].asks(RESET_QUERY, response(data(1, [1])))
+        waiting[2].gets_report(2, 1)
+
+
+def test_pipelining():
+    """A router that sends queries without a pause delays neither others nor the end."""
+    def sends(router):
+        with contextlib.suppress(OSError):
+            while True:
+                router.socket.sendall(RESET_QUERY * 8192)
+
+    def reads(router):
+        with contextlib.suppress(OSError):
+            while router.socket.recv(1 << 18):
+                pass
+
+    with contextlib.ExitStack() as stack, started(data(1, [1])) as cache:
+        cache.takes(1, 1)
+        busy = [stack.enter_context(Router(cache)) for _ in range(2)]
+        for router in busy:
+            router.socket.settimeout(None)
+            for call in (sends, reads):
+                threading.Thread(target=call, args=(router,), daemon=True).start()
+        assert not busy[0].is_quiet(PATIENCE)
+        begun = time.monotonic()
+        for _ in range(4):
+            with Router(cache) as other:
+                other.asks(RESET_QUERY, response(data(1, [1])))
+        cache.process.send_signal(signal.SIGTERM)
+        assert cache.process.wait(PATIENCE) == 0
+        assert time.monotonic() - begun < 5, time.monotonic() - begun
+
+
 def test_many_bytes():
     """Data of more than a huge page are sent from a file in memory, to routers that ask while newer
     data come."""
@@ -307,13 +372,14 @@ def test_file():
         put(cache.path, data(1, [1]))
         cache.takes(1, 1)
         put(cache.path, data(1, [2]))
-        cache.says(".*: serial 1 of other data isn't after serial 1")
+        cache.says(".*: the serial number isn't later than that of the present data: new 1, "
+                   "present 1")
         put(cache.path, prefix(1) + prefix(2, 0) + end(2))
         cache.says(".*: withdrawal of an unknown record, at byte 20")
         put(cache.path, data(2, [1])[:-1] + b"\1")
         cache.takes(2, 1)
         put(cache.path, data(2, [1]))
-        cache.says(".*: new timings want a new serial number")
+        cache.says(".*: only the times differ from those of the present data")
         before = os.stat(cache.path)
         with open(cache.path + ".other", "wb") as file:
             file.write(data(3, [1]))
@@ -361,7 +427,8 @@ def test_timings():
 
 
 def test_restart():
-    """A restarted cache sends changes since old data, unless its saved file is damaged."""
+    """A restarted cache sends changes since old data. It ends if its saved file is damaged or
+    unreadable: else it could serve other data under a serial number that a router knows."""
     with tempfile.TemporaryDirectory() as folder:
         path = os.path.join(folder, "data")
         put(path, data(1, [1]))
@@ -376,14 +443,118 @@ def test_restart():
             router.asks(serial_query(2), response(prefix(3) + prefix(1, 0) + end(3)))
         with open(path + ".kept", "r+b") as file:
             file.truncate(os.path.getsize(path + ".kept") - 1)
+        assert re.search(r"\.kept: the saved file is damaged: .*$", refused_start(path))
+        os.remove(path + ".kept")
+        os.mkdir(path + ".kept")
+        assert re.search(r"\.kept: Is a directory$", refused_start(path))
+
+
+def refused_start(path):
+    """Starts a cache that has to exit with status 1, and returns what it logged."""
+    done = subprocess.run([PROGRAM, path, "--listen", "127.0.0.1:0"], capture_output=True,
+                          timeout=PATIENCE, check=False, text=True)
+    assert done.returncode == 1, done
+    return done.stderr.rstrip()
+
+
+def test_failed_saves():
+    """Data that can't be saved aren't served; saving is retried, for the newest data and at the
+    end, and leaves no other file."""
+    with tempfile.TemporaryDirectory() as folder, started(data(1, [1]), folder=folder) as cache, \
+            Router(cache) as router:
+        cache.takes(1, 1)
+        router.asks(RESET_QUERY, response(data(1, [1])))
+        os.mkdir(cache.path + ".kept.new")
+        put(cache.path, data(2, [1, 2]))
+        failed = r".*\.kept: Is a directory: .*; trying again in {} seconds?"
+        cache.says(failed.format(1))
+        cache.says(failed.format(2))
+        router.asks(serial_query(1), response(end(1)))
+        put(cache.path, data(2, [3]))  # other data of the serial number, which no router has
+        cache.says(failed.format(4))
+        os.rmdir(cache.path + ".kept.new")
+        put(cache.path, data(3, [4]))
+        cache.takes(3, 1)
+        router.gets(notify(3))
+        router.asks(serial_query(1), response(prefix(4) + prefix(1, 0) + end(3)))
+        router.asks(serial_query(2), RESET)
+        assert sorted(os.listdir(folder)) == ["data", "data.kept", "log"]
+        os.mkdir(cache.path + ".kept.new")
+        put(cache.path, data(4, [5]))
+        cache.counts(failed.format(1), 2)
+        os.rmdir(cache.path + ".kept.new")
+        cache.process.send_signal(signal.SIGTERM)
+        assert cache.process.wait(PATIENCE) == 0
+        cache.takes(4, 1)
+        with Cache(folder) as after, Router(after) as router:
+            router.asks(serial_query(3), response(prefix(5) + prefix(4, 0) + end(4)))
+
+
+def test_sessions():
+    """A session that the cache left is refused, before and after a restart."""
+    with tempfile.TemporaryDirectory() as folder:
+        path = os.path.join(folder, "data")
+        put(path, data(3, [1]))
+        with Cache(folder) as cache:
+            cache.takes(3, 1)
+            put(path, data(1, [2], session=5))
+            cache.takes(1, 1, 5)
+            put(path, data(3, [4]))
+            cache.says(".*: the cache left this session: .*")
+        for serial in (3, 4):
+            put(path, data(serial, [4]))
+            with Cache(folder) as cache, Router(cache) as router:
+                cache.says(".*: the cache left this session: .*")
+                router.asks(serial_query(3), RESET)
+                router.asks(RESET_QUERY, response(data(1, [2], session=5), 5))
+
+
+def sets(serial):
+    """The ASes of the data of a serial number."""
+    return set(range(serial, serial + 40))
+
+
+def test_kills():
+    """A router follows a cache that is killed at any time: it always gets changes, and has the data
+    of its serial number after each."""
+    with tempfile.TemporaryDirectory() as folder:
+        path, serial, known, has = os.path.join(folder, "data"), 1, 1, sets(1)
+        put(path, data(serial, sets(serial)))
+        with Cache(folder) as cache:
+            cache.takes(1, 40)
+        for turn in range(30):
+            with Cache(folder) as cache, Router(cache) as router:
+                router.socket.sendall(serial_query(known))
+                known, has = follow(router, has)
+                assert has == sets(known), (known, has)
+                serial += 1
+                put(path, data(serial, sets(serial)))
+                time.sleep(turn * 0.01)
+                cache.process.kill()
+                cache.process.wait(PATIENCE)
         with Cache(folder) as cache, Router(cache) as router:
-            cache.says(r".*\.kept: the file of editions is torn")
-            cache.takes(3, 2)
-            router.asks(serial_query(2), RESET)
+            cache.says(rf"{re.escape(path)}(\.kept)?: session {SESSION} serial {serial}: .*")
+            router.socket.sendall(serial_query(known))
+            assert follow(router, has) == (serial, sets(serial))
+
+
+def follow(router, has):
+    """Reads an answer with changes of data, and returns its serial number and the data then."""
+    has = set(has)
+    router.gets(unit(1, 3, SESSION))
+    while True:
+        head = router.socket.recv(8, socket.MSG_WAITALL)
+        body = router.socket.recv(struct.unpack(">I", head[4:])[0] - 8, socket.MSG_WAITALL)
+        if head[1] == 7:
+            return struct.unpack(">I", body[:4])[0], has
+        assert head[1] == 4, head.hex()
+        asn = struct.unpack(">I", body[-4:])[0]
+        (has.add if body[0] else has.remove)(asn)
 
 
 def test_descriptors():
-    """Without free descriptors the file is still read; routers are accepted once there are some."""
+    """Without free descriptors the file is still read, and data are saved; routers are accepted
+    once there are some."""
     with started(data(1, [1]), files=40) as cache:
         cache.takes(1, 1)
         routers = [Router(cache) for _ in range(60)]
@@ -391,6 +562,7 @@ def test_descriptors():
         put(cache.path, data(2, [1, 2]))
         routers[0].gets(notify(2))
         routers[0].asks(serial_query(1), response(prefix(2) + end(2)))
+        assert cache.lines(".*Too many open files.*") == 0
         for router in routers[:40]:
             router.socket.close()
         routers[59].asks(RESET_QUERY, response(data(2, [1, 2])))

@@ -1,45 +1,19 @@
-/* See rtr_cache.h. The calls of rtr.h on a struct rtr_cache decide what to answer and when; this
- * file keeps data and buffers, and limits the time to send. */
+/* See rtr_cache.h. The calls of rtr.h decide what is kept, saved and answered, and when: those on a
+ * struct rtr_stores and its history have the data; those on a struct rtr_door say who is served;
+ * those on a struct rtr_cache answer a router, and those on a struct rtr_connection pace that and
+ * end it. This file has their buffers, and what connections share. */
 #ifndef _GNU_SOURCE
 #define _GNU_SOURCE /* for memfd_create */
 #endif
-#include <stddef.h>
 #include <stdio.h>
-#include <stdlib.h>
 #include <string.h>
-#ifdef __linux__
-#include <sys/mman.h>
-#include <sys/resource.h>
-#include <unistd.h>
-#ifndef MADV_COLLAPSE
-#define MADV_COLLAPSE 25 /* since Linux 6.1 */
-#endif
-#endif
 #include "rtr_cache.h"
+#include "rtr_shared.h"
 
 enum { VERSIONS = RTR_HIGHEST_VERSION + 1 };
 
-/* A connection is closed when its answer is more than this many updates old. */
-enum { MOST_BEHIND = 2 };
-
-/* Data of at least FILED bytes are moved to a file in memory before they are sent; the size of its
- * huge pages. */
-enum { FILED = 1 << 16, HUGE_PAGE = 1 << 21 };
-
-/* Bytes that several connections send, with a reference count. If `file` isn't -1, the whole
- * struct is mapped from that file in memory. */
-struct rtr_shared {
-    size_t holders, length;
-    int file;
-    uint8_t bytes[];
-};
-
-/* Changes in canonical form from data back to those before them, which were the newest `until`
- * that time. */
-struct rtr_back {
-    struct rtr_shared *changes;
-    int64_t until;
-};
+/* The bytes before each step of a history, and before the history in a file of the earlier form. */
+enum { STEP_HEAD = 16, OLD_HEAD = 16 };
 
 /* Changes from the data of `serial` to the newest data, encoded for routers of `version`. */
 struct rtr_made {
@@ -48,156 +22,28 @@ struct rtr_made {
     uint8_t version;
 };
 
-/* ---- shared bytes */
-
-/* Allocates a block with one reference; null without memory. */
-static struct rtr_shared *new_shared(size_t capacity)
-{
-    struct rtr_shared *block = malloc(sizeof *block + capacity);
-    if (block) {
-        block->holders = 1;
-        block->length = capacity;
-        block->file = -1;
-    }
-    return block;
-}
-
-/* Shortens a block to `length` bytes. */
-static struct rtr_shared *shrink(struct rtr_shared *block, size_t length)
-{
-    block->length = length;
-    struct rtr_shared *shorter = realloc(block, sizeof *block + length);
-    return shorter ? shorter : block;
-}
-
-/* Adds a reference. */
-static struct rtr_shared *hold(struct rtr_shared *block)
-{
-    block->holders += 1;
-    return block;
-}
-
-#ifdef __linux__
-
-/* Returns the size of the whole struct, as in a file. */
-static size_t filed_size(const struct rtr_shared *block)
-{
-    return offsetof(struct rtr_shared, bytes) + block->length;
-}
-
-static void free_filed(struct rtr_shared *block)
-{
-    close(block->file);
-    munmap(block, filed_size(block));
-}
-
-/* Lets an empty file in memory start with huge pages, which are faster to send: as many as `size`
- * bytes fill at least by half. MADV_COLLAPSE needs a byte in each page. If the system has no huge
- * pages, or a write beyond RLIMIT_FSIZE would kill the process, the file keeps small pages. */
-static void begin_huge(int file, size_t size)
-{
-    struct rlimit limit;
-    size_t huge = (size + HUGE_PAGE / 2) / HUGE_PAGE * HUGE_PAGE;
-    if (!huge || getrlimit(RLIMIT_FSIZE, &limit) || limit.rlim_cur < size)
-        return;
-    char *reserved = mmap(NULL, huge + HUGE_PAGE, PROT_NONE, MAP_PRIVATE | MAP_ANONYMOUS, -1, 0);
-    if (reserved == MAP_FAILED)
-        return;
-    char *aligned = reserved + (-(uintptr_t)reserved & (HUGE_PAGE - 1));
-    bool good = mmap(aligned, huge, PROT_READ, MAP_SHARED | MAP_FIXED, file, 0) == aligned;
-    for (size_t offset = 0; good && offset < huge; offset += HUGE_PAGE)
-        good = pwrite(file, "", 1, (off_t)offset) == 1;
-    if (good)
-        madvise(aligned, huge, MADV_COLLAPSE);
-    munmap(reserved, huge + HUGE_PAGE);
-}
-
-/* Moves a block to a file in memory. Returns the block itself if that fails, if it is short, or if
- * it has other references. */
-static struct rtr_shared *moved_to_file(struct rtr_shared *block)
-{
-    size_t size = filed_size(block);
-    bool stays = block->file >= 0 || block->length < FILED || block->holders > 1;
-    int file = stays ? -1 : memfd_create("rtr data", MFD_CLOEXEC);
-    struct rtr_shared *mapped = MAP_FAILED;
-    if (file >= 0)
-        begin_huge(file, size);
-    if (file >= 0 && write(file, block, size) == (ssize_t)size)
-        mapped = mmap(NULL, size, PROT_READ | PROT_WRITE, MAP_SHARED | MAP_POPULATE, file, 0);
-    if (mapped == MAP_FAILED) {
-        if (file >= 0)
-            close(file);
-        return block;
-    }
-    mapped->file = file;
-    free(block);
-    return mapped;
-}
-
-#else
-
-static void free_filed(struct rtr_shared *block)
-{
-    (void)block;
-}
-
-static struct rtr_shared *moved_to_file(struct rtr_shared *block)
-{
-    return block;
-}
-
-#endif
-
-static void release(struct rtr_shared *block)
-{
-    if (!block || --block->holders)
-        return;
-    if (block->file >= 0)
-        free_filed(block);
-    else
-        free(block);
-}
-
 /* ---- data */
 
-/* Returns the length of the End of Data PDU of a sequence in canonical form. */
-static size_t end_length(const struct rtr_shared *sequence)
+/* Returns the end of data of data in canonical form, all units of which have one version. */
+static struct rtr_unit end_of(const struct rtr_shared *data)
 {
-    return sequence->bytes[0] ? RTR_LONGEST_END : RTR_SHORTEST_END;
+    struct rtr_unit unit;
+    rtr_next(data->bytes, data->size, &unit);
+    size_t size = unit.version ? RTR_LONGEST_END : RTR_SHORTEST_END;
+    rtr_next(data->bytes + data->size - size, size, &unit);
+    return unit;
 }
 
-/* Returns the end of data of a sequence in canonical form. */
-static struct rtr_unit end_of(const struct rtr_shared *sequence)
-{
-    struct rtr_unit end;
-    size_t size = end_length(sequence);
-    rtr_next(sequence->bytes + sequence->length - size, size, &end);
-    return end;
-}
-
-/* Converts a sequence in canonical form to a version; null without memory. */
+/* Converts data in canonical form to a version; null without memory. */
 static struct rtr_shared *in_version(const struct rtr_shared *from, uint8_t version)
 {
     struct rtr_answer answer;
     struct rtr_shared *to = new_shared(from->length + RTR_LONGEST_END);
     if (!to)
         return NULL;
-    rtr_normalise_for_slice(from->bytes, from->length, to->bytes, to->length, UINT64_MAX, version,
-                            &answer);
+    rtr_normalise_for_slice(from->bytes + from->start, from->length, to->bytes, to->size,
+                            UINT64_MAX, version, &answer);
     return shrink(to, answer.written);
-}
-
-/* Returns the changes from old data to new data of the same version and session; null without
- * memory. */
-static struct rtr_shared *delta(const struct rtr_shared *old, const struct rtr_shared *new)
-{
-    struct rtr_data_answer answer;
-    struct rtr_shared *changes = new_shared(old->length + new->length);
-    if (!changes)
-        return NULL;
-    rtr_delta(old->bytes, old->length, new->bytes, new->length, changes->bytes, changes->length,
-              &answer);
-    return shrink(changes, answer.written);
 }
 
 /* Records why new data are refused, and the offset of the unit. */
@@ -225,36 +71,103 @@ static enum rtr_update load(struct rtr_server *s, const uint8_t *input, size_t l
     if (has_memory && loaded.status == RTR_OK) {
         *data = shrink(block, loaded.length);
         s->has_cut = loaded.has_cut;
+        s->refused = loaded.serial;
         return RTR_UPDATE_TAKEN;
     }
     release(block);
     return has_memory ? refuse(s, loaded.status, loaded.offset) : RTR_UPDATE_MEMORY;
 }
 
-/* Counts the payload units before the end of data. */
-static size_t payloads_of(const struct rtr_shared *data)
+/* Reports whether RFC 8210 section 6 allows a cache these timings; version 0 has none. */
+static bool are_times_allowed(struct rtr_server *s, const struct rtr_unit *end)
 {
-    uint8_t detail;
-    size_t size, count = 0;
-    for (size_t at = 0; data->bytes[at + 1] != RTR_END_OF_DATA; at += size, count += 1)
-        rtr_unit_size(data->bytes + at, data->length - at, &size, &detail);
-    return count;
+    s->time_rule = RTR_TIME_RULE_NONE;
+    if (end->version)
+        s->time_rule = rtr_times_rule(end->refresh, end->retry, end->expire);
+    return s->time_rule == RTR_TIME_RULE_NONE;
 }
 
-/* Returns the newest data in a version, encoded at the first call; null without memory. */
-static struct rtr_shared *form(struct rtr_server *s, uint8_t version)
+/* ---- the stores, of which `held` are the buffers */
+
+static struct rtr_stores_buffers buffers_of(const struct rtr_server *s)
 {
-    if (!s->forms[version])
-        s->forms[version] = in_version(s->forms[s->end.version], version);
-    return s->forms[version];
+    struct rtr_shared *first = s->held[0], *second = s->held[1];
+    return (struct rtr_stores_buffers){first ? first->bytes : NULL, second ? second->bytes : NULL,
+                                       first ? first->size : 0, second ? second->size : 0};
 }
 
-/* Returns the same to a connection that sends them, with a reference. */
-static struct rtr_shared *sent_form(struct rtr_server *s, uint8_t version)
+static struct rtr_stores_state state_of(const struct rtr_server *s)
 {
-    if (form(s, version))
-        s->forms[version] = moved_to_file(s->forms[version]);
-    return s->forms[version] ? hold(s->forms[version]) : NULL;
+    struct rtr_stores_state state;
+    struct rtr_stores_buffers buffers = buffers_of(s);
+    rtr_stores_state(&s->stores, &buffers, &state);
+    return state;
+}
+
+/* Returns the block of the store that is served; null if none is. */
+static struct rtr_shared *newest(const struct rtr_server *s)
+{
+    return s->held[state_of(s).second];
+}
+
+/* Returns the history that is served. */
+static const uint8_t *history_of(const struct rtr_server *s, size_t *length)
+{
+    struct rtr_stores_state state = state_of(s);
+    struct rtr_stores_buffers buffers = buffers_of(s);
+    return rtr_stores_served(&buffers, &state, length);
+}
+
+static void free_work(const struct rtr_work *work)
+{
+    free(work->index);
+    free(work->buffer);
+    free(work->spare);
+}
+
+/* Allocates memory for a call to work in; returns false, with none allocated, if that fails. */
+static bool new_work(struct rtr_work *work, size_t index, size_t buffer, size_t spare)
+{
+    *work = (struct rtr_work){malloc((index + 1) * sizeof *work->index),
+                              index,
+                              malloc(buffer + 1),
+                              malloc(spare + 1),
+                              buffer,
+                              spare};
+    if (work->index && work->buffer && work->spare)
+        return true;
+    free_work(work);
+    return false;
+}
+
+/* Returns the size of the units up to and with the end of data, counts those before it, and sets
+ * `end`. */
+static size_t walk(const uint8_t *units, size_t length, size_t *count, struct rtr_unit *end)
+{
+    size_t at = 0;
+    for (*count = 0; rtr_next(units + at, length - at, end) == RTR_OK; *count += 1) {
+        at += end->size;
+        if (end->kind == RTR_END_OF_DATA)
+            break;
+    }
+    return at;
+}
+
+/* Lists the serial numbers of the steps of a history, each of which follows STEP_HEAD bytes, as far
+ * as memory allows. */
+static void list_kept(struct rtr_server *s, const uint8_t *steps, size_t length)
+{
+    struct rtr_unit end;
+    size_t count;
+    s->kept_count = 0;
+    for (size_t at = STEP_HEAD; at < length; at += STEP_HEAD) {
+        at += walk(steps + at, length - at, &count, &end);
+        uint32_t *kept = realloc(s->kept, (s->kept_count + 1) * sizeof *kept);
+        if (!kept)
+            return;
+        s->kept = kept;
+        s->kept[s->kept_count++] = end.serial;
+    }
 }
 
 /* Frees the encodings of the newest data, and the changes that lead to them. */
@@ -269,174 +182,256 @@ static void forget_made(struct rtr_server *s)
     }
 }
 
-/* Frees the changes that lead back, from index `from` on. */
-static void forget_back(struct rtr_server *s, size_t from)
+/* Frees the data of the server, and begins as if it had none. */
+static void forget(struct rtr_server *s)
 {
-    for (size_t i = from; i < s->back_count; i++)
-        release(s->back[i].changes);
-    s->back_count = from < s->back_count ? from : s->back_count;
-}
-
-/* Frees the changes that are too old, exceed `keep_bytes`, or lead to a serial number that isn't
- * before the present one. */
-static void limit_back(struct rtr_server *s, int64_t now)
-{
-    size_t bytes = 0, i = 0;
-    for (; i < s->back_count; i++) {
-        struct rtr_shared *changes = s->back[i].changes;
-        bytes += changes->length;
-        s->kept[i] = end_of(changes).serial;
-        if (bytes > s->keep_bytes || now - s->back[i].until > s->keep
-            || rtr_serial_order(s->kept[i], s->present.serial) != RTR_SERIAL_LESS)
-            break;
+    forget_made(s);
+    for (int i = 0; i < 2; i++) {
+        release(s->held[i]);
+        s->held[i] = NULL;
     }
-    forget_back(s, i);
+    rtr_stores_new(&s->stores);
+    s->kept_count = 0;
+    s->present.has = false;
 }
 
-/* Converts the data and the changes that lead back to a higher version. If memory runs out for
- * changes, these and all older ones are freed. Returns false without memory for the data. */
-static bool raise(struct rtr_server *s, uint8_t version)
+/* Lets connections send the data of the store that is served now, and frees the other store. */
+static void serve(struct rtr_server *s)
 {
-    struct rtr_shared *data = form(s, version);
-    for (size_t i = 0; data && i < s->back_count; i++) {
-        struct rtr_shared *changes = in_version(s->back[i].changes, version);
-        release(s->back[i].changes);
-        s->back[i].changes = changes;
-        if (!changes)
-            forget_back(s, i);
-    }
-    if (data)
-        s->end = end_of(data);
-    return data != NULL;
+    size_t length;
+    const uint8_t *history = history_of(s, &length);
+    bool second = state_of(s).second;
+    struct rtr_shared *block = s->held[second];
+    const uint8_t *data = rtr_history_data(history, length, &block->length);
+    block->start = (size_t)(data - block->bytes);
+    release(s->held[!second]);
+    s->held[!second] = NULL;
+    forget_made(s);
+    walk(data, block->length, &s->payloads, &s->end);
+    s->present = (struct rtr_present){s->end.serial, s->end.session, true};
+    s->number += 1;
+    list_kept(s, data + block->length, length - (size_t)(data - history) - block->length);
 }
 
-/* Grows the lists of changes that lead back by one; returns false without memory. */
-static bool grow_back(struct rtr_server *s)
+/* Returns the rtr_update of a store that isn't taken. */
+static enum rtr_update refused_by(enum rtr_stores_status status)
 {
-    struct rtr_back *back = realloc(s->back, (s->back_count + 1) * sizeof *back);
-    s->back = back ? back : s->back;
-    uint32_t *kept = realloc(s->kept, (s->back_count + 1) * sizeof *kept);
-    s->kept = kept ? kept : s->kept;
-    return back && kept;
-}
-
-/* Compares data with the present ones, of the same version and session. */
-static enum rtr_update compare(const struct rtr_server *s, const struct rtr_shared *data)
-{
-    const struct rtr_shared *old = s->forms[s->end.version];
-    bool same = old->length == data->length;
-    if (same && !memcmp(old->bytes, data->bytes, data->length))
+    switch (status) {
+    case RTR_STORES_SAME_DATA:
         return RTR_UPDATE_SAME;
-    uint8_t order = rtr_serial_order(s->end.serial, end_of(data).serial);
-    if (order == RTR_SERIAL_LESS)
-        return RTR_UPDATE_TAKEN;
-    same = same && !memcmp(old->bytes, data->bytes, data->length - end_length(data));
-    return same && order == RTR_SERIAL_EQUAL ? RTR_UPDATE_TIMING : RTR_UPDATE_SERIAL;
+    case RTR_STORES_OTHER_TIMES:
+        return RTR_UPDATE_TIMING;
+    case RTR_STORES_OLD_SERIAL:
+        return RTR_UPDATE_SERIAL;
+    case RTR_STORES_SESSION_LEFT:
+        return RTR_UPDATE_LEFT;
+    case RTR_STORES_OTHER_SESSION:
+        return RTR_UPDATE_SESSION;
+    case RTR_STORES_OTHER_VERSION:
+        return RTR_UPDATE_VERSION;
+    case RTR_STORES_FLAW:
+        return RTR_UPDATE_REFUSED;
+    case RTR_STORES_NO_ROOM:
+        return RTR_UPDATE_MEMORY;
+    default:
+        return RTR_UPDATE_TORN;
+    }
 }
 
-/* Computes the changes from new data back to the present data, and puts them first. */
-static enum rtr_update step_back(struct rtr_server *s, int64_t now, const struct rtr_shared *data)
+/* Drops the store that waits to be saved. */
+static void give_up(struct rtr_server *s)
 {
-    enum rtr_update update = compare(s, data);
-    s->refused = end_of(data).serial;
-    if (update != RTR_UPDATE_TAKEN)
-        return update;
-    struct rtr_shared *changes = grow_back(s) ? delta(data, s->forms[s->end.version]) : NULL;
-    if (!changes)
+    bool second = state_of(s).second;
+    rtr_stores_give_up(&s->stores);
+    release(s->held[!second]);
+    s->held[!second] = NULL;
+}
+
+/* Takes data in canonical form, which replace a store that waits. The buffers have the lengths that
+ * suffice for rtr_stores_take. */
+static enum rtr_update take(struct rtr_server *s, int64_t date, const uint8_t *data, size_t length)
+{
+    struct rtr_work work;
+    struct rtr_stores_answer answer;
+    struct rtr_stores_state state = state_of(s);
+    struct rtr_stores stores = s->stores;
+    struct rtr_history_limits limits = {s->settings.keep, s->settings.keep_bytes};
+    size_t both = length + (state.serves ? s->held[state.second]->size : 0);
+    if (!new_work(&work, 0, both, 2 * both + 32))
         return RTR_UPDATE_MEMORY;
-    memmove(s->back + 1, s->back, s->back_count * sizeof *s->back);
-    s->back[0] = (struct rtr_back){changes, now};
-    s->back_count += 1;
+    struct rtr_shared *store = new_shared(18 + both + work.spare_length);
+    answer.status = RTR_STORES_NO_ROOM;
+    if (store) {
+        struct rtr_stores_buffers buffers = buffers_of(s);
+        *(state.second ? &buffers.first : &buffers.second) = store->bytes;
+        *(state.second ? &buffers.first_length : &buffers.second_length) = store->size;
+        rtr_stores_give_up(&stores);
+        rtr_stores_take(&stores, data, length, (uint64_t)date, &limits, &buffers, &work, &answer);
+    }
+    free_work(&work);
+    if (answer.status != RTR_STORES_OK) {
+        release(store);
+        return refused_by(answer.status);
+    }
+    give_up(s);
+    s->held[!state.second] = shrink(store, answer.length);
+    s->stores = stores;
+    if (!state_of(s).waits)
+        serve(s);
     return RTR_UPDATE_TAKEN;
 }
 
-/* Makes these the newest data, whose reference it takes over. */
-static void take(struct rtr_server *s, int64_t now, struct rtr_shared *data)
+/* Converts data to the highest version, so that files of all versions can follow each other; or to
+ * the version of the stored data of their session, if that isn't below their own. */
+static bool convert(const struct rtr_server *s, struct rtr_shared **data)
 {
-    s->end = end_of(data);
-    if (s->present.has && s->present.session != s->end.session)
-        forget_back(s, 0);
-    forget_made(s);
-    s->forms[s->end.version] = data;
-    s->payloads = payloads_of(data);
-    s->number += 1;
-    s->present = (struct rtr_present){s->end.serial, s->end.session, true};
-    limit_back(s, now);
+    struct rtr_unit end = end_of(*data);
+    bool follows = s->present.has && s->present.session == end.session;
+    uint8_t version = RTR_HIGHEST_VERSION;
+    if (follows && s->end.version >= end.version)
+        version = s->end.version;
+    if (version == end.version)
+        return true;
+    struct rtr_shared *converted = in_version(*data, version);
+    release(*data);
+    *data = converted;
+    return converted != NULL;
 }
 
-/* Reports whether RFC 8210 section 6 allows a cache these timings; version 0 has none. */
-static bool are_times_allowed(struct rtr_server *s, const struct rtr_shared *data)
+/* Takes an input that is in canonical form and of the highest version, without a copy. Returns
+ * RTR_UPDATE_REFUSED for another input, which has to be loaded. */
+static enum rtr_update take_input(struct rtr_server *s, int64_t date, const uint8_t *input,
+                                  size_t length)
 {
-    struct rtr_unit end = end_of(data);
-    s->time_rule = RTR_TIME_RULE_NONE;
-    if (end.version)
-        s->time_rule = rtr_times_rule(end.refresh, end.retry, end.expire);
-    return s->time_rule == RTR_TIME_RULE_NONE;
+    struct rtr_unit end;
+    if (length < RTR_LONGEST_END
+        || rtr_next(input + length - RTR_LONGEST_END, RTR_LONGEST_END, &end) != RTR_OK
+        || end.kind != RTR_END_OF_DATA || end.version != RTR_HIGHEST_VERSION
+        || !are_times_allowed(s, &end))
+        return RTR_UPDATE_REFUSED;
+    s->has_cut = false;
+    s->refused = end.serial;
+    return take(s, date, input, length);
 }
 
-/* Takes data in canonical form, or refuses and releases them. */
-static enum rtr_update update(struct rtr_server *s, int64_t now, struct rtr_shared *data)
+/* Takes data that were loaded. */
+static enum rtr_update take_loaded(struct rtr_server *s, int64_t date, struct rtr_shared **data)
 {
-    enum rtr_update update = are_times_allowed(s, data) ? RTR_UPDATE_TAKEN : RTR_UPDATE_TIMES;
-    if (update == RTR_UPDATE_TAKEN && s->present.has
-        && s->present.session == end_of(data).session) {
-        if (s->end.version > data->bytes[0]) {
-            struct rtr_shared *raised = in_version(data, s->end.version);
-            release(data);
-            data = raised;
-        }
-        bool raises = data && s->end.version < data->bytes[0];
-        if (!data || (raises && !raise(s, data->bytes[0])))
-            update = RTR_UPDATE_MEMORY;
-        else
-            update = step_back(s, now, data);
-    }
-    if (update == RTR_UPDATE_TAKEN)
-        take(s, now, data);
-    else
-        release(data);
+    struct rtr_unit end = end_of(*data);
+    if (!are_times_allowed(s, &end))
+        return RTR_UPDATE_TIMES;
+    if (!convert(s, data))
+        return RTR_UPDATE_MEMORY;
+    return take(s, date, (*data)->bytes, (*data)->size);
+}
+
+enum rtr_update rtr_server_update(struct rtr_server *s, int64_t date, const uint8_t *input,
+                                  size_t length)
+{
+    struct rtr_shared *data = NULL;
+    enum rtr_update update = take_input(s, date, input, length);
+    if (update == RTR_UPDATE_REFUSED)
+        update = load(s, input, length, &data);
+    if (data)
+        update = take_loaded(s, date, &data);
+    release(data);
+    if (update == RTR_UPDATE_SAME)
+        give_up(s);
     return update;
 }
 
-enum rtr_update rtr_server_update(struct rtr_server *s, int64_t now, const uint8_t *input,
-                                  size_t length)
+const uint8_t *rtr_server_to_save(const struct rtr_server *s, struct rtr_store_head *head,
+                                  size_t *length)
 {
-    struct rtr_shared *data;
-    enum rtr_update loaded = load(s, input, length, &data);
-    return loaded == RTR_UPDATE_TAKEN ? update(s, now, data) : loaded;
+    struct rtr_stores_state state = state_of(s);
+    struct rtr_stores_buffers buffers = buffers_of(s);
+    const uint8_t *store = rtr_stores_to_save(&buffers, &state, length);
+    if (store)
+        rtr_store_seal(store, *length, head);
+    return store;
 }
 
-/* ---- changes that lead back */
-
-/* Returns the data to which the changes back up to index `last` lead; null without memory, or if
- * they don't apply. */
-static struct rtr_shared *data_before(struct rtr_server *s, size_t last)
+void rtr_server_saved(struct rtr_server *s)
 {
-    struct rtr_data_answer answer;
-    const struct rtr_shared *data = s->forms[s->end.version];
-    size_t length = RTR_LONGEST_END, at = 0;
-    for (size_t i = 0; i <= last; i++)
-        length += s->back[i].changes->length;
-    uint8_t *changes = malloc(length);
-    size_t most = length / RTR_SHORTEST_PAYLOAD;
-    size_t *index = malloc(most * sizeof *index);
-    struct rtr_shared *old = changes && index ? new_shared(data->length + length) : NULL;
-    for (size_t i = 0; old && i <= last; i++) {
-        const struct rtr_shared *each = s->back[i].changes;
-        size_t units = each->length - (i < last ? end_length(each) : 0);
-        memcpy(changes + at, each->bytes, units);
-        at += units;
-    }
-    if (old)
-        rtr_apply_in_order(data->bytes, data->length, changes, at, index, most, old->bytes,
-                           old->length, &answer);
-    free(changes);
-    free(index);
-    if (old && answer.status) {
-        release(old);
-        old = NULL;
-    }
-    return old ? shrink(old, answer.written) : NULL;
+    if (!state_of(s).waits)
+        return;
+    rtr_stores_saved(&s->stores);
+    serve(s);
+}
+
+/* ---- restarts */
+
+/* Reports whether a file has the earlier form: eight letters, the checksum that rtr_store_seal
+ * writes, and a history. */
+static bool is_old_file(const uint8_t *file, size_t length)
+{
+    struct rtr_store_head head;
+    if (length <= OLD_HEAD || memcmp(file, "rtrkept1", 8))
+        return false;
+    rtr_store_seal(file + OLD_HEAD, length - OLD_HEAD, &head);
+    return !memcmp(file + 8, head.bytes + sizeof head.bytes - 8, 8);
+}
+
+/* Copies the store of a file, which begins with an empty list of sessions for the earlier form;
+ * returns RTR_UPDATE_TORN if the file is damaged. */
+static enum rtr_update copy_store(const uint8_t *file, size_t length, struct rtr_shared **store)
+{
+    bool is_old = is_old_file(file, length);
+    size_t head = sizeof(struct rtr_store_head), before = is_old ? STEP_HEAD : 0;
+    if (is_old)
+        head = OLD_HEAD;
+    else if (!rtr_store_open(file, length))
+        return RTR_UPDATE_TORN;
+    *store = new_shared(before + length - head);
+    if (!*store)
+        return RTR_UPDATE_MEMORY;
+    memset((*store)->bytes, 0, before);
+    memcpy((*store)->bytes + before, file + head, length - head);
+    return RTR_UPDATE_TAKEN;
+}
+
+/* Starts from the store in the first buffer. */
+static enum rtr_update start(struct rtr_server *s, size_t size)
+{
+    struct rtr_work work;
+    struct rtr_stores_answer answer;
+    struct rtr_stores_buffers buffers = buffers_of(s);
+    if (!new_work(&work, size / RTR_SHORTEST_END, size, 0))
+        return RTR_UPDATE_MEMORY;
+    rtr_stores_start(&s->stores, size, &buffers, &work, &answer);
+    free_work(&work);
+    if (answer.status != RTR_STORES_OK)
+        return refused_by(answer.status);
+    serve(s);
+    return are_times_allowed(s, &s->end) ? RTR_UPDATE_TAKEN : RTR_UPDATE_TIMES;
+}
+
+enum rtr_update rtr_server_restore(struct rtr_server *s, const uint8_t *input, size_t length)
+{
+    if (s->held[0] || s->held[1] || s->stores.unsaved)
+        return RTR_UPDATE_SAME;
+    enum rtr_update update = copy_store(input, length, &s->held[0]);
+    if (update == RTR_UPDATE_TAKEN)
+        update = start(s, s->held[0]->size);
+    if (update != RTR_UPDATE_TAKEN)
+        forget(s);
+    return update;
+}
+
+/* ---- answers */
+
+/* Returns the newest data in a version, with a reference, to a connection that sends them; they are
+ * encoded at the first call. Null without memory. */
+static struct rtr_shared *sent_form(struct rtr_server *s, uint8_t version)
+{
+    struct rtr_shared **form = &s->forms[version];
+    if (version == s->end.version)
+        form = &s->held[state_of(s).second];
+    else if (!*form)
+        *form = in_version(newest(s), version);
+    if (*form)
+        *form = moved_to_file(*form);
+    return *form ? hold(*form) : NULL;
 }
 
 /* Caches changes, unless that exceeds `keep_bytes` or memory runs out. */
@@ -446,7 +441,7 @@ static void keep_made(struct rtr_server *s, struct rtr_made entry)
     for (size_t i = 0; i < s->made_count; i++)
         bytes += s->made[i].changes->length;
     struct rtr_made *made = NULL;
-    if (bytes <= s->keep_bytes)
+    if (bytes <= s->settings.keep_bytes)
         made = realloc(s->made, (s->made_count + 1) * sizeof *made);
     if (!made)
         return;
@@ -455,166 +450,39 @@ static void keep_made(struct rtr_server *s, struct rtr_made entry)
     hold(entry.changes);
 }
 
-/* Computes the changes to the newest data from those of index `i` among the kept serial numbers,
- * in a version; there are none from the newest data itself, at index `back_count`. */
-static struct rtr_shared *make_changes(struct rtr_server *s, uint8_t version, size_t i)
+/* Computes the changes from the data of a serial number to the newest, for routers of a version;
+ * null without memory. The buffers have the lengths that suffice for rtr_history_since. */
+static struct rtr_shared *make_changes(const struct rtr_server *s, uint8_t version, uint32_t serial)
 {
-    struct rtr_shared *data = s->forms[s->end.version];
-    struct rtr_shared *old = NULL, *changes = NULL, *encoded = NULL;
-    if (i < s->back_count)
-        old = data_before(s, i);
-    else
-        old = hold(data);
-    if (old)
-        changes = delta(old, data);
+    struct rtr_work work;
+    struct rtr_stores_answer answer;
+    size_t length;
+    const uint8_t *history = history_of(s, &length);
+    if (!new_work(&work, length / RTR_SHORTEST_END, 2 * length, length))
+        return NULL;
+    struct rtr_shared *changes = new_shared(work.buffer_length + RTR_LONGEST_END);
+    answer.status = RTR_STORES_NO_ROOM;
     if (changes)
-        encoded = in_version(changes, version);
-    release(old);
+        rtr_history_since(history, length, serial, version, &work, changes->bytes, changes->size,
+                          &answer);
+    free_work(&work);
+    if (answer.status == RTR_STORES_OK)
+        return shrink(changes, answer.length);
     release(changes);
-    return encoded;
+    return NULL;
 }
 
-/* Returns the changes from the data of a serial number, which is kept or the present one, for
+/* Returns the changes from the data of a serial number, the present one or one that is kept, for
  * routers of a version. The caller releases them. Null without memory. */
 static struct rtr_shared *changes_from(struct rtr_server *s, uint8_t version, uint32_t serial)
 {
-    size_t index = 0;
     for (size_t i = 0; i < s->made_count; i++)
         if (s->made[i].version == version && s->made[i].serial == serial)
             return hold(s->made[i].changes);
-    while (index < s->back_count && s->kept[index] != serial)
-        index += 1;
-    struct rtr_shared *changes = make_changes(s, version, index);
+    struct rtr_shared *changes = make_changes(s, version, serial);
     if (changes)
         keep_made(s, (struct rtr_made){changes, serial, version});
     return changes;
-}
-
-/* ---- the saved file: `magic`, the 64-bit FNV-1a hash of the rest, the data, and then the changes
- * that lead back. Each has a head of SAVED_HEAD bytes: when newer data replaced it, in
- * milliseconds since 1970, and its length. Numbers have 64 bits, in network byte order. */
-
-static const uint8_t magic[8] = {'r', 't', 'r', 'k', 'e', 'p', 't', '1'};
-
-enum { SAVED_HEAD = 16 };
-
-static const uint64_t hash_basis = 14695981039346656037u, hash_prime = 1099511628211u;
-
-static uint64_t hash(uint64_t hash, const uint8_t *bytes, size_t length)
-{
-    for (size_t i = 0; i < length; i++)
-        hash = (hash ^ bytes[i]) * hash_prime;
-    return hash;
-}
-
-static void put_number(uint8_t *at, uint64_t number)
-{
-    for (int i = 7; i >= 0; i--, number >>= 8)
-        at[i] = (uint8_t)number;
-}
-
-static uint64_t number_at(const uint8_t *at)
-{
-    uint64_t number = 0;
-    for (int i = 0; i < 8; i++)
-        number = number << 8 | at[i];
-    return number;
-}
-
-/* Returns entry `i` of the file and writes its head: the data at 0, then changes. */
-static const struct rtr_shared *saved_entry(const struct rtr_server *s, int64_t now, int64_t date,
-                                            size_t i, uint8_t head[SAVED_HEAD])
-{
-    const struct rtr_shared *block = s->forms[s->end.version];
-    int64_t until = now;
-    if (i) {
-        block = s->back[i - 1].changes;
-        until = s->back[i - 1].until;
-    }
-    put_number(head, (uint64_t)(date - now + until));
-    put_number(head + 8, block->length);
-    return block;
-}
-
-bool rtr_server_save(const struct rtr_server *s, int64_t now, int64_t date,
-                     bool (*write)(void *to, const void *bytes, size_t length), void *to)
-{
-    uint8_t head[SAVED_HEAD];
-    uint64_t sum = hash_basis;
-    size_t count = s->present.has ? s->back_count + 1 : 0;
-    for (size_t i = 0; i < count; i++) {
-        const struct rtr_shared *block = saved_entry(s, now, date, i, head);
-        sum = hash(hash(sum, head, sizeof head), block->bytes, block->length);
-    }
-    memcpy(head, magic, sizeof magic);
-    put_number(head + sizeof magic, sum);
-    bool written = write(to, head, sizeof head);
-    for (size_t i = 0; written && i < count; i++) {
-        const struct rtr_shared *block = saved_entry(s, now, date, i, head);
-        written = write(to, head, sizeof head) && write(to, block->bytes, block->length);
-    }
-    return written;
-}
-
-/* Restores an entry of the file; the first one has the data. */
-static enum rtr_update restore_entry(struct rtr_server *s, int64_t now, int64_t until,
-                                     const uint8_t *bytes, size_t length)
-{
-    if (!s->present.has)
-        return rtr_server_update(s, now, bytes, length);
-    struct rtr_shared *changes = grow_back(s) ? new_shared(length) : NULL;
-    if (!changes)
-        return RTR_UPDATE_MEMORY;
-    memcpy(changes->bytes, bytes, length);
-    s->back[s->back_count++] = (struct rtr_back){changes, until};
-    return length < RTR_SHORTEST_END ? RTR_UPDATE_TORN : RTR_UPDATE_TAKEN;
-}
-
-/* Restores the entries of the file. */
-static enum rtr_update restore_all(struct rtr_server *s, int64_t now, int64_t date,
-                                   const uint8_t *input, size_t length)
-{
-    enum rtr_update update = RTR_UPDATE_TAKEN;
-    size_t at = 0;
-    while (update == RTR_UPDATE_TAKEN && at < length) {
-        uint64_t size = 0;
-        if (length - at >= SAVED_HEAD)
-            size = number_at(input + at + 8);
-        if (!size || size > length - at - SAVED_HEAD)
-            return RTR_UPDATE_TORN;
-        int64_t until = now - date + (int64_t)number_at(input + at);
-        at += SAVED_HEAD;
-        update = restore_entry(s, now, until, input + at, size);
-        at += size;
-    }
-    bool refused = update == RTR_UPDATE_MEMORY || update == RTR_UPDATE_TIMES;
-    return update == RTR_UPDATE_TAKEN || refused ? update : RTR_UPDATE_TORN;
-}
-
-enum rtr_update rtr_server_restore(struct rtr_server *s, int64_t now, int64_t date,
-                                   const uint8_t *input, size_t length)
-{
-    enum rtr_update update = RTR_UPDATE_TORN;
-    if (s->present.has)
-        return RTR_UPDATE_SAME;
-    if (length > SAVED_HEAD && !memcmp(input, magic, sizeof magic)
-        && number_at(input + sizeof magic)
-               == hash(hash_basis, input + SAVED_HEAD, length - SAVED_HEAD))
-        update = restore_all(s, now, date, input + SAVED_HEAD, length - SAVED_HEAD);
-    struct rtr_shared *oldest = NULL;
-    if (update == RTR_UPDATE_TAKEN && s->back_count)
-        oldest = data_before(s, s->back_count - 1);
-    if (update == RTR_UPDATE_TAKEN && s->back_count && !oldest)
-        update = RTR_UPDATE_TORN;
-    release(oldest);
-    if (update == RTR_UPDATE_TAKEN) {
-        limit_back(s, now);
-        return update;
-    }
-    forget_made(s);
-    forget_back(s, 0);
-    s->present.has = false;
-    return update;
 }
 
 /* ---- the server */
@@ -622,22 +490,21 @@ enum rtr_update rtr_server_restore(struct rtr_server *s, int64_t now, int64_t da
 void rtr_server_init(struct rtr_server *s)
 {
     memset(s, 0, sizeof *s);
-    rtr_cache_settings_usual(&s->settings);
-    s->unit_limit = 10000;
-    s->write_limit = 30000;
-    s->response_limit = 600000;
-    s->report_limit = 2000;
-    s->keep = RTR_USUAL_EXPIRE * INT64_C(1000);
-    s->keep_bytes = (size_t)1 << 26;
-    s->most_connections = 1024;
+    s->spare = true;
+    rtr_server_settings_usual(&s->settings);
+    rtr_door_init(&s->door, &s->settings);
+    rtr_stores_new(&s->stores);
+}
+
+void rtr_server_unsaved(struct rtr_server *s, uint16_t session)
+{
+    rtr_stores_unsaved(&s->stores, session);
 }
 
 void rtr_server_free(struct rtr_server *s)
 {
-    forget_made(s);
-    forget_back(s, 0);
+    forget(s);
     free(s->made);
-    free(s->back);
     free(s->kept);
 }
 
@@ -647,107 +514,124 @@ const char *rtr_update_text(const struct rtr_server *s, enum rtr_update update)
     case RTR_UPDATE_REFUSED:
         return rtr_status_text(s->status);
     case RTR_UPDATE_SERIAL:
-        return "the serial number of other data isn't after the present one";
+        return RTR_FAILURE_OLD_SERIAL;
     case RTR_UPDATE_TIMING:
-        return "new timings want a new serial number";
+        return RTR_FAILURE_OTHER_TIMES;
     case RTR_UPDATE_TIMES:
         return rtr_time_rule_text(s->time_rule);
+    case RTR_UPDATE_LEFT:
+        return RTR_FAILURE_SESSION_LEFT;
+    case RTR_UPDATE_SESSION:
+        return RTR_FAILURE_OTHER_SESSION;
+    case RTR_UPDATE_VERSION:
+        return RTR_FAILURE_HIGHER_VERSION;
     case RTR_UPDATE_TORN:
-        return "the file of editions is torn";
+        return RTR_FAILURE_DAMAGED;
     default:
-        return "no memory";
+        return RTR_FAILURE_NO_MEMORY;
     }
 }
 
 /* ---- a connection */
 
-static const char no_memory[] = "no memory";
+/* Returns the number of bytes of the answer, or of the last report, sent or not. */
+static size_t answer_size(const struct rtr_served *c)
+{
+    return c->head_length + (c->body ? c->body->length : 0);
+}
 
-/* Returns the number of unsent bytes of the answer. */
+/* Returns how many of them are unsent. */
 static size_t unsent(const struct rtr_served *c)
 {
-    return c->head_length + (c->body ? c->body->length : 0) - c->sent;
+    return c->over ? 0 : c->connection.unsent;
+}
+
+/* Reports whether the connection hasn't ended. */
+static bool is_served(const struct rtr_served *c)
+{
+    return !c->over && !c->connection.state;
 }
 
 static void drop_answer(struct rtr_served *c)
 {
     release(c->body);
     c->body = NULL;
-    c->sent = c->head_length = 0;
+    c->head_length = 0;
 }
 
-/* Ends the connection without a report, for this reason. */
-static void cut_off(struct rtr_served *c, int64_t now, const char *text)
+static void set_text(struct rtr_served *c, const char *text)
 {
-    struct rtr_serving serving;
-    rtr_cache_lost(&c->cache, (uint64_t)now, &c->server->present, &serving);
+    snprintf(c->text, sizeof c->text, "%s", text);
+}
+
+/* Ends the connection without a report, since there is no memory. */
+static void starve(struct rtr_served *c, uint64_t now)
+{
     drop_answer(c);
-    c->over = true;
-    if (text != c->text)
-        snprintf(c->text, sizeof c->text, "%s", text);
+    set_text(c, RTR_FAILURE_NO_MEMORY);
+    rtr_connection_ends(&c->connection, now, 0);
 }
 
-/* Sets `text` to the router's error report. */
-static void explain_report(struct rtr_served *c)
-{
-    struct rtr_unit unit;
-    rtr_next(c->input, c->filled, &unit);
-    int count = snprintf(c->text, sizeof c->text, "the router reports code %u", unit.code);
-    for (size_t i = 0; i < unit.text_length && i < 100; i++) {
-        uint8_t byte = c->input[unit.text_start + i];
-        count += snprintf(c->text + count, sizeof c->text - (size_t)count, "%s%c", i ? "" : ": ",
-                          byte >= ' ' && byte <= '~' ? byte : '?');
-    }
-}
-
-/* Sets `text` to the reason why the connection ends. */
-static void explain_end(struct rtr_served *c, const struct rtr_serving *serving)
+/* Sets `text` to the reason why the connection ends, at the first unit of the input. */
+static void explain_end(struct rtr_served *c, const struct rtr_serving *serving, size_t filled)
 {
     size_t count;
+    struct rtr_unit unit;
     if (serving->reason == RTR_REASON_REPORTED) {
-        explain_report(c);
+        rtr_next(c->input, filled, &unit);
+        rtr_reported_text(rtr_reason_text(RTR_REASON_REPORTED), &unit, c->input, c->text,
+                          sizeof c->text);
     } else if (serving->reason == RTR_REASON_FAULTY) {
         rtr_text(serving->status, serving->detail, (uint8_t *)c->text, RTR_TEXT_ROOM, &count);
         snprintf(c->text + count, sizeof c->text - count, ", at byte %llu",
                  (unsigned long long)c->offset);
     } else if (serving->reason != RTR_REASON_LOST) {
-        snprintf(c->text, sizeof c->text, "%s", rtr_reason_text(serving->reason));
+        set_text(c, rtr_reason_text(serving->reason));
     }
 }
 
-/* Queues the error report that is owed, if memory allows. */
-static void report(struct rtr_served *c, const struct rtr_serving *serving)
+/* Returns the report that is owed about the input; null if none is, or without memory. */
+static struct rtr_shared *new_report(const struct rtr_served *c, const struct rtr_serving *serving,
+                                     size_t filled)
 {
     size_t length;
-    c->body = new_shared(RTR_LONGEST_UNIT);
-    if (!c->body)
-        return;
-    if (rtr_cache_report(serving, c->input, c->filled, c->body->bytes, RTR_LONGEST_UNIT, &length))
-        c->body = shrink(c->body, length);
-    else
-        drop_answer(c);
+    struct rtr_shared *report = serving->reports ? new_shared(RTR_LONGEST_UNIT) : NULL;
+    if (!report)
+        return NULL;
+    rtr_cache_report(serving, c->input, filled, report->bytes, RTR_LONGEST_UNIT, &length);
+    return shrink(report, length);
 }
 
-/* Carries out the answer of rtr.h: sets what to send, and ends the connection if it ends. */
-static void act(struct rtr_served *c, int64_t now, const struct rtr_serving *serving)
+/* Carries out the answer of rtr.h to the first `filled` bytes of the input: begins to send it, or
+ * ends the connection. */
+static void act(struct rtr_served *c, uint64_t now, const struct rtr_serving *serving,
+                size_t filled)
 {
     struct rtr_server *s = c->server;
-    bool has_body = serving->kind == RTR_SERVE_ALL || serving->kind == RTR_SERVE_CHANGES;
-    c->head_length = rtr_cache_unit(serving, c->head, sizeof c->head);
+    bool needs_body = serving->kind != RTR_SERVE_RESET && serving->kind != RTR_SERVE_NOTIFY;
+    if (serving->kind == RTR_SERVE_WAIT)
+        return;
+    c->head_length = (uint8_t)rtr_cache_unit(serving, c->head, sizeof c->head);
     if (serving->kind == RTR_SERVE_ALL)
         c->body = sent_form(s, serving->version);
     else if (serving->kind == RTR_SERVE_CHANGES)
         c->body = changes_from(s, serving->version, serving->serial);
-    else if (serving->kind == RTR_SERVE_NO_DATA || serving->kind == RTR_SERVE_END)
-        report(c, serving);
-    c->number = s->number;
-    c->answer = c->taken = now;
+    else
+        c->body = new_report(c, serving, filled);
     if (serving->kind == RTR_SERVE_END) {
-        c->over = true;
-        explain_end(c, serving);
-    } else if (has_body && !c->body) {
-        cut_off(c, now, no_memory);
+        explain_end(c, serving, filled);
+        rtr_connection_ends(&c->connection, now, answer_size(c));
+    } else if (needs_body && !c->body) {
+        starve(c, now);
+    } else {
+        rtr_connection_answers(&c->connection, now, answer_size(c), s->number);
     }
+}
+
+/* Returns the size of the input buffer. */
+static size_t input_size(const struct rtr_served *c)
+{
+    return c->input == c->small ? sizeof c->small : RTR_LONGEST_UNIT;
 }
 
 /* Grows the input buffer to the longest unit; returns false without memory. */
@@ -756,79 +640,75 @@ static bool grow(struct rtr_served *c)
     uint8_t *longer = malloc(RTR_LONGEST_UNIT);
     if (!longer)
         return false;
-    memcpy(longer, c->input, c->filled);
+    memcpy(longer, c->input, c->connection.filled);
     c->input = longer;
-    c->room = RTR_LONGEST_UNIT;
     return true;
 }
 
-/* Processes received bytes, or the passing of time. Returns whether there may be more to do. */
-static bool tell(struct rtr_served *c, int64_t now)
+/* Answers the first unit of the input, if it is whole. */
+static void hear(struct rtr_served *c, uint64_t now)
 {
     struct rtr_serving serving;
-    struct rtr_server *s = c->server;
-    uint64_t time = (uint64_t)now;
-    rtr_cache_read(&c->cache, time, &s->present, s->kept, s->back_count, c->input, c->filled,
-                   c->closed, &serving);
-    size_t needed = serving.wanted, taken = serving.taken;
-    if (serving.kind == RTR_SERVE_WAIT && !taken && c->closed)
-        rtr_cache_lost(&c->cache, time, &s->present, &serving);
-    else if (serving.kind == RTR_SERVE_WAIT && !taken)
-        rtr_cache_tick(&c->cache, time, &s->present, &serving);
-    act(c, now, &serving);
-    c->filled -= taken;
-    c->offset += taken;
-    c->begun = taken ? now : c->begun;
-    memmove(c->input, c->input + taken, c->filled);
-    if (serving.kind == RTR_SERVE_WAIT && needed > c->room && !grow(c))
-        cut_off(c, now, no_memory);
-    return serving.kind != RTR_SERVE_WAIT || taken;
-}
-
-/* Returns whether unsent bytes of an answer may still be sent; ends the connection if they are too
- * late. */
-static bool sends(struct rtr_served *c, int64_t now)
-{
     const struct rtr_server *s = c->server;
-    int64_t until = c->taken + s->write_limit;
-    if (until > c->answer + s->response_limit)
-        until = c->answer + s->response_limit;
-    if (!unsent(c))
-        return false;
-    c->wakes = until;
-    if (c->broken)
-        cut_off(c, now, c->text);
-    else if (now >= until)
-        cut_off(c, now, rtr_reason_text(RTR_REASON_SLOW));
-    else if (s->number - c->number > MOST_BEHIND)
-        cut_off(c, now, "the router is too far behind");
-    else if (c->cache.told && c->cache.session != s->present.session)
-        cut_off(c, now, rtr_reason_text(RTR_REASON_NEW_SESSION));
-    return !c->over;
+    struct rtr_connection *connection = &c->connection;
+    size_t filled = connection->filled;
+    rtr_cache_read(&c->cache, now, &s->present, s->kept, s->kept_count, c->input, filled,
+                   connection->closed, &serving);
+    rtr_connection_heard(connection, now, serving.taken);
+    act(c, now, &serving, filled);
+    c->offset += serving.taken;
+    memmove(c->input, c->input + serving.taken, connection->filled);
+    if (serving.kind == RTR_SERVE_WAIT && serving.wanted > input_size(c) && !grow(c))
+        starve(c, now);
 }
 
-/* Returns when the connection has to act if nothing is received before. */
-static int64_t wakes(const struct rtr_served *c)
+/* Takes a step on the struct rtr_cache; returns false, and does nothing, if it isn't one. */
+static bool take_step(struct rtr_served *c, uint64_t now, uint8_t step)
 {
-    uint64_t until = rtr_cache_wakes(&c->cache, &c->server->present);
-    int64_t unit = c->begun + c->server->unit_limit;
-    return c->filled && (uint64_t)unit < until ? unit : (int64_t)until;
+    struct rtr_serving serving;
+    if (step == RTR_STEP_HEAR) {
+        hear(c, now);
+        return true;
+    }
+    if (step != RTR_STEP_TICK && step != RTR_STEP_LOSE)
+        return false;
+    if (step == RTR_STEP_TICK)
+        rtr_cache_tick(&c->cache, now, &c->server->present, &serving);
+    else
+        rtr_cache_lost(&c->cache, now, &c->server->present, &serving);
+    act(c, now, &serving, 0);
+    return true;
+}
+
+/* Sets `text` to the limit that ends the connection, if one does. */
+static void explain_cut(struct rtr_served *c, uint8_t cut)
+{
+    if (cut == RTR_CUT_SLOW)
+        set_text(c, rtr_reason_text(RTR_REASON_SLOW));
+    else if (cut == RTR_CUT_NEW_SESSION)
+        set_text(c, rtr_reason_text(RTR_REASON_NEW_SESSION));
+    else if (cut == RTR_CUT_BEHIND)
+        set_text(c, RTR_FAILURE_BEHIND);
 }
 
 void rtr_served_init(struct rtr_served *c, struct rtr_server *s, int64_t now)
 {
     struct rtr_serving serving;
+    uint64_t time = (uint64_t)now;
     memset(c, 0, sizeof *c);
     c->server = s;
     c->input = c->small;
-    c->room = sizeof c->small;
-    rtr_cache_init(&c->cache, (uint64_t)now, &s->settings);
-    c->counted = s->connections < s->most_connections;
-    s->connections += c->counted;
-    if (c->counted)
+    rtr_cache_init(&c->cache, time, &s->settings.cache);
+    rtr_connection_init(&c->connection, time, &s->settings);
+    if (!s->door.served && !s->door.refused)
+        rtr_door_init(&s->door, &s->settings); /* the program may have changed its limits */
+    c->entry = rtr_door_enter(&s->door, s->spare);
+    if (c->entry == RTR_ENTRY_SERVE)
         return;
-    rtr_cache_full(&c->cache, (uint64_t)now, &s->present, &serving);
-    act(c, now, &serving);
+    rtr_cache_full(&c->cache, time, &s->present, &serving);
+    if (c->entry == RTR_ENTRY_WAIT)
+        serving.reports = false;
+    act(c, time, &serving, 0);
 }
 
 void rtr_served_free(struct rtr_served *c)
@@ -836,63 +716,68 @@ void rtr_served_free(struct rtr_served *c)
     drop_answer(c);
     if (c->input != c->small)
         free(c->input);
-    c->server->connections -= c->counted;
     c->input = c->small;
-    c->counted = false;
+    rtr_door_leave(&c->server->door, c->entry);
+    c->entry = RTR_ENTRY_WAIT;
 }
 
 enum rtr_served_event rtr_served_next(struct rtr_served *c, int64_t now)
 {
-    while (!c->over && !sends(c, now)) {
+    const struct rtr_server *s = c->server;
+    uint64_t time = (uint64_t)now;
+    uint8_t step = RTR_STEP_CLOSE, cut = RTR_CUT_NONE;
+    do {
+        if (!c->over)
+            step =
+                rtr_connection_next(&c->connection, time, &c->cache, &s->present, s->number, &cut);
+    } while (take_step(c, time, step));
+    /* A struct rtr_connection knows no connection that broke: nothing can be sent on it. */
+    if (step == RTR_STEP_CLOSE || c->broken) {
+        explain_cut(c, cut);
         drop_answer(c);
-        if (c->over || !tell(c, now))
-            break;
+        c->over = true;
+        c->wakes = now;
+        return RTR_SERVED_CLOSE;
     }
-    if (!c->over && !unsent(c)) {
-        c->wakes = wakes(c);
-        if (c->filled && now >= c->begun + c->server->unit_limit)
-            cut_off(c, now, rtr_reason_text(RTR_REASON_SLOW));
-    }
-    if (!c->over)
-        return RTR_SERVED_WAIT;
-    c->wakes = now + c->server->report_limit;
-    return RTR_SERVED_CLOSE;
+    uint64_t wakes = rtr_connection_wakes(&c->connection, &c->cache, &s->present);
+    c->wakes = wakes < INT64_MAX ? (int64_t)wakes : INT64_MAX;
+    return step == RTR_STEP_FINISH ? RTR_SERVED_FINISH : RTR_SERVED_WAIT;
 }
 
 void rtr_served_lost(struct rtr_served *c, const char *reason)
 {
-    if (reason && !c->over)
-        snprintf(c->text, sizeof c->text, "%s", reason);
-    c->closed = true;
+    if (reason && is_served(c))
+        set_text(c, reason);
+    rtr_connection_closed(&c->connection);
     c->broken = c->broken || reason;
 }
 
 uint8_t *rtr_served_room(struct rtr_served *c, size_t *length)
 {
-    *length = unsent(c) || c->closed ? 0 : c->room - c->filled;
-    return c->input + c->filled;
+    bool reads = is_served(c) && !unsent(c) && !c->connection.closed;
+    *length = reads ? input_size(c) - c->connection.filled : 0;
+    return c->input + c->connection.filled;
 }
 
 bool rtr_served_received(struct rtr_served *c, int64_t now, size_t length)
 {
-    if (length > c->room - c->filled) {
+    if (length > input_size(c) - c->connection.filled) {
         rtr_served_lost(c, "more bytes were read than there is room for");
         return false;
     }
-    c->begun = c->filled ? c->begun : now;
-    c->filled += length;
+    rtr_connection_received(&c->connection, (uint64_t)now, length);
     return true;
 }
 
 int rtr_served_output(const struct rtr_served *c, struct rtr_part parts[2])
 {
     int count = 0;
-    size_t head = c->sent < c->head_length ? c->head_length - c->sent : 0;
-    size_t body = unsent(c) - head;
+    size_t left = unsent(c), whole = c->body ? c->body->length : 0;
+    size_t body = left < whole ? left : whole, head = left - body;
     if (head)
-        parts[count++] = (struct rtr_part){c->head + c->sent, head, -1, 0};
+        parts[count++] = (struct rtr_part){c->head + c->head_length - head, head, -1, 0};
     if (body) {
-        const uint8_t *at = c->body->bytes + c->body->length - body;
+        const uint8_t *at = c->body->bytes + c->body->start + c->body->length - body;
         parts[count++] = (struct rtr_part){at, body, c->body->file, at - (const uint8_t *)c->body};
     }
     return count;
@@ -904,7 +789,8 @@ bool rtr_served_sent(struct rtr_served *c, int64_t now, size_t length)
         rtr_served_lost(c, "more bytes were sent than there are");
         return false;
     }
-    c->sent += length;
-    c->taken = length ? now : c->taken;
+    rtr_connection_sent(&c->connection, (uint64_t)now, length);
+    if (!unsent(c))
+        drop_answer(c);
     return true;
 }

@@ -1,6 +1,6 @@
-/* A cache's end of the RPKI to Router protocol (RFC 8210) for all of its routers, without sockets
- * or a clock: its data, the changes that it keeps, and the answers to each router. docs/SESSIONS.md
- * has its rules; cache.c is a program over it.
+/* A cache's end of the RPKI to Router protocol (RFC 8210) for all of its routers, without sockets,
+ * files or a clock: its data, the changes from earlier data, and the answers to each router.
+ * docs/SESSIONS.md has its rules and limits; cache.c is a program over it.
  *
  * Copyright (c) 2026, the authors of Fishreef
  * BSD 3-Clause License: see the file LICENSE at the top of the repository.
@@ -9,15 +9,41 @@
  * rtr_server has the data, and each connection a struct rtr_served. The program calls
  * rtr_served_next in a loop, and does what that returns:
  *
- *   RTR_SERVED_WAIT   send what rtr_served_output returns, and read into the buffer that
- *                     rtr_served_room returns; call again when something was sent or read, the
- *                     server has new data, or the time is `wakes`
- *   RTR_SERVED_CLOSE  send what rtr_served_output still returns, but not after `wakes`, and close
- *                     the connection; `text` says why. Then call rtr_served_free
+ *   RTR_SERVED_WAIT    send what rtr_served_output returns, and read into the buffer that
+ *                      rtr_served_room returns; call again when something was sent or read, the
+ *                      server has new data, or the time is `wakes`
+ *   RTR_SERVED_FINISH  the last report is sent: shut the connection down for writing, and read and
+ *                      ignore what comes, so that the router gets the report before the close. When
+ *                      the router closes the connection, call rtr_served_lost; call again then, or
+ *                      when the time is `wakes`
+ *   RTR_SERVED_CLOSE   close the connection, and call rtr_served_free
  *
- * Each call returns at once. A connection is a struct of 432 bytes; it holds no data, only an
- * offset into the server's. A server and its connections are used by one thread at a time. Without
- * memory, a connection ends, and new data are refused.
+ * Once the connection ends, `text` says why. Each call returns at once. A connection is a struct of
+ * 488 bytes; it holds no data, only how much of the server's was sent. A server and its connections
+ * are used by one thread at a time. Without memory, a connection ends, and new data are refused.
+ *
+ * The door of the server (rtr_door_next) says whether a new connection is served, is refused by a
+ * report of code 1, or is left in the system's queue: a program calls rtr_door_next(&server.door,
+ * server.spare) before it accepts a connection. One that is accepted where that returns
+ * RTR_ENTRY_WAIT is closed without a report.
+ *
+ * Routers get new data once they are saved, so that a cache never has other data under a session
+ * and serial number that a router knows, over any number of restarts and power cuts (RFC 8210
+ * section 5.1). A program that saves calls
+ *
+ *   at a start   rtr_server_init, syncs the folder of its file, since the last run may have ended
+ *                before that, and rtr_server_restore with the bytes of the file. Without a file the
+ *                cache is new: its data need a session that it never used. If the file can't be
+ *                read, or isn't restored, or the folder can't be synced, the program ends: else it
+ *                may serve other data under a serial number that a router knows
+ *   for data     rtr_server_update. Routers still get the data before
+ *   to save      while rtr_server_to_save returns a store, writes its head and the store to a new
+ *                file, syncs it (fsync), renames it over its file, and syncs the folder; then
+ *                rtr_server_saved. If any of these fails, it tries again later, with all of them
+ *
+ * An older file, from a backup, can't be told from the newest one: after it is restored, give the
+ * data a session that was never used. A program that doesn't save calls rtr_server_unsaved at each
+ * start, with a new session.
  */
 #ifndef FISHREEF_RTR_CACHE_H
 #define FISHREEF_RTR_CACHE_H
@@ -30,18 +56,23 @@ extern "C" {
 
 enum rtr_served_event {
     RTR_SERVED_WAIT,
-    RTR_SERVED_CLOSE
+    RTR_SERVED_CLOSE,
+    RTR_SERVED_FINISH
 };
 
 /* The result of giving data to a server. */
 enum rtr_update {
-    RTR_UPDATE_TAKEN,   /* they are the server's newest data now */
+    RTR_UPDATE_TAKEN,   /* they wait to be saved; if the server doesn't save, it serves them */
     RTR_UPDATE_SAME,    /* the server has them already */
     RTR_UPDATE_REFUSED, /* a unit is refused for `status`, at `offset` */
     RTR_UPDATE_SERIAL,  /* their serial number isn't after the present one (RFC 1982) */
     RTR_UPDATE_TIMING,  /* only their timings differ, under the same serial number */
     RTR_UPDATE_TIMES,   /* their timings break `time_rule` (RFC 8210 section 6) */
-    RTR_UPDATE_TORN,    /* the saved bytes are damaged */
+    RTR_UPDATE_LEFT,    /* the cache used their session before another one (section 5.1) */
+    RTR_UPDATE_SESSION, /* the server doesn't save, and began with another session */
+    RTR_UPDATE_VERSION, /* they are of a higher protocol version than the saved data, which another
+                           program wrote, or an earlier one of this cache */
+    RTR_UPDATE_TORN,    /* the saved bytes are damaged, or of no cache */
     RTR_UPDATE_MEMORY   /* there is no memory for them */
 };
 
@@ -54,45 +85,40 @@ struct rtr_part {
     int64_t place;
 };
 
-/* Bytes that several connections send, changes that lead back, and changes for routers: private to
- * rtr_cache.c. */
+/* Bytes that several connections send, and changes for routers: private to rtr_cache.c. */
 struct rtr_shared;
-struct rtr_back;
 struct rtr_made;
 
 /* Times are in milliseconds, by a monotonic clock that isn't negative. */
 struct rtr_server {
-    /* Set by rtr_server_init to the defaults. A program may change them before the first data and
-     * connection. */
-    struct rtr_cache_settings settings;
-    int64_t unit_limit;      /* from the first byte of a unit to its last; default 10 seconds */
-    int64_t write_limit;     /* without a byte sent; default 30 seconds */
-    int64_t response_limit;  /* to send a whole answer; default 10 minutes */
-    int64_t report_limit;    /* to send a report before closing; default 2 seconds */
-    int64_t keep;            /* how long, at least, changes from data are kept after newer data
-                                came; default 2 hours */
-    size_t keep_bytes;       /* the most bytes of changes that are kept; default 64 MiB */
-    size_t most_connections; /* a connection above gets a report of code 1; default 1024 */
+    /* Set by rtr_server_init to the defaults. A program may change the settings before the first
+     * data and connection. */
+    struct rtr_server_settings settings;
 
     /* For the program to read. */
-    struct rtr_present present; /* the session and serial number of the newest data */
-    struct rtr_unit end;        /* their end of data */
-    size_t payloads;            /* the number of units before it */
-    size_t connections;         /* the number of connections that aren't refused */
-    size_t offset;              /* of the unit that was refused, for `status` */
-    uint8_t status;
+    struct rtr_door door;       /* how many connections are served, and how many refused */
+    struct rtr_present present; /* the session and serial number of the data that routers get */
+    struct rtr_unit end;        /* the end of these data */
+    size_t payloads;            /* the number of their payload units */
+    size_t offset;              /* the offset of the unit that was refused, for `status` */
+    uint8_t status;             /* an rtr_status */
     uint8_t time_rule;          /* an rtr_time_rule */
-    uint32_t refused;           /* the serial number of data that are refused for it */
-    bool has_cut;               /* the input that was loaded last has an answer without an end of
-                                   data, which is left out */
+    uint32_t refused;           /* the serial number of the last data that were given */
+    bool has_cut;               /* whether the input that was loaded last has an answer without an
+                                   end of data, which is left out */
+
+    /* Whether the system has a descriptor beside that of the next connection: one without is
+     * refused. Default true; a program may change it at any time. */
+    bool spare;
 
     /* Its own. */
-    uint64_t number;             /* of the data: how many came before */
-    /* The data in each version, encoded when a router first asks in it. */
+    uint64_t number;            /* how many data were served before the present ones */
+    struct rtr_stores stores;
+    struct rtr_shared *held[2]; /* the buffers of `stores` */
+    /* The data in other versions, encoded when a router first asks in one. */
     struct rtr_shared *forms[RTR_HIGHEST_VERSION + 1];
-    struct rtr_back *back;       /* from the newest data on, each one step further back */
-    uint32_t *kept;              /* the serial numbers that they lead to */
-    size_t back_count;
+    uint32_t *kept;             /* the serial numbers from which there are changes */
+    size_t kept_count;
     struct rtr_made *made;
     size_t made_count;
 };
@@ -108,41 +134,48 @@ struct rtr_served {
     /* Its own. */
     struct rtr_server *server;
     struct rtr_cache cache;
-    struct rtr_shared *body;      /* what is sent after the head */
-    size_t sent, head_length;     /* sent: bytes of both */
-    uint64_t number, offset;      /* number: of the data that are sent */
-    int64_t begun, taken, answer; /* when a unit's first byte came, a byte was last sent, and an
-                                     answer began */
-    uint8_t *input;               /* for a unit that is longer than `small` */
-    size_t filled, room;
-    bool closed, broken, over, counted;
-    uint8_t head[RTR_SERVED_HEAD], small[RTR_SERVED_INPUT];
+    struct rtr_connection connection;
+    struct rtr_shared *body; /* what is sent after the head */
+    uint64_t offset;         /* of the input in all bytes that were read */
+    uint8_t *input;          /* `small`, or the buffer of a longer unit */
+    bool broken, over;       /* over: rtr_served_next has returned RTR_SERVED_CLOSE */
+    uint8_t entry;           /* an rtr_entry */
+    uint8_t head_length, head[RTR_SERVED_HEAD], small[RTR_SERVED_INPUT];
 };
 
-/* Initializes a server without data, whatever the struct holds. */
+/* Initializes a server without data, which saves, whatever the struct holds. */
 void rtr_server_init(struct rtr_server *server);
+
+/* Turns saving off, after rtr_server_init: data are served as soon as they are taken, and have to
+ * be of this session, which no earlier start used. */
+void rtr_server_unsaved(struct rtr_server *server, uint16_t session);
 
 /* Frees the memory of a server. Free all of its connections before. */
 void rtr_server_free(struct rtr_server *server);
 
-/* Takes new data from a recording or a list, which rtr_load loads. If it doesn't take them, the
- * server keeps its present data.
+/* Takes new data from a recording or a list, which rtr_load loads. `date` is the time in
+ * milliseconds since 1970. New data replace those that wait to be saved. If they are the data that
+ * routers get, RTR_UPDATE_SAME, nothing waits any more. After any other result nothing changes.
  *
  * Begin serial numbers at 1: a router that lost the first answer, such as BIRD 2.0, asks for the
  * changes since serial number 0, and there are none if that is the present one. */
-enum rtr_update rtr_server_update(struct rtr_server *server, int64_t now,
+enum rtr_update rtr_server_update(struct rtr_server *server, int64_t date,
                                   const uint8_t *input, size_t length);
 
-/* Saves the data of a server and the changes from earlier data, so that a restarted server
- * continues with them. `date` is the time in milliseconds since 1970. Calls `write` with `to` and
- * the bytes, part by part; returns false if that does. */
-bool rtr_server_save(const struct rtr_server *server, int64_t now, int64_t date,
-                     bool (*write)(void *to, const void *bytes, size_t length), void *to);
+/* Returns the store that waits to be saved, of `length` bytes, and sets `head` to the bytes before
+ * it in the file; null, with length 0, if none waits. It stays until the next update. */
+const uint8_t *rtr_server_to_save(const struct rtr_server *server, struct rtr_store_head *head,
+                                  size_t *length);
 
-/* Loads what was saved into a server that has no data yet. Returns RTR_UPDATE_TORN if the bytes are
- * damaged. */
-enum rtr_update rtr_server_restore(struct rtr_server *server, int64_t now, int64_t date,
-                                   const uint8_t *input, size_t length);
+/* Reports that the store of rtr_server_to_save is in the file, on the disk: its data are served
+ * from now on. Call rtr_served_next for each connection then. */
+void rtr_server_saved(struct rtr_server *server);
+
+/* Loads a saved file into a server that has no data yet, and serves its data, with the changes from
+ * earlier ones. A file of the earlier form, which begins with rtrkept1, is loaded too.
+ * RTR_UPDATE_TAKEN, _TORN, _TIMES or _MEMORY; _SAME, and nothing happens, if the server has data or
+ * doesn't save. */
+enum rtr_update rtr_server_restore(struct rtr_server *server, const uint8_t *input, size_t length);
 
 /* Initializes a connection that was made at this time, whatever the struct holds. */
 void rtr_served_init(struct rtr_served *served, struct rtr_server *server, int64_t now);

@@ -1,34 +1,26 @@
-/* Plays scenes of a router and its cache (tests/transcripts) with rtr_client.h and a simulated
- * clock, and prints where the client differs.
- *
- * usage: scenes < SCENES
- *        scenes --joined as one end of a connection to a cache (tests/joined) */
-#include "scenes.h"
+/* A client (rtr_client.h) with a simulated clock, as an end of a connection
+ * (tests/joined/README.md). */
+#include "ends.h"
 #include "rtr_client.h"
 
 static struct rtr_client c;
 static bool connected;
 
-/* Records what the client sends: queries and reports. */
+/* Sends queries and reports. */
 static void sends(void)
 {
     size_t length;
     const uint8_t *output = rtr_client_output(&c, &length);
-    sees_units("router", output, length);
+    does_send("router", output, length);
     rtr_client_sent(&c, length);
 }
 
 static void shows(void)
 {
-    struct rtr_unit unit;
     CHECK(rtr_client_has_data(&c, now));
-    add(&seen, "%" PRId64 " shows {", now);
-    for (size_t at = 0; at < c.data_length; at += unit.size) {
-        CHECK(rtr_next(c.data + at, c.data_length - at, &unit) == RTR_OK);
-        add(&seen, " ");
-        add_hex(&seen, c.data + at, unit.size);
-    }
-    add(&seen, " }\n");
+    printf("%" PRId64 " shows { ", now);
+    print_hex(c.data, c.data_length);
+    puts(" }");
 }
 
 /* Runs the client until it waits. */
@@ -43,12 +35,13 @@ static void settle(void)
         if (event == RTR_CLIENT_DATA)
             shows();
         connected = connected && event != RTR_CLIENT_CLOSE;
-        static const char *const words[] = {
-            [RTR_CLIENT_CONNECT] = "connects", [RTR_CLIENT_CLOSE] = "closes",
-            [RTR_CLIENT_DROPPED] = "drops", [RTR_CLIENT_NO_DATA] = "no data",
-            [RTR_CLIENT_FAILED] = NULL};
+        static const char *const words[] = {[RTR_CLIENT_CONNECT] = "connects",
+                                            [RTR_CLIENT_CLOSE] = "closes",
+                                            [RTR_CLIENT_DROPPED] = "drops",
+                                            [RTR_CLIENT_NO_DATA] = "no data",
+                                            [RTR_CLIENT_FAILED] = NULL};
         if (words[event])
-            add(&seen, "%" PRId64 " %s\n", now, words[event]);
+            does(words[event]);
     }
 }
 
@@ -96,29 +89,18 @@ static void set(const char *key, uint64_t value)
                                            : &s->most_units) = (uint32_t)value;
 }
 
-/* Advances the clock and carries out a step of the cache or the caller; null is none. */
-static void take_step(int64_t time, const char *step)
+/* Carries out a step of the cache or the caller. */
+static void take_step(const char *step)
 {
-    pass(time);
-    if (step)
-        compare();
-    if (step && !strncmp(step, "cache> ", 7))
+    if (!strncmp(step, "cache> ", 7))
         comes(step + 7);
-    else if (step && !strcmp(step, "cache accepts"))
+    else if (!strcmp(step, "cache accepts"))
         connected = true, rtr_client_connected(&c);
-    else if (step && !strcmp(step, "caller asks"))
+    else if (!strcmp(step, "caller asks"))
         rtr_client_ask_now(&c);
-    else if (step)
+    else
         rtr_client_lost(&c, strcmp(step, "cache closes") ? "it broke" : NULL);
-    if (step)
-        settle();
-    answers(c.wakes);
-}
-
-/* Reports whether a step is one of the cache or the caller, rather than an expected one. */
-static bool is_input(const char *step)
-{
-    return !strncmp(step, "cache", 5) || !strcmp(step, "caller asks");
+    settle();
 }
 
 static void line(char *text)
@@ -127,35 +109,26 @@ static void line(char *text)
     int64_t time;
     char key[64];
     uint64_t value;
-    trim(text);
     if (!strncmp(text, "scene ", 6)) {
-        compare();
         rtr_client_free(&c);
         rtr_client_init(&c, 1);
         now = 0;
         connected = false;
-        snprintf(name, sizeof name, "%.255s", text + 6);
-        played++;
     } else if (sscanf(text, "router %63s %" SCNu64, key, &value) == 2) {
         set(key, value);
     } else if (sscanf(text, "at %" SCNd64, &time) == 1) {
-        take_step(time, NULL);
-    } else if (sscanf(text, "%" SCNd64 " %n", &time, &at) == 1 && is_input(text + at)) {
-        take_step(time, text + at);
-    } else if (text[0]) {
-        expects("router", text);
+        pass(time);
+        answers(c.wakes);
+    } else {
+        CHECK(sscanf(text, "%" SCNd64 " %n", &time, &at) == 1 && at);
+        pass(time);
+        take_step(text + at);
+        answers(c.wakes);
     }
 }
 
-int main(int count, char **arguments)
+int main(void)
 {
-    static char text[LONGEST_LINE];
-    joined = count == 2 && !strcmp(arguments[1], "--joined");
-    while (fgets(text, sizeof text, stdin))
-        line(text);
-    compare();
+    each_line(line);
     rtr_client_free(&c);
-    if (differ || !played)
-        printf("scenes by the client in C: %u of %u differ\n", differ, played);
-    return differ || !played;
 }

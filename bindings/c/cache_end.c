@@ -1,20 +1,18 @@
-/* Plays scenes of a cache and its router (tests/transcripts) with rtr_cache.h and a simulated
- * clock, and prints where the cache differs.
- *
- * usage: cache_scenes < SCENES
- *        cache_scenes --joined as one end of a connection to a router (tests/joined) */
-#include "scenes.h"
+/* A cache (rtr_cache.h) with a simulated clock, as an end of a connection
+ * (tests/joined/README.md). */
+#include "ends.h"
 #include "rtr_cache.h"
 
 static struct rtr_server server;
 static struct rtr_served served;
-static bool connected, broken, closing;
+static bool connected, broken;
 static uint64_t readable; /* how many more bytes the router reads */
 static uint8_t received[1 << 17];
 static size_t received_length, read_length; /* read: by the connection */
 static bool end_received;                   /* the router has closed */
-static size_t back_count; /* the server's, before a step reduced it; 0 if none did */
-static int64_t date;      /* when the scene began, in milliseconds since 1970 */
+static int64_t date;                        /* when the scene began, in milliseconds since 1970 */
+static uint8_t *saved;                      /* the file that the cache saved last */
+static size_t saved_length;
 
 /* Sends the connection's output, as far as the router reads it; drops it if the connection broke.
  * Returns whether there was any. */
@@ -32,7 +30,7 @@ static bool sends(void)
     if (!broken) {
         length = length < readable ? length : (size_t)readable;
         readable -= length;
-        sees_units("cache", bytes, length);
+        does_send("cache", bytes, length);
     }
     rtr_served_sent(&served, now, length);
     return length > 0;
@@ -43,7 +41,7 @@ static bool reads(void)
 {
     size_t most, left = received_length - read_length;
     uint8_t *to = rtr_served_room(&served, &most);
-    if (most == 0 || closing || (left == 0 && !end_received))
+    if (most == 0 || (left == 0 && !end_received))
         return false;
     most = left < most ? left : most;
     memcpy(to, received + read_length, most);
@@ -57,17 +55,16 @@ static bool reads(void)
     return true;
 }
 
-/* Runs the connection until it waits. */
+/* Runs the connection until it waits. The router reads the last report at once, and closes. */
 static void settle(void)
 {
-    struct rtr_part parts[2];
     while (connected) {
-        closing = closing || rtr_served_next(&served, now) == RTR_SERVED_CLOSE;
-        if (sends() || reads())
-            continue;
-        if (!closing || (rtr_served_output(&served, parts) && now < served.wakes))
+        bool waits = rtr_served_next(&served, now) == RTR_SERVED_WAIT;
+        if (waits && !sends() && !reads())
             return;
-        add(&seen, "%" PRId64 " closes\n", now);
+        if (waits)
+            continue;
+        does("closes");
         rtr_served_free(&served);
         connected = false;
     }
@@ -91,12 +88,12 @@ static void pass(int64_t time)
 
 static void connects(bool beyond)
 {
-    size_t most = server.most_connections;
-    server.most_connections = beyond ? 0 : most;
+    uint32_t most = server.settings.most_connections;
+    server.settings.most_connections = beyond ? 0 : most;
     rtr_served_init(&served, &server, now);
-    server.most_connections = most;
+    server.settings.most_connections = most;
     connected = true;
-    broken = closing = end_received = false;
+    broken = end_received = false;
     received_length = read_length = 0;
     readable = UINT64_MAX;
 }
@@ -109,19 +106,35 @@ static void comes(const char *hex)
     received_length += from_hex(received + received_length, sizeof received - received_length, hex);
 }
 
-/* Gives the server these data. */
+/* Saves the data that wait for it, and lets the server serve them. */
+static void saves_all(void)
+{
+    struct rtr_store_head head;
+    size_t length;
+    const uint8_t *store = rtr_server_to_save(&server, &head, &length);
+    if (!store)
+        return;
+    saved_length = sizeof head + length;
+    saved = realloc(saved, saved_length);
+    CHECK(saved != NULL);
+    memcpy(saved, &head, sizeof head);
+    memcpy(saved + sizeof head, store, length);
+    rtr_server_saved(&server);
+}
+
+/* Gives the server these data. It refuses those of a session that it left: for a scene that goes
+ * back to one, it forgets what it left. */
 static void has(const char *hex)
 {
     static uint8_t bytes[1 << 17];
     size_t length = from_hex(bytes, sizeof bytes, hex);
-    CHECK(back_count == 0);
-    enum rtr_update update = rtr_server_update(&server, now, bytes, length);
-    CHECK(update == RTR_UPDATE_TAKEN || (joined && update == RTR_UPDATE_SAME));
-}
-
-static bool write_to(void *file, const void *bytes, size_t length)
-{
-    return fwrite(bytes, 1, length, file) == length;
+    enum rtr_update update = rtr_server_update(&server, date + now, bytes, length);
+    if (update == RTR_UPDATE_LEFT) {
+        rtr_stores_new(&server.stores);
+        update = rtr_server_update(&server, date + now, bytes, length);
+    }
+    CHECK(update == RTR_UPDATE_TAKEN || update == RTR_UPDATE_SAME);
+    saves_all();
 }
 
 static void saves(const char *path)
@@ -129,15 +142,18 @@ static void saves(const char *path)
     if (!server.present.has)
         return;
     FILE *file = fopen(path, "wb");
-    CHECK(file && rtr_server_save(&server, now, date + now, write_to, file));
+    CHECK(file && fwrite(saved, 1, saved_length, file) == saved_length);
     CHECK(fclose(file) == 0);
 }
 
 static void restores(const char *path)
 {
     struct cases kept = read_file(path);
-    CHECK(rtr_server_restore(&server, now, date + now, kept.bytes, kept.length)
-          == RTR_UPDATE_TAKEN);
+    CHECK(rtr_server_restore(&server, kept.bytes, kept.length) == RTR_UPDATE_TAKEN);
+    saved = realloc(saved, kept.length);
+    CHECK(saved != NULL);
+    memcpy(saved, kept.bytes, kept.length);
+    saved_length = kept.length;
     free((void *)kept.bytes);
 }
 
@@ -145,28 +161,24 @@ static void restores(const char *path)
 static void forgets(uint32_t serial)
 {
     size_t index = 0;
-    while (index < server.back_count && server.kept[index] != serial)
+    while (index < server.kept_count && server.kept[index] != serial)
         index++;
-    CHECK(index < server.back_count);
-    back_count = back_count ? back_count : server.back_count;
-    server.back_count = index;
+    CHECK(index < server.kept_count);
+    server.kept_count = index;
 }
 
-/* Carries out a step of the router or the data. Returns false if it isn't such a step. */
-static bool take_step(int64_t time, const char *step)
+/* Carries out a step of the router or the data. */
+static void take_step(const char *step)
 {
-    static const char *const starts[] = {"router> ", "data {", "forgets ", "router connects",
-                                         "router closes", "router breaks", "saves ", "restores ",
-                                         "router takes "};
+    static const char *const starts[] = {"router> ",        "data {",        "forgets ",
+                                         "router connects", "router closes", "router breaks",
+                                         "saves ",          "restores ",     "router takes "};
     enum { SENDS, DATA, FORGETS, CONNECTS, CLOSES, BREAKS, SAVES, RESTORES, TAKES, STARTS };
     unsigned which = 0;
     while (which < STARTS && strncmp(step, starts[which], strlen(starts[which])) != 0)
         which++;
-    if (which == STARTS)
-        return false;
+    CHECK(which < STARTS);
     const char *rest = step + strlen(starts[which]);
-    pass(time);
-    compare();
     if (which == SENDS)
         comes(rest);
     else if (which == DATA)
@@ -188,22 +200,21 @@ static bool take_step(int64_t time, const char *step)
         rtr_served_lost(&served, "it broke");
     }
     settle();
-    return true;
 }
 
 static void set(const char *key, uint64_t number)
 {
     uint32_t value = (uint32_t)number;
     if (!strcmp(key, "refuses"))
-        server.settings.refuses = true;
+        server.settings.cache.refuses = true;
     else if (!strcmp(key, "first-limit"))
-        server.settings.first_limit = value;
+        server.settings.cache.first_limit = value;
     else if (!strcmp(key, "idle-limit"))
-        server.settings.idle_limit = value;
+        server.settings.cache.idle_limit = value;
     else if (!strcmp(key, "pause"))
-        server.settings.pause = value;
+        server.settings.cache.pause = value;
     else if (!strcmp(key, "keep-bytes"))
-        server.keep_bytes = value;
+        server.settings.keep_bytes = value;
     else if (!strcmp(key, "date"))
         date = (int64_t)number;
     else
@@ -213,23 +224,18 @@ static void set(const char *key, uint64_t number)
 /* Ends the scene. */
 static void ends(void)
 {
-    compare();
     if (connected)
         rtr_served_free(&served);
-    server.back_count = back_count ? back_count : server.back_count;
     rtr_server_free(&server);
 }
 
 /* Begins a scene, of a cache without data. */
-static void begins(const char *of)
+static void begins(void)
 {
     ends();
     rtr_server_init(&server);
     now = 0;
     connected = false;
-    back_count = 0;
-    snprintf(name, sizeof name, "%.255s", of);
-    played++;
 }
 
 static void line(char *text)
@@ -238,28 +244,25 @@ static void line(char *text)
     int64_t time;
     uint64_t value = 0;
     char key[64];
-    trim(text);
-    if (!strncmp(text, "scene ", 6))
-        begins(text + 6);
-    else if (sscanf(text, "cache %63s %" SCNu64, key, &value) >= 1)
+    if (!strncmp(text, "scene ", 6)) {
+        begins();
+    } else if (sscanf(text, "cache %63s %" SCNu64, key, &value) >= 1) {
         set(key, value);
-    else if (sscanf(text, "at %" SCNd64, &time) == 1)
-        pass(time), answers(wakes());
-    else if (sscanf(text, "%" SCNd64 " %n", &time, &at) == 1 && at && take_step(time, text + at))
+    } else if (sscanf(text, "at %" SCNd64, &time) == 1) {
+        pass(time);
         answers(wakes());
-    else if (text[0])
-        expects("cache", text);
+    } else {
+        CHECK(sscanf(text, "%" SCNd64 " %n", &time, &at) == 1 && at);
+        pass(time);
+        take_step(text + at);
+        answers(wakes());
+    }
 }
 
-int main(int count, char **arguments)
+int main(void)
 {
-    static char text[LONGEST_LINE];
-    joined = count == 2 && !strcmp(arguments[1], "--joined");
     rtr_server_init(&server);
-    while (fgets(text, sizeof text, stdin))
-        line(text);
+    each_line(line);
     ends();
-    if (differ || !played)
-        printf("scenes by the cache in C: %u of %u differ\n", differ, played);
-    return differ || !played;
+    free(saved);
 }
