@@ -27,7 +27,7 @@ static void put(const uint8_t *name, size_t length)
     }
 }
 
-static void delete(size_t at, size_t length)
+static void delete (size_t at, size_t length)
 {
     used -= sizeof length + length;
     memmove(set + at, set + at + sizeof length + length, used - at);
@@ -64,7 +64,7 @@ int main(void)
         if (named.announces && offset == used)
             put(name, named.length);
         else if (!named.announces && offset < used)
-            delete(offset, named.length);
+            delete (offset, named.length);
     }
     rtr_check_end(&check, &missing);
     print(&missing, at);

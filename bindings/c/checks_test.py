@@ -1,5 +1,5 @@
 #!/usr/bin/env python3
-"""Runs the program checks.c on the rows of tests/programs/listings --findings, and compares its
+"""Runs the program checks.c on the rows of tests/programs/listings.py --findings, and compares its
 output.
 
 usage: checks_test.py FILE COMMAND..

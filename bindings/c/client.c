@@ -11,6 +11,7 @@
  * signal, or with --once after all data came; with 1 if they don't come, or writing fails; with 2
  * for wrong arguments. */
 #define _POSIX_C_SOURCE 200809L
+#define _DEFAULT_SOURCE /* getentropy */
 #include <errno.h>
 #include <inttypes.h>
 #include <netdb.h>
@@ -115,8 +116,9 @@ static void try_next(struct member *m, const char *reason)
             count++;
         m->tried_until = time + (m->client.wakes - time) / count;
         m->socket = socket(m->tried->ai_family, type, 0);
-        if (m->socket != NONE && (connect(m->socket, m->tried->ai_addr, m->tried->ai_addrlen) == 0
-                                  || errno == EINPROGRESS))
+        if (m->socket != NONE
+            && (connect(m->socket, m->tried->ai_addr, m->tried->ai_addrlen) == 0
+                || errno == EINPROGRESS))
             return;
         reason = strerror(errno);
         if (m->socket != NONE)
@@ -256,7 +258,9 @@ static void start(size_t number, uint8_t version)
         rtr_client_again(&m->client);
     } else {
         rtr_client_init(&m->client, version);
-        m->client.settings.chance = (uint16_t)(now() ^ getpid());
+        uint16_t *chance = &m->client.settings.chance;
+        if (getentropy(chance, sizeof *chance) != 0)
+            *chance = (uint16_t)(now() ^ getpid());
     }
     m->socket = NONE;
     m->runs = m->kept = true;
@@ -281,12 +285,12 @@ static void show(size_t number)
     uint8_t *copy = malloc(c->data_length);
     bool same = source == NONE || source == (int)number;
     if (!copy || (!same && !rtr_client_instead(c, shown, shown_length, &shown_end))) {
-        fprintf(stderr, "no memory\n");
+        fprintf(stderr, RTR_FAILURE_NO_MEMORY "\n");
         _exit(1);
     }
     print_changes(c);
-    fprintf(stderr, "session %u serial %" PRIu32 " version %u: %zu payload%s\n",
-            c->end.session, c->end.serial, c->end.version, c->payloads, c->payloads == 1 ? "" : "s");
+    fprintf(stderr, "session %u serial %" PRIu32 " version %u: %zu payload%s\n", c->end.session,
+            c->end.serial, c->end.version, c->payloads, c->payloads == 1 ? "" : "s");
     free(shown);
     shown = memcpy(copy, c->data, c->data_length);
     shown_length = c->data_length;
@@ -326,7 +330,7 @@ static void tell(size_t number, enum rtr_client_event event, struct rtr_group_an
         rtr_group_fails(&group, time, number, answer);
     bool empty = event == RTR_CLIENT_DATA && !group.has[number];
     if (empty)
-        fprintf(stderr, "%s:%s: the cache has no payloads\n", m->host, m->port);
+        fprintf(stderr, "%s:%s: " RTR_FAILURE_EMPTY "\n", m->host, m->port);
     if (event >= RTR_CLIENT_DATA) {
         m->dropped = event == RTR_CLIENT_DROPPED;
         m->failed = event != RTR_CLIENT_DATA || empty;
@@ -356,8 +360,8 @@ static bool act(size_t number, enum rtr_client_event event)
         fprintf(stderr, "%s:%s: %s\n", m->host, m->port, m->client.text);
     tell(number, event, &answer);
     obey(&answer, number);
-    bool last = (once && (source != NONE || all_failed()))
-        || (single && event == RTR_CLIENT_FAILED);
+    bool last =
+        (once && (source != NONE || all_failed())) || (single && event == RTR_CLIENT_FAILED);
     if (last || event == RTR_CLIENT_CLOSE)
         hang_up(m);
     return last;

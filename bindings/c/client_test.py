@@ -240,7 +240,8 @@ def test_versions():
             run.asked(reset_query(version)).sendall(report(version, NO_VERSION))
 
     run = Run(refuses)
-    assert (run.status, run.log) == (1, ["the cache reports code 4: no"])
+    assert (run.status, run.log) == (1, 
+        ['the cache reports an error: Unsupported Protocol Version, "no"'])
 
 
 def refused(bytes_sent, text, code):
@@ -292,7 +293,9 @@ def refusals():
         ("prefix length too large", CORRUPT, added[:9] + b"\x21" + added[10:]),
     ]
     rows += [(response() + sent, text + ", at byte 8", code) for text, code, sent in at_8]
-    rows += [(report(2, code), f"the cache reports code {code}: no", None) for code in (0, 2, 9)]
+    reports = ((0, "Corrupt Data"), (1, "Internal Error"), (12, "error code 12"))
+    rows += [(report(2, code), f'the cache reports an error: {name}, "no"', None)
+             for code, name in reports]
     return rows
 
 
@@ -522,8 +525,8 @@ def test_preference():
                 "- " + second_line]  # the first cache's
     assert run.lines == expected, (run.lines, run.log)
     failed = [line for line in run.log if not line.startswith("session ")]
-    assert failed == ["0: the cache reports code 2: no", "0: the cache closed the connection",
-                      "0: unit of another session"], run.log
+    assert failed == ['0: the cache reports an error: No Data Available, "no"',
+                      "0: the cache closed the connection", "0: unit of another session"], run.log
 
 
 def test_preference_silent():

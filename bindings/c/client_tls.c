@@ -5,6 +5,8 @@
  * CA is a file of trusted CA certificates. A cache's certificate has to name HOST. OWN is a file
  * with the client's own certificate and key. It prints the lines of rtr_diff. */
 #define _POSIX_C_SOURCE 200809L
+#define _DEFAULT_SOURCE /* getentropy */
+#include <arpa/inet.h>
 #include <errno.h>
 #include <openssl/err.h>
 #include <openssl/ssl.h>
@@ -111,13 +113,23 @@ static void go_on(struct member *m)
     }
 }
 
+/* Sends the host's name in the handshake, unless it is an address (RFC 6066 section 3). */
+static bool send_name(SSL *tls, const char *host)
+{
+    struct in6_addr address;
+    return inet_pton(AF_INET, host, &address) == 1 || inet_pton(AF_INET6, host, &address) == 1
+           || SSL_set_tlsext_host_name(tls, host);
+}
+
 static void dial(struct member *m)
 {
     SSL *tls = NULL;
     m->connection = BIO_new_ssl_connect(context);
     must(m->connection && BIO_get_ssl(m->connection, &tls) && BIO_set_nbio(m->connection, 1)
              && BIO_set_conn_hostname(m->connection, m->address)
-             && SSL_set1_host(tls, BIO_get_conn_hostname(m->connection)), m->address);
+             && SSL_set1_host(tls, BIO_get_conn_hostname(m->connection))
+             && send_name(tls, BIO_get_conn_hostname(m->connection)),
+         m->address);
     SSL_set_hostflags(tls, X509_CHECK_FLAG_NEVER_CHECK_SUBJECT); /* RFC 8210 section 9.2 */
     go_on(m);
 }
@@ -137,13 +149,15 @@ static void hang_up(struct member *m)
     size_t length = 0;
     struct pollfd ready = {m->open ? (int)BIO_get_fd(m->connection, NULL) : -1, POLLOUT, 0};
     while (m->open && rtr_client_output(&m->client, &length) && length
-           && poll(&ready, 1, left(m->client.wakes)) == 1 && send_some(m)) {}
+           && poll(&ready, 1, left(m->client.wakes)) == 1 && send_some(m)) {
+    }
     if (m->open)
         BIO_ssl_shutdown(m->connection);
     shutdown(ready.fd, SHUT_WR);
     ready.events = POLLIN;
     for (int64_t until = now() + 200; ready.fd >= 0 && poll(&ready, 1, left(until)) == 1
-                                      && recv(ready.fd, read, sizeof read, MSG_DONTWAIT) > 0;) {}
+                                      && recv(ready.fd, read, sizeof read, MSG_DONTWAIT) > 0;) {
+    }
     close_connection(m);
 }
 
@@ -158,7 +172,10 @@ static void wait_for_all(void)
         struct member *m = &members[i];
         rtr_client_output(&m->client, &length);
         ready[i] = (struct pollfd){m->connection ? (int)BIO_get_fd(m->connection, NULL) : -1,
-                                   !m->open ? m->awaited : length ? POLLIN | POLLOUT : POLLIN, 0};
+                                   !m->open ? m->awaited
+                                   : length ? POLLIN | POLLOUT
+                                            : POLLIN,
+                                   0};
         wakes = m->client.wakes < wakes ? m->client.wakes : wakes;
         wakes = m->open && BIO_pending(m->connection) ? 0 : wakes; /* TLS has already read more */
     }
@@ -232,12 +249,15 @@ int main(int count, char **words)
     for (int i = 3; i < count; i++) {
         members[i - 3].address = words[i];
         rtr_client_init(&members[i - 3].client, 1);
-        members[i - 3].client.settings.chance = (uint16_t)(now() ^ getpid());
+        uint16_t *chance = &members[i - 3].client.settings.chance;
+        if (getentropy(chance, sizeof *chance) != 0)
+            *chance = (uint16_t)(now() ^ getpid());
     }
     must((context = SSL_CTX_new(TLS_client_method())) != NULL, "OpenSSL");
     must(SSL_CTX_load_verify_file(context, words[1]), words[1]);
     must(SSL_CTX_use_certificate_chain_file(context, words[2])
-             && SSL_CTX_use_PrivateKey_file(context, words[2], SSL_FILETYPE_PEM), words[2]);
+             && SSL_CTX_use_PrivateKey_file(context, words[2], SSL_FILETYPE_PEM),
+         words[2]);
     SSL_CTX_set_verify(context, SSL_VERIFY_PEER, NULL);
     SSL_CTX_set_options(context, SSL_OP_NO_RENEGOTIATION);
     SSL_CTX_set_mode(context, SSL_MODE_ENABLE_PARTIAL_WRITE | SSL_MODE_ACCEPT_MOVING_WRITE_BUFFER);

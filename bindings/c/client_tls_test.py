@@ -36,7 +36,7 @@ class Certificates:
     """A CA and its certificates: for 127.0.0.1, for another host, and for the client."""
 
     def __init__(self, folder):
-        self.folder = folder
+        self.folder, self.hosts = folder, []  # the host names of handshakes
         self.openssl("req", "-x509", "-newkey", "ec", "-pkeyopt", "ec_paramgen_curve:P-256",
                      "-nodes", "-days", "2", "-subj", "/CN=authority", "-keyout",
                      self.path("ca.key"), "-out", self.path("ca"))
@@ -72,6 +72,7 @@ class Certificates:
         context.load_cert_chain(self.path(name))
         context.load_verify_locations(self.path("ca"))
         context.verify_mode = ssl.CERT_REQUIRED
+        context.sni_callback = lambda peer, host, _: self.hosts.append(host)
         return context
 
 
@@ -186,7 +187,7 @@ def test_other_cache():
 
     run = Run(script, 2)
     assert run.lines == ["+ " + ONE_LINE, "+ " + TWO_LINE, "- " + ONE_LINE], (run.lines, run.log)
-    assert run.log == ["0: the cache reports code 1: no"], run.log
+    assert run.log == ['0: the cache reports an error: Internal Error, "no"'], run.log
 
 
 def test_refused():
@@ -231,9 +232,24 @@ def test_common_name():
         other.sendall(answer([ONE], 7))
         is_taken(other, 7)
 
+    CERTIFICATES.hosts.clear()
     run = Run(script, 2, ("localhost", "named"), "localhost")
     assert run.lines == ["+ " + ONE_LINE], (run.lines, run.log)
     assert run.log == ["0: hostname mismatch"], run.log
+    assert CERTIFICATES.hosts == ["localhost"] * 2, CERTIFICATES.hosts
+
+
+def test_addresses_not_sent():
+    """An address is no host name in a handshake (RFC 6066 section 3)."""
+    def script(run):
+        cache = run.asked(reset_query(1))
+        cache.sendall(answer([ONE], 7))
+        is_taken(cache, 7)
+
+    CERTIFICATES.hosts.clear()
+    run = Run(script)
+    assert run.lines == ["+ " + ONE_LINE], (run.lines, run.log)
+    assert CERTIFICATES.hosts == [None], CERTIFICATES.hosts
 
 
 def test_nobody():

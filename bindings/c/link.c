@@ -6,6 +6,7 @@
  * It prints the lines of rtr_diff. On standard error it reports the data at each end of data, and
  * failures. It runs until a signal. */
 #define _POSIX_C_SOURCE 200809L
+#define _DEFAULT_SOURCE /* getentropy */
 #include <errno.h>
 #include <inttypes.h>
 #include <netdb.h>
@@ -80,8 +81,9 @@ static void try_address(struct addrinfo *first)
             count++;
         tried_until = time < deadline ? time + (deadline - time) / count : time;
         connection = socket(address->ai_family, type, 0);
-        if (connection >= 0 && (connect(connection, address->ai_addr, address->ai_addrlen) == 0
-                                || errno == EINPROGRESS))
+        if (connection >= 0
+            && (connect(connection, address->ai_addr, address->ai_addrlen) == 0
+                || errno == EINPROGRESS))
             return;
         if (connection >= 0)
             close(connection);
@@ -163,7 +165,8 @@ static void finish(void)
     uint8_t read[4096];
     uint64_t until = now() + 2000;
     struct pollfd ready = {.fd = address ? -1 : connection, .events = POLLOUT};
-    while (ready.fd >= 0 && state().unsent && poll(&ready, 1, left(until)) == 1 && send_some()) {}
+    while (ready.fd >= 0 && state().unsent && poll(&ready, 1, left(until)) == 1 && send_some()) {
+    }
     shutdown(ready.fd, SHUT_WR);
     ready.events = POLLIN;
     for (until = now() + 200; ready.fd >= 0 && poll(&ready, 1, left(until)) == 1;)
@@ -314,7 +317,8 @@ int main(int count, char **words)
     host = words[1];
     port = colon + 1;
     rtr_settings_usual(&settings, version);
-    settings.chance = (uint16_t)(now() ^ (uint64_t)getpid());
+    if (getentropy(&settings.chance, sizeof settings.chance) != 0)
+        settings.chance = (uint16_t)(now() ^ (uint64_t)getpid());
     rtr_link_init(&session, &settings);
     follow();
 }

@@ -21,7 +21,9 @@ static void print_validity(const struct rtr_data *data, const struct rtr_route *
 int main(void)
 {
     static const struct rtr_route routes[] = {
-        {65551, 4, 24, {192, 0, 2}}, {65551, 4, 27, {192, 0, 2}}, {65551, 4, 24, {203, 0, 113}},
+        {65551, 4, 24, {192, 0, 2}},
+        {65551, 4, 27, {192, 0, 2}},
+        {65551, 4, 24, {203, 0, 113}},
     };
     static uint8_t input[1 << 20], work[sizeof input], bytes[sizeof input];
     static size_t index[sizeof input / RTR_SHORTEST_PAYLOAD];
@@ -30,7 +32,8 @@ int main(void)
     struct rtr_data data;
     struct rtr_data_answer answer;
     if (rtr_load(input, length, index, sizeof index / sizeof index[0], work, sizeof work, bytes,
-                 sizeof bytes, &loaded) != RTR_OK) {
+                 sizeof bytes, &loaded)
+        != RTR_OK) {
         fprintf(stderr, "routes: offset %zu: %s\n", loaded.offset, rtr_status_text(loaded.status));
         return 1;
     }

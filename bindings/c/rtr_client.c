@@ -11,11 +11,11 @@
 enum { OUTPUT = 2 * RTR_SERIAL_SIZE + RTR_LONGEST_UNIT, INPUT = RTR_LONGEST_UNIT };
 
 /* The rtr_client_failure for each rtr_cause. */
-static const uint8_t failures[] = {
-    RTR_CLIENT_LOST,   RTR_CLIENT_SLOW,   RTR_CLIENT_REFUSED, RTR_CLIENT_REPORTED,
-    RTR_CLIENT_BREACH, RTR_CLIENT_BREACH, RTR_CLIENT_BREACH,  RTR_CLIENT_BREACH,
-    RTR_CLIENT_BREACH, RTR_CLIENT_BREACH, RTR_CLIENT_BREACH,  RTR_CLIENT_TOO_LONG,
-    RTR_CLIENT_REFUSED, RTR_CLIENT_EXPIRED};
+static const uint8_t failures[] = {RTR_CLIENT_LOST,     RTR_CLIENT_SLOW,   RTR_CLIENT_REFUSED,
+                                   RTR_CLIENT_REPORTED, RTR_CLIENT_BREACH, RTR_CLIENT_BREACH,
+                                   RTR_CLIENT_BREACH,   RTR_CLIENT_BREACH, RTR_CLIENT_BREACH,
+                                   RTR_CLIENT_BREACH,   RTR_CLIENT_BREACH, RTR_CLIENT_TOO_LONG,
+                                   RTR_CLIENT_REFUSED,  RTR_CLIENT_EXPIRED};
 
 struct bytes {
     uint8_t *at;
@@ -116,6 +116,7 @@ static bool grow_buffer(struct rtr_client *c, const struct rtr_todo *todo)
         return new_index(c, todo->room);
     default: /* the cache doesn't read */
         rtr_client_lost(c, rtr_cause_text(RTR_CAUSE_SLOW));
+        c->unread = true;
         forget_output(c);
         return true;
     }
@@ -141,11 +142,15 @@ static size_t write_form(struct bytes data, uint8_t version, uint16_t session, s
 {
     struct rtr_answer answer;
     if (rtr_normalise_for_slice(data.at, data.length, form.at, form.length, UINT64_MAX, version,
-                                &answer) != RTR_OK)
+                                &answer)
+        != RTR_OK)
         return 0;
-    uint8_t *end = form.at + answer.written - (version ? RTR_LONGEST_END : RTR_SHORTEST_END);
-    end[2] = (uint8_t)(session >> 8);
-    end[3] = (uint8_t)session;
+    size_t size = version ? RTR_LONGEST_END : RTR_SHORTEST_END;
+    uint8_t *at = form.at + answer.written - size;
+    struct rtr_unit end;
+    rtr_next(at, size, &end);
+    end.session = session;
+    rtr_write_unit(&end, NULL, 0, at, size, &size);
     return answer.written;
 }
 
@@ -246,12 +251,8 @@ static void explain_report(struct rtr_client *c, struct bytes report)
 {
     struct rtr_unit unit;
     rtr_next(report.at, report.length, &unit);
-    int count = snprintf(c->text, sizeof c->text, "the cache reports code %u", unit.code);
-    for (size_t i = 0; i < unit.text_length && i < 200; i++) {
-        uint8_t byte = report.at[unit.text_start + i];
-        count += snprintf(c->text + count, sizeof c->text - (size_t)count, "%s%c", i ? "" : ": ",
-                          byte >= ' ' && byte <= '~' ? byte : '?');
-    }
+    rtr_reported_text(rtr_cause_text(RTR_CAUSE_REPORTED), &unit, report.at, c->text,
+                      sizeof c->text);
     c->code = unit.code;
 }
 
@@ -282,7 +283,7 @@ static void explain(struct rtr_client *c, const struct rtr_todo *todo, size_t fi
     enum rtr_client_failure failure = failures[todo->cause];
     c->status = todo->status;
     if (c->starved || (todo->cause == RTR_CAUSE_NOT_APPLIED && todo->status == RTR_OK)) {
-        fail(c, RTR_CLIENT_MEMORY, "no memory");
+        fail(c, RTR_CLIENT_MEMORY, RTR_FAILURE_NO_MEMORY);
     } else if (failure == RTR_CLIENT_REPORTED) {
         explain_report(c, (struct bytes){c->buffers.input + todo->offset, filled - todo->offset});
         fail(c, failure, NULL);
@@ -290,8 +291,10 @@ static void explain(struct rtr_client *c, const struct rtr_todo *todo, size_t fi
         explain_refused(c, todo, filled);
         fail(c, failure, NULL);
     } else {
-        fail(c, failure, failure == RTR_CLIENT_LOST ? c->reason : rtr_cause_text(todo->cause));
+        const char *text = failure == RTR_CLIENT_LOST ? c->reason : rtr_cause_text(todo->cause);
+        fail(c, c->unread ? RTR_CLIENT_SLOW : failure, text);
     }
+    c->unread = false;
 }
 
 /* Ends the connection, and drops the data if the link says so. A change of version is no failure:
@@ -421,7 +424,7 @@ static bool begin(struct rtr_client *c)
         && resize(&b->output, &b->output_length, OUTPUT))
         return true;
     c->tries = c->now + c->settings.pause + 1;
-    fail(c, RTR_CLIENT_MEMORY, "no memory");
+    fail(c, RTR_CLIENT_MEMORY, RTR_FAILURE_NO_MEMORY);
     return false;
 }
 
@@ -436,7 +439,8 @@ enum rtr_client_event rtr_client_next(struct rtr_client *c, int64_t now)
             forget_output(c);
         c->closing = false;
         begun = begin(c);
-        while (begun && !c->count && step(c)) {}
+        while (begun && !c->count && step(c)) {
+        }
     }
     enum rtr_client_event event = c->count ? c->events[0] : RTR_CLIENT_WAIT;
     memmove(c->events, c->events + 1, sizeof c->events - 1);
@@ -472,7 +476,7 @@ bool rtr_client_instead(struct rtr_client *c, uint8_t *data, size_t length,
         return true;
     }
     return grow_changes(c, size_of_changes(length, new.length))
-        && write_changes(c, (struct bytes){data, length}, end, new, &c->end) == RTR_OK;
+           && write_changes(c, (struct bytes){data, length}, end, new, &c->end) == RTR_OK;
 }
 
 /* Reports whether the link was in the right state for a call. */

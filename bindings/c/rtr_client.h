@@ -15,8 +15,8 @@
  *                       rtr_client_lost
  *   RTR_CLIENT_CLOSE    send what rtr_client_output still returns, but not after `wakes`, and close
  *                       the connection. Each RTR_CLIENT_CONNECT is followed by one RTR_CLIENT_CLOSE
- *   RTR_CLIENT_DATA     `data` is the cache's data at the serial number of `end`. `changes` are
- *                       those from the data before; there may be none
+ *   RTR_CLIENT_DATA     `data` is the cache's data at the serial number of `end`. `changes` lead
+ *                       to them from the former data; there may be none
  *   RTR_CLIENT_DROPPED  there are no data any more; `changes` withdraw the former data
  *   RTR_CLIENT_NO_DATA  the cache has no data yet (RFC 8210 section 8.4); the client asks again
  *                       after the retry time
@@ -24,10 +24,10 @@
  *                       follows when it is time to reconnect
  *
  * Each call returns at once. A client is one struct of at most 1.25 KiB. Several clients may run at
- * once, each used by one thread at a time. It allocates 128 KiB for what is read and sent. While it
- * takes an answer, it allocates for that, of at most `most_bytes`, for the new data and the changes,
- * but never by a length that a header claims; then it keeps the data. Without memory the connection
- * ends, and the data stay as they were.
+ * once, each used by one thread at a time. A client allocates 128 KiB for input and output. While
+ * it loads an answer, it allocates memory for the answer, at most `most_bytes`, the new data and
+ * the changes, but never by a length that a header claims; then it keeps the data. Without memory
+ * the connection ends, and the data stay unchanged.
  */
 #ifndef FISHREEF_RTR_CLIENT_H
 #define FISHREEF_RTR_CLIENT_H
@@ -57,12 +57,12 @@ enum rtr_client_failure {
     RTR_CLIENT_BREACH,   /* a unit breaks the rules of a session */
     RTR_CLIENT_REPORTED, /* the cache reports the error `code` */
     RTR_CLIENT_EXPIRED,  /* the data have expired, and were dropped */
-    RTR_CLIENT_MEMORY    /* there is no memory for an answer or its changes, or to connect at all:
-                            then RTR_CLIENT_CONNECT hasn't come, and `wakes` is the next try */
+    RTR_CLIENT_MEMORY    /* there is no memory for an answer or its changes; or to connect: then
+                            RTR_CLIENT_CONNECT hasn't come, and the client retries at `wakes` */
 };
 
-/* Times are in milliseconds, by a monotonic clock that isn't negative: a time before that of an
- * earlier call counts as that one. */
+/* Times are in milliseconds, by a monotonic clock that isn't negative. A time before that of an
+ * earlier call is taken as the earlier call's. */
 struct rtr_client {
     /* Set by rtr_client_init to the defaults, which -DRTR_CLIENT_RESPONSE_LIMIT=.. and
      * -DRTR_CLIENT_MOST_BYTES=.. change when rtr_client.c is compiled. A program may change them
@@ -76,7 +76,7 @@ struct rtr_client {
                               between calls: rtr_client_has_data */
     size_t data_length;
     struct rtr_unit end;   /* their end of data */
-    size_t payloads;       /* the number of units before it */
+    size_t payloads;       /* the number of their payload units */
     uint8_t *changes;      /* in canonical form; `data` itself, if there were none before; null if
                               memory ran out for the changes that withdraw all data. Their session
                               is that of `end`, their version the higher of the old and the new
@@ -91,12 +91,12 @@ struct rtr_client {
     /* Private. */
     struct rtr_link link;
     struct rtr_link_buffers buffers;
-    uint8_t *room; /* for the changes */
+    uint8_t *room; /* the buffer of the changes */
     size_t room_length;
     int64_t now, tries;
     uint64_t received; /* bytes on the connection */
     uint8_t events[4], count;
-    bool begun, wished, broken, closing, starved;
+    bool begun, wished, broken, closing, starved, unread;
     char reason[200];
 };
 
@@ -123,9 +123,9 @@ void rtr_client_ask_now(struct rtr_client *client);
  * hasn't returned RTR_CLIENT_DROPPED yet. */
 bool rtr_client_has_data(const struct rtr_client *client, int64_t now);
 
-/* Sets `changes` to those from these data of another client, with this end of data, to the client's
- * own; from no data, if `data` is null. Returns false without memory, or if these aren't data: then
- * there are no changes. */
+/* Sets `changes` to those that lead from another client's data, with this end of data, to the
+ * client's own; from no data, if `data` is null. Returns false without memory, or if the bytes
+ * aren't data: then there are no changes. */
 bool rtr_client_instead(struct rtr_client *client, uint8_t *data, size_t length,
                         const struct rtr_unit *end);
 

@@ -57,7 +57,9 @@ static const struct failing all_failing[] = {
     {BYTES(PREFIX("\2", "\x09") END_OF("\x12\x34", "\5")), RTR_CLIENT_BREACH, RTR_OK,
      "other data at the serial number of the query"},
     {BYTES("\2\x0a\0\1\0\0\0\x12\0\0\0\0\0\0\0\2no"), RTR_CLIENT_REPORTED, RTR_OK,
-     "the cache reports code 1: no"},
+     "the cache reports an error: Internal Error, \"no\""},
+    {BYTES("\2\x0a\0\x0c\0\0\0\x15\0\0\0\0\0\0\0\5" "\" ~\n\xc3"), RTR_CLIENT_REPORTED, RTR_OK,
+     "the cache reports an error: error code 12, \"\" ~??\""},
 };
 
 static void test_failures(void)
@@ -92,7 +94,8 @@ static void test_texts(void)
     has_data(1);
     comes(none.bytes, none.length);
     EXPECT(NO_DATA);
-    CHECK(c.code == 2 && !strcmp(c.text, "the cache reports code 2: no"));
+    CHECK(c.code == 2);
+    CHECK(!strcmp(c.text, "the cache reports an error: No Data Available, \"no\""));
     EXPECT(WAIT);
     rtr_client_lost(&c, NULL);
     EXPECT(CLOSE);
@@ -278,7 +281,7 @@ static void test_queries_not_taken(void)
         CHECK(serial < 10);
     }
     EXPECT(FAILED);
-    CHECK(c.failure == RTR_CLIENT_LOST && !strcmp(c.text, "the cache is too slow"));
+    CHECK(c.failure == RTR_CLIENT_SLOW && !strcmp(c.text, "the cache is too slow"));
     ends();
 }
 
@@ -494,11 +497,11 @@ static void test_again(void)
     ends();
 }
 
-/* The text of a failure has the first 200 bytes of a report's text. */
+/* The text of a failure has the first 100 bytes of a report's text. */
 static void test_long_report(void)
 {
-    static const char front[] = "the cache reports code 1: ";
-    for (uint32_t length = 199; length < 1000; length += length < 202 ? 1 : 199) {
+    static const char front[] = "the cache reports an error: Internal Error, \"";
+    for (uint32_t length = 99; length < 1000; length += length < 102 ? 1 : 199) {
         static struct text report, text;
         report.length = text.length = 0;
         while (text.length < length)
@@ -513,9 +516,11 @@ static void test_long_report(void)
         owes(NONE, 0);
         EXPECT(FAILED);
         CHECK(c.failure == RTR_CLIENT_REPORTED && c.code == 1);
-        CHECK(strlen(c.text) == sizeof front - 1 + (length < 200 ? length : 200));
+        size_t shown = length < 100 ? length : 100;
+        CHECK(strlen(c.text) == sizeof front - 1 + shown + 1);
         CHECK(strncmp(c.text, front, sizeof front - 1) == 0);
-        CHECK(memcmp(c.text + sizeof front - 1, text.bytes, strlen(c.text) + 1 - sizeof front) == 0);
+        CHECK(memcmp(c.text + sizeof front - 1, text.bytes, shown) == 0);
+        CHECK(c.text[sizeof front - 1 + shown] == '"');
         ends();
     }
 }

@@ -12,8 +12,8 @@ static void print_unit(const struct rtr_unit *u, const uint8_t *at)
     else if (u->kind == RTR_CACHE_RESPONSE)
         printf(": session %u", u->session);
     else if (u->family)
-        printf(": %02x%02x%02x%02x../%u-%u AS%" PRIu32, u->address[0], u->address[1],
-               u->address[2], u->address[3], u->prefix_length, u->max_length, u->asn);
+        printf(": %02x%02x%02x%02x../%u-%u AS%" PRIu32, u->address[0], u->address[1], u->address[2],
+               u->address[3], u->prefix_length, u->max_length, u->asn);
     else if (u->kind == RTR_ROUTER_KEY)
         printf(": AS%" PRIu32 ", %zu bytes of key info", u->asn, u->part_length);
     else if (u->kind == RTR_ERROR_REPORT)
