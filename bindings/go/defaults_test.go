@@ -17,6 +17,7 @@ func TestDocumentedDefaults(t *testing.T) {
 		t.Skip("no docs/SESSIONS.md beside: this is a package")
 	}
 	server, client := NewServer().Limits, NewClient("").Limits
+	refused := uint32(server.settings().most_refused)
 	words := func(span time.Duration) string {
 		for unit, size := range map[string]time.Duration{"hour": time.Hour, "minute": time.Minute, "second": time.Second} {
 			count := span / size
@@ -30,7 +31,7 @@ func TestDocumentedDefaults(t *testing.T) {
 		return span.String()
 	}
 	for _, row := range []string{
-		fmt.Sprintf("| clients at the same time | %d; %d above that get a report at a time,", server.Connections, mostRefused),
+		fmt.Sprintf("| clients at the same time | %d; %d above that get a report at a time,", server.Connections, refused),
 		"| until the first query | " + words(server.First) + " |",
 		"| from a unit's first byte to its last | " + words(server.Unit) + " |",
 		"| between queries | " + words(server.Idle) + ":",

@@ -6,27 +6,21 @@ package rtr
 import "C"
 
 import (
-	"bytes"
-	"encoding/binary"
 	"fmt"
 	"sync"
-	"time"
 )
 
 // The number of versions of the protocol.
 const versions = 3
 
-// The most editions by which a client may fall behind during an answer.
-const mostBehind = 2
-
-// edition is a cache's data at one serial number, with the steps back to earlier data of the same
-// session; before its first data a cache has an empty one. Immutable, except for caches of encoded
-// answers.
+// edition is a cache's data at one serial number, with the history in the store that has them;
+// before its first data a cache has an empty one. Immutable, except for caches of encoded answers.
 type edition struct {
-	mark
-	data  Data
-	back  []stepBack   // from these data to older ones, one after the other
-	known []C.uint32_t // the serial numbers to which they lead
+	number  C.uint64_t           // counts the data of the server
+	present C.struct_rtr_present // session and serial number of the data
+	data    Data                 // the present data of the history
+	history []byte               // of rtr.h
+	known   []C.uint32_t         // the earlier serial numbers that it has, for rtr_cache_read
 
 	lock       sync.Mutex
 	forms      [versions]Data  // for clients without a socket
@@ -37,113 +31,63 @@ type edition struct {
 	deltaSpace int // bytes left for more deltas
 }
 
-// mark identifies an edition.
-type mark struct {
-	full    bool // it has data
-	number  int  // counts the editions of the server
-	session uint16
-}
-
-// stepBack leads back from newer data to the data before them.
-type stepBack struct {
-	until   time.Time // when the newer data came
-	changes []byte    // in canonical form, with the end of data to which they lead
-}
-
 // question is a serial query, without its session.
 type question struct {
 	version uint8
 	serial  uint32
 }
 
-// newEdition returns an edition of data, with the steps back that the limits allow and that lead to
-// earlier serial numbers.
-func newEdition(number int, data Data, back []stepBack, limits ServerLimits) *edition {
-	left := limits.KeepBytes
-	e := &edition{
-		mark: mark{true, number, data.Session()}, data: data,
-		deltas: map[question][]byte{}, deltaSpace: limits.KeepBytes,
+// newEdition returns the edition of a history.
+func newEdition(number C.uint64_t, history []byte, limits ServerLimits) *edition {
+	sequence, steps := firstPart(history)
+	data := checkedData(sequence)
+	present := C.struct_rtr_present{
+		has: true, session: C.uint16_t(data.Session()), serial: C.uint32_t(data.Serial()),
 	}
-	for i, step := range back {
-		_, end := parts(step.changes)
-		serial := binary.BigEndian.Uint32(end[8:])
-		order, ok := CompareSerials(serial, data.Serial())
-		left -= len(step.changes)
-		if !ok || order >= 0 || left < 0 || time.Since(step.until) > limits.Keep {
-			break
-		}
-		e.back, e.known = back[:i+1], append(e.known, C.uint32_t(serial))
+	return &edition{
+		number: number, present: present,
+		data: data, history: history, known: serialsOf(steps),
+		// An answer to a client that has the present data is never computed again.
+		deltas: map[question][]byte{}, deltaSpace: limits.KeepBytes + versions*longestEnd,
 	}
-	return e
 }
 
-// next returns the edition of new data after this one, or this one if the data are the same.
-func (e *edition) next(data Data, limits ServerLimits) (*edition, error) {
-	if !e.full {
-		return newEdition(0, data, nil, limits), nil
+// alike returns new data in the version in which the server keeps them: in the highest one, which
+// has all payloads, or in that of the present data, if they are of a file with a lower one.
+func (e *edition) alike(data Data) (Data, error) {
+	present := e.data.Version()
+	if !e.data.IsZero() && e.data.Session() == data.Session() && data.Version() <= present {
+		return data.For(present)
 	}
-	version := e.data.Version()
-	if version < data.Version() {
-		version = data.Version()
+	return data.For(highestVersion)
+}
+
+// refused returns the error for new data that the store didn't take; nil if they are the present
+// ones.
+func (e *edition) refused(data Data, answer C.struct_rtr_stores_answer) error {
+	switch answer.status {
+	case C.RTR_STORES_SAME_DATA:
+		return nil
+	case C.RTR_STORES_OTHER_TIMES:
+		return ErrNewTiming
+	case C.RTR_STORES_OLD_SERIAL:
+		return &serialError{e.data.Serial(), data.Serial()}
+	case C.RTR_STORES_SESSION_LEFT:
+		return ErrSessionLeft
+	case C.RTR_STORES_OTHER_VERSION:
+		return &Fault{Status: UnitVersion, Detail: uint8(answer.detail), Offset: -1}
 	}
-	old, back, err := e.in(version)
-	if err == nil {
-		data, err = data.For(version)
-	}
-	if err != nil || old.Equal(data) {
-		return e, err
-	}
-	if old.Session() != data.Session() {
-		return newEdition(e.number+1, data, nil, limits), nil
-	}
-	if order, ok := CompareSerials(old.Serial(), data.Serial()); !ok || order >= 0 {
-		before, _ := parts(old.Bytes())
-		if after, _ := parts(data.Bytes()); order == 0 && bytes.Equal(before, after) {
-			return e, ErrNewTiming
-		}
-		return e, &serialError{old.Serial(), data.Serial()}
-	}
-	changes, err := Delta(data, old)
-	back = append([]stepBack{{time.Now(), changes}}, back...)
-	return newEdition(e.number+1, data, back, limits), err
+	return storesError(answer.status)
 }
 
 // serialError is an ErrSameSerial with the serial numbers of the old and the new data.
 type serialError struct{ old, new uint32 }
 
 func (e *serialError) Error() string {
-	return fmt.Sprintf("rtr: serial %d of other data isn't after serial %d", e.new, e.old)
+	return fmt.Sprintf("%v: new %d, present %d", ErrSameSerial, e.new, e.old)
 }
 
 func (e *serialError) Unwrap() error { return ErrSameSerial }
-
-// in returns the data and the steps back in a version that isn't below theirs.
-func (e *edition) in(version uint8) (Data, []stepBack, error) {
-	data, err := e.data.For(version)
-	if version == e.data.Version() || err != nil {
-		return data, e.back, err
-	}
-	back := append([]stepBack{}, e.back...)
-	for i := range back {
-		if back[i].changes, err = formFor(back[i].changes, version); err != nil {
-			return Data{}, nil, err
-		}
-	}
-	return data, back, nil
-}
-
-// behind returns the reason to send no more of the edition, or nil.
-func (m mark) behind(present mark) error {
-	switch {
-	case !m.full:
-		return nil
-	case m.session != present.session:
-		return ErrSessionEnded
-	case present.number-m.number > mostBehind:
-		return ErrBehind
-	}
-	return nil
-}
 
 // form returns the data as encoded for clients of version.
 func (e *edition) form(version uint8) (piece, error) {
@@ -198,68 +142,35 @@ func (e *edition) closeUnused() {
 	}
 }
 
-// since returns the delta for clients of a version, from the data of a known serial number, or from
-// these data.
+// since returns the changes for clients of a version, from the data of a known serial number, or
+// from these data.
 func (e *edition) since(version uint8, serial uint32) ([]byte, error) {
-	if serial == e.data.Serial() {
-		_, end := parts(e.data.Bytes())
-		return formFor(end, version)
-	}
 	e.lock.Lock()
 	defer e.lock.Unlock()
+	return e.sinceIn(version, serial)
+}
+
+// sinceIn is since, with the lock. It keeps the changes if there is space.
+func (e *edition) sinceIn(version uint8, serial uint32) (changes []byte, err error) {
 	query := question{version, serial}
 	if changes, ok := e.deltas[query]; ok {
 		return changes, nil
 	}
-	steps := 1
-	for steps < len(e.known) && uint32(e.known[steps-1]) != serial {
-		steps++
+	if version == e.data.Version() {
+		changes, err = changesSince(e.history, version, serial)
+	} else if changes, err = e.sinceIn(e.data.Version(), serial); err == nil {
+		changes, err = formFor(changes, version)
 	}
-	old, err := before(e.data, e.back[:steps])
-	if err != nil {
-		return nil, err
-	}
-	return e.change(query, old)
-}
-
-// change returns the delta that answers a query, from the old data in the edition's version, and
-// keeps it if there is space.
-func (e *edition) change(query question, old Data) ([]byte, error) {
-	changes, err := Delta(old, e.data)
 	if err == nil {
-		changes, err = formFor(changes, query.version)
-	}
-	if e.deltaSpace -= len(changes); e.deltaSpace >= 0 && err == nil {
-		e.deltas[query] = changes
+		e.keep(query, changes)
 	}
 	return changes, err
 }
 
-// prepare computes the deltas for which clients of the old edition will ask. It ignores errors:
-// since computes the delta again for the client.
-func (e *edition) prepare(old *edition) {
-	old.lock.Lock()
-	forms, files := old.forms, old.files
-	old.lock.Unlock()
-	before, err := old.data.For(e.data.Version())
-	for version := range forms {
-		hasClients := !forms[version].IsZero() || files[version].size() > 0
-		if hasClients && err == nil && len(e.known) > 0 {
-			e.change(question{uint8(version), old.data.Serial()}, before)
-		}
+// keep keeps changes for further clients, if there is space.
+func (e *edition) keep(query question, changes []byte) {
+	if size := len(changes); 0 < size && size <= e.deltaSpace {
+		e.deltas[query] = changes
+		e.deltaSpace -= size
 	}
-}
-
-// before returns the data to which the steps back lead from these.
-func before(data Data, back []stepBack) (Data, error) {
-	if len(back) == 0 {
-		return data, nil
-	}
-	var changes, end []byte
-	for _, step := range back {
-		var units []byte
-		units, end = parts(step.changes)
-		changes = append(changes, units...)
-	}
-	return ApplyInOrder(data, append(changes, end...))
 }

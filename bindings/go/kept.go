@@ -3,58 +3,78 @@
 package rtr
 
 import (
-	"bytes"
-	"encoding/binary"
 	"errors"
 	"fmt"
-	"hash/fnv"
-	"io"
 	"os"
 	"path/filepath"
-	"time"
 )
 
-// A file of editions begins with these bytes and the 64-bit FNV-1a hash of what follows: the
-// present data, then each step back, each after its time and its length. The time is when newer
-// data came, in milliseconds since 1970. Numbers have 64 bits, in network byte order.
-const keptMagic = "rtrkept1"
+// ErrTorn: a file isn't as Save wrote it.
+var ErrTorn = errors.New("rtr: " + failureDamaged)
 
-// The size of the head of the file, and of the two numbers before a sequence.
-const keptHead = 16
+// ErrUnsynced: a file has the new store, but its folder couldn't be synced: after a power cut the
+// file may have the former one.
+var ErrUnsynced = errors.New("rtr: the folder isn't synced")
 
-// ErrTorn: a file of editions isn't as Save wrote it.
-var ErrTorn = errors.New("rtr: the file of editions is torn")
+// unsynced is an error of the system that is ErrUnsynced too.
+type unsynced struct{ error }
 
-// Save writes the present data, and the steps back to earlier ones, to a file: it writes and syncs
-// a file beside it, then renames that. Without data it writes nothing.
+// Is reports whether this is that error.
+func (u unsynced) Is(other error) bool { return other == ErrUnsynced }
+
+// Unwrap returns the error of the system.
+func (u unsynced) Unwrap() error { return u.error }
+
+// Save writes what a restart needs to a file: the sessions that the server left, the present data,
+// and the changes from earlier data. It writes and syncs a file beside it, renames that, and syncs
+// the folder. Without data it writes nothing. Servers of each language of this library read the
+// file.
+//
+// Errors: those of the file; no file stays beside it then, and it has what it had, unless the error
+// is ErrUnsynced too.
 func (s *Server) Save(path string) error {
 	s.ready()
-	return s.present.Load().save(path)
-}
-
-// save saves the edition to a file, as Save does.
-func (e *edition) save(path string) error {
-	if !e.full {
+	s.updating.Lock()
+	defer s.updating.Unlock()
+	store, _ := s.store.served()
+	if store == nil {
 		return nil
 	}
-	file, err := os.Create(path + ".new")
+	return saveStore(store, path)
+}
+
+// saveStore saves a store to a file, as Save does.
+func saveStore(store []byte, path string) error {
+	beside := path + ".new"
+	file, err := os.Create(beside)
 	if err != nil {
 		return err
 	}
-	defer file.Close()
-	if err := e.write(file); err != nil {
+	err = writeStore(file, store)
+	if closed := file.Close(); err == nil {
+		err = closed
+	}
+	if err == nil {
+		err = os.Rename(beside, path)
+	}
+	if err != nil {
+		os.Remove(beside)
 		return err
 	}
-	if err := file.Sync(); err != nil {
-		return err
+	if err := syncFolder(filepath.Dir(path)); err != nil {
+		return unsynced{err}
 	}
-	if err := file.Close(); err != nil {
-		return err
+	return nil
+}
+
+// writeStore writes a store behind its head, and syncs the file.
+func writeStore(file *os.File, store []byte) error {
+	for _, part := range [][]byte{sealed(store), store} {
+		if _, err := file.Write(part); err != nil {
+			return err
+		}
 	}
-	if err := os.Rename(path+".new", path); err != nil {
-		return err
-	}
-	return syncFolder(filepath.Dir(path))
+	return file.Sync()
 }
 
 // syncFolder fsyncs a directory.
@@ -67,42 +87,29 @@ func syncFolder(path string) error {
 	return folder.Sync()
 }
 
-// write writes the edition to an empty file.
-func (e *edition) write(file *os.File) error {
-	sum := fnv.New64a()
-	output := io.MultiWriter(file, sum)
-	_, err := file.Write(make([]byte, keptHead))
-	for _, step := range append([]stepBack{{time.Now(), e.data.Bytes()}}, e.back...) {
-		head := [2]uint64{uint64(step.until.UnixMilli()), uint64(len(step.changes))}
-		if err == nil {
-			err = binary.Write(output, binary.BigEndian, head)
-		}
-		if err == nil {
-			_, err = output.Write(step.changes)
-		}
-	}
-	if err == nil {
-		_, err = file.WriteAt(sum.Sum([]byte(keptMagic)), 0)
-	}
-	return err
-}
-
 // Restore loads what Save wrote, if the server has no data yet, and returns the data. With the
-// saved session and serial number, clients get deltas after a restart. Call it before Serve.
+// saved session and serial number, clients get deltas after a restart. Call it before Serve. It
+// syncs the folder, since the process that saved may have ended before that.
 //
 // Errors: those of the file; ErrTorn; ErrTiming for times that RFC 8210 section 6 doesn't allow;
 // ErrServerClosed after Close or Shutdown.
 func (s *Server) Restore(path string) (Data, error) {
-	input, err := os.ReadFile(path)
+	file, err := os.ReadFile(path)
 	if err != nil {
 		return Data{}, err
 	}
-	data, back, ok := parseKept(input)
-	if !ok {
+	var restored store
+	if !restored.start(unsealed(file)) {
 		return Data{}, fmt.Errorf("%s: %w", path, ErrTorn)
 	}
+	_, history := restored.served()
+	present, _ := firstPart(history)
+	data := checkedData(present)
 	if err := data.servable(); err != nil {
 		return Data{}, fmt.Errorf("%s: %w", path, err)
+	}
+	if err := syncFolder(filepath.Dir(path)); err != nil {
+		return Data{}, err
 	}
 	s.ready()
 	s.updating.Lock()
@@ -110,45 +117,10 @@ func (s *Server) Restore(path string) (Data, error) {
 	if s.closed.Load() {
 		return Data{}, ErrServerClosed
 	}
-	if !s.present.Load().full {
-		s.present.Store(newEdition(0, data, back, s.Limits))
+	if s.Data().IsZero() {
+		s.store = restored
+		s.present.Store(s.edition(0))
 		s.wake()
 	}
 	return data, nil
-}
-
-// parseKept returns the data and the steps back of a file; ok reports whether it is as Save wrote
-// it.
-func parseKept(input []byte) (data Data, back []stepBack, ok bool) {
-	if len(input) < keptHead {
-		return Data{}, nil, false
-	}
-	sum := fnv.New64a()
-	sum.Write(input[keptHead:])
-	if !bytes.Equal(input[:keptHead], sum.Sum([]byte(keptMagic))) {
-		return Data{}, nil, false
-	}
-	for rest := input[keptHead:]; len(rest) > 0; {
-		if len(rest) < keptHead {
-			return Data{}, nil, false
-		}
-		until, size := binary.BigEndian.Uint64(rest), binary.BigEndian.Uint64(rest[8:])
-		if rest = rest[keptHead:]; size > uint64(len(rest)) {
-			return Data{}, nil, false
-		}
-		var err error
-		if data.IsZero() {
-			data, err = ParseData(rest[:size])
-		} else {
-			var changes []byte
-			changes, err = formFor(rest[:size], data.Version())
-			back = append(back, stepBack{time.UnixMilli(int64(until)), changes})
-		}
-		if err != nil {
-			return Data{}, nil, false
-		}
-		rest = rest[size:]
-	}
-	_, err := before(data, back)
-	return data, back, err == nil && !data.IsZero()
 }

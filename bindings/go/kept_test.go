@@ -3,7 +3,6 @@
 package rtr
 
 import (
-	"bytes"
 	"context"
 	"errors"
 	"os"
@@ -12,6 +11,16 @@ import (
 	"testing"
 	"time"
 )
+
+// inHighest returns the data of a sequence in the version in which a server keeps them.
+func inHighest(t *testing.T, sequence []byte) Data {
+	t.Helper()
+	data, err := parsed(t, sequence).For(highestVersion)
+	if err != nil {
+		t.Fatal(err)
+	}
+	return data
+}
 
 // restarted returns a server restored from what a server of these data saved, and its address.
 func restarted(t *testing.T, path string, all ...[]byte) (*Server, string) {
@@ -27,7 +36,7 @@ func restarted(t *testing.T, path string, all ...[]byte) (*Server, string) {
 	}
 	server, address := started(t, nil)
 	data, err := server.Restore(path)
-	if err != nil || !bytes.Equal(data.Bytes(), first.present.Load().data.Bytes()) {
+	if err != nil || !data.Equal(first.Data()) {
 		t.Fatal(data, err)
 	}
 	return server, address
@@ -78,9 +87,12 @@ func TestServerTorn(t *testing.T) {
 	if err != nil {
 		t.Fatal(err)
 	}
-	// One byte too many, and no data, with the hash of nothing.
-	nothing := append([]byte(keptMagic), 0xcb, 0xf2, 0x9c, 0xe4, 0x84, 0x22, 0x23, 0x25)
-	torn := [][]byte{append(append([]byte{}, whole...), 0), nothing}
+	// One byte too many; and no store, with the hash of nothing, in both forms.
+	hash := []byte{0xcb, 0xf2, 0x9c, 0xe4, 0x84, 0x22, 0x23, 0x25}
+	torn := [][]byte{
+		append(append([]byte{}, whole...), 0), join([]byte("rtrkept1"), hash),
+		join([]byte("rtrkept2"), make([]byte, 8), hash),
+	}
 	for i := range whole {
 		torn = append(torn, whole[:i], changed(whole, i, whole[i]^1))
 	}
@@ -92,7 +104,7 @@ func TestServerTorn(t *testing.T) {
 			t.Fatalf("%x: %v", input, err)
 		}
 	}
-	if server.present.Load().full {
+	if !server.Data().IsZero() {
 		t.Fatal("data of a torn file")
 	}
 }
@@ -109,12 +121,12 @@ func TestUpdateSaved(t *testing.T) {
 			t.Fatal(err)
 		}
 		again := NewServer()
-		if data, err := again.Restore(path); err != nil || !bytes.Equal(data.Bytes(), sequence) {
+		if data, err := again.Restore(path); err != nil || !data.Equal(inHighest(t, sequence)) {
 			t.Fatal(data, err)
 		}
 	}
 	err := server.UpdateSaved(parsed(t, all[2]), folder+"/none/kept")
-	if !errors.Is(err, os.ErrNotExist) || server.present.Load().data.Serial() != 2 {
+	if !errors.Is(err, os.ErrNotExist) || server.Data().Serial() != 2 {
 		t.Fatal(err)
 	}
 	if err := server.UpdateSaved(parsed(t, all[1]), folder+"/none/kept"); err != nil {
@@ -139,8 +151,8 @@ func TestRenameFails(t *testing.T) {
 			t.Errorf("%s: %v", name, err)
 		}
 		err := server.UpdateSaved(parsed(t, all[1]), path)
-		if !errors.As(err, new(*os.LinkError)) || server.present.Load().data.Serial() != 1 {
-			t.Errorf("%s: %v, serial %d", name, err, server.present.Load().data.Serial())
+		if !errors.As(err, new(*os.LinkError)) || server.Data().Serial() != 1 {
+			t.Errorf("%s: %v, serial %d", name, err, server.Data().Serial())
 		}
 		if info, err := os.Stat(path); err != nil || !info.IsDir() {
 			t.Errorf("%s: %v", name, err)
@@ -174,7 +186,7 @@ func TestWatchSameTime(t *testing.T) {
 	for _, input := range sequences(1, 1, 1, 1) {
 		overwrite(t, w.path, input)
 		w.check()
-		if *last != nil || !bytes.Equal(w.server.present.Load().data.Bytes(), input) {
+		if *last != nil || !w.server.Data().Equal(inHighest(t, input)) {
 			t.Fatal(*last)
 		}
 		*last = errFailed
@@ -234,7 +246,7 @@ func TestWatchFull(t *testing.T) {
 		t.Fatal(err, again)
 	}
 	w.check()
-	if *last != nil || w.server.present.Load().data.Serial() != 1 {
+	if *last != nil || w.server.Data().Serial() != 1 {
 		t.Fatal(*last)
 	}
 	release = withoutDescriptors(t)

@@ -4,8 +4,8 @@ package rtr
 
 import "time"
 
-// ClientLimits limit the time and the memory that a cache can cost a Client. Zero stands for the
-// default.
+// ClientLimits limit the time and the memory that a cache can cost a Client. Zero, or less, stands for
+// the default.
 type ClientLimits struct {
 	Dial     time.Duration // to connect, at most
 	Response time.Duration // from a query to the end of data that answers it, at most
@@ -29,7 +29,7 @@ func usualClientLimits() ClientLimits {
 	}
 }
 
-// orUsual returns the limits, with the default for each that is zero.
+// orUsual returns the limits, with the default for each that is zero or negative.
 func (l ClientLimits) orUsual() ClientLimits {
 	usual := usualClientLimits()
 	return ClientLimits{
@@ -42,9 +42,9 @@ func (l ClientLimits) orUsual() ClientLimits {
 	}
 }
 
-// unlessZero returns a limit, or its default if it is zero.
+// unlessZero returns a limit, or its default if it is zero or negative.
 func unlessZero[T time.Duration | int | uint64](set, usual T) T {
-	if set == 0 {
+	if set <= 0 {
 		return usual
 	}
 	return set

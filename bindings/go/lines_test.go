@@ -4,6 +4,7 @@ package rtr
 
 import (
 	"errors"
+	"net/netip"
 	"strings"
 	"testing"
 )
@@ -23,5 +24,33 @@ func TestLongLines(t *testing.T) {
 	}
 	if _, _, err := UnitLine(nil, []byte{1, 5, 0, 0, 0, 0, 0, 8}, 0); !errors.Is(err, UnitType) {
 		t.Error(err)
+	}
+}
+
+// A loop appends the lines of its units to what the buffer has, however long they are.
+func TestAppendedLines(t *testing.T) {
+	key := &Unit{Kind: RouterKey, Version: 1, Announce: true, KeyInfo: make([]byte, 4*lineRoom)}
+	prefix := &Unit{Kind: IPv4Prefix, Version: 1, Announce: true, MaxLength: 8,
+		Prefix: netip.MustParsePrefix("10.0.0.0/8")}
+	end := &Unit{Kind: EndOfData, Version: 1, Session: 1, Serial: 1}
+	var sequence []byte
+	for _, unit := range []*Unit{prefix, key, end} {
+		var err error
+		if sequence, err = unit.AppendBinary(sequence); err != nil {
+			t.Fatal(err)
+		}
+	}
+	units := &Units{rest: sequence}
+	for _, want := range []*Unit{prefix, key} {
+		if !units.Scan() {
+			t.Fatal("no unit")
+		}
+		line, object := units.AppendLine([]byte("1 ")), units.AppendJSON([]byte("2 "))
+		if string(line) != "1 "+ChangeLine(want) || string(object) != "2 "+ChangeJSON(want) {
+			t.Errorf("%.80s, %.80s", line, object)
+		}
+	}
+	if units.Scan() {
+		t.Error("an end of data is no payload")
 	}
 }

@@ -2,50 +2,42 @@
 
 package rtr
 
-// #include "rtr.h"
+// #include "calls.h"
 import "C"
 
 import (
 	"io"
 	"net"
-	"os"
 	"sync"
 	"syscall"
 	"time"
 )
 
-// The least size of a connection's send buffer. Data of at least this size are sent from a file in
-// memory.
-const chunk = 1 << 16
-
-// The bytes per write if the connection can't report a partial write at a deadline: the size of a
-// TLS record.
-const tlsRecord = 1 << 14
-
 // A deadline in the past: it interrupts a read or a write.
 var passed = time.Unix(1, 0)
 
-// served is a client of a Server: its connection, and the proved machine of rtr.h, which decides
-// the answers. It holds no data: all clients share the edition.
+// served is a client of a Server: its connection, and two proved machines of rtr.h. One decides the
+// answers, the other when the connection sends, waits and ends. All clients share the editions.
 type served struct {
 	server     *Server
 	connection net.Conn
 	raw        syscall.RawConn // the socket, if the connection is one
 	counter    Counter         // the connection, if it counts written bytes
-	cache      C.struct_rtr_cache
-	present    C.struct_rtr_present // session and serial number of its edition
-	serving    C.struct_rtr_serving // the machine's last action
-	input      []byte               // received and not handled; in buffer, if it fits
-	buffer     [64]byte
-	offset     int64  // of the input in all received bytes
-	began      uint64 // when the first unit of the input began to come
-	closed     error  // why nothing more comes
+	refused    bool            // it gets a report that there are too many connections
+
+	cache   C.struct_rtr_cache
+	pace    C.struct_rtr_connection
+	serving C.struct_rtr_serving // the last result of the cache
+	newest  *edition             // the newest edition that was looked at
+	reply   reply                // what is being sent
+	input   []byte               // received and not handled; in buffer, if it fits
+	buffer  [64]byte
+	offset  int64 // of the input in all received bytes
+	closed  error // why nothing more comes
 
 	lock    sync.Mutex
-	edition mark   // of the edition that is being sent
-	woken   bool   // there may be a newer edition
-	long    bool   // more than a chunk of the edition is being written
-	cut     error  // why no more of the edition is written
+	woken   bool   // there may be a newer edition, or the server is closed
+	sending bool   // a write may wait; cache and pace don't change until it returns
 	last    bool   // nothing is written any more but a report
 	shaking func() // interrupts a handshake; nil without one
 }
@@ -55,14 +47,8 @@ type served struct {
 // nil if they are a file's.
 type Counter interface{ Wrote(bytes []byte, sent int) }
 
-// usualCacheSettings returns the defaults.
-func usualCacheSettings() (usual C.struct_rtr_cache_settings) {
-	C.rtr_cache_settings_usual(&usual)
-	return usual
-}
-
 func newServed(server *Server, connection net.Conn) *served {
-	c := &served{server: server, connection: connection}
+	c := &served{server: server, connection: connection, newest: server.present.Load()}
 	if socket, ok := connection.(syscall.Conn); ok {
 		c.raw, _ = socket.SyscallConn()
 		c.counter, _ = connection.(Counter)
@@ -71,233 +57,162 @@ func newServed(server *Server, connection net.Conn) *served {
 		c.shaking = func() {} // serve checks whether the server is closed
 	}
 	c.input = c.buffer[:0]
-	settings := usualCacheSettings()
-	settings.first_limit = milliseconds(server.Limits.First)
-	settings.idle_limit = milliseconds(server.Limits.Idle)
-	settings.pause = milliseconds(server.Limits.Notify)
-	settings.refuses = C.bool(server.Limits.Refuse)
-	C.rtr_cache_init(&c.cache, C.uint64_t(server.clock.now()), &settings)
+	settings := server.Limits.settings()
+	C.rtr_cache_init(&c.cache, c.now(), &settings.cache)
+	C.rtr_connection_init(&c.pace, c.now(), &settings)
 	return c
 }
 
-// wake signals a newer edition, or that the server is closed. It doesn't block.
-func (c *served) wake(present mark) {
+func (c *served) now() C.uint64_t { return C.uint64_t(c.server.clock.now()) }
+
+// wake signals a newer edition, or that the server is closed. It doesn't block. It interrupts a
+// write only to end the connection, since TLS can't continue after that.
+func (c *served) wake(newest *edition) {
 	c.lock.Lock()
 	defer c.lock.Unlock()
 	if c.last {
 		return
 	}
 	c.woken = true
-	if c.shaking != nil {
+	switch {
+	case c.shaking != nil:
 		if c.server.closed.Load() {
 			c.shaking()
 		}
-		return
-	}
-	c.connection.SetReadDeadline(passed)
-	if why := c.edition.behind(present); why == ErrSessionEnded || why != nil && c.long {
-		c.cut = why
+	case !c.sending:
+		c.connection.SetReadDeadline(passed)
+	case c.nextWith(newest).result == C.RTR_STEP_CLOSE:
 		c.connection.SetWriteDeadline(passed)
 	}
 }
 
-// look moves the client to the present edition, and returns it.
-func (c *served) look() *edition {
+// look loads the newest edition. A later one wakes the client.
+func (c *served) look() {
 	c.lock.Lock()
 	defer c.lock.Unlock()
-	e := c.server.present.Load()
-	c.edition, c.woken, c.long, c.cut = e.mark, false, false, nil
-	c.present.has, c.present.session = C.bool(e.full), C.uint16_t(e.session)
-	c.present.serial = C.uint32_t(e.data.Serial())
-	return e
+	c.woken = false
+	c.newest = c.server.present.Load()
 }
 
-// serve answers queries until the connection ends, and returns the reason.
+// nextWith returns the next step if this is the newest edition, an rtr_step, with an rtr_cut.
+func (c *served) nextWith(newest *edition) C.struct_connection_next_result {
+	return C.connection_next(c.pace, c.now(), c.cache, newest.present, newest.number)
+}
+
+// wakes returns the deadline of the present step.
+func (c *served) wakes() time.Time {
+	until := C.connection_wakes(c.pace, c.cache, c.newest.present)
+	return c.server.clock.at(uint64(until))
+}
+
+// serve serves the client until the connection ends, and returns the reason; nil if the client
+// closed it.
 func (c *served) serve() error {
+	defer c.release()
 	if err := c.shake(); err != nil {
 		return err
 	}
-	for c.serving.kind != C.RTR_SERVE_END {
-		e := c.look()
-		if c.server.closed.Load() {
-			return ErrServerClosed
-		}
-		switch c.tell(e.known); c.serving.kind {
-		case C.RTR_SERVE_END:
-		case C.RTR_SERVE_WAIT:
-			c.receive()
-		default:
-			if err := c.answer(e); err != nil {
-				c.input, c.closed = nil, err
+	if c.refused {
+		C.rtr_cache_full(&c.cache, c.now(), &c.newest.present, &c.serving)
+		c.end()
+	}
+	for {
+		if !c.last && c.pace.unsent == 0 {
+			c.look()
+			if c.server.closed.Load() {
+				return ErrServerClosed
 			}
 		}
-	}
-	c.lock.Lock()
-	c.last = true
-	c.lock.Unlock()
-	sendLast(c.connection, c.opening(), c.server.Limits.Unit)
-	return c.why()
-}
-
-// refuse ends the connection, since the limit of clients is reached.
-func (c *served) refuse() {
-	C.rtr_cache_full(&c.cache, C.uint64_t(c.server.clock.now()), &c.present, &c.serving)
-}
-
-// tell passes an event to the machine: a unit, the end of the connection, or the time. known are the
-// serial numbers that have deltas.
-func (c *served) tell(known []C.uint32_t) {
-	now := C.uint64_t(c.server.clock.now())
-	if len(c.input) > 0 {
-		in, n := cBytes(c.input)
-		C.rtr_cache_read(&c.cache, now, &c.present, firstOf(known), C.size_t(len(known)), in, n,
-			C.bool(c.closed != nil), &c.serving)
-		if c.serving.kind != C.RTR_SERVE_WAIT {
-			return
+		next := c.nextWith(c.newest)
+		if next.result == C.RTR_STEP_CLOSE {
+			return c.why(next.cut)
 		}
-	} else if c.closed != nil {
-		C.rtr_cache_lost(&c.cache, now, &c.present, &c.serving)
-		return
+		if err := c.take(next.result); err != nil {
+			return err
+		}
 	}
-	C.rtr_cache_tick(&c.cache, now, &c.present, &c.serving)
 }
 
-// answer carries out the machine's action, and drops the unit that it answers from the input.
-func (c *served) answer(e *edition) (err error) {
-	var body piece
-	switch version := uint8(c.serving.version); {
-	case c.serving.kind == C.RTR_SERVE_ALL && c.raw != nil:
-		defer e.sent()
-		body, err = e.file(version)
-	case c.serving.kind == C.RTR_SERVE_ALL:
-		body, err = e.form(version)
-	case c.serving.kind == C.RTR_SERVE_CHANGES:
-		body.bytes, err = e.since(version, uint32(c.serving.serial))
+// take takes a step, an rtr_step.
+func (c *served) take(step C.uint8_t) error {
+	switch step {
+	case C.RTR_STEP_WAIT:
+		c.receive()
+		return nil
+	case C.RTR_STEP_SEND:
+		return c.send()
+	case C.RTR_STEP_FINISH:
+		c.finish()
+		return nil
 	}
-	if err == nil {
-		opening := c.opening()
-		c.logs(LevelDebug, "answers", "unit", Kind(opening[1]), "version", opening[0])
-		err = c.write(piece{bytes: opening}, body)
+	c.tell(step)
+	switch c.serving.kind {
+	case C.RTR_SERVE_WAIT:
+		c.skip(int(c.serving.taken))
+		return nil
+	case C.RTR_SERVE_END:
+		c.end()
+		return nil
 	}
-	data := c.serving.kind == C.RTR_SERVE_ALL || c.serving.kind == C.RTR_SERVE_CHANGES
-	if err == nil && data {
-		c.logs(LevelDebug, "answered", "session", e.session, "serial", e.data.Serial())
+	return c.begin(c.newest)
+}
+
+// tell passes an event to the cache: a unit, the end of the connection, or the time.
+func (c *served) tell(step C.uint8_t) {
+	now, present := c.now(), &c.newest.present
+	switch step {
+	case C.RTR_STEP_HEAR:
+		in, n := cBytes(c.input)
+		known := c.newest.known
+		C.rtr_cache_read(&c.cache, now, present, firstOf(known), C.size_t(len(known)), in, n,
+			C.bool(c.closed != nil), &c.serving)
+		C.rtr_connection_heard(&c.pace, now, c.serving.taken)
+	case C.RTR_STEP_LOSE:
+		C.rtr_cache_lost(&c.cache, now, present, &c.serving)
+	default:
+		C.rtr_cache_tick(&c.cache, now, present, &c.serving)
 	}
-	taken := int(c.serving.taken)
+}
+
+// skip drops the unit that was answered from the input.
+func (c *served) skip(taken int) {
 	c.input, c.offset = append(c.buffer[:0], c.input[taken:]...), c.offset+int64(taken)
-	c.began = c.server.clock.now()
-	return err
-}
-
-// opening returns the first unit of an answer, or the report that is owed.
-func (c *served) opening() []byte {
-	if !c.serving.reports {
-		output := make([]byte, serialSize)
-		out, capacity := cBytes(output)
-		return output[:C.rtr_cache_unit(&c.serving, out, capacity)]
-	}
-	output := make([]byte, longestUnit)
-	in, n := cBytes(c.input)
-	out, capacity := cBytes(output)
-	var written C.size_t
-	C.rtr_cache_report(&c.serving, in, n, out, capacity, &written)
-	return output[:written]
 }
 
 // receive waits until bytes come, wake is called, or a deadline has passed.
 func (c *served) receive() {
-	until := uint64(C.rtr_cache_wakes(&c.cache, &c.present))
-	late := c.began + uint64(c.server.Limits.Unit.Milliseconds())
-	if len(c.input) > 0 && late < until {
-		until = late
-	}
 	if len(c.input) == cap(c.input) {
 		c.input = append(c.input, 0)[:len(c.input)]
 	}
-	c.lock.Lock()
-	if !c.woken {
-		c.connection.SetReadDeadline(c.server.clock.at(until))
+	if !c.mayRead() {
+		return
 	}
-	c.lock.Unlock()
 	n, err := c.connection.Read(c.input[len(c.input):cap(c.input)])
-	if len(c.input) == 0 {
-		c.began = c.server.clock.now()
-	}
 	c.input = c.input[:len(c.input)+n]
-	switch {
-	case n > 0 || err == nil:
-	case !isTimeout(err):
+	C.rtr_connection_received(&c.pace, c.now(), C.size_t(n))
+	if n == 0 && err != nil && !isTimeout(err) {
 		c.closed = err
-	case len(c.input) > 0 && c.server.clock.now() >= late:
-		c.input, c.closed = nil, ErrTooSlow
+		C.rtr_connection_closed(&c.pace)
 	}
 }
 
-// write writes the parts of an answer, within Limits.Response for all of it and Limits.Write for
-// each write.
-func (c *served) write(parts ...piece) error {
-	deadline := c.server.clock.time().Add(c.server.Limits.Response)
-	for i := range parts {
-		part := &parts[i]
-		for slow := false; part.size() > 0; {
-			if err := c.allow(deadline, part.size() > chunk); err != nil {
-				return err
-			}
-			if slow {
-				return ErrTooSlow
-			}
-			sent, err := c.writeSome(part)
-			if slow = isTimeout(err); err != nil && !slow {
-				return err
-			}
-			part.skip(sent)
-		}
-	}
-	return nil
-}
-
-// writeSome writes some of a part. It returns a timeout if nothing was sent before the deadline.
-func (c *served) writeSome(part *piece) (sent int, err error) {
-	if c.raw == nil {
-		// At a deadline a write may have been sent in part, and TLS can't continue it.
-		bytes := part.bytes
-		if len(bytes) > tlsRecord {
-			bytes = bytes[:tlsRecord]
-		}
-		return c.connection.Write(bytes)
-	}
-	failed := c.raw.Write(func(socket uintptr) bool {
-		sent, err = part.send(int(socket))
-		return err != syscall.EAGAIN && err != syscall.EINTR
-	})
-	switch {
-	case failed != nil:
-		return 0, failed
-	case err != nil:
-		return 0, os.NewSyscallError("write", err)
-	}
-	if c.counter != nil {
-		c.counter.Wrote(part.bytes, sent)
-	}
-	return sent, nil
-}
-
-// allow sets the deadline of the next write, or returns the reason not to write the rest.
-func (c *served) allow(deadline time.Time, long bool) error {
+// mayRead sets the deadline of a read, and reports whether wake wasn't called before.
+func (c *served) mayRead() bool {
+	until := c.wakes()
 	c.lock.Lock()
 	defer c.lock.Unlock()
-	c.long = c.long || long
-	if next := c.server.clock.time().Add(c.server.Limits.Write); next.Before(deadline) {
-		deadline = next
+	if !c.woken {
+		c.connection.SetReadDeadline(until)
 	}
-	if c.cut == nil {
-		c.connection.SetWriteDeadline(deadline)
-	}
-	return c.cut
+	return !c.woken
 }
 
-// why returns the error for the machine's reason; nil if the client closed the connection.
-func (c *served) why() error {
+// why returns the error for the limit that ended the connection, or for the cache's reason; nil if
+// the client closed the connection.
+func (c *served) why(cut C.uint8_t) error {
+	if err, ok := cuts[cut]; ok {
+		return err
+	}
 	switch c.serving.reason {
 	case C.RTR_REASON_LOST:
 		if c.server.closed.Load() {
@@ -308,7 +223,7 @@ func (c *served) why() error {
 		}
 		return c.closed
 	case C.RTR_REASON_REPORTED:
-		return reportedIn(c.input)
+		return reportedIn(c.input, true)
 	case C.RTR_REASON_FAULTY:
 		status, detail := Status(c.serving.status), uint8(c.serving.detail)
 		return owned(refusal(status, detail, c.input, c.offset))

@@ -2,6 +2,9 @@
 
 package rtr
 
+// #include "calls.h"
+import "C"
+
 import (
 	"context"
 	"errors"
@@ -23,8 +26,9 @@ type ServerLimits struct {
 	Write       time.Duration // for which a client may receive nothing of an answer
 	Response    time.Duration // for a whole response
 	Notify      time.Duration // between two notifies to a client, at least
-	Keep        time.Duration // for which old data have deltas after newer data came, at least
-	KeepBytes   int           // kept for these, at most; and as many for the computed deltas
+	// For which the changes from old data are kept after newer data came; the last ones always are.
+	Keep      time.Duration
+	KeepBytes int // kept for these, at most, with 16 for each; and as many for the computed deltas
 	// Whether to answer a serial query that has no delta with a report of code 0 instead of a cache
 	// reset: for routers that wait after a reset, as BIRD 2.0 does.
 	Refuse bool
@@ -47,12 +51,15 @@ type Server struct {
 	once     sync.Once
 	clock    clock
 	present  atomic.Pointer[edition]
-	updating sync.Mutex
+	updating sync.Mutex // guards the store
+	store    store
 
 	lock      sync.Mutex
 	listeners map[net.Listener]bool
 	clients   map[*served]bool
-	refused   int // the number of clients above the limit
+	opening   sync.Once
+	door      C.struct_rtr_door // counts the clients, and decides which ones are served
+	left      sync.Cond         // a client left, or the server was closed
 	closed    atomic.Bool
 	running   sync.WaitGroup
 }
@@ -76,6 +83,8 @@ func (s *Server) ready() {
 		}
 		s.clock = newClock()
 		s.listeners, s.clients = map[net.Listener]bool{}, map[*served]bool{}
+		s.left.L = &s.lock
+		s.store = newStore()
 		s.present.Store(new(edition))
 	})
 }
@@ -86,30 +95,15 @@ func (l ServerLimits) areUnset() bool {
 	return l == ServerLimits{}
 }
 
-// usualServerLimits returns the defaults.
-func usualServerLimits() ServerLimits {
-	usual := usualCacheSettings()
-	return ServerLimits{
-		Connections: 1024,
-		First:       span(usual.first_limit),
-		Unit:        10 * time.Second,
-		Idle:        span(usual.idle_limit),
-		Write:       30 * time.Second,
-		Response:    10 * time.Minute,
-		Notify:      span(usual.pause),
-		Keep:        usualExpire * time.Second,
-		KeepBytes:   1 << 26,
-	}
-}
-
 // Update gives the server new data, and notifies its clients. Connections of clients that have data
 // of another session are closed. If the data are the present ones, nothing happens.
 //
 // Serial number 0 is logged as a warning: after a cut in the first answer BIRD 2.0 asks for the
 // changes since serial number 0, and keeps the part of the data that it has.
 //
-// Errors: ErrSameSerial or ErrNewTiming; ErrTiming for times that RFC 8210 section 6 doesn't allow;
-// a Fault with Short for the zero Data; ErrServerClosed after Close or Shutdown.
+// Errors: ErrSameSerial, ErrNewTiming or ErrSessionLeft; ErrTiming for times that RFC 8210 section 6
+// doesn't allow; a Fault with Short for the zero Data, or with UnitVersion for data of a version
+// above that of the file that Restore loaded; ErrServerClosed after Close or Shutdown.
 func (s *Server) Update(data Data) error {
 	return s.update(data, nothingSaved, func() {})
 }
@@ -120,15 +114,35 @@ func (s *Server) Update(data Data) error {
 //
 // Errors: those of Update, and those of the file; then nothing changes.
 func (s *Server) UpdateSaved(data Data, path string) error {
-	return s.update(data, func(next *edition) error { return next.save(path) }, func() {})
+	return s.update(data, func(store []byte) error { return saveStore(store, path) }, func() {})
 }
 
 // nothingSaved saves nothing.
-func nothingSaved(*edition) error { return nil }
+func nothingSaved([]byte) error { return nil }
 
-// update is Update with two hooks: save runs before the next edition is served, and before runs
-// when the old data aren't served any more, before clients are notified.
-func (s *Server) update(data Data, save func(*edition) error, before func()) error {
+// Data returns the data that are served; the zero Data before the first.
+func (s *Server) Data() Data {
+	s.ready()
+	return s.present.Load().data
+}
+
+// Changes returns the changes from the present data to new ones of the same session and version, as
+// Delta does: for a program that decides by them whether to serve the new data. If Update serves
+// these next, clients get the changes without another computation.
+//
+// Errors: those of Delta.
+func (s *Server) Changes(data Data) ([]byte, error) {
+	present := s.Data()
+	changes, err := Delta(present, data)
+	if err == nil {
+		data.lookup.noteChanges(present.lookup, changes)
+	}
+	return changes, err
+}
+
+// update is Update with two hooks: save runs with the store of the new data before they are served,
+// and before runs when the old data aren't served any more, before clients are notified.
+func (s *Server) update(data Data, save func(store []byte) error, before func()) error {
 	if data.IsZero() {
 		return &Fault{Status: Short, Offset: -1}
 	}
@@ -142,13 +156,21 @@ func (s *Server) update(data Data, save func(*edition) error, before func()) err
 		return ErrServerClosed
 	}
 	present := s.present.Load()
-	next, err := present.next(data, s.Limits)
-	if err != nil || next == present {
+	form, err := present.alike(data)
+	if err != nil {
 		return err
 	}
-	next.prepare(present)
-	if err := save(next); err != nil {
+	if answer := s.store.take(form, s.Limits); answer.status != C.RTR_STORES_OK {
+		return present.refused(form, answer)
+	}
+	if err := save(s.store.toSave()); err != nil {
+		s.store.giveUp()
 		return err
+	}
+	s.store.saved()
+	next := s.edition(present.number + 1)
+	if changes := form.lookup.changesFrom(present.data.lookup); len(next.known) > 0 {
+		next.keep(question{form.Version(), present.data.Serial()}, changes)
 	}
 	s.present.Store(next)
 	present.replaced()
@@ -156,6 +178,12 @@ func (s *Server) update(data Data, save func(*edition) error, before func()) err
 	s.logs(data)
 	s.wake()
 	return nil
+}
+
+// edition returns the edition of what the store serves.
+func (s *Server) edition(number C.uint64_t) *edition {
+	_, history := s.store.served()
+	return newEdition(number, history, s.Limits)
 }
 
 // servable returns an error if a cache may not serve the data. Data of version 0 have no times;
@@ -180,9 +208,11 @@ func (s *Server) logs(data Data) {
 func (s *Server) wake() {
 	s.lock.Lock()
 	defer s.lock.Unlock()
+	newest := s.present.Load()
 	for client := range s.clients {
-		client.wake(s.present.Load().mark)
+		client.wake(newest)
 	}
+	s.left.Broadcast()
 }
 
 // How many errors of a listener in a row are tolerated, and the pause after one.
@@ -192,30 +222,23 @@ const (
 )
 
 // Serve accepts the clients of a listener until the server is closed, and closes the listener.
+// While as many clients as Limits.Connections are served, further ones get a report; once many of
+// these haven't left, the next ones wait in the queue of the system.
 //
 // Errors: ErrServerClosed; that of the listener, after ten in a row. Errors don't count while the
 // system has no descriptor for another connection.
-func (s *Server) Serve(listener net.Listener) (err error) {
+func (s *Server) Serve(listener net.Listener) error {
 	defer listener.Close()
 	s.ready()
-	s.lock.Lock()
-	if s.closed.Load() {
-		s.lock.Unlock()
+	if !s.enter(listener) {
 		return ErrServerClosed
 	}
-	s.listeners[listener] = true
-	s.running.Add(1)
-	s.lock.Unlock()
+	defer s.leave(listener)
 	s.Log.write(LevelInfo, "listening", "address", listener.Addr())
-	defer func() {
-		s.lock.Lock()
-		delete(s.listeners, listener)
-		s.lock.Unlock()
-		s.running.Done()
-	}()
-	for failures := 0; failures < mostFailures; {
-		var connection net.Conn
-		if connection, err = listener.Accept(); err == nil {
+	for failures := 0; ; {
+		s.awaitDoor()
+		connection, err := listener.Accept()
+		if err == nil {
 			failures = 0
 			s.take(connection)
 			continue
@@ -226,9 +249,41 @@ func (s *Server) Serve(listener net.Listener) (err error) {
 		if !isFull(err) {
 			failures++
 		}
+		if failures == mostFailures {
+			return err
+		}
 		time.Sleep(pause)
 	}
-	return err
+}
+
+// enter notes a listener, and reports whether the server isn't closed.
+func (s *Server) enter(listener net.Listener) bool {
+	s.lock.Lock()
+	defer s.lock.Unlock()
+	if s.closed.Load() {
+		return false
+	}
+	s.opening.Do(func() { C.door_init(&s.door, s.Limits.settings()) })
+	s.listeners[listener] = true
+	s.running.Add(1)
+	return true
+}
+
+// leave drops a listener.
+func (s *Server) leave(listener net.Listener) {
+	s.lock.Lock()
+	defer s.lock.Unlock()
+	delete(s.listeners, listener)
+	s.running.Done()
+}
+
+// awaitDoor waits until another client would be served or refused, or the server is closed.
+func (s *Server) awaitDoor() {
+	s.lock.Lock()
+	defer s.lock.Unlock()
+	for !s.closed.Load() && C.door_next(s.door, true) == C.RTR_ENTRY_WAIT {
+		s.left.Wait()
+	}
 }
 
 // isFull reports whether the system has no descriptor for another connection.
@@ -238,9 +293,6 @@ func isFull(err error) bool {
 		why == syscall.ENOBUFS || why == syscall.ENOMEM)
 }
 
-// The most clients above the limit that are sent a report at once; further ones are closed.
-const mostRefused = 64
-
 // The size of a connection's send buffer: with a smaller one a goroutine waits more often.
 const writeBuffer = 1 << 17
 
@@ -249,34 +301,39 @@ func (s *Server) take(connection net.Conn) {
 	if tcp, ok := connection.(*net.TCPConn); ok {
 		tcp.SetWriteBuffer(writeBuffer)
 	}
-	client, refused := newServed(s, connection), 0
+	client := newServed(s, connection)
 	s.lock.Lock()
 	defer s.lock.Unlock()
-	if len(s.clients)-s.refused >= s.Limits.Connections {
-		client.refuse()
-		refused = 1
-	}
-	if s.closed.Load() || s.refused+refused > mostRefused {
+	if s.closed.Load() {
 		connection.Close()
 		return
 	}
-	s.clients[client] = true
-	s.refused += refused
-	s.running.Add(1)
-	go func() {
-		defer s.running.Done()
-		client.logs(LevelDebug, "connected")
-		err := client.serve()
+	entry := C.rtr_door_enter(&s.door, true)
+	if entry == C.RTR_ENTRY_WAIT { // another listener's client was faster
 		connection.Close()
-		client.logs(LevelInfo, "ended", "error", err)
-		s.lock.Lock()
-		delete(s.clients, client)
-		s.refused -= refused
-		s.lock.Unlock()
-		if err != nil && s.Ended != nil {
-			s.Ended(connection.RemoteAddr(), err)
-		}
-	}()
+		return
+	}
+	client.refused = entry == C.RTR_ENTRY_REFUSE
+	s.clients[client] = true
+	s.running.Add(1)
+	go s.serve(client, entry)
+}
+
+// serve serves a client that the door let in, and closes its connection.
+func (s *Server) serve(client *served, entry C.uint8_t) {
+	defer s.running.Done()
+	client.logs(LevelDebug, "connected")
+	err := client.serve()
+	client.connection.Close()
+	client.logs(LevelInfo, "ended", "error", err)
+	s.lock.Lock()
+	delete(s.clients, client)
+	C.rtr_door_leave(&s.door, entry)
+	s.left.Broadcast()
+	s.lock.Unlock()
+	if err != nil && s.Ended != nil {
+		s.Ended(client.connection.RemoteAddr(), err)
+	}
 }
 
 // Close closes all listeners and connections, and returns when all goroutines of the server have

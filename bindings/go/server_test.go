@@ -115,8 +115,8 @@ func stepsBack(t *testing.T, connection net.Conn, serial uint32) (count uint32) 
 	return count
 }
 
-// Changes are kept for a time, and up to a number of bytes. Each of these changes has an announced
-// and a withdrawn prefix, and an end of data: 64 bytes.
+// Changes are kept for a time, and up to a number of bytes; the last ones for any time. Each of
+// these has an announced and a withdrawn prefix, and an end of data: 64 bytes, behind 16 others.
 func TestServerKeeps(t *testing.T) {
 	noLeaks(t)
 	all := sequences(1, 1, 1, 1, 1, 1, 1, 1, 1, 1, 1, 1)
@@ -124,8 +124,8 @@ func TestServerKeeps(t *testing.T) {
 		bytes, count int
 		time         time.Duration
 	}{
-		{1 << 20, 11, time.Hour}, {11 * 64, 11, time.Hour}, {11*64 - 1, 10, time.Hour},
-		{64, 1, time.Hour}, {63, 0, time.Hour}, {1 << 20, 0, 0},
+		{1 << 20, 11, time.Hour}, {11 * 80, 11, time.Hour}, {11*80 - 1, 10, time.Hour},
+		{80, 1, time.Hour}, {79, 0, time.Hour}, {1 << 20, 1, 0}, {0, 0, time.Hour},
 	} {
 		server, address := started(t, func(limits *ServerLimits) {
 			limits.KeepBytes, limits.Keep = row.bytes, row.time
@@ -134,6 +134,7 @@ func TestServerKeeps(t *testing.T) {
 			if err := server.Update(parsed(t, sequence)); err != nil {
 				t.Fatal(err)
 			}
+			time.Sleep(2 * time.Millisecond) // a step is kept in the millisecond in which it is made
 		}
 		if got := stepsBack(t, dial(t, address), 12); got != uint32(row.count) {
 			t.Fatalf("%+v: %d", row, got)

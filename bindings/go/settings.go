@@ -34,17 +34,68 @@ func usualSettings(version uint8) (usual settings) {
 	return usual
 }
 
+// usualServerLimits returns the defaults.
+func usualServerLimits() ServerLimits {
+	usual := usualServerSettings()
+	return ServerLimits{
+		Connections: int(usual.most_connections),
+		First:       span(usual.cache.first_limit),
+		Unit:        span(usual.unit_limit),
+		Idle:        span(usual.cache.idle_limit),
+		Write:       span(usual.write_limit),
+		Response:    span(usual.response_limit),
+		Notify:      span(usual.cache.pause),
+		Keep:        time.Duration(usual.keep) * time.Millisecond,
+		KeepBytes:   int(usual.keep_bytes),
+	}
+}
+
+// usualServerSettings returns the defaults of a server.
+func usualServerSettings() (usual C.struct_rtr_server_settings) {
+	C.rtr_server_settings_usual(&usual)
+	return usual
+}
+
+// settings returns the settings of a server with these limits. Those that ServerLimits lacks have
+// their defaults.
+func (l ServerLimits) settings() C.struct_rtr_server_settings {
+	s := usualServerSettings()
+	s.cache.first_limit = milliseconds(l.First)
+	s.cache.idle_limit = milliseconds(l.Idle)
+	s.cache.pause = milliseconds(l.Notify)
+	s.cache.refuses = C.bool(l.Refuse)
+	s.keep = C.uint64_t(atLeastZero(l.Keep.Milliseconds()))
+	s.keep_bytes = C.size_t(atLeastZero(l.KeepBytes))
+	s.unit_limit = milliseconds(l.Unit)
+	s.write_limit = milliseconds(l.Write)
+	s.response_limit = milliseconds(l.Response)
+	s.most_connections = C.uint32_t(within32(uint64(atLeastZero(l.Connections))))
+	return s
+}
+
 // span converts C's milliseconds.
 func span(milliseconds C.uint32_t) time.Duration {
 	return time.Duration(milliseconds) * time.Millisecond
 }
 
-// milliseconds converts a duration for C. Less than a millisecond becomes 1, since 0 means unset.
+// milliseconds converts a duration for C. Less than a millisecond becomes 1, since 0 means unset; a
+// negative duration becomes 0.
 func milliseconds(span time.Duration) C.uint32_t {
+	if span < 0 {
+		return 0
+	}
 	if 0 < span && span < time.Millisecond {
 		return 1
 	}
 	return C.uint32_t(within32(uint64(span.Milliseconds())))
+}
+
+// atLeastZero returns the number, or zero if it is negative.
+func atLeastZero[T int | int64](number T) T {
+	if number < 0 {
+		return 0
+	}
+	return number
 }
 
 // within32 returns the number, or the highest one of 32 bits.

@@ -59,9 +59,9 @@ func LoadData(path string) (Data, error) {
 // error if data couldn't be loaded; the server then keeps its data. After an error of the system it
 // retries at each interval, and reports the same error only once.
 //
-// Before new data are served it saves the editions that a restart needs beside the file, with
-// KeptSuffix after its name, and reports an error of that. When the server starts again, Restore
-// that file first.
+// Before new data are served it saves what a restart needs beside the file, with KeptSuffix after its
+// name. If that fails, the server keeps its data. When the server starts again, Restore that file
+// first.
 func (s *Server) Watch(
 	ctx context.Context, path string, interval time.Duration, report func(Data, error),
 ) {
@@ -87,7 +87,6 @@ type watcher struct {
 	report func(Data, error)
 	seen   stamp
 	failed string   // the last error of the system, as reported; "" if there was none
-	saved  error    // why the last edition wasn't saved
 	spare  *os.File // keeps a descriptor free for the file
 }
 
@@ -103,11 +102,10 @@ func (w *watcher) check() {
 	}
 	w.seen = now
 	w.spare.Close()
-	old := w.server.present.Load().mark
+	old := w.server.present.Load()
 	failed := w.load()
-	if present := w.server.present.Load(); present.mark != old {
+	if present := w.server.present.Load(); present != old {
 		w.report(present.data, nil)
-		failed = w.saved
 		debug.FreeOSMemory() // of slow clients that are closed now
 	}
 	w.spare, _ = os.Open(os.DevNull)
@@ -141,10 +139,9 @@ func (w *watcher) load() error {
 	return nil
 }
 
-// save saves an edition beside the file. After an error the edition is served anyway.
-func (w *watcher) save(next *edition) error {
-	w.saved = next.save(w.path + KeptSuffix)
-	return nil
+// save saves a store beside the file. After an error its data aren't served.
+func (w *watcher) save(store []byte) error {
+	return saveStore(store, w.path+KeptSuffix)
 }
 
 // stamp identifies the state of a file.

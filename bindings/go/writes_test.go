@@ -14,7 +14,7 @@ import (
 	"time"
 )
 
-// stalled is a connection that accepts only a part of each of the first writes, and then times out.
+// stalled is a connection that accepts all of some writes, then a part of one, and times out.
 type stalled struct {
 	net.Conn
 	takes     []int
@@ -46,8 +46,13 @@ func TestWriteTakenInPart(t *testing.T) {
 		connection := &stalled{takes: takes}
 		writes := len(takes)
 		c := newServed(NewServer(), connection)
-		err := c.write(piece{bytes: make([]byte, 1<<20)})
-		if !errors.Is(err, ErrTooSlow) || len(connection.takes) > 0 || connection.deadlines != writes+1 {
+		c.reply = reply{parts: [2]piece{{bytes: make([]byte, 1<<20)}}}
+		c.answers(0)
+		var err error
+		for err == nil {
+			err = c.send()
+		}
+		if !errors.Is(err, ErrTooSlow) || len(connection.takes) > 0 || connection.deadlines != writes {
 			t.Errorf("%s: %v after %d deadlines", name, err, connection.deadlines)
 		}
 	}
@@ -79,13 +84,13 @@ func writeToASocket(t *testing.T, part piece) {
 	defer connection.Close()
 	c := newServed(NewServer(), connection)
 	connection.SetWriteDeadline(time.Now().Add(time.Hour))
-	written, err := c.writeSome(&part)
+	written, err := c.writeSome(&part, true)
 	if err != nil || written <= tlsRecord || written == part.size() {
 		t.Fatal(written, err)
 	}
 	connection.SetWriteDeadline(time.Now().Add(50 * time.Millisecond))
 	for err == nil {
-		_, err = c.writeSome(&part)
+		_, err = c.writeSome(&part, true)
 	}
 	if !isTimeout(err) {
 		t.Fatal(err)
@@ -139,7 +144,11 @@ func TestFiledEdition(t *testing.T) {
 	if err != nil {
 		t.Fatal(err)
 	}
-	e := newEdition(0, data, nil, ServerLimits{})
+	server := NewServer()
+	if err := server.Update(data); err != nil {
+		t.Fatal(err)
+	}
+	e := server.present.Load()
 	isOpen := func(part piece) bool {
 		_, err := part.file.Stat()
 		return err == nil

@@ -200,3 +200,15 @@ func askingIn(client *Client, version uint8) *Client {
 	client.AskIn(version)
 	return client
 }
+
+// A negative duration is that of a client without one: the default holds.
+func TestNegativeDurations(t *testing.T) {
+	client := NewClient("")
+	client.Limits.Dial, client.Refresh = -time.Second, -time.Nanosecond
+	unset := NewClient("")
+	negative := settingsOf(client, client.Limits.orUsual(), 0)
+	wanted := settingsOf(unset, unset.Limits, 0)
+	if negative != wanted {
+		t.Errorf("got %+v, want %+v", negative, wanted)
+	}
+}

@@ -3,7 +3,6 @@
 package rtr
 
 import (
-	"encoding/hex"
 	"fmt"
 	"io"
 	"math"
@@ -11,14 +10,13 @@ import (
 	"os"
 	"strconv"
 	"strings"
-	"testing"
 	"time"
 )
 
-// playedCache is a scene of a cache: a connection with a simulated clock, and what the server does.
-type playedCache struct {
+// cacheEnd is a server, and its connection in a scene.
+type cacheEnd struct {
 	net.Conn // nil: other methods aren't called
-	steps    // connects, beyond, > for bytes, closes, breaks, data, forgets, at
+	*steps
 	server   *Server
 	client   *served
 	broken   bool
@@ -33,8 +31,8 @@ const (
 	toWrite
 )
 
-func newPlayedCache(of steps) transcript {
-	p := &playedCache{steps: of, server: NewServer()}
+func newCacheEnd(s *steps) sceneEnd {
+	p := &cacheEnd{steps: s, server: NewServer()}
 	begun := time.Unix(1<<30, 0)
 	p.server.clock = clock{begun, func() time.Time {
 		return begun.Add(time.Duration(p.clock) * time.Millisecond)
@@ -42,23 +40,23 @@ func newPlayedCache(of steps) transcript {
 	return p
 }
 
-func (p *playedCache) SetDeadline(until time.Time) error {
+func (p *cacheEnd) SetDeadline(until time.Time) error {
 	p.deadline = [2]time.Time{until, until}
 	return nil
 }
 
-func (p *playedCache) SetReadDeadline(until time.Time) error {
+func (p *cacheEnd) SetReadDeadline(until time.Time) error {
 	p.deadline[toRead] = until
 	return nil
 }
 
-func (p *playedCache) SetWriteDeadline(until time.Time) error {
+func (p *cacheEnd) SetWriteDeadline(until time.Time) error {
 	p.deadline[toWrite] = until
 	return nil
 }
 
 // until returns a deadline by the simulated clock.
-func (p *playedCache) until(which int) uint64 {
+func (p *cacheEnd) until(which int) uint64 {
 	if p.deadline[which].Before(p.server.clock.begun) {
 		return 0
 	}
@@ -66,7 +64,7 @@ func (p *playedCache) until(which int) uint64 {
 }
 
 // waits advances the clock to the next step, if the deadline doesn't come first.
-func (p *playedCache) waits(which int) error {
+func (p *cacheEnd) waits(which int) error {
 	until := p.until(which)
 	switch {
 	case len(p.pending) > 0:
@@ -89,7 +87,7 @@ func (p *playedCache) waits(which int) error {
 }
 
 // Read takes steps until bytes come, or the deadline passes.
-func (p *playedCache) Read(buffer []byte) (int, error) {
+func (p *cacheEnd) Read(buffer []byte) (int, error) {
 	p.pending, p.later = append(p.later, p.pending...), nil
 	for {
 		if err := p.waits(toRead); err != nil {
@@ -118,7 +116,7 @@ func (p *playedCache) Read(buffer []byte) (int, error) {
 
 // Write records what is written, as far as the router reads it, and takes steps until it reads
 // everything, or the deadline passes.
-func (p *playedCache) Write(bytes []byte) (int, error) {
+func (p *cacheEnd) Write(bytes []byte) (int, error) {
 	for written := 0; ; {
 		if p.broken {
 			return written, errBroken
@@ -128,9 +126,7 @@ func (p *playedCache) Write(bytes []byte) (int, error) {
 			taken = int(p.window)
 		}
 		p.window -= uint64(taken)
-		if err := p.sends(bytes[written : written+taken]); err != nil {
-			return written, err
-		}
+		p.sends("cache", bytes[written:written+taken])
 		if written += taken; written == len(bytes) {
 			return written, nil
 		}
@@ -145,33 +141,8 @@ func (p *playedCache) Write(bytes []byte) (int, error) {
 	}
 }
 
-// sends records units, or bytes for another end.
-func (p *playedCache) sends(bytes []byte) error {
-	if p.more != nil && len(bytes) > 0 {
-		p.notes("cache> %x", bytes)
-		return nil
-	}
-	for rest := bytes; len(rest) > 0; {
-		unit, after, err := Next(rest)
-		if err != nil {
-			return err
-		}
-		if unit.Kind == ErrorReport {
-			about := "-"
-			if len(unit.Enclosed) > 0 {
-				about = hex.EncodeToString(unit.Enclosed)
-			}
-			p.notes("cache> report %d %d %s %s", unit.Version, unit.Code, about, unit.Text)
-		} else {
-			p.notes("cache> %x", rest[:len(rest)-len(after)])
-		}
-		rest = after
-	}
-	return nil
-}
-
 // next takes a step that isn't about the connection.
-func (p *playedCache) next() error {
+func (p *cacheEnd) next() error {
 	s := p.pending[0]
 	p.pending = p.pending[1:]
 	if s.time > p.clock {
@@ -189,7 +160,7 @@ func (p *playedCache) next() error {
 		if err != nil {
 			return err
 		}
-		return p.server.Update(data)
+		return p.update(data)
 	case "forgets":
 		p.forgets(s.data)
 	case "saves":
@@ -201,23 +172,38 @@ func (p *playedCache) next() error {
 	return nil
 }
 
+// update gives the server data. For a scene that goes back to a session, the server forgets which
+// ones it left.
+func (p *cacheEnd) update(data Data) error {
+	err := p.server.Update(data)
+	if err == ErrSessionLeft {
+		p.server.store = newStore()
+		err = p.server.Update(data)
+	}
+	return err
+}
+
 // forgets drops the server's deltas from data up to a serial number.
-func (p *playedCache) forgets(serial []byte) {
+func (p *cacheEnd) forgets(serial []byte) {
 	present := p.server.present.Load()
-	for i, known := range present.known {
+	_, steps := firstPart(present.history)
+	kept := len(present.history) - len(steps)
+	for _, known := range present.known {
 		if fmt.Sprint(known) == string(serial) {
-			limits := p.server.Limits
-			p.server.present.Store(newEdition(present.number, present.data, present.back[:i], limits))
+			history := present.history[:kept]
+			p.server.present.Store(newEdition(present.number, history, p.server.Limits))
 		}
+		_, after := firstPart(steps)
+		kept, steps = kept+len(steps)-len(after), after
 	}
 }
 
 // play runs a server through the scene.
-func (p *playedCache) play() error {
+func (p *cacheEnd) play() error {
 	for p.has(math.MaxUint64) {
 		what := p.pending[0].what
 		if err := p.next(); err != nil {
-			return fmt.Errorf("%s: %w", p.name, err)
+			return err
 		}
 		if what != "connects" && what != "beyond" {
 			continue
@@ -225,62 +211,38 @@ func (p *playedCache) play() error {
 		p.client, p.broken = newServed(p.server, p), false
 		p.later, p.window = nil, math.MaxUint64
 		p.server.clients = map[*served]bool{p.client: true}
-		if what == "beyond" {
-			p.client.refuse()
-		}
+		p.client.refused = what == "beyond"
 		p.client.serve()
 		if !p.over {
-			p.notes("closes")
+			p.does("closes")
 		}
 		p.server.clients = map[*served]bool{}
 	}
-	return p.differs()
+	return nil
 }
 
-// take reads a line of the scene.
-func (p *playedCache) take(line string) error {
-	words := strings.Fields(line)
-	if words[0] == "cache" {
-		return p.set(append(words, "0")[1:3])
+// parse returns the name of a step of the router or the data, with its bytes or word.
+func (p *cacheEnd) parse(words []string) (what, with string) {
+	switch {
+	case words[0] == "router>":
+		return ">", strings.Join(words[1:], "")
+	case words[0] == "data":
+		return "data", strings.Join(words[2:len(words)-1], "")
+	case words[0] == "at":
+		return "at", ""
+	case words[0] != "router":
+		return words[0], words[1]
+	case len(words) == 3:
+		return words[1], words[2]
+	case len(words) > 3:
+		return "beyond", ""
 	}
-	if words[0] == "at" {
-		words = []string{words[1], "at"}
-	}
-	at, err := strconv.ParseUint(words[0], 10, 64)
-	if err != nil {
-		return err
-	}
-	s := step{time: at, what: words[1]}
-	switch rest := strings.Join(words[1:], " "); {
-	case rest == "router connects beyond the limit":
-		s.what = "beyond"
-	case words[1] == "router" && words[2] == "takes":
-		s.what, s.data = words[2], []byte(words[3])
-	case words[1] == "router":
-		s.what = words[2]
-	case words[1] == "router>":
-		s.what = ">"
-		s.data, err = hex.DecodeString(strings.Join(words[2:], ""))
-	case words[1] == "data":
-		s.data, err = hex.DecodeString(strings.Join(words[3:len(words)-1], ""))
-	case words[1] == "forgets" || words[1] == "saves" || words[1] == "restores":
-		s.data = []byte(words[2])
-	case words[1] == "cache>" && words[2] != "report":
-		p.expected = append(p.expected, words[0]+" cache> "+strings.Join(words[2:], ""))
-		return nil
-	case words[1] != "at":
-		p.expected = append(p.expected, strings.Join(words, " "))
-		return nil
-	}
-	p.pending = append(p.pending, s)
-	return err
+	return words[1], ""
 }
 
-// set reads a setting of the scene.
-func (p *playedCache) set(words []string) error {
-	number, err := strconv.ParseUint(words[1], 10, 64)
+func (p *cacheEnd) set(name string, number uint64) {
 	span := time.Duration(number) * time.Millisecond
-	switch words[0] {
+	switch name {
 	case "usual", "date":
 	case "first-limit":
 		p.server.Limits.First = span
@@ -293,12 +255,6 @@ func (p *playedCache) set(words []string) error {
 	case "keep-bytes":
 		p.server.Limits.KeepBytes = int(number)
 	default:
-		return fmt.Errorf("no setting %s", words[0])
+		panic("no setting " + name)
 	}
-	return err
-}
-
-// A server does what each scene of a cache says.
-func TestCacheTranscripts(t *testing.T) {
-	playAll(t, "cache", newPlayedCache, "--cache")
 }
