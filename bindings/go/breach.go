@@ -78,7 +78,7 @@ var breaches = map[cause]error{
 // ErrTooSlow, and errors of the connection itself.
 var (
 	// ErrServerClosed: the Server was closed or shut down.
-	ErrServerClosed = errors.New("rtr: the server is closed")
+	ErrServerClosed = errors.New("rtr: " + failureClosed)
 	// ErrManyClients: the limit of clients is reached.
 	ErrManyClients = errors.New("rtr: " + reasonText(C.RTR_REASON_FULL))
 	// ErrSessionEnded: the client has data of the former session.
@@ -86,15 +86,17 @@ var (
 	// ErrUnknownData: a serial query was refused, since Limits.Refuse is set.
 	ErrUnknownData = errors.New("rtr: " + reasonText(C.RTR_REASON_UNKNOWN))
 	// ErrBehind: three newer data have come while the client received an answer.
-	ErrBehind = errors.New("rtr: the router is too far behind")
+	ErrBehind = errors.New("rtr: " + failureBehind)
 )
 
-// Data that a Server refuses: the session is the same, and they differ from its present data.
+// Reasons for which a Server refuses data that differ from its present data.
 var (
-	// ErrSameSerial: the serial number of the data isn't later (RFC 1982).
-	ErrSameSerial = errors.New("the serial number isn't after the present one")
-	// ErrNewTiming: the data differ only in their timing.
-	ErrNewTiming = errors.New("rtr: new timings want a new serial number")
+	// ErrSameSerial: the session is the same, and the serial number isn't later (RFC 1982).
+	ErrSameSerial = errors.New("rtr: " + failureOldSerial)
+	// ErrNewTiming: the session is the same, and only the timing differs.
+	ErrNewTiming = errors.New("rtr: " + failureOtherTimes)
+	// ErrSessionLeft: the data are of another session, which the server had before the present one.
+	ErrSessionLeft = errors.New("rtr: " + failureSessionLeft)
 )
 
 // endings maps reasons to errors.
@@ -106,6 +108,13 @@ var endings = map[C.uint8_t]error{
 	C.RTR_REASON_NO_VERSION:    ErrNoVersion,
 	C.RTR_REASON_NEW_SESSION:   ErrSessionEnded,
 	C.RTR_REASON_UNKNOWN:       ErrUnknownData,
+}
+
+// cuts maps the limits that end a connection to errors.
+var cuts = map[C.uint8_t]error{
+	C.RTR_CUT_SLOW:        ErrTooSlow,
+	C.RTR_CUT_NEW_SESSION: ErrSessionEnded,
+	C.RTR_CUT_BEHIND:      ErrBehind,
 }
 
 // reasonText returns the text of a reason for which a cache ends a session, as in reports.
@@ -152,14 +161,30 @@ type Reported struct {
 	Version uint8
 	Code    ErrorCode
 	Text    string // as received
+	router  bool   // it came from a router, not from a cache
 }
 
-// Error returns the code and the quoted text.
+// Error returns which end reports an error, the code, and the first bytes of the quoted text, of
+// which any but printable ASCII is a question mark.
 func (r *Reported) Error() string {
-	if r.Text == "" {
-		return fmt.Sprintf("rtr: the peer reports: %v", r.Code)
+	text := causeReported.String()
+	if r.router {
+		text = reasonText(C.RTR_REASON_REPORTED)
 	}
-	return fmt.Sprintf("rtr: the peer reports: %v: %.200q", r.Code, r.Text)
+	text = fmt.Sprintf("rtr: %s: %v", text, r.Code)
+	if r.Text == "" {
+		return text
+	}
+	quoted := []byte(r.Text)
+	if len(quoted) > mostQuoted {
+		quoted = quoted[:mostQuoted]
+	}
+	for i, octet := range quoted {
+		if octet < ' ' || octet > '~' {
+			quoted[i] = '?'
+		}
+	}
+	return fmt.Sprintf("%s, \"%s\"", text, quoted)
 }
 
 // breachOf returns a breach with this reason and code, and a copy of input's first unit.
@@ -183,18 +208,14 @@ func owned(err error) error {
 	return err
 }
 
-// reportedIn returns the error report at the start of these bytes.
-func reportedIn(input []byte) error {
+// reportedIn returns the content of the error report at the start of these bytes, which a cache or a
+// router sent.
+func reportedIn(input []byte, router bool) error {
 	unit, _, err := Next(input)
 	if err != nil {
 		return err
 	}
-	return reported(&unit)
-}
-
-// reported returns the content of an error report.
-func reported(unit *Unit) error {
-	return &Reported{Version: unit.Version, Code: unit.Code, Text: string(unit.Text)}
+	return &Reported{unit.Version, unit.Code, string(unit.Text), router}
 }
 
 // isTimeout reports whether a deadline has passed.

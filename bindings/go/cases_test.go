@@ -27,8 +27,8 @@ var (
 	readsCases sync.Once
 )
 
-// The cases of the file that RTR_CASES names, or else those that cases.py makes. Without python3
-// the tests that need cases are skipped.
+// cases returns the cases in the file $RTR_CASES, or of cases.py without that. Without python3 too
+// it skips the test.
 func cases(t *testing.T) []testCase {
 	readsCases.Do(func() {
 		if path := os.Getenv("RTR_CASES"); path != "" {
@@ -316,8 +316,8 @@ type answer struct {
 	form                []byte
 }
 
-// sessions returns those of the file that RTR_SESSIONS names, or else those that sessions.py makes,
-// with the answer for each of their units.
+// sessions returns the sessions in the file $RTR_SESSIONS, or of sessions.py without that, with the
+// answer for each of their units.
 func sessions(t *testing.T) (inputs [][]byte, answers [][]answer) {
 	var rest []byte
 	var err error

@@ -31,10 +31,10 @@ func check(recording []byte) (string, error) {
 	return text.String(), nil
 }
 
-// The recordings of the file that RTR_FINDINGS names, or else of tests/programs/listings
+// The recordings of the file that RTR_FINDINGS names, or else of tests/programs/listings.py
 // --findings, with the lines of what they break.
 func TestFindings(t *testing.T) {
-	rows, err := exec.Command("python3", "../../tests/programs/listings", "--findings").Output()
+	rows, err := exec.Command("python3", "../../tests/programs/listings.py", "--findings").Output()
 	if path := os.Getenv("RTR_FINDINGS"); path != "" {
 		rows, err = os.ReadFile(path)
 	}

@@ -67,11 +67,11 @@ var (
 	// ErrExpired: the cache didn't refresh the data in time, and they were dropped.
 	ErrExpired = errors.New("rtr: " + causeExpired.String())
 	// ErrEmpty: the cache has no payloads, which doesn't count as data for Follow.
-	ErrEmpty = errors.New("rtr: the cache has no payloads")
+	ErrEmpty = errors.New("rtr: " + failureEmpty)
 	// ErrTooLong: an answer has more bytes or units than the limits allow.
 	ErrTooLong = errors.New("rtr: " + causeTooLong.String())
 	// ErrNoMemory: an answer is larger than a slice can be.
-	ErrNoMemory = errors.New("rtr: no memory for the answer")
+	ErrNoMemory = errors.New("rtr: " + failureNoMemory)
 )
 
 // Fetch gets all data once. It falls back to a lower version if the cache has no higher one.

@@ -508,3 +508,25 @@ func TestClientContext(t *testing.T) {
 		cancel()
 	}
 }
+
+// As in all languages, texts of reports are shown in part, and in ASCII.
+func TestReportedTexts(t *testing.T) {
+	for _, row := range []struct {
+		code        ErrorCode
+		text, shown string
+	}{
+		{NoDataAvailable, "", "No Data Available"}, {InternalError, "no ~", `Internal Error, "no ~"`},
+		{12, "a\"\n\u00e4", `error code 12, "a"???"`},
+		{InternalError, strings.Repeat("a", 99) + "bc",
+			`Internal Error, "` + strings.Repeat("a", 99) + `b"`},
+	} {
+		for router, front := range map[bool]string{
+			false: "rtr: the cache reports an error: ", true: "rtr: the router reports an error: ",
+		} {
+			reported := &Reported{Code: row.code, Text: row.text, router: router}
+			if reported.Error() != front+row.shown {
+				t.Errorf("%s, not %s%s", reported, front, row.shown)
+			}
+		}
+	}
+}

@@ -58,7 +58,7 @@ func (f *follower) perform(t todo) {
 		f.drop()
 		f.failed(ErrExpired)
 	case todoNoData:
-		f.failed(reportedIn(f.link.inputFrom(t)))
+		f.failed(reportedIn(f.link.inputFrom(t), false))
 	}
 }
 

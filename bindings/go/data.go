@@ -46,6 +46,7 @@ func (t Timing) Check() error {
 type Data struct {
 	bytes   []byte // the units, and the end of data
 	units   int    // the number of payload units
+	kinds   [16]int32
 	session uint16
 	serial  uint32
 	timing  Timing
@@ -74,16 +75,32 @@ func NewData(version uint8, session uint16, serial uint32, timing Timing) (Data,
 // Errors, each a Fault with the offset and the bytes of the unit: Short to PrefixRule;
 // NotCanonical.
 func ParseData(input []byte) (Data, error) {
-	// A delta from data to themselves is only their end of data; computing it checks the form.
-	if _, err := delta(input, input, make([]byte, longestEnd)); err != nil {
-		return Data{}, err
+	// Applying no changes to data checks their form, and writes them.
+	if at := endOf(input); at >= 0 {
+		output := make([]byte, at+longestEnd)
+		if written, err := apply(input, input[at:], output); err == nil {
+			return checkedData(output[:written:written]), nil
+		}
 	}
-	output := make([]byte, len(input))
-	progress, err := Normalise(input, output, math.MaxUint64)
-	if err != nil {
-		return Data{}, err
+	// A delta from data to themselves is only their end of data.
+	_, err := delta(input, input, make([]byte, longestEnd))
+	return Data{}, err
+}
+
+// endOf returns the offset of the first end of data in an input, by the lengths in headers; -1 if
+// there is none.
+func endOf(input []byte) int {
+	for at := 0; at+headerSize <= len(input); {
+		size := unitLength(input[at:])
+		switch {
+		case Kind(input[at+1]) == EndOfData:
+			return at
+		case size < headerSize || size > len(input)-at:
+			return -1
+		}
+		at += size
 	}
-	return checkedData(fitted(output, progress.Written)), nil
+	return -1
 }
 
 // Load makes data of a whole recording or list, with the payload units in any order. A list is
@@ -122,6 +139,7 @@ func checkedData(bytes []byte) Data {
 	data := Data{bytes: bytes[:len(bytes):len(bytes)], lookup: new(lookup)}
 	at := 0
 	for ; Kind(bytes[at+1]) != EndOfData; data.units++ {
+		data.kinds[bytes[at+1]%16]++
 		at += unitLength(bytes[at:])
 	}
 	var end Unit
@@ -135,6 +153,35 @@ func checkedData(bytes []byte) Data {
 // timing.
 func (d Data) Equal(other Data) bool {
 	return bytes.Equal(d.bytes, other.bytes)
+}
+
+// SamePayloads reports whether two data have the same version and payloads.
+func (d Data) SamePayloads(other Data) bool {
+	if d.IsZero() || other.IsZero() {
+		return d.IsZero() && other.IsZero()
+	}
+	own, _ := parts(d.bytes)
+	others, _ := parts(other.bytes)
+	return d.Version() == other.Version() && bytes.Equal(own, others)
+}
+
+// With returns the data with another session, serial number and timing, without parsing them. Data
+// of version 0 have no timing.
+//
+// Errors: a Fault with Short for the zero Data.
+func (d Data) With(session uint16, serial uint32, timing Timing) (Data, error) {
+	if d.IsZero() {
+		return Data{}, &Fault{Status: Short, Offset: -1}
+	}
+	other, err := NewData(d.Version(), session, serial, timing)
+	if _, end := parts(d.bytes); err != nil || bytes.Equal(end, other.bytes) {
+		return d, err
+	}
+	other.units, other.kinds = d.units, d.kinds
+	_, end := parts(other.bytes)
+	units, _ := parts(d.bytes)
+	other.bytes = append(append(make([]byte, 0, len(d.bytes)), units...), end...)
+	return other, nil
 }
 
 // IsZero reports whether this is the zero Data.
@@ -151,6 +198,14 @@ func (d Data) Bytes() []byte {
 // Len returns the number of payloads.
 func (d Data) Len() int {
 	return d.units
+}
+
+// Count returns the number of payloads of a kind.
+func (d Data) Count(kind Kind) int {
+	if int(kind) >= len(d.kinds) {
+		return 0
+	}
+	return int(d.kinds[kind])
 }
 
 // Version returns the protocol version of each unit and of the end of data.
@@ -216,18 +271,6 @@ func fitted(output []byte, written int) []byte {
 	return output[:written:written]
 }
 
-// inSession returns the data with another session.
-func (d Data) inSession(session uint16) Data {
-	if d.session == session {
-		return d
-	}
-	d.bytes = append([]byte{}, d.bytes...)
-	_, end := parts(d.bytes)
-	binary.BigEndian.PutUint16(end[2:], session)
-	d.session = session
-	return d
-}
-
 // Units returns a loop over the payload units of the data, in the order of payloads.
 //
 //	for units := data.Units(); units.Scan(); {
@@ -240,6 +283,7 @@ func (d Data) Units() *Units {
 // Units is a loop over the payload units of Data or of an Update.
 type Units struct {
 	rest  []byte
+	form  []byte // the current unit
 	unit  Unit
 	ahead *decoded
 }
@@ -258,13 +302,24 @@ func (u *Units) Scan() bool {
 	if u.ahead.count == 0 {
 		return false
 	}
-	u.rest = u.ahead.take(&u.unit, u.rest)
+	rest := u.ahead.take(&u.unit, u.rest)
+	u.form, u.rest = u.rest[:len(u.rest)-len(rest)], rest
 	return true
 }
 
 // Unit returns the current unit. It is valid until the next call of Scan; Clone copies it.
 func (u *Units) Unit() *Unit {
 	return &u.unit
+}
+
+// AppendLine appends to b what ChangeLine returns for the current unit, without another copy.
+func (u *Units) AppendLine(b []byte) []byte {
+	return appendChange(changeLine, b, u.form)
+}
+
+// AppendJSON is like AppendLine, for ChangeJSON.
+func (u *Units) AppendJSON(b []byte) []byte {
+	return appendChange(changeJSON, b, u.form)
 }
 
 // Delta returns the changes that lead a router from the old data to the new (RFC 8210 section 8.2),
@@ -312,7 +367,11 @@ func changesBetween(old, new Data) ([]byte, error) {
 		}
 		sides[i] = side
 	}
-	return Delta(sides[0].inSession(session), sides[1])
+	former, err := sides[0].With(session, sides[0].Serial(), sides[0].Timing())
+	if err != nil {
+		return nil, err
+	}
+	return Delta(former, sides[1])
 }
 
 // Apply returns the data after all of the changes, with the end of data of the changes, or an

@@ -2,59 +2,7 @@
 
 package rtr
 
-/*
-#include "rtr.h"
-
-// The answers are returned by value, so that they stay on the stack.
-static struct rtr_data_answer delta(const uint8_t *old_data, size_t old_length,
-                                    const uint8_t *new_data, size_t new_length,
-                                    uint8_t *output, size_t output_length)
-{
-	struct rtr_data_answer answer;
-	rtr_delta(old_data, old_length, new_data, new_length, output, output_length, &answer);
-	return answer;
-}
-
-static struct rtr_data_answer apply(const uint8_t *data, size_t data_length,
-                                    const uint8_t *changes, size_t changes_length,
-                                    uint8_t *output, size_t output_length)
-{
-	struct rtr_data_answer answer;
-	rtr_apply(data, data_length, changes, changes_length, output, output_length, &answer);
-	return answer;
-}
-
-static struct rtr_data_answer apply_in_order(const uint8_t *data, size_t data_length,
-                                             const uint8_t *changes, size_t changes_length,
-                                             size_t *index, size_t index_length,
-                                             uint8_t *output, size_t output_length)
-{
-	struct rtr_data_answer answer;
-	rtr_apply_in_order(data, data_length, changes, changes_length, index, index_length, output,
-	                   output_length, &answer);
-	return answer;
-}
-
-static struct rtr_data_answer order(const uint8_t *input, size_t input_length,
-                                    size_t *index, size_t index_length,
-                                    uint8_t *output, size_t output_length)
-{
-	struct rtr_data_answer answer;
-	rtr_order(input, input_length, index, index_length, output, output_length, &answer);
-	return answer;
-}
-
-static struct rtr_loaded load(const uint8_t *input, size_t input_length,
-                              size_t *index, size_t index_length,
-                              uint8_t *work, size_t work_length,
-                              uint8_t *output, size_t output_length)
-{
-	struct rtr_loaded loaded;
-	rtr_load(input, input_length, index, index_length, work, work_length, output, output_length,
-	         &loaded);
-	return loaded;
-}
-*/
+// #include "calls.h"
 import "C"
 
 // delta writes the delta from old to new to output, and returns its length.

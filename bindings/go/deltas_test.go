@@ -18,7 +18,7 @@ type deltaCase struct {
 	first, second, output      []byte
 }
 
-// deltaCases returns those of the file that RTR_DELTAS names, or else those that deltas.py makes.
+// deltaCases returns the cases in the file $RTR_DELTAS, or of deltas.py without that.
 // Without python3 the test is skipped.
 func deltaCases(t *testing.T) (all []deltaCase) {
 	path := os.Getenv("RTR_DELTAS")

@@ -2,39 +2,7 @@
 
 package rtr
 
-/*
-#include "rtr.h"
-
-// The answers are returned by value, so that they stay on the stack.
-static struct rtr_group_answer group_tick(struct rtr_group *group, uint64_t now)
-{
-	struct rtr_group_answer answer;
-	rtr_group_tick(group, now, &answer);
-	return answer;
-}
-
-static struct rtr_group_answer group_shows(struct rtr_group *group, uint64_t now, size_t member,
-                                           size_t payloads)
-{
-	struct rtr_group_answer answer;
-	rtr_group_shows(group, now, member, payloads, &answer);
-	return answer;
-}
-
-static struct rtr_group_answer group_drops(struct rtr_group *group, uint64_t now, size_t member)
-{
-	struct rtr_group_answer answer;
-	rtr_group_drops(group, now, member, &answer);
-	return answer;
-}
-
-static struct rtr_group_answer group_fails(struct rtr_group *group, uint64_t now, size_t member)
-{
-	struct rtr_group_answer answer;
-	rtr_group_fails(group, now, member, &answer);
-	return answer;
-}
-*/
+// #include "calls.h"
 import "C"
 
 import (
@@ -135,9 +103,8 @@ func (g *Group) Tick(now time.Duration) Decision {
 
 // Best returns the member whose data are shown, and whether there is one.
 func (g *Group) Best() (member int, has bool) {
-	var best C.size_t
-	has = bool(C.rtr_group_best(&g.group, &best))
-	return int(best), has
+	best := C.group_best(g.group)
+	return int(best.member), bool(best.result)
 }
 
 // Shows reports to the group that a member has the data of a complete answer, with this number of

@@ -48,19 +48,29 @@ func ChangeJSON(unit *Unit) string {
 	return changeBy(changeJSON, unit)
 }
 
-// changeBy returns the text that a call writes about the change of a unit.
-func changeBy(call func(input, output []byte) (int, Status), unit *Unit) string {
+// changeCall writes a text about the change of a unit: changeLine or changeJSON.
+type changeCall func(input, output []byte) (int, Status)
+
+// changeBy returns the text that a call writes.
+func changeBy(call changeCall, unit *Unit) string {
 	// Most units and lines fit these arrays, which stay on the stack.
 	var formArray, lineArray [lineRoom]byte
 	form, err := unit.AppendBinary(formArray[:0])
 	if err != nil {
 		return ""
 	}
-	output := lineArray[:]
-	length, status := call(form, output)
-	if status == NoRoom {
-		output = make([]byte, length)
-		call(form, output)
+	return string(appendChange(call, lineArray[:0], form))
+}
+
+// appendChange appends the text that a call writes about the unit of these bytes.
+func appendChange(call changeCall, b, form []byte) []byte {
+	capacity := lineRoom
+	for {
+		b = grown(b, capacity)
+		length, status := call(form, b[len(b):len(b)+capacity])
+		if status != NoRoom {
+			return b[:len(b)+length]
+		}
+		capacity = length
 	}
-	return string(output[:length])
 }

@@ -2,63 +2,7 @@
 
 package rtr
 
-/*
-#include "rtr.h"
-
-// The results are returned by value, so that they stay on the stack. The buffers are passed by
-// value with each call, since C may not keep pointers to the memory of Go.
-struct link_step {
-	struct rtr_todo todo;
-	uint8_t status;
-};
-
-struct link_held {
-	struct rtr_link_state state;
-	uint8_t status;
-};
-
-static struct link_step link_next(struct rtr_link *link, struct rtr_link_buffers buffers,
-                                  uint64_t now)
-{
-	struct link_step step;
-	step.status = rtr_link_next(link, &buffers, now, &step.todo);
-	return step;
-}
-
-static struct link_step link_ask_now(struct rtr_link *link, struct rtr_link_buffers buffers,
-                                     uint64_t now)
-{
-	struct link_step step;
-	step.status = rtr_link_ask_now(link, &buffers, now, &step.todo);
-	return step;
-}
-
-static struct link_step link_give_up(struct rtr_link *link, struct rtr_link_buffers buffers,
-                                     uint64_t now)
-{
-	struct link_step step;
-	step.status = rtr_link_give_up(link, &buffers, now, &step.todo);
-	return step;
-}
-
-static struct link_held link_state(const struct rtr_link *link, struct rtr_link_buffers buffers,
-                                   uint64_t now)
-{
-	struct link_held held;
-	held.status = rtr_link_state(link, &buffers, now, &held.state);
-	return held;
-}
-
-static uint8_t link_received(struct rtr_link *link, struct rtr_link_buffers buffers, size_t size)
-{
-	return rtr_link_received(link, &buffers, size);
-}
-
-static uint8_t link_sent(struct rtr_link *link, struct rtr_link_buffers buffers, size_t size)
-{
-	return rtr_link_sent(link, &buffers, size);
-}
-*/
+// #include "calls.h"
 import "C"
 
 import (
@@ -151,7 +95,7 @@ func (l *link) sent(size int) {
 // state returns how much the buffers hold.
 func (l *link) state(now uint64) C.struct_rtr_link_state {
 	held := C.link_state(&l.end, l.buffers(), C.uint64_t(now))
-	must(held.status)
+	must(held.result)
 	return held.state
 }
 
@@ -168,36 +112,39 @@ func (l *link) unsent(now uint64) []byte {
 // next returns the next action. It grows buffers as needed; if one can't grow enough, it returns
 // todoGrow.
 func (l *link) next(now uint64) todo {
-	return l.step(now, func() C.struct_link_step {
-		return C.link_next(&l.end, l.buffers(), C.uint64_t(now))
+	return l.step(now, func() (todo, C.uint8_t) {
+		next := C.link_next(&l.end, l.buffers(), C.uint64_t(now))
+		return next.todo, next.result
 	})
 }
 
 // askNow asks for the present data before the refresh time, and returns the next action, as next
 // does.
 func (l *link) askNow(now uint64) todo {
-	return l.step(now, func() C.struct_link_step {
-		return C.link_ask_now(&l.end, l.buffers(), C.uint64_t(now))
+	return l.step(now, func() (todo, C.uint8_t) {
+		next := C.link_ask_now(&l.end, l.buffers(), C.uint64_t(now))
+		return next.todo, next.result
 	})
 }
 
 // giveUp tells the link that a buffer can't grow, and returns the next action, as next does.
 func (l *link) giveUp(now uint64) todo {
-	return l.step(now, func() C.struct_link_step {
-		return C.link_give_up(&l.end, l.buffers(), C.uint64_t(now))
+	return l.step(now, func() (todo, C.uint8_t) {
+		next := C.link_give_up(&l.end, l.buffers(), C.uint64_t(now))
+		return next.todo, next.result
 	})
 }
 
 // step repeats a call until every buffer is long enough, or one can't grow.
-func (l *link) step(now uint64, call func() C.struct_link_step) todo {
+func (l *link) step(now uint64, call func() (todo, C.uint8_t)) todo {
 	l.filled = int(l.state(now).filled)
 	for {
-		result := call()
-		must(result.status)
-		if result.todo.kind < todoGrow {
-			return result.todo
+		next, status := call()
+		must(status)
+		if next.kind < todoGrow {
+			return next
 		}
-		if !l.grow(result.todo) {
+		if !l.grow(next) {
 			return todo{kind: todoGrow}
 		}
 	}

@@ -62,179 +62,7 @@ package rtr
 #cgo CFLAGS: -I${SRCDIR}/../c
 #cgo amd64 LDFLAGS: -L${SRCDIR}/../../prebuilt/x86_64 -lrtr_wire
 #cgo arm64 LDFLAGS: -L${SRCDIR}/../../prebuilt/aarch64 -lrtr_wire
-#include "rtr.h"
-
-// The results are returned by value, so that they stay on the stack.
-struct shown {
-	struct rtr_unit unit;
-	uint8_t status;
-};
-
-struct sized {
-	size_t size;
-	uint8_t status;
-	uint8_t detail;
-};
-
-struct owed {
-	bool owed;
-	uint16_t code;
-};
-
-static struct shown next(const uint8_t *input, size_t length)
-{
-	struct shown shown;
-	shown.status = rtr_next(input, length, &shown.unit);
-	return shown;
-}
-
-struct many {
-	size_t count;
-	uint8_t status;
-};
-
-static struct many next_many(const uint8_t *input, size_t length,
-                             struct rtr_unit *units, size_t most)
-{
-	struct many many;
-	size_t taken;
-	many.status = rtr_next_many(input, length, units, most, &many.count, &taken);
-	return many;
-}
-
-static struct sized unit_size(const uint8_t *input, size_t length)
-{
-	struct sized sized;
-	sized.status = rtr_unit_size(input, length, &sized.size, &sized.detail);
-	return sized;
-}
-
-static struct rtr_line line(const uint8_t *input, size_t length, uint64_t offset,
-                            uint8_t *output, size_t output_length)
-{
-	struct rtr_line answer;
-	rtr_line(input, length, offset, output, output_length, &answer);
-	return answer;
-}
-
-static struct rtr_naming check_name(const uint8_t *input, size_t length,
-                                    uint8_t *output, size_t output_length)
-{
-	struct rtr_naming answer;
-	rtr_check_name(input, length, output, output_length, &answer);
-	return answer;
-}
-
-struct check_step {
-	struct rtr_check check;
-	struct rtr_checked checked;
-};
-
-static struct check_step check_unit(struct rtr_check check, const uint8_t *input, size_t length,
-                                    bool was_there)
-{
-	struct check_step step = {check, {0}};
-	rtr_check_unit(&step.check, input, length, was_there, &step.checked);
-	return step;
-}
-
-static struct rtr_finding check_end(struct rtr_check check)
-{
-	struct rtr_finding finding;
-	rtr_check_end(&check, &finding);
-	return finding;
-}
-
-static size_t finding_line(struct rtr_finding finding, uint64_t offset,
-                           uint8_t *output, size_t output_length)
-{
-	return rtr_finding_line(&finding, offset, output, output_length);
-}
-
-static struct rtr_line object(const uint8_t *input, size_t length, uint64_t offset,
-                              uint8_t *output, size_t output_length)
-{
-	struct rtr_line answer;
-	rtr_json(input, length, offset, output, output_length, &answer);
-	return answer;
-}
-
-static struct rtr_line change_line(const uint8_t *input, size_t length,
-                                   uint8_t *output, size_t output_length)
-{
-	struct rtr_line answer;
-	rtr_change_line(input, length, output, output_length, &answer);
-	return answer;
-}
-
-static struct rtr_line change_json(const uint8_t *input, size_t length,
-                                   uint8_t *output, size_t output_length)
-{
-	struct rtr_line answer;
-	rtr_change_json(input, length, output, output_length, &answer);
-	return answer;
-}
-
-struct text {
-	uint8_t bytes[RTR_TEXT_ROOM];
-	size_t length;
-};
-
-static struct text status_text(uint8_t status, uint8_t detail)
-{
-	struct text text;
-	rtr_text(status, detail, text.bytes, sizeof text.bytes, &text.length);
-	return text;
-}
-
-static struct text name_of(uint8_t table, uint16_t number)
-{
-	struct text text;
-	rtr_name(table, number, text.bytes, sizeof text.bytes, &text.length);
-	return text;
-}
-
-static struct sized write_unit(struct rtr_unit unit, const uint8_t *part, size_t part_length,
-                               uint8_t *output, size_t output_length)
-{
-	struct sized sized;
-	sized.status = rtr_write_unit(&unit, part, part_length, output, output_length, &sized.size);
-	sized.detail = 0;
-	return sized;
-}
-
-static struct owed error_code(uint8_t status, const uint8_t *input, size_t length)
-{
-	struct owed owed;
-	owed.owed = rtr_error_code(status, input, length, &owed.code);
-	return owed;
-}
-
-static struct rtr_answer normalise(const uint8_t *input, size_t length,
-                                   uint8_t *output, size_t output_length, uint64_t limit)
-{
-	struct rtr_answer answer;
-	rtr_normalise_slice(input, length, output, output_length, limit, &answer);
-	return answer;
-}
-
-static struct rtr_answer normalise_for(const uint8_t *input, size_t length,
-                                       uint8_t *output, size_t output_length, uint64_t limit,
-                                       uint8_t version)
-{
-	struct rtr_answer answer;
-	rtr_normalise_for_slice(input, length, output, output_length, limit, version, &answer);
-	return answer;
-}
-
-static struct rtr_comparison same_meaning(const uint8_t *left, size_t left_length,
-                                          const uint8_t *right, size_t right_length,
-                                          uint64_t limit)
-{
-	struct rtr_comparison answer;
-	rtr_same_meaning(left, left_length, right, right_length, limit, &answer);
-	return answer;
-}
+#include "calls.h"
 */
 import "C"
 
@@ -264,7 +92,7 @@ func firstOf[T any](slice []T) *T {
 func unitSize(input []byte) (size int, status Status, detail uint8) {
 	in, n := cBytes(input)
 	sized := C.unit_size(in, n)
-	return int(sized.size), Status(sized.status), uint8(sized.detail)
+	return int(sized.size), Status(sized.result), uint8(sized.detail)
 }
 
 // line writes the line of the first unit of input, as far as it fits, and returns the length of the
@@ -282,7 +110,7 @@ func object(
 ) (length, size int, status Status, detail uint8) {
 	in, n := cBytes(input)
 	out, capacity := cBytes(output)
-	a := C.object(in, n, C.uint64_t(offset), out, capacity)
+	a := C.json(in, n, C.uint64_t(offset), out, capacity)
 	return int(a.length), int(a.size), Status(a.status), uint8(a.detail)
 }
 
@@ -312,7 +140,7 @@ func checkUnit(lines []string, state sequenceState, input []byte, wasThere bool,
 	[]string, sequenceState) {
 	in, n := cBytes(input)
 	step := C.check_unit(state, in, n, C.bool(wasThere))
-	for _, finding := range step.checked.findings {
+	for _, finding := range step.answer.findings {
 		lines = appendFinding(lines, finding, offset)
 	}
 	return lines, step.check
@@ -368,14 +196,18 @@ func brokenTimeRule(t Timing) (rule uint16, broken bool) {
 
 // name returns the name of a number of one of these tables; for a rule on times, its text.
 func name(table uint8, number uint16) string {
-	text := C.name_of(C.uint8_t(table), C.uint16_t(number))
-	return C.GoStringN((*C.char)(unsafe.Pointer(&text.bytes)), C.int(text.length))
+	var text [textRoom]byte
+	out, capacity := cBytes(text[:])
+	n := C.name(C.uint8_t(table), C.uint16_t(number), out, capacity).text_length
+	return string(text[:n])
 }
 
 // statusText returns the text of a status with its detail.
 func statusText(status Status, detail uint8) string {
-	text := C.status_text(C.uint8_t(status), C.uint8_t(detail))
-	return C.GoStringN((*C.char)(unsafe.Pointer(&text.bytes)), C.int(text.length))
+	var text [textRoom]byte
+	out, capacity := cBytes(text[:])
+	n := C.text(C.uint8_t(status), C.uint8_t(detail), out, capacity).text_length
+	return string(text[:n])
 }
 
 // parse sets the unit to input's first unit, and returns its size. If that is refused, the unit
@@ -383,10 +215,10 @@ func statusText(status Status, detail uint8) string {
 func (unit *Unit) parse(input []byte) (size int, status Status, detail uint8) {
 	in, n := cBytes(input)
 	shown := C.next(in, n)
-	if shown.status == 0 {
+	if shown.result == C.RTR_OK {
 		unit.set(&shown.unit, input)
 	}
-	return int(shown.unit.size), Status(shown.status), uint8(shown.unit.detail)
+	return int(shown.unit.size), Status(shown.result), uint8(shown.unit.detail)
 }
 
 // set sets the unit to u, which was read from the front of input.
@@ -433,12 +265,12 @@ func (p *decoded) fill(input []byte, most int) (status Status, detail uint8) {
 		most = len(p.units)
 	}
 	in, n := cBytes(input)
-	result := C.next_many(in, n, &p.units[0], C.size_t(most))
-	p.next, p.count = 0, int(result.count)
-	if result.status != 0 {
-		detail = uint8(p.units[result.count].detail)
+	decoded := C.next_many(in, n, &p.units[0], C.size_t(most))
+	p.next, p.count = 0, int(decoded.count)
+	if decoded.result != C.RTR_OK {
+		detail = uint8(p.units[decoded.count].detail)
 	}
-	return Status(result.status), detail
+	return Status(decoded.result), detail
 }
 
 // take sets the unit to the next one of the batch, which input begins with, and returns the input
@@ -463,8 +295,8 @@ func part(input []byte, start, length C.size_t) []byte {
 func (unit *Unit) write(part, output []byte) (int, Status) {
 	in, n := cBytes(part)
 	out, capacity := cBytes(output)
-	written := C.write_unit(unit.inC(n), in, n, out, capacity)
-	return int(written.size), Status(written.status)
+	done := C.write_unit(unit.inC(n), in, n, out, capacity)
+	return int(done.written), Status(done.result)
 }
 
 // inC converts the unit for C. The family of an invalid prefix is 0.
@@ -499,7 +331,7 @@ func (unit *Unit) inC(partLength C.size_t) C.struct_rtr_unit {
 func errorCode(status Status, input []byte) (ErrorCode, bool) {
 	in, n := cBytes(input)
 	owed := C.error_code(C.uint8_t(status), in, n)
-	return ErrorCode(owed.code), bool(owed.owed)
+	return ErrorCode(owed.code), bool(owed.result)
 }
 
 // versionHas is Kind.In.
@@ -516,14 +348,15 @@ func serialOrder(left, right uint32) uint8 {
 func normalise(input, output []byte, limit uint64) (Progress, Status, uint8) {
 	in, n := cBytes(input)
 	out, capacity := cBytes(output)
-	return progressOf(C.normalise(in, n, out, capacity, C.uint64_t(limit)))
+	return progressOf(C.normalise_slice(in, n, out, capacity, C.uint64_t(limit)))
 }
 
 // normaliseFor is NormaliseFor with a status in place of an error.
 func normaliseFor(input, output []byte, limit uint64, version uint8) (Progress, Status, uint8) {
 	in, n := cBytes(input)
 	out, capacity := cBytes(output)
-	return progressOf(C.normalise_for(in, n, out, capacity, C.uint64_t(limit), C.uint8_t(version)))
+	return progressOf(C.normalise_for_slice(in, n, out, capacity, C.uint64_t(limit),
+		C.uint8_t(version)))
 }
 
 // progressOf converts the result of a call that normalises.

@@ -79,7 +79,7 @@ func (f *follower) reason(t todo) error {
 	case why == causeExpired:
 		return ErrExpired
 	case why == causeReported:
-		return reportedIn(f.link.inputFrom(t))
+		return reportedIn(f.link.inputFrom(t), false)
 	}
 	return breachOf(breaches[why], ErrorCode(t.code), f.link.inputFrom(t))
 }

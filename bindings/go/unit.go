@@ -123,7 +123,7 @@ func Next(input []byte) (Unit, []byte, error) {
 //		input = rest
 //	}
 //
-// Errors: those of Next, about the unit after those that are returned.
+// Errors: those of Next, about the unit after the returned ones.
 func NextMany(input []byte, units []Unit) (int, []byte, error) {
 	batch := decodedPool.Get().(*decoded)
 	defer decodedPool.Put(batch)

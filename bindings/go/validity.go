@@ -2,39 +2,7 @@
 
 package rtr
 
-/*
-#include "rtr.h"
-
-// A VRP by value, and whether there is one.
-struct covered {
-	struct rtr_covering vrp;
-	bool found;
-};
-
-// The data's bytes are memory of Go, and no struct for C may point to it: the calls take the bytes
-// and the lookup as arguments, instead of a struct rtr_data.
-static void look_up(const uint8_t *data, size_t length, struct rtr_lookup *lookup)
-{
-	struct rtr_data_answer answer;
-	rtr_check_data_nonnull(data, length, lookup, &answer);
-}
-
-static uint8_t validate(const uint8_t *data, size_t length, const struct rtr_lookup *lookup,
-                        struct rtr_route route)
-{
-	return rtr_validate_nonnull(data, length, lookup, &route);
-}
-
-static struct covered covering(const uint8_t *data, size_t length,
-                               const struct rtr_lookup *lookup, struct rtr_route route,
-                               size_t from)
-{
-	struct covered covered;
-	covered.found =
-	    rtr_covering_nonnull(data, length, lookup, &route, from, &covered.vrp) == RTR_COVERS_ONE;
-	return covered;
-}
-*/
+// #include "calls.h"
 import "C"
 
 import (
@@ -79,17 +47,39 @@ func (m Mismatch) String() string {
 	return fmt.Sprintf("mismatch %d", uint8(m))
 }
 
-// lookup is an index of the prefixes of data, which the first use builds.
+// lookup is what copies of a Data share: an index of its prefixes, which the first use builds, and
+// the changes from other data, if they were computed.
 type lookup struct {
 	once  sync.Once
 	index C.struct_rtr_lookup
+
+	lock    sync.Mutex
+	before  *lookup // of other data
+	changes []byte  // from these to the data of this lookup
+}
+
+// noteChanges notes the changes from other data, as Delta computed them.
+func (l *lookup) noteChanges(before *lookup, changes []byte) {
+	l.lock.Lock()
+	defer l.lock.Unlock()
+	l.before, l.changes = before, changes
+}
+
+// changesFrom returns the changes from other data; nil if they weren't noted.
+func (l *lookup) changesFrom(before *lookup) []byte {
+	l.lock.Lock()
+	defer l.lock.Unlock()
+	if before == nil || l.before != before {
+		return nil
+	}
+	return l.changes
 }
 
 // prefixIndex returns the index of the data, which aren't the zero Data.
 func (d Data) prefixIndex() *C.struct_rtr_lookup {
 	d.lookup.once.Do(func() {
 		first, n := cBytes(d.bytes)
-		C.look_up(first, n, &d.lookup.index)
+		d.lookup.index = C.check_data(first, n).lookup
 	})
 	return &d.lookup.index
 }
@@ -162,18 +152,18 @@ func (c *Covering) Scan() bool {
 	}
 	first, n := cBytes(c.data.bytes)
 	covered := C.covering(first, n, c.data.prefixIndex(), c.route, c.from)
-	if !covered.found {
+	if covered.result != C.RTR_COVERS_ONE {
 		c.ended = true
 		return false
 	}
-	c.from = covered.vrp.place + 1
-	length := int(covered.vrp.prefix_length)
+	c.from = covered.covering.place + 1
+	length := int(covered.covering.prefix_length)
 	c.vrp = VRP{
 		Prefix:    netip.PrefixFrom(c.prefix.Addr().WithZone(""), length).Masked(),
-		MaxLength: uint8(covered.vrp.max_length),
-		ASN:       uint32(covered.vrp.asn),
+		MaxLength: uint8(covered.covering.max_length),
+		ASN:       uint32(covered.covering.asn),
 	}
-	c.mismatch = Mismatch(covered.vrp.mismatch)
+	c.mismatch = Mismatch(covered.covering.mismatch)
 	return true
 }
 

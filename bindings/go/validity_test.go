@@ -33,8 +33,7 @@ type validityTable struct {
 	routes []validityRow
 }
 
-// validityTables returns those of the file that RTR_VALIDITY names, or else those that validity.py
-// makes.
+// validityTables returns the tables in the file $RTR_VALIDITY, or of validity.py without that.
 func validityTables(t *testing.T) (tables []validityTable) {
 	var rest []byte
 	var err error

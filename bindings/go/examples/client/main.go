@@ -83,11 +83,11 @@ var errEnough = errors.New("enough")
 // run prints changes until the context ends or the output fails, or after the first data.
 func run(ctx context.Context, opts options, output io.Writer) error {
 	shown := &show{
-		once: opts.once, line: rtr.ChangeLine, output: bufio.NewWriter(output),
+		once: opts.once, line: (*rtr.Units).AppendLine, output: bufio.NewWriter(output),
 		failed: make(map[*rtr.Client]bool),
 	}
 	if opts.json {
-		shown.line = rtr.ChangeJSON
+		shown.line = (*rtr.Units).AppendJSON
 	}
 	var sources []rtr.Source
 	for _, address := range opts.addresses {
@@ -105,7 +105,7 @@ func run(ctx context.Context, opts options, output io.Writer) error {
 // show prints the changes and the failures of the caches.
 type show struct {
 	once   bool
-	line   func(*rtr.Unit) string
+	line   func(*rtr.Units, []byte) []byte
 	output *bufio.Writer
 	left   int                  // the number of caches that haven't failed
 	failed map[*rtr.Client]bool // the others
@@ -125,9 +125,10 @@ func (s *show) Data(_ rtr.Source, update rtr.Update) error {
 		fmt.Fprintf(os.Stderr, "session %d serial %d version %d: %s\n",
 			data.Session(), data.Serial(), data.Version(), payloads(data.Len()))
 	}
+	var line []byte
 	for changes := update.Changes(); changes.Scan(); {
-		s.output.WriteString(s.line(changes.Unit()))
-		s.output.WriteByte('\n')
+		line = append(s.line(changes, line[:0]), '\n')
+		s.output.Write(line)
 	}
 	if err := s.output.Flush(); err != nil || !s.once {
 		return err
