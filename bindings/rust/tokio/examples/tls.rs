@@ -24,7 +24,7 @@ use std::pin::Pin;
 use tokio::net::{TcpListener, TcpStream};
 use tokio_openssl::SslStream;
 
-/// Has a side show this certificate, and trust those that this authority signed.
+/// Lets a side show this certificate, and trust certificates of this authority.
 fn identify(
     context: &mut SslContextBuilder,
     [certificate, key, authority]: [&Path; 3],

@@ -14,9 +14,9 @@ const CHUNK: usize = 4096;
 pub(crate) struct Carried<S> {
     stream: S,
     served: Served,
-    /// Whether the stream may hold written bytes, so that it has to be flushed.
-    holds: bool,
-    /// Whether the stream has to be shut down for writing.
+    /// Whether the stream may hold written bytes, and needs a flush.
+    pub(crate) holds: bool,
+    /// Whether to shut the stream down for writing.
     is_finishing: bool,
 }
 
@@ -27,6 +27,8 @@ pub(crate) enum Wanted {
     Bytes,
     /// Room in the stream for bytes to be sent.
     Room,
+    /// That the stream has sent what it holds.
+    Flush,
 }
 
 impl<S: AsyncRead + AsyncWrite + Unpin> Carried<S> {
@@ -95,6 +97,14 @@ impl<S: AsyncRead + AsyncWrite + Unpin> Carried<S> {
         })
     }
 
+    fn poll_flush(&mut self, cx: &mut Context<'_>) -> Poll<()> {
+        self.poll_end_of_sending(cx).map(|flushed| {
+            if let Err(error) = flushed {
+                self.served.lost(error);
+            }
+        })
+    }
+
     /// Flushes the stream, or shuts it down for writing after the last bytes.
     fn poll_end_of_sending(&mut self, cx: &mut Context<'_>) -> Poll<io::Result<()>> {
         let stream = Pin::new(&mut self.stream);
@@ -128,6 +138,7 @@ impl<S: AsyncRead + AsyncWrite + Unpin, M: Fn() -> Moment> Future for Carrying<'
         match this.awaited {
             Wanted::Room => this.carried.poll_send(&this.moment, cx),
             Wanted::Bytes => this.carried.poll_receive(&this.moment, cx),
+            Wanted::Flush => this.carried.poll_flush(cx),
         }
     }
 }

@@ -73,7 +73,7 @@ struct Open<S> {
     has_ended: bool,
     /// Whether the stream failed, so that nothing can be sent.
     is_broken: bool,
-    /// Whether the stream may hold written bytes, so that it has to be flushed.
+    /// Whether the stream may hold written bytes, and needs a flush.
     holds: bool,
 }
 
@@ -295,7 +295,7 @@ impl<S: AsyncRead + AsyncWrite + Unpin> Open<S> {
         true
     }
 
-    /// Reads what came; reports whether something did, or reading failed.
+    /// Reads received bytes; returns whether there were some, or reading failed.
     fn receive(&mut self, router: &mut Router, cx: &mut Context<'_>, now: u64) -> bool {
         if self.has_ended {
             return false;

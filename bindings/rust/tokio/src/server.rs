@@ -1,24 +1,22 @@
 //! A cache.
 
 use crate::carrying::{Carried, Wanted};
-use rtr_wire::{Cache, Data, Moment, Served, ServedStep};
-use rtr_wire::{Log, LogFields, LogLevel, ServerError, ServerOptions, UpdateError};
+use rtr_wire::{log_retried, Log, LogFields, LogLevel};
+use rtr_wire::{Cache, Data, Door, EndOfData, Entry, Moment, Served, ServedStep};
+use rtr_wire::{SaveError, ServerError, ServerOptions, UpdateError};
 use std::fmt;
 use std::future::{pending, Future};
 use std::io;
 use std::net::SocketAddr;
 use std::path::Path;
-use std::sync::atomic::{AtomicUsize, Ordering};
 use std::sync::Arc;
 use std::time::Duration;
 use tokio::io::{AsyncRead, AsyncWrite};
 use tokio::net::{TcpListener, TcpStream};
 use tokio::sync::watch;
 use tokio::task::JoinSet;
-use tokio::time::{sleep, sleep_until, timeout_at, Instant};
+use tokio::time::{sleep, sleep_until, Instant};
 
-/// The most connections that are being closed, beside those that are served.
-const MOST_CLOSING: usize = 64;
 /// How long to accept no connection after the system refused one.
 const PAUSE: Duration = Duration::from_millis(100);
 
@@ -67,23 +65,28 @@ struct Shared {
     ended: Box<Ended>,
     log: Option<Arc<Log>>,
     begun: Instant,
-    /// Notifies of new data; its value says whether the server was stopped.
+    /// Notifies tasks of new data; the value is true once the server was stopped.
     changes: watch::Sender<bool>,
-    /// The number of clients that are served.
-    clients: AtomicUsize,
+    /// Counts connections, and notifies tasks when one was closed.
+    door: watch::Sender<Door>,
 }
 
-/// Counts a client until it is dropped.
-struct Counted(Arc<Shared>);
+/// A connection that the door counts until this is dropped, and what it gets.
+struct Entered {
+    shared: Arc<Shared>,
+    entry: Entry,
+}
 
-impl Drop for Counted {
+impl Drop for Entered {
     fn drop(&mut self) {
-        self.0.clients.fetch_sub(1, Ordering::Relaxed);
+        self.shared.door.send_modify(|door| {
+            door.leave(self.entry);
+        });
     }
 }
 
 impl AsyncServer {
-    /// Returns a server without data.
+    /// Returns a server without data, which doesn't save ([`AsyncServer::save_to`]).
     #[must_use]
     pub fn new(options: ServerOptions) -> Self {
         AsyncServer::telling(options, |_, _| {})
@@ -116,25 +119,36 @@ impl AsyncServer {
     }
 
     fn of(options: ServerOptions, ended: Box<Ended>, log: Option<Arc<Log>>) -> Self {
-        AsyncServer {
-            shared: Arc::new(Shared {
-                cache: Cache::new(options),
-                ended,
-                log,
-                begun: Instant::now(),
-                changes: watch::channel(false).0,
-                clients: AtomicUsize::new(0),
-            }),
-        }
+        let shared = Arc::new(Shared {
+            door: watch::channel(Door::new(&options)).0,
+            cache: Cache::new(options),
+            ended,
+            log,
+            begun: Instant::now(),
+            changes: watch::channel(false).0,
+        });
+        let retrying = Arc::downgrade(&shared);
+        shared.cache.on_retry(move |saved| {
+            if let Some(shared) = retrying.upgrade() {
+                shared.retried(saved);
+            }
+        });
+        AsyncServer { shared }
     }
 
     /// Serves these data from now on, with the session and the serial number of their end of data.
     /// Returns whether they differ from the present ones.
     ///
+    /// A server that saves does so first, and blocks on the file system: call it where a task may
+    /// block, as in `spawn_blocking`. If that fails, the present data are still served, and a
+    /// thread retries after 1, 2, 4 .. seconds, up to a minute, until it succeeds, or other data
+    /// come; [`AsyncServer::logging`] logs each retry.
+    ///
     /// # Errors
     ///
     /// `NewTimings`; `SerialNotAfter`, also for the same payloads with an earlier serial number;
-    /// `Times` if RFC 8210 section 6 doesn't allow their times.
+    /// `Times` if RFC 8210 section 6 doesn't allow their times; `SessionLeft`, `OtherSession`;
+    /// `HigherVersion`; or `NotSaved`.
     pub fn update(&self, data: Data) -> Result<bool, UpdateError> {
         let update_log = self.shared.log.as_ref().map(|log| (log, data.clone()));
         let is_new = self.shared.cache.update(data)?;
@@ -147,38 +161,46 @@ impl AsyncServer {
         Ok(is_new)
     }
 
-    /// Saves the data, and the deltas that lead back to earlier ones, to a file: it writes another
-    /// file beside it and renames that. Without data it writes nothing. It blocks on the file
-    /// system.
+    /// Saves data to this file from now on, before they are served, and serves the data that the
+    /// file has from an earlier run, as [`rtr_wire::Server::save_to`] does: the file of one is that
+    /// of the other. Returns these data; none if there is no file. Call it once, before the first
+    /// data. It blocks on the file system.
     ///
     /// # Errors
     ///
-    /// Those of writing.
-    pub fn save(&self, path: impl AsRef<Path>) -> io::Result<()> {
-        self.shared.cache.save(path)
-    }
-
-    /// Loads what [`AsyncServer::save`] or [`rtr_wire::Server::save`] wrote, if the server has no
-    /// data yet, and returns the data that it then has. It blocks on the file system.
-    ///
-    /// # Errors
-    ///
-    /// Those of reading; `InvalidData` for a file that was changed or damaged.
-    pub fn restore(&self, path: impl AsRef<Path>) -> io::Result<Data> {
-        let data = self.shared.cache.restore(path)?;
+    /// Those of reading; `InvalidData` for a file that was changed or damaged, or whose data
+    /// [`AsyncServer::update`] would refuse; `AlreadyExists` if the server has data, or a file.
+    /// Then nothing changes.
+    pub fn save_to(&self, path: impl AsRef<Path>) -> io::Result<Option<Data>> {
+        let data = self.shared.cache.save_to(path)?;
         self.shared.changes.send_modify(|_| {});
         Ok(data)
+    }
+
+    /// Lets the next data of a server that doesn't save be of another session (RFC 8210 section
+    /// 5.1), which it never used, at no earlier start either. The present data are served until
+    /// then. A server that saves knows the sessions that it left, and ignores this call.
+    pub fn change_session(&self) {
+        self.shared.cache.change_session();
+    }
+
+    /// The end of the data that are served, with session and serial number.
+    #[must_use]
+    pub fn end(&self) -> Option<EndOfData> {
+        self.shared.cache.end()
     }
 
     /// Returns the number of clients that are served.
     #[must_use]
     pub fn clients(&self) -> usize {
-        self.shared.clients.load(Ordering::Relaxed)
+        self.shared.door.borrow().clients()
     }
 
-    /// Ends all calls that serve clients, and closes their connections.
+    /// Ends all calls that serve clients, closes their connections, and ends the thread that
+    /// retries to save. Data that couldn't be saved are lost; they were never served.
     pub fn stop(&self) {
         self.shared.changes.send_modify(|stops| *stops = true);
+        self.shared.cache.stop_saving();
     }
 
     /// Serves clients over TCP until the server is stopped. TCP doesn't encrypt, nor authenticate a
@@ -210,22 +232,23 @@ impl AsyncServer {
         let listener = listener.into_std()?;
         let descriptor = listener.try_clone()?;
         let listener = TcpListener::from_std(listener)?;
-        let most = self.shared.cache.options().connections;
         let mut connections = JoinSet::new();
         let mut changes = self.shared.changes.subscribe();
+        let mut door = self.shared.door.subscribe();
         while !*changes.borrow_and_update() {
-            let takes = connections.len() < most.saturating_add(MOST_CLOSING);
+            let takes = door.borrow_and_update().next(true) != Entry::Wait;
             tokio::select! {
                 biased;
                 _ = changes.changed() => {}
                 Some(_) = connections.join_next() => {}
+                _ = door.changed(), if !takes => {}
                 accepted = listener.accept(), if takes => match accepted {
                     Ok((stream, from)) => {
-                        // The last free descriptor isn't used for a client.
-                        let has_room = descriptor.try_clone().is_ok();
-                        let _ = stream.set_nodelay(true);
-                        let shared = Arc::clone(&self.shared);
-                        connections.spawn(shared.serve(ready(stream), from, has_room));
+                        let has_spare = descriptor.try_clone().is_ok();
+                        if let Some(entered) = self.shared.enter(from, has_spare) {
+                            let _ = stream.set_nodelay(true);
+                            connections.spawn(entered.serve(ready(stream), from));
+                        }
                     }
                     Err(_) => sleep(PAUSE).await,
                 },
@@ -239,8 +262,9 @@ impl AsyncServer {
     where
         S: AsyncRead + AsyncWrite + Unpin,
     {
-        let shared = Arc::clone(&self.shared);
-        shared.serve(async { Ok(stream) }, from, true).await;
+        if let Some(entered) = self.shared.enter(from, true) {
+            entered.serve(async { Ok(stream) }, from).await;
+        }
     }
 }
 
@@ -253,10 +277,22 @@ impl fmt::Debug for AsyncServer {
 }
 
 impl Shared {
+    /// Logs the result of a retry of a save, and shows clients the data that are served now.
+    fn retried(&self, saved: Result<&Data, SaveError>) {
+        if let Some(log) = &self.log {
+            log_retried(&**log, saved);
+        }
+        self.changes.send_modify(|_| {});
+    }
+
+    /// Returns the time by the server's clock, in milliseconds.
+    fn now(&self) -> u64 {
+        u64::try_from(self.begun.elapsed().as_millis()).unwrap_or(u64::MAX)
+    }
+
     /// Returns the present data of the cache.
     fn moment(&self) -> Moment {
-        let now = self.begun.elapsed().as_millis();
-        self.cache.at(u64::try_from(now).unwrap_or(u64::MAX))
+        self.cache.at(self.now())
     }
 
     /// Sleeps until this time of the server's clock.
@@ -267,50 +303,61 @@ impl Shared {
         }
     }
 
-    /// Counts one client more, unless there are as many as allowed.
-    fn count(self: &Arc<Self>) -> Option<Counted> {
-        let most = self.cache.options().connections;
-        let more = |count| (count < most).then_some(count + 1);
-        let counted = self
-            .clients
-            .fetch_update(Ordering::Relaxed, Ordering::Relaxed, more);
-        counted.ok().map(|_| Counted(Arc::clone(self)))
-    }
-
-    /// Serves a client, once this future has prepared its connection.
-    async fn serve<S>(
-        self: Arc<Self>,
-        ready: impl Future<Output = io::Result<S>>,
-        from: SocketAddr,
-        has_room: bool,
-    ) where
-        S: AsyncRead + AsyncWrite + Unpin,
-    {
+    /// Counts a connection that was accepted. Returns none if it has to be closed: there are too
+    /// many. `has_spare` reports whether the system has a descriptor beside its own.
+    fn enter(self: &Arc<Self>, from: SocketAddr, has_spare: bool) -> Option<Entered> {
         if let Some(log) = &self.log {
             log(LogLevel::Debug, "connected", &[("client", &from)]);
         }
-        let counted = has_room.then(|| self.count()).flatten();
-        let mut served = Served::new(&self.moment());
-        let most = Instant::now() + self.cache.options().first_query;
-        let stream = match timeout_at(most, ready).await {
-            Ok(Ok(stream)) => stream,
-            Ok(Err(error)) => return (self.ended)(from, &ServerError::Io(error)),
-            Err(_) => return (self.ended)(from, &ServerError::TooSlow),
-        };
-        if counted.is_none() {
-            served.refuse(&self.moment());
+        let mut entry = Entry::Wait;
+        self.door.send_if_modified(|door| {
+            entry = door.enter(has_spare);
+            false // nobody waits for this
+        });
+        if entry == Entry::Wait {
+            (self.ended)(from, &ServerError::TooManyClients);
+            return None;
         }
-        self.carry(Carried::new(stream, served), from, counted)
-            .await;
+        let shared = Arc::clone(self);
+        Some(Entered { shared, entry })
     }
+}
 
+impl Entered {
+    /// Serves or refuses the client, once this future has prepared its connection.
+    async fn serve<S>(self, ready: impl Future<Output = io::Result<S>>, from: SocketAddr)
+    where
+        S: AsyncRead + AsyncWrite + Unpin,
+    {
+        let shared = &*self.shared;
+        let mut served = Served::new(&shared.moment());
+        let wakes = served.wakes(&shared.moment());
+        let prepared = tokio::select! {
+            biased;
+            prepared = ready => prepared,
+            () = shared.sleep_until(wakes) => {
+                if let ServedStep::Ended(error) = served.next(&shared.moment()) {
+                    (shared.ended)(from, &error);
+                }
+                return;
+            }
+        };
+        match prepared {
+            Ok(stream) => {
+                if self.entry == Entry::Refuse {
+                    served.refuse(&shared.moment());
+                }
+                shared.carry(Carried::new(stream, served), from).await;
+            }
+            Err(error) => (shared.ended)(from, &ServerError::Io(error)),
+        }
+    }
+}
+
+impl Shared {
     /// Sends and reads on the connection until it ends.
-    async fn carry<S>(
-        &self,
-        mut carried: Carried<S>,
-        from: SocketAddr,
-        mut counted: Option<Counted>,
-    ) where
+    async fn carry<S>(&self, mut carried: Carried<S>, from: SocketAddr)
+    where
         S: AsyncRead + AsyncWrite + Unpin,
     {
         let mut changes = self.changes.subscribe();
@@ -321,8 +368,10 @@ impl Shared {
                 ServedStep::Send => Wanted::Room,
                 ServedStep::Ended(error) => {
                     (self.ended)(from, &error);
-                    drop(counted.take());
                     continue;
+                }
+                ServedStep::Close if carried.holds && carried.wakes(&moment) > self.now() => {
+                    Wanted::Flush
                 }
                 _ => return,
             };

@@ -6,7 +6,7 @@ mod peers;
 
 use peers::*;
 use rtr_wire::{change_line, order, Client, ClientError, ClientOptions, Data, ErrorCode, Event};
-use rtr_wire::{Server, ServerError, ServerOptions, Unit};
+use rtr_wire::{Server, ServerError, ServerOptions, Unit, UpdateError};
 use rtr_wire_tokio::{AsyncClient, AsyncServer};
 use std::collections::BTreeSet;
 use std::future::{pending, Future};
@@ -531,6 +531,9 @@ fn answers_that_are_cut() {
             host.server.update(data(serial)).unwrap();
         }
         assert!(told.recv_timeout(milliseconds(300)).is_err());
+        if session != SESSION {
+            host.server.change_session();
+        }
         host.server.update(data_of(session, 4, 20)).unwrap();
         assert_eq!(told.recv_timeout(PATIENCE).as_deref(), Ok(text));
         assert!(holds(|| host.server.clients() == 0));
@@ -596,18 +599,54 @@ fn restarts() {
     let _alone = alone();
     let path = std::env::temp_dir().join(format!("rtr-async-kept-{}", std::process::id()));
     let server = AsyncServer::new(server_options());
+    assert_eq!(server.save_to(&path).unwrap(), None);
     server.update(data(1)).unwrap();
     server.update(data(2)).unwrap();
-    server.save(&path).unwrap();
+    drop(server);
     let host = Host::new(AsyncServer::new(server_options()));
-    assert_eq!(host.server.restore(&path).unwrap(), data(2));
+    assert_eq!(host.server.save_to(&path).unwrap(), Some(data(2)));
+    assert_eq!(host.server.end(), Some(data(2).end()));
     let in_thread = Server::new(ServerOptions::default());
-    assert_eq!(in_thread.restore(&path).unwrap(), data(2));
+    assert_eq!(in_thread.save_to(&path).unwrap(), Some(data(2)));
     std::fs::remove_file(path).unwrap();
     let mut client = Peer::connect(host.address);
     client.send(&serial_query(2, SESSION, 1));
     let changes = order(&client.response()).unwrap();
     assert_eq!(data(1).apply(&changes).unwrap(), data(2));
+}
+
+/// Data that can't be saved aren't served until a retry saves them; then clients are notified.
+#[test]
+fn saves_that_fail() {
+    let _alone = alone();
+    let folder = std::env::temp_dir().join(format!("rtr-async-fail-{}", std::process::id()));
+    std::fs::create_dir(&folder).unwrap();
+    let path = folder.join("kept");
+    let host = Host::new(AsyncServer::new(server_options()));
+    assert_eq!(host.server.save_to(&path).unwrap(), None);
+    assert_eq!(host.server.update(data(1)), Ok(true));
+    let mut client = Peer::connect(host.address);
+    client.send(&reset_query(2));
+    assert_eq!(client.response(), data(1).as_bytes());
+    // A folder in the place of the new file: it can't be written.
+    let blocked = folder.join("kept.new");
+    std::fs::create_dir(&blocked).unwrap();
+    for serial in [2, 3] {
+        let refused = host.server.update(data(serial));
+        assert!(matches!(refused, Err(UpdateError::NotSaved(_))));
+        assert_eq!(host.server.end(), Some(data(1).end()));
+    }
+    std::fs::remove_dir(&blocked).unwrap();
+    let notify = client.unit();
+    assert!(matches!(notify, Some(Unit::SerialNotify(notify)) if notify.serial == 3));
+    assert_eq!(host.server.end(), Some(data(3).end()));
+    assert!(holds(|| threads("rtr save") == 0));
+    // A server that stops retries no longer.
+    std::fs::create_dir(&blocked).unwrap();
+    assert!(host.server.update(data(4)).is_err());
+    host.server.stop();
+    assert!(holds(|| threads("rtr save") == 0));
+    std::fs::remove_dir_all(folder).unwrap();
 }
 
 /// A server that stops closes its connections, also in the middle of answers.

@@ -1,0 +1,175 @@
+//! Which clients a server serves, refuses and leaves waiting, and how long it waits for the last
+//! ones (`docs/SESSIONS.md`, "The cache"). Where it can, the clock stands while something is done.
+
+#[path = "../../tests/peers/mod.rs"]
+mod peers;
+
+use peers::{answer, data, milliseconds, prefix, reset_query};
+use rtr_wire::{ErrorCode, ServerError, ServerOptions, Unit};
+use rtr_wire_tokio::AsyncServer;
+use std::net::SocketAddr;
+use std::sync::mpsc::{channel, Receiver};
+use std::sync::Mutex;
+use std::time::Duration;
+use tokio::io::{duplex, AsyncReadExt, AsyncWriteExt, BufStream, DuplexStream};
+use tokio::net::{TcpListener, TcpStream};
+use tokio::task::JoinHandle;
+use tokio::time::{sleep, timeout, Instant};
+
+/// A server with data for this many clients, and the texts of why it ended connections.
+fn telling(connections: usize) -> (AsyncServer, Receiver<String>) {
+    let (sender, told) = channel();
+    let sender = Mutex::new(sender);
+    let options = ServerOptions {
+        connections,
+        ..ServerOptions::default()
+    };
+    let server = AsyncServer::telling(options, move |_, error: &ServerError| {
+        let _ = sender.lock().unwrap().send(error.to_string());
+    });
+    assert_eq!(server.update(data(1)), Ok(true));
+    (server, told)
+}
+
+fn from() -> SocketAddr {
+    SocketAddr::from(([192, 0, 2, 1], 323))
+}
+
+/// A client of a task that serves it.
+fn connect(server: &AsyncServer) -> (DuplexStream, JoinHandle<()>) {
+    let (mine, other) = duplex(1024);
+    let server = server.clone();
+    let serving = tokio::spawn(async move { server.serve_connection(other, from()).await });
+    (mine, serving)
+}
+
+/// Checks that a client asks for all data and gets them.
+async fn is_served(client: &mut (impl AsyncReadExt + AsyncWriteExt + Unpin)) {
+    client.write_all(&reset_query(2)).await.unwrap();
+    let wanted = answer(&data(1), 2);
+    let mut came = vec![0; wanted.len()];
+    client.read_exact(&mut came).await.unwrap();
+    assert_eq!(came, wanted);
+}
+
+/// The code of the report that comes, after which nothing comes.
+async fn report(client: &mut (impl AsyncReadExt + Unpin)) -> ErrorCode {
+    let mut came = Vec::new();
+    client.read_to_end(&mut came).await.unwrap();
+    match Unit::first(&came) {
+        Ok((Unit::ErrorReport(report), [])) => report.code,
+        other => panic!("{other:?}"),
+    }
+}
+
+/// A client that is served, and 64 that are refused, at a server for one.
+async fn full(server: &AsyncServer) -> (DuplexStream, Vec<DuplexStream>) {
+    let (mut one, _) = connect(server);
+    is_served(&mut one).await;
+    let mut refused: Vec<_> = (0..64).map(|_| connect(server).0).collect();
+    for client in &mut refused {
+        assert_eq!(report(client).await, ErrorCode::INTERNAL_ERROR);
+    }
+    (one, refused)
+}
+
+/// A listener leaves clients waiting while the server is full, and accepts one when a connection
+/// was closed, also one that the program accepted.
+#[tokio::test]
+async fn a_listener_that_waits() {
+    let (server, _told) = telling(1);
+    let (one, mut refused) = full(&server).await;
+    let listener = TcpListener::bind("127.0.0.1:0").await.unwrap();
+    let address = listener.local_addr().unwrap();
+    let serving = server.clone();
+    let listening = tokio::spawn(async move { serving.serve(listener).await });
+    let mut waiting = TcpStream::connect(address).await.unwrap();
+    let read = timeout(milliseconds(500), waiting.read_u8()).await;
+    assert!(read.is_err(), "it isn't accepted");
+    drop(refused.pop());
+    let code = timeout(peers::PATIENCE, report(&mut waiting)).await;
+    assert_eq!(code.unwrap(), ErrorCode::INTERNAL_ERROR);
+
+    let mut waiting = TcpStream::connect(address).await.unwrap();
+    let read = timeout(milliseconds(500), waiting.read_u8()).await;
+    assert!(read.is_err(), "it isn't accepted");
+    drop(one);
+    timeout(peers::PATIENCE, is_served(&mut waiting))
+        .await
+        .expect("it is served");
+    assert_eq!(server.clients(), 1);
+    server.stop();
+    listening.await.unwrap().unwrap();
+}
+
+/// A connection that a program accepted is closed without a report if too many are refused.
+#[tokio::test(start_paused = true)]
+async fn connections_that_are_handed_over() {
+    let (server, told) = telling(1);
+    let (_one, mut refused) = full(&server).await;
+    let (mut client, serving) = connect(&server);
+    serving.await.unwrap();
+    assert_eq!(client.read(&mut [0]).await.unwrap(), 0);
+    for _ in 0..=64 {
+        assert_eq!(told.try_recv().as_deref(), Ok("too many connections"));
+    }
+    assert!(told.try_recv().is_err());
+    assert_eq!(server.clients(), 1);
+    drop(refused.pop());
+    sleep(milliseconds(1)).await;
+    assert_eq!(
+        report(&mut connect(&server).0).await,
+        ErrorCode::INTERNAL_ERROR
+    );
+}
+
+/// A client that ended with a report has 10 seconds to close, and counts until then.
+#[tokio::test(start_paused = true)]
+async fn a_client_that_lingers() {
+    let (server, told) = telling(1);
+    let (mut client, serving) = connect(&server);
+    client.write_all(&prefix(1, 7)).await.unwrap();
+    let began = Instant::now();
+    assert_eq!(report(&mut client).await, ErrorCode::INVALID_REQUEST);
+    sleep(Duration::from_secs(9)).await;
+    client
+        .write_all(&reset_query(2))
+        .await
+        .expect("it reads on");
+    assert_eq!(server.clients(), 1);
+    serving.await.unwrap();
+    let lingers = began.elapsed();
+    assert!(
+        (10_000..10_010).contains(&lingers.as_millis()),
+        "{lingers:?}"
+    );
+    assert!(client.write_all(&reset_query(2)).await.is_err());
+    assert_eq!(server.clients(), 0);
+    assert_eq!(told.try_recv().as_deref(), Ok("unit is not a query"));
+    assert!(told.try_recv().is_err());
+}
+
+/// A report that a stream holds reaches a client that has closed; one that doesn't read has 10
+/// seconds.
+#[tokio::test(start_paused = true)]
+async fn a_report_that_is_held() {
+    for reads in [true, false] {
+        let (server, _told) = telling(1);
+        let (mut client, other) = duplex(16);
+        let held = BufStream::new(other);
+        let serving = tokio::spawn(async move { server.serve_connection(held, from()).await });
+        client.write_all(&[2, 2]).await.unwrap();
+        client.shutdown().await.unwrap();
+        let began = Instant::now();
+        if reads {
+            assert_eq!(report(&mut client).await, ErrorCode::CORRUPT_DATA);
+        }
+        serving.await.unwrap();
+        let most = if reads { 0..10 } else { 10_000..10_010 };
+        assert!(
+            most.contains(&began.elapsed().as_millis()),
+            "{:?}",
+            began.elapsed()
+        );
+    }
+}
