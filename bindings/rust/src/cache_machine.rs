@@ -1,11 +1,10 @@
-//! Safe wrappers of the proved machine of a cache's end. Times are in milliseconds.
+//! The proved machine of a cache's end. Times are in milliseconds.
 
 pub(crate) use crate::abi::{reason, serving, Cache, Present, Serving};
 
 use crate::abi::{self, named, CacheSettings};
-use crate::options::ServerOptions;
+use crate::calls;
 use crate::sys;
-use crate::sys::milliseconds;
 use std::string::{String, ToString};
 use std::vec::Vec;
 
@@ -15,29 +14,24 @@ pub(crate) fn reason_text(reason: u8) -> String {
 }
 
 impl Cache {
-    /// A new connection, with these options.
-    pub(crate) fn new(now: u64, options: &ServerOptions) -> Cache {
-        let settings = CacheSettings {
-            first_limit: milliseconds(options.first_query),
-            idle_limit: milliseconds(options.idle),
-            pause: milliseconds(options.notify),
-            refuses: options.refuse,
-        };
+    /// A new connection, with these settings.
+    pub(crate) fn new(now: u64, settings: &CacheSettings) -> Cache {
         let mut cache = Cache::default();
-        unsafe { abi::rtr_cache_init(&mut cache, now, &settings) };
+        calls::cache_init(&mut cache, now, settings);
         cache
     }
 
     pub(crate) fn tick(&mut self, now: u64, present: Present) -> Serving {
-        let mut serving = Serving::default();
-        unsafe { abi::rtr_cache_tick(self, now, &present, &mut serving) };
-        serving
+        calls::cache_tick(self, now, &present)
     }
 
     pub(crate) fn full(&mut self, now: u64, present: Present) -> Serving {
-        let mut serving = Serving::default();
-        unsafe { abi::rtr_cache_full(self, now, &present, &mut serving) };
-        serving
+        calls::cache_full(self, now, &present)
+    }
+
+    /// The client has closed, and all of its input was processed.
+    pub(crate) fn lost(&mut self, now: u64, present: Present) -> Serving {
+        calls::cache_lost(self, now, &present)
     }
 
     /// Processes the first unit of the input; `ended` if the client has closed. `known` are the
@@ -50,26 +44,7 @@ impl Cache {
         input: &[u8],
         ended: bool,
     ) -> Serving {
-        let mut serving = Serving::default();
-        unsafe {
-            abi::rtr_cache_read_nonnull(
-                self,
-                now,
-                &present,
-                known.as_ptr(),
-                known.len(),
-                input.as_ptr(),
-                input.len(),
-                ended,
-                &mut serving,
-            );
-        };
-        serving
-    }
-
-    /// The time of the next tick if nothing is received before.
-    pub(crate) fn wakes(&self, present: Present) -> u64 {
-        unsafe { abi::rtr_cache_wakes(self, &present) }
+        calls::cache_read(self, now, &present, known, input, ended)
     }
 }
 
@@ -81,19 +56,14 @@ impl Serving {
             return self.append_report(input, output);
         }
         let mut unit = [0; abi::SERIAL_SIZE];
-        let length = unsafe { abi::rtr_cache_unit_nonnull(self, unit.as_mut_ptr(), unit.len()) };
+        let length = calls::cache_unit(self, &mut unit);
         output.extend_from_slice(&unit[..length]);
     }
 
     /// Appends the report that is owed about the first unit of the input.
     fn append_report(&self, input: &[u8], output: &mut Vec<u8>) {
-        let (mut report, mut written) = (std::vec![0; abi::LONGEST_UNIT], 0);
-        let is_written = unsafe {
-            let (start, length) = (input.as_ptr(), input.len());
-            let (output, capacity) = (report.as_mut_ptr(), report.len());
-            abi::rtr_cache_report_nonnull(self, start, length, output, capacity, &mut written)
-        };
-        if is_written {
+        let mut report = std::vec![0; abi::LONGEST_UNIT];
+        if let (written, true) = calls::cache_report(self, input, &mut report) {
             output.extend_from_slice(&report[..written]);
         }
     }

@@ -3,20 +3,13 @@
 use crate::body::Body;
 use crate::cache::Moment;
 use crate::cache_machine::{serving, Cache as Machine, Serving};
+use crate::connection::{Connection, Next};
 use crate::input::Input;
 use crate::output::Output;
 use crate::server_error::ServerError;
-use crate::sys::milliseconds;
 use std::fs::File;
 use std::io;
-use std::time::Duration;
 use std::vec::Vec;
-
-/// A connection ends if more than this many newer data come while it is being sent some.
-const MOST_BEHIND: u64 = 2;
-/// How long the server continues to read after its last bytes, in milliseconds: closing with unread
-/// bytes would reset the connection, and the client could lose the last bytes.
-const LINGER: u64 = 200;
 
 /// What the host of a [`Served`] has to do next.
 #[derive(Debug)]
@@ -28,27 +21,17 @@ pub enum ServedStep {
     Send,
     /// Shut the connection down for writing, and continue to read.
     Finish,
-    /// Close the connection.
+    /// Close the connection, once its socket has sent what it holds, if that is before
+    /// [`Served::wakes`].
     Close,
     /// The reason for which the connection ends. Unsent bytes are sent before it is closed.
     Ended(ServerError),
 }
 
-/// The phase of a connection.
-#[derive(Debug, PartialEq)]
-enum Phase {
-    Served,
-    /// The last bytes are being sent.
-    Ending,
-    /// All bytes are sent; bytes that come until this time are ignored.
-    Over {
-        until: u64,
-    },
-}
-
 /// A connection of a client to a [`Cache`](crate::Cache) (RFC 8210), without sockets or a clock:
-/// its program passes bytes and times, and does what [`Served::next`] returns. The proved machine
-/// of `rtr_cache` decides the answers.
+/// its program passes bytes and times, and does what [`Served::next`] returns. Proved calls decide:
+/// those of `rtr_cache` the answers, those of `rtr_connection` when a limit ends the connection. A
+/// [`Door`](crate::Door) decides which connections are served.
 ///
 /// Connections share the encoded data.
 ///
@@ -84,13 +67,13 @@ enum Phase {
 #[derive(Debug)]
 pub struct Served {
     machine: Machine,
+    connection: Connection,
     input: Input,
-    /// When the first byte of the incomplete unit in the input came.
-    began: u64,
     output: Option<Output>,
-    /// The session, and the number of the edition that is being sent.
-    sending: Option<(u16, u64)>,
-    phase: Phase,
+    /// Whether [`Served::next`] has returned [`ServedStep::Finish`].
+    is_finished: bool,
+    /// Whether a limit has ended it, or its socket has failed: nothing is sent any more.
+    is_over: bool,
     /// Why it ended, until [`Served::next`] has returned that.
     ended: Option<ServerError>,
 }
@@ -99,19 +82,26 @@ impl Served {
     /// A new connection.
     #[must_use]
     pub fn new(moment: &Moment) -> Self {
+        let settings = moment.options.settings();
         Served {
-            machine: Machine::new(moment.now, &moment.options),
+            machine: Machine::new(moment.now, &settings.cache),
+            connection: Connection::new(moment.now, &settings),
             input: Input::default(),
-            began: moment.now,
             output: None,
-            sending: None,
-            phase: Phase::Served,
+            is_finished: false,
+            is_over: false,
             ended: None,
         }
     }
 
-    /// Refuses the connection: the limit is reached.
+    /// Refuses the new connection, by a report of code 1: the limit is reached ([`Door`]).
+    ///
+    /// [`Door`]: crate::Door
     pub fn refuse(&mut self, moment: &Moment) {
+        if self.is_served() && self.output.is_some() {
+            // It isn't new: a report can't begin within an answer.
+            return self.end(ServerError::TooManyClients);
+        }
         let serving = self.machine.full(moment.now, moment.present());
         self.perform(&serving, moment);
     }
@@ -119,32 +109,25 @@ impl Served {
     /// Whether the connection is still open.
     #[must_use]
     pub fn is_served(&self) -> bool {
-        self.phase == Phase::Served
+        self.connection.is_open() && !self.is_over
     }
 
     /// When to call [`Served::next`] if nothing happens before.
     #[must_use]
     pub fn wakes(&self, moment: &Moment) -> u64 {
-        match self.phase {
-            _ if self.ended.is_some() => 0,
-            Phase::Over { until } => until,
-            _ if self.failure(moment).is_some() => 0,
-            _ if self.output.is_some() => self.due(moment),
-            _ => self.due(moment).min(self.machine.wakes(moment.present())),
+        if self.ended.is_some() || self.is_over {
+            return 0;
         }
+        self.connection.wakes(&self.machine, moment.present())
     }
 
     /// Processes received bytes; none mean that the client has closed.
     pub fn received(&mut self, moment: &Moment, bytes: &[u8]) {
-        let is_empty = self.input.bytes().is_empty();
-        if bytes.is_empty() && is_empty {
-            self.phase = Phase::Over { until: 0 };
-        }
-        if self.is_served() {
-            if is_empty {
-                self.began = moment.now;
-            }
+        if bytes.is_empty() {
+            self.connection.close();
+        } else if self.is_served() {
             self.input.add(bytes);
+            self.connection.received(moment.now, bytes.len());
         }
     }
 
@@ -160,81 +143,65 @@ impl Served {
 
     /// Reports that `count` bytes were sent.
     pub fn sent(&mut self, moment: &Moment, count: usize) {
-        let output = self.output.take();
-        self.output = output.and_then(|output| output.sent(count, moment.now));
+        if self.connection.sent(moment.now, count) {
+            let output = self.output.take();
+            self.output = output.and_then(|output| output.sent(count));
+        }
     }
 
-    /// The connection broke.
+    /// The connection broke. Its unsent bytes are lost, so no proved call decides what follows.
     pub fn lost(&mut self, error: io::Error) {
-        self.lose(ServerError::Io(error));
+        self.end(ServerError::Io(error));
     }
 
     /// Returns what to do now.
     pub fn next(&mut self, moment: &Moment) -> ServedStep {
-        if self.output.is_none() && self.is_served() && self.failure(moment).is_none() {
-            let serving = self.tell(moment);
-            self.perform(&serving, moment);
-        }
-        if let Some(error) = self.failure(moment) {
-            self.lose(error);
-        }
-        if let Some(error) = self.ended.take() {
-            return ServedStep::Ended(error);
-        }
-        match self.phase {
-            Phase::Over { until } if until <= moment.now => ServedStep::Close,
-            Phase::Ending if self.output.is_none() => {
-                let until = moment.now + LINGER;
-                self.phase = Phase::Over { until };
-                ServedStep::Finish
+        loop {
+            if let Some(error) = self.ended.take() {
+                return ServedStep::Ended(error);
             }
-            _ if self.output.is_some() => ServedStep::Send,
-            _ => ServedStep::Receive,
-        }
-    }
-
-    /// The deadline of the bytes being sent, or of the incomplete unit.
-    fn due(&self, moment: &Moment) -> u64 {
-        let options = &moment.options;
-        match &self.output {
-            Some(output) => {
-                later(output.went_on, options.write).min(later(output.began, options.response))
+            if self.is_over {
+                return ServedStep::Close;
             }
-            None if self.input.bytes().is_empty() => u64::MAX,
-            None => later(self.began, options.unit),
+            let (now, present) = (moment.now, moment.present());
+            let connection = &self.connection;
+            match connection.next(now, &self.machine, present, moment.number()) {
+                Next::Wait => return ServedStep::Receive,
+                Next::Send => return ServedStep::Send,
+                Next::Finish if self.is_finished => return ServedStep::Receive,
+                Next::Finish => {
+                    self.is_finished = true;
+                    return ServedStep::Finish;
+                }
+                Next::Close(Some(error)) => self.end(error),
+                Next::Close(None) => return ServedStep::Close,
+                Next::Hear => self.hear(moment),
+                Next::Tick => {
+                    let serving = self.machine.tick(now, present);
+                    self.perform(&serving, moment);
+                }
+                Next::Lose => {
+                    let serving = self.machine.lost(now, present);
+                    self.perform(&serving, moment);
+                }
+            }
         }
     }
 
-    /// Why the connection has to end, if it has: a deadline has passed, or the data being sent are
-    /// too old.
-    fn failure(&self, moment: &Moment) -> Option<ServerError> {
-        if matches!(self.phase, Phase::Over { .. }) {
-            return None;
-        }
-        if moment.now >= self.due(moment) {
-            return Some(ServerError::TooSlow);
-        }
-        let (session, number) = self.sending.filter(|_| self.output.is_some())?;
-        match moment.newest.as_ref()? {
-            newest if newest.present.session != session => Some(ServerError::OtherSession),
-            newest if newest.number - number > MOST_BEHIND => Some(ServerError::TooFarBehind),
-            _ => None,
-        }
-    }
-
-    /// Passes a received unit, or the time, to the machine.
-    fn tell(&mut self, moment: &Moment) -> Serving {
+    /// Passes the first unit of the input to the machine.
+    fn hear(&mut self, moment: &Moment) {
         let (now, present) = (moment.now, moment.present());
-        let (input, ended) = (self.input.bytes(), self.input.has_ended());
-        if !input.is_empty() {
-            let newest = moment.newest.as_ref();
-            let known = newest.map_or(&[][..], |newest| &newest.known);
-            let serving = self.machine.read(now, present, known, input, ended);
-            if serving.kind != serving::WAIT {
-                return serving;
-            }
+        let newest = moment.newest.as_ref();
+        let known = newest.map_or(&[][..], |newest| &newest.known);
+        let (input, has_closed) = (self.input.bytes(), self.connection.closed);
+        let serving = self.machine.read(now, present, known, input, has_closed);
+        self.connection.heard(now, serving.taken);
+        self.perform(&serving, moment);
+        if self.is_served() {
+            self.input.take(serving.taken);
+        } else {
+            self.input = Input::default();
         }
-        self.machine.tick(now, present)
     }
 
     /// Starts to send what the machine returned.
@@ -246,31 +213,26 @@ impl Served {
             (serving::CHANGES, Some(newest)) => newest.since(version, serial, &moment.options),
             _ => Body::default(),
         };
-        let newest = moment.newest.as_ref();
-        self.sending = newest.map(|newest| (newest.present.session, newest.number));
         let mut head = Vec::new();
         serving.append(self.input.bytes(), &mut head);
-        self.output = Output::new(head, body, moment.now);
-        if serving.kind == serving::END {
-            self.ended = Some(ServerError::of(serving, self.input.bytes()));
-            self.phase = Phase::Ending;
-            self.input = Input::default();
-        }
-        self.input.take(serving.taken.min(self.input.bytes().len()));
-        self.began = moment.now;
+        let output = Output::new(head, body);
+        let (now, size) = (moment.now, output.size());
+        let begins = if serving.kind == serving::END {
+            self.ended = ServerError::of(serving, self.input.bytes());
+            self.connection.ends(now, size)
+        } else {
+            self.connection.answers(now, size, moment.number())
+        };
+        debug_assert!(begins, "it is told nothing while an answer is sent");
+        self.output = (size > 0).then_some(output);
     }
 
-    /// Ends the connection, for this reason.
-    fn lose(&mut self, error: ServerError) {
+    /// Ends the connection at once, for this reason.
+    fn end(&mut self, error: ServerError) {
         if self.is_served() {
             self.ended = Some(error);
         }
         self.output = None;
-        self.phase = Phase::Over { until: 0 };
+        self.is_over = true;
     }
-}
-
-/// The time after a duration.
-fn later(time: u64, span: Duration) -> u64 {
-    time.saturating_add(milliseconds(span).into())
 }

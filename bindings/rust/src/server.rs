@@ -1,13 +1,15 @@
 //! A cache.
 
 use crate::cache::{locked, Cache, Moment};
-use crate::log::{Log, LogFields, LogLevel};
+use crate::door::{Door, Entry};
+use crate::log::{log_retried, Log, LogFields, LogLevel};
 use crate::options::ServerOptions;
 use crate::owned_data::Data;
-use crate::server_error::{ServerError, UpdateError};
+use crate::server_error::{SaveError, ServerError, UpdateError};
 use crate::serving::{Connection, Ended};
 use crate::socket::Socket;
 use crate::timed::{has_to_wait, milliseconds_since, Stop};
+use crate::unit::EndOfData;
 use crate::waiting::{keep_waiting, limit_unsent, waker, Poller, Waker, Woken};
 use std::boxed::Box;
 use std::collections::BTreeMap;
@@ -23,11 +25,9 @@ use std::time::Instant;
 use std::vec::Vec;
 
 #[cfg(test)]
-#[path = "scenes.rs"]
-mod scenes;
+#[path = "cache_end.rs"]
+mod cache_end;
 
-/// How many connections may be closing, beside those that are served.
-const MOST_CLOSING: usize = 64;
 /// The size of a client's send buffer in the system, in bytes.
 const UNSENT: i32 = 1 << 17;
 /// How many clients are accepted in a row, before the others are served again.
@@ -46,6 +46,8 @@ struct Shared {
     connections: Mutex<Vec<(Box<dyn Socket>, SocketAddr)>>,
     /// How many clients are served.
     clients: AtomicUsize,
+    /// Wakes the thread, if it runs.
+    waker: Mutex<Option<Waker>>,
 }
 
 /// A cache (RFC 8210) over TCP or other sockets, for clients of versions 0 to 2, in one thread.
@@ -75,7 +77,7 @@ struct Shared {
 /// ```
 pub struct Server {
     shared: Arc<Shared>,
-    thread: Mutex<Option<(JoinHandle<()>, Waker)>>,
+    thread: Mutex<Option<JoinHandle<()>>>,
 }
 
 /// A listener and its transport.
@@ -88,7 +90,7 @@ struct Listener {
 type Ready = dyn Fn(TcpStream) -> io::Result<Box<dyn Socket>> + Send;
 
 impl Server {
-    /// A server without data, which doesn't listen yet.
+    /// A server without data, which doesn't listen yet, and doesn't save ([`Server::save_to`]).
     #[must_use]
     pub fn new(options: ServerOptions) -> Self {
         Server::telling(options, |_, _| {})
@@ -122,27 +124,40 @@ impl Server {
     }
 
     fn of(options: ServerOptions, ended: Box<Ended>, log: Option<Arc<Log>>) -> Self {
+        let shared = Arc::new(Shared {
+            cache: Cache::new(options),
+            ended,
+            log,
+            stop: Stop::default(),
+            listeners: Mutex::default(),
+            connections: Mutex::default(),
+            clients: AtomicUsize::new(0),
+            waker: Mutex::default(),
+        });
+        let retrying = Arc::downgrade(&shared);
+        shared.cache.on_retry(move |saved| {
+            if let Some(shared) = retrying.upgrade() {
+                shared.retried(saved);
+            }
+        });
         Server {
-            shared: Arc::new(Shared {
-                cache: Cache::new(options),
-                ended,
-                log,
-                stop: Stop::default(),
-                listeners: Mutex::default(),
-                connections: Mutex::default(),
-                clients: AtomicUsize::new(0),
-            }),
+            shared,
             thread: Mutex::default(),
         }
     }
 
     /// Serves these data from now on, with the session and serial number of their end of data.
-    /// Returns whether they differ from those that the server has.
+    /// Returns whether they differ from the present data.
+    ///
+    /// A server that saves does so first, and blocks on the file system. If that fails, the present
+    /// data are still served, and a thread retries after 1, 2, 4 .. seconds, up to a minute, until
+    /// it succeeds, or other data come; [`Server::logging`] logs each retry.
     ///
     /// # Errors
     ///
     /// `NewTimings`; `SerialNotAfter`, also for the same payloads with an earlier serial number;
-    /// `Times` if RFC 8210 section 6 doesn't allow their times.
+    /// `Times` if RFC 8210 section 6 doesn't allow their times; `SessionLeft`, `OtherSession`;
+    /// `HigherVersion`; or `NotSaved`.
     pub fn update(&self, data: Data) -> Result<bool, UpdateError> {
         let update_log = self.shared.log.as_ref().map(|log| (log, data.clone()));
         let is_new = self.shared.cache.update(data)?;
@@ -150,31 +165,42 @@ impl Server {
             if let Some((log, data)) = update_log {
                 data.log_served(&**log);
             }
-            self.wake();
+            self.shared.wake();
         }
         Ok(is_new)
     }
 
-    /// Saves the data, and the steps back to earlier ones, to a file: writes and syncs one beside
-    /// it, then renames that. Without data it writes nothing.
+    /// Saves data to this file from now on, before they are served: writes and syncs one beside it,
+    /// `.new`, renames that, and syncs the folder. Serves the data that the file has from an
+    /// earlier run, with the deltas to them, and returns these data, in version 2 unless another
+    /// program saved them in a lower one; none if there is no file. It syncs the folder first,
+    /// since that run may have ended before it did. Call it once, before the first data. No other
+    /// cache may use the file.
+    ///
+    /// If the file was lost or is refused, the next data have to be of a session that the cache
+    /// never used; so have the data of each start without this call.
     ///
     /// # Errors
     ///
-    /// Those of writing.
-    pub fn save(&self, path: impl AsRef<Path>) -> io::Result<()> {
-        self.shared.cache.save(path)
+    /// Those of reading and syncing; `InvalidData` for a file that was changed or damaged, or whose
+    /// data [`Server::update`] would refuse; `AlreadyExists` if the server has data, or a file.
+    /// Then nothing changes.
+    pub fn save_to(&self, path: impl AsRef<Path>) -> io::Result<Option<Data>> {
+        let data = self.shared.cache.save_to(path)?;
+        self.shared.wake();
+        Ok(data)
     }
 
-    /// Loads what [`Server::save`] wrote, if the server has no data yet, and returns the data that
-    /// it has then, so that clients get deltas after a restart. Call it before [`Server::listen`].
-    ///
-    /// # Errors
-    ///
-    /// Those of reading; `InvalidData` if the file isn't as it was written.
-    pub fn restore(&self, path: impl AsRef<Path>) -> io::Result<Data> {
-        let data = self.shared.cache.restore(path)?;
-        self.wake();
-        Ok(data)
+    /// Lets the next data of a server that doesn't save be of another session (RFC 8210 section
+    /// 5.1), which it never used, at no earlier start either. The present data are served until
+    /// then. A server that saves knows the sessions that it left, and ignores this call.
+    pub fn change_session(&self) {
+        self.shared.cache.change_session();
+    }
+
+    /// The end of the data that are served, with session and serial number.
+    pub fn end(&self) -> Option<EndOfData> {
+        self.shared.cache.end()
     }
 
     /// Listens at one more address, and returns it: for port 0 the system chooses a free port.
@@ -209,7 +235,7 @@ impl Server {
             socket,
             ready: Box::new(move |stream| Ok(Box::new(ready(stream)?))),
         });
-        self.wake();
+        self.shared.wake();
         Ok(address)
     }
 
@@ -221,7 +247,7 @@ impl Server {
     pub fn serve(&self, socket: impl Socket + 'static, from: SocketAddr) -> io::Result<()> {
         self.start()?;
         locked(&self.shared.connections).push((Box::new(socket), from));
-        self.wake();
+        self.shared.wake();
         Ok(())
     }
 
@@ -229,7 +255,9 @@ impl Server {
     fn start(&self) -> io::Result<()> {
         let mut thread = locked(&self.thread);
         if thread.is_none() {
-            *thread = Some(start(&self.shared)?);
+            let (started, waker) = start(&self.shared)?;
+            *thread = Some(started);
+            *locked(&self.shared.waker) = Some(waker);
         }
         Ok(())
     }
@@ -239,25 +267,36 @@ impl Server {
         self.shared.clients.load(Ordering::Relaxed)
     }
 
-    /// Closes all connections and ends the thread. Dropping a server stops it.
+    /// Closes all connections and ends the threads. Dropping a server stops it. Data that couldn't
+    /// be saved are lost; they were never served.
     pub fn stop(&self) {
         self.shared.stop.set();
-        self.wake();
+        self.shared.wake();
+        self.shared.cache.stop_saving();
         let thread = locked(&self.thread).take();
-        if let Some((thread, _)) = thread {
+        if let Some(thread) = thread {
             let _ = thread.join();
         }
-    }
-
-    /// Wakes the thread.
-    fn wake(&self) {
-        if let Some((_, waker)) = &*locked(&self.thread) {
-            waker.wake();
-        }
+        *locked(&self.shared.waker) = None;
     }
 }
 
 impl Shared {
+    /// Wakes the thread.
+    fn wake(&self) {
+        if let Some(waker) = &*locked(&self.waker) {
+            waker.wake();
+        }
+    }
+
+    /// Logs the result of a retry of a save, and shows clients the data that are served now.
+    fn retried(&self, saved: Result<&Data, SaveError>) {
+        if let Some(log) = &self.log {
+            log_retried(&**log, saved);
+        }
+        self.wake();
+    }
+
     /// Logs an event at an address, if there is a log.
     fn tell(&self, level: LogLevel, message: &str, (name, address): (&str, SocketAddr)) {
         if let Some(log) = &self.log {
@@ -286,6 +325,8 @@ const LISTENERS: u64 = 1 << 63;
 /// A client, and what it waits for.
 struct Client {
     connection: Connection,
+    /// As what the door counts it.
+    entry: Entry,
     /// Whether it waits to write.
     wants_room: bool,
     /// The deadline of that wait.
@@ -304,8 +345,7 @@ struct Host {
     clients: BTreeMap<u64, Client>,
     /// The key of the next client.
     next: u64,
-    /// How many clients are served.
-    served: usize,
+    door: Door,
     /// The earliest deadline of a client, or an earlier time.
     due: u64,
     moment: Moment,
@@ -327,7 +367,7 @@ impl Host {
             takes_from: 0,
             clients: BTreeMap::new(),
             next: 0,
-            served: 0,
+            door: Door::new(shared.cache.options()),
             due: u64::MAX,
             moment: shared.cache.at(0),
             shared: Arc::clone(shared),
@@ -344,9 +384,10 @@ impl Host {
             }
             self.go_on(&ready);
             if is_new || self.due <= self.moment.now {
-                self.go_on_by_time();
+                self.go_on_by_time(is_new);
             }
-            self.shared.clients.store(self.served, Ordering::Relaxed);
+            let clients = self.door.clients();
+            self.shared.clients.store(clients, Ordering::Relaxed);
         }
     }
 
@@ -354,17 +395,17 @@ impl Host {
     fn wait(&mut self) -> Vec<u64> {
         let now = milliseconds_since(self.begun);
         let pause = Some(self.takes_from).filter(|time| *time > now);
-        self.listen(pause.is_none() && self.has_place());
+        self.listen(pause.is_none() && self.accepts());
         let wakes = self.due.min(pause.unwrap_or(u64::MAX));
         let ready = self.poller.wait(wakes.saturating_sub(now));
         self.moment.now = milliseconds_since(self.begun);
         ready
     }
 
-    /// Whether the limit allows another client.
-    fn has_place(&self) -> bool {
-        let most = self.moment.options.connections;
-        self.clients.len() < most.saturating_add(MOST_CLOSING)
+    /// Whether another client is accepted now. Whether the system has a descriptor beside that of
+    /// the client is known once it is accepted.
+    fn accepts(&self) -> bool {
+        self.door.next(true) != Entry::Wait
     }
 
     /// Starts or stops waiting for listeners.
@@ -384,7 +425,7 @@ impl Host {
 
     /// Takes over new listeners and data; returns whether there are new data.
     fn look(&mut self) -> bool {
-        self.woken.clear(); // before it looks: who comes after that wakes it again
+        self.woken.clear(); // before it looks: a later change wakes it again
         let mut listeners = take(&mut *locked(&self.shared.listeners));
         if !listeners.is_empty() {
             self.listen(false);
@@ -407,7 +448,7 @@ impl Host {
         }
         let connections = take(&mut *locked(&self.shared.connections));
         for (socket, from) in connections {
-            self.serve(socket, from, false);
+            self.serve(socket, from, true);
         }
     }
 
@@ -418,14 +459,13 @@ impl Host {
             None => return,
         };
         let connection = &mut client.connection;
-        let was_served = connection.is_served();
         let (moment, begun) = (&mut self.moment, self.begun);
         moment.now = milliseconds_since(begun);
         let clock = || milliseconds_since(begun);
         connection.go_on(moment, clock, &self.shared.ended, is_ready);
-        self.served -= usize::from(was_served && !connection.is_served());
         if connection.is_over() {
             self.poller.remove(&connection.socket());
+            self.door.leave(client.entry);
             self.clients.remove(&key);
             return;
         }
@@ -438,12 +478,11 @@ impl Host {
         self.due = self.due.min(client.wakes);
     }
 
-    /// Serves all clients whose deadline has come.
-    fn go_on_by_time(&mut self) {
+    /// Serves all clients whose deadline has come; at new data, all clients.
+    fn go_on_by_time(&mut self, is_new: bool) {
         let (mut late, mut due) = (Vec::new(), u64::MAX);
-        for (key, client) in &mut self.clients {
-            client.wakes = client.connection.wakes(&self.moment);
-            if client.wakes <= self.moment.now {
+        for (key, client) in &self.clients {
+            if is_new || client.wakes <= self.moment.now {
                 late.push(*key);
             } else {
                 due = due.min(client.wakes);
@@ -458,7 +497,7 @@ impl Host {
     /// Accepts the clients that wait at a listener, a few at a time.
     fn accept(&mut self, at: usize) {
         for _ in 0..MOST_TAKEN {
-            if !self.has_place() {
+            if !self.accepts() {
                 return;
             }
             match self.listeners[at].socket.accept() {
@@ -474,36 +513,39 @@ impl Host {
 
     /// Accepts a client.
     fn take_in(&mut self, at: usize, stream: TcpStream, from: SocketAddr) {
-        let is_last = stream.try_clone().is_err();
+        let has_spare = stream.try_clone().is_ok();
         limit_unsent(&stream, UNSENT);
         if stream.set_nonblocking(true).is_err() || stream.set_nodelay(true).is_err() {
-            return; // it is gone again
+            return; // the client has closed already
         }
         match (self.listeners[at].ready)(stream) {
-            Ok(socket) => self.serve(socket, from, is_last),
+            Ok(socket) => self.serve(socket, from, has_spare),
             Err(error) => (self.shared.ended)(from, &ServerError::Io(error)),
         }
     }
 
-    /// Serves a client, or refuses it if the limit is reached, or the system has no descriptor left
-    /// beside that of its connection.
-    fn serve(&mut self, socket: Box<dyn Socket>, from: SocketAddr, is_last: bool) {
+    /// Serves a client, or refuses it, as the door decides. `has_spare` reports whether the system
+    /// has a descriptor beside that of the client.
+    fn serve(&mut self, socket: Box<dyn Socket>, from: SocketAddr, has_spare: bool) {
         self.shared
             .tell(LogLevel::Debug, "connected", ("client", from));
-        let is_full = self.served >= self.moment.options.connections;
+        let entry = self.door.enter(has_spare);
+        if entry == Entry::Wait {
+            return (self.shared.ended)(from, &ServerError::TooManyClients);
+        }
         let key = self.next;
         let mut connection = Connection::new(socket, from, &self.moment);
         if let Err(error) = self.poller.add(&connection.socket(), key, false) {
+            self.door.leave(entry);
             return (self.shared.ended)(from, &ServerError::Io(error));
         }
         self.next += 1;
-        self.served += 1;
-        if is_last || is_full {
+        if entry == Entry::Refuse {
             connection.refuse(&self.moment);
         }
-        self.served -= usize::from(!connection.is_served());
         let client = Client {
             connection,
+            entry,
             wants_room: false,
             wakes: 0,
         };
@@ -517,7 +559,7 @@ mod tests {
     use super::{Host, Server, ServerOptions, WOKEN};
 
     #[test]
-    fn what_comes_after_a_look_is_looked_for() {
+    fn a_change_after_a_look_wakes_again() {
         let server = Server::new(ServerOptions::default());
         let (mut host, waker) = Host::new(&server.shared).unwrap();
         waker.wake();

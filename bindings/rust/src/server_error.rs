@@ -1,7 +1,8 @@
 //! Why a cache ends a connection, or refuses data.
 
-use crate::abi::{named, time_rule};
+use crate::abi::{failure, named, time_rule};
 use crate::cache_machine::{reason, reason_text, Serving};
+use crate::client_error::write_report;
 use crate::fault::{ErrorCode, Fault};
 use crate::sys;
 use crate::unit::{ErrorReport, Timing, Unit};
@@ -40,11 +41,14 @@ impl fmt::Display for ServerError {
         match self {
             ServerError::Io(error) => error.fmt(f),
             ServerError::TooSlow => f.write_str(&reason_text(reason::SLOW)),
-            ServerError::TooFarBehind => f.write_str("the router is too far behind"),
+            ServerError::TooFarBehind => f.write_str(failure::BEHIND),
             ServerError::TooManyClients => f.write_str(&reason_text(reason::FULL)),
             ServerError::OtherSession => f.write_str(&reason_text(reason::NEW_SESSION)),
             ServerError::Refused { text, .. } => f.write_str(text),
-            ServerError::Reported(report) => write!(f, "the router reports: {}", report.code),
+            ServerError::Reported(report) => {
+                f.write_str(&reason_text(reason::REPORTED))?;
+                write_report(f, report)
+            }
         }
     }
 }
@@ -59,24 +63,26 @@ impl std::error::Error for ServerError {
 }
 
 impl ServerError {
-    /// Why the machine ends a connection; the input begins with the unit.
-    pub(crate) fn of(serving: &Serving, input: &[u8]) -> ServerError {
+    /// Why the machine ends a connection; the input begins with the unit. None if the client has
+    /// closed it, between units.
+    pub(crate) fn of(serving: &Serving, input: &[u8]) -> Option<ServerError> {
         let text = match (serving.reason, Unit::first(input)) {
-            (reason::SLOW, _) => return ServerError::TooSlow,
-            (reason::FULL, _) => return ServerError::TooManyClients,
-            (reason::NEW_SESSION, _) => return ServerError::OtherSession,
+            (reason::LOST, _) => return None,
+            (reason::SLOW, _) => return Some(ServerError::TooSlow),
+            (reason::FULL, _) => return Some(ServerError::TooManyClients),
+            (reason::NEW_SESSION, _) => return Some(ServerError::OtherSession),
             (reason::REPORTED, Ok((Unit::ErrorReport(report), _))) => {
-                return ServerError::Reported(report.into_owned());
+                return Some(ServerError::Reported(report.into_owned()));
             }
             (reason::FAULTY, _) => Fault::of(serving.status, serving.detail).to_string(),
             (other, _) => reason_text(other),
         };
         let code = serving.reports.then_some(ErrorCode(serving.code));
-        ServerError::Refused { code, text }
+        Some(ServerError::Refused { code, text })
     }
 }
 
-/// Why a [`Server`](crate::Server) refuses new data. It keeps its present data.
+/// Why a [`Server`](crate::Server) doesn't serve new data. It still serves its present data.
 #[derive(Clone, Copy, Debug, PartialEq, Eq)]
 #[non_exhaustive]
 pub enum UpdateError {
@@ -92,7 +98,57 @@ pub enum UpdateError {
     NewTimings,
     /// The times of their end of data break this rule for caches (RFC 8210 section 6).
     Times(TimeRule),
+    /// The cache left the session of the new data before, for another one (RFC 8210 section 5.1).
+    SessionLeft,
+    /// The cache doesn't save, and its first data were of another session.
+    OtherSession,
+    /// The new data are of a higher protocol version than the data of their session in the file,
+    /// which another program saved.
+    HigherVersion,
+    /// The new data couldn't be saved, so they aren't served yet. Saving them is retried.
+    NotSaved(SaveError),
 }
+
+/// Why data weren't saved: an error of the file system.
+#[derive(Clone, Copy, Debug, PartialEq, Eq)]
+pub struct SaveError {
+    kind: io::ErrorKind,
+    number: Option<i32>,
+}
+
+impl SaveError {
+    /// The kind of the error.
+    #[must_use]
+    pub fn kind(self) -> io::ErrorKind {
+        self.kind
+    }
+}
+
+impl From<&io::Error> for SaveError {
+    fn from(error: &io::Error) -> SaveError {
+        SaveError {
+            kind: error.kind(),
+            number: error.raw_os_error(),
+        }
+    }
+}
+
+impl From<SaveError> for io::Error {
+    fn from(error: SaveError) -> io::Error {
+        let of_kind = || error.kind.into();
+        error
+            .number
+            .map_or_else(of_kind, io::Error::from_raw_os_error)
+    }
+}
+
+impl fmt::Display for SaveError {
+    fn fmt(&self, f: &mut fmt::Formatter<'_>) -> fmt::Result {
+        io::Error::from(*self).fmt(f)
+    }
+}
+
+impl std::error::Error for SaveError {}
 
 /// A rule for the times of a cache (RFC 8210 section 6).
 #[derive(Clone, Copy, Debug, PartialEq, Eq)]
@@ -145,12 +201,23 @@ impl fmt::Display for UpdateError {
     fn fmt(&self, f: &mut fmt::Formatter<'_>) -> fmt::Result {
         match self {
             UpdateError::SerialNotAfter { present, new } => {
-                write!(f, "serial {new} of other data isn't after serial {present}")
+                write!(f, "{}: new {new}, present {present}", failure::OLD_SERIAL)
             }
-            UpdateError::NewTimings => f.write_str("new timings want a new serial number"),
+            UpdateError::NewTimings => f.write_str(failure::OTHER_TIMES),
             UpdateError::Times(rule) => rule.fmt(f),
+            UpdateError::SessionLeft => f.write_str(failure::SESSION_LEFT),
+            UpdateError::OtherSession => f.write_str(failure::OTHER_SESSION),
+            UpdateError::HigherVersion => f.write_str(failure::HIGHER_VERSION),
+            UpdateError::NotSaved(error) => write!(f, "the data aren't saved: {error}"),
         }
     }
 }
 
-impl std::error::Error for UpdateError {}
+impl std::error::Error for UpdateError {
+    fn source(&self) -> Option<&(dyn std::error::Error + 'static)> {
+        match self {
+            UpdateError::NotSaved(error) => Some(error),
+            _ => None,
+        }
+    }
+}

@@ -49,12 +49,13 @@ impl Connection {
         }
     }
 
-    /// Refuses the connection: the limit is reached. It still has to be served until it is closed.
+    /// Refuses the connection: the limit is reached. Serve it until it is closed.
     pub(crate) fn refuse(&mut self, moment: &Moment) {
         self.served.refuse(moment);
     }
 
     /// Whether the connection is still open.
+    #[cfg(test)]
     pub(crate) fn is_served(&self) -> bool {
         self.served.is_served()
     }
@@ -100,14 +101,18 @@ impl Connection {
                     ended(self.from, &error);
                     continue;
                 }
-                step => {
-                    self.is_sending = matches!(step, ServedStep::Send) || !self.flush();
-                    self.is_over = matches!(step, ServedStep::Close);
-                    return;
-                }
+                step => return self.rest(&step, moment),
             }
             has_sent = true;
         }
+    }
+
+    /// Waits for what this step needs, or is over.
+    fn rest(&mut self, step: &ServedStep, moment: &Moment) {
+        let is_flushed = self.flush();
+        self.is_sending = matches!(step, ServedStep::Send) || !is_flushed;
+        let is_late = self.served.wakes(moment) <= moment.now;
+        self.is_over = matches!(step, ServedStep::Close) && (is_flushed || is_late);
     }
 
     /// Reads some bytes.
@@ -164,7 +169,7 @@ impl Connection {
         true
     }
 
-    /// Handles an error of a system call; one that would block is none.
+    /// Handles an error of a system call; a call that would block is no error.
     fn lost(&mut self, error: io::Error) {
         if !has_to_wait(&error) {
             self.served.lost(error);
@@ -175,10 +180,11 @@ impl Connection {
 #[cfg(test)]
 mod tests {
     use super::Connection;
-    use crate::{Cache, Data, ServerOptions};
+    use crate::{Cache, Data, ServerError, ServerOptions, Socket};
     use std::boxed::Box;
-    use std::io::Write;
-    use std::net::Ipv4Addr;
+    use std::io::{self, ErrorKind, Read, Write};
+    use std::net::{Ipv4Addr, Shutdown};
+    use std::os::unix::io::{AsFd, BorrowedFd};
     use std::os::unix::net::UnixStream;
     use std::time::Duration;
     use std::vec::Vec;
@@ -206,9 +212,60 @@ mod tests {
         let from = (Ipv4Addr::LOCALHOST, 0).into();
         let mut connection = Connection::new(Box::new(stream), from, &moment);
         router.write_all(&[2, 2, 0, 0, 0, 0, 0, 8]).unwrap();
-        let ended = |_, error: &crate::ServerError| panic!("{error}");
+        let ended = |_, error: &ServerError| panic!("{error}");
         connection.go_on(&mut moment, || 5000, &ended, true);
         assert!(connection.is_sending());
         assert_eq!(connection.wakes(&moment), 5600);
+    }
+
+    /// A socket that holds what is written to it.
+    struct Holding(UnixStream);
+
+    impl Read for Holding {
+        fn read(&mut self, bytes: &mut [u8]) -> io::Result<usize> {
+            self.0.read(bytes)
+        }
+    }
+
+    impl Write for Holding {
+        fn write(&mut self, bytes: &[u8]) -> io::Result<usize> {
+            Ok(bytes.len())
+        }
+
+        fn flush(&mut self) -> io::Result<()> {
+            Err(ErrorKind::WouldBlock.into())
+        }
+    }
+
+    impl Socket for Holding {
+        fn socket(&self) -> BorrowedFd<'_> {
+            self.0.as_fd()
+        }
+
+        fn finish(&mut self) -> io::Result<()> {
+            Ok(())
+        }
+    }
+
+    /// A report that the socket still holds keeps the connection of a client that has closed open,
+    /// for 10 seconds (`docs/SESSIONS.md`, "The cache").
+    #[test]
+    fn a_report_that_is_held() {
+        let cache = Cache::new(ServerOptions::default());
+        let (mut router, stream) = UnixStream::pair().unwrap();
+        let mut moment = cache.at(1000);
+        let from = (Ipv4Addr::LOCALHOST, 0).into();
+        let mut connection = Connection::new(Box::new(Holding(stream)), from, &moment);
+        router.write_all(&[2, 2]).unwrap();
+        router.shutdown(Shutdown::Write).unwrap();
+        for _ in 0..2 {
+            connection.go_on(&mut moment, || 1000, &|_, _| {}, true);
+        }
+        for (now, is_over) in [(1000, false), (10_999, false), (11_000, true)] {
+            moment.now = now;
+            assert_eq!(connection.wakes(&moment), 11_000);
+            connection.go_on(&mut moment, || now, &|_, _| {}, false);
+            assert_eq!(connection.is_over(), is_over);
+        }
     }
 }

@@ -1,11 +1,12 @@
-//! Safe wrappers of the archive's functions.
+//! The calls of the archive with the types of this crate.
 
 #[cfg(feature = "alloc")]
 pub(crate) use crate::abi::{Check, Finding as FindingNumbers};
 pub(crate) use crate::abi::{Covering as CoveringNumbers, Lookup, Unit};
 
 use crate::abi::{self, covers, kind, side, status, validity};
-use crate::abi::{Answer, Comparison, DataAnswer, Route as RouteNumbers};
+use crate::abi::{Answer, DataAnswer, Route as RouteNumbers};
+use crate::calls;
 use crate::data::{DataError, Place, Side};
 use crate::fault::{ErrorCode, Fault};
 use crate::kind::Kind;
@@ -21,16 +22,15 @@ use core::time::Duration;
 #[cfg(feature = "alloc")]
 pub(crate) fn usual_settings(highest: u8) -> abi::Settings {
     let mut settings = abi::Settings::default();
-    // SAFETY: the settings are live; so below.
-    unsafe { abi::rtr_settings_usual(&mut settings, highest) };
+    calls::settings_usual(&mut settings, highest);
     settings
 }
 
-/// The default settings of a cache's machine.
+/// The default limits of a server.
 #[cfg(feature = "alloc")]
-pub(crate) fn usual_cache_settings() -> abi::CacheSettings {
-    let mut settings = abi::CacheSettings::default();
-    unsafe { abi::rtr_cache_settings_usual(&mut settings) };
+pub(crate) fn usual_server_settings() -> abi::ServerSettings {
+    let mut settings = abi::ServerSettings::default();
+    calls::server_settings_usual(&mut settings);
     settings
 }
 
@@ -52,20 +52,7 @@ fn result(answer: Answer) -> Result<Progress, Stopped> {
 }
 
 pub(crate) fn normalise(input: &[u8], output: &mut [u8], limit: u64) -> Result<Progress, Stopped> {
-    let mut answer = Answer::default();
-    // SAFETY: both slices are live and of these lengths, never null, and the output and the answer
-    // overlap nothing, since they are borrowed mutably.
-    unsafe {
-        abi::rtr_normalise_slice_nonnull(
-            input.as_ptr(),
-            input.len(),
-            output.as_mut_ptr(),
-            output.len(),
-            limit,
-            &mut answer,
-        )
-    };
-    result(answer)
+    result(calls::normalise_slice(input, output, limit))
 }
 
 pub(crate) fn normalise_for(
@@ -74,38 +61,20 @@ pub(crate) fn normalise_for(
     limit: u64,
     version: u8,
 ) -> Result<Progress, Stopped> {
-    let mut answer = Answer::default();
-    // SAFETY: as in `normalise`.
-    unsafe {
-        abi::rtr_normalise_for_slice_nonnull(
-            input.as_ptr(),
-            input.len(),
-            output.as_mut_ptr(),
-            output.len(),
-            limit,
-            version,
-            &mut answer,
-        )
-    };
-    result(answer)
+    result(calls::normalise_for_slice(input, output, limit, version))
 }
 
 pub(crate) fn next(input: &[u8]) -> Result<Unit, Fault> {
-    let mut unit = Unit::default();
-    // SAFETY: the slice is live and of this length, and the unit overlaps nothing.
-    match unsafe { abi::rtr_next_nonnull(input.as_ptr(), input.len(), &mut unit) } {
-        status::OK => Ok(unit),
-        status => Err(Fault::of(status, unit.detail)),
+    match calls::next(input) {
+        (unit, status::OK) => Ok(unit),
+        (unit, status) => Err(Fault::of(status, unit.detail)),
     }
 }
 
 pub(crate) fn unit_size(input: &[u8]) -> Result<usize, Fault> {
-    let (mut size, mut detail) = (0, 0);
-    // SAFETY: the slice is live and of this length, and the two numbers overlap nothing.
-    match unsafe { abi::rtr_unit_size_nonnull(input.as_ptr(), input.len(), &mut size, &mut detail) }
-    {
-        status::OK => Ok(size),
-        status => Err(Fault::of(status, detail)),
+    match calls::unit_size(input) {
+        (size, _, status::OK) => Ok(size),
+        (_, detail, status) => Err(Fault::of(status, detail)),
     }
 }
 
@@ -116,13 +85,13 @@ pub(crate) struct Text {
 }
 
 impl Text {
-    /// The text that a call writes to the front of these bytes.
-    fn by(call: impl FnOnce(&mut [u8], &mut usize) -> u8) -> Self {
+    /// The text that a call writes to the front of these bytes; the call returns its length.
+    fn by(call: impl FnOnce(&mut [u8]) -> (usize, u8)) -> Self {
         let mut text = Text {
             bytes: [0; abi::TEXT_ROOM],
             length: 0,
         };
-        call(&mut text.bytes, &mut text.length);
+        text.length = call(&mut text.bytes).0;
         text
     }
 }
@@ -139,10 +108,7 @@ impl Deref for Text {
 
 /// The text of a status with its detail.
 pub(crate) fn status_text(status: u8, detail: u8) -> Text {
-    Text::by(|output, length| {
-        // SAFETY: the output is live and of this length, and the count overlaps nothing.
-        unsafe { abi::rtr_text_nonnull(status, detail, output.as_mut_ptr(), output.len(), length) }
-    })
+    Text::by(|output| calls::text(status, detail, output))
 }
 
 /// A duration in milliseconds; only zero becomes zero.
@@ -153,93 +119,38 @@ pub(crate) fn milliseconds(span: Duration) -> u32 {
 
 /// The name of a number; `named` selects of what.
 pub(crate) fn name(named: u8, number: u16) -> Text {
-    Text::by(|output, length| {
-        // SAFETY: as in `status_text`.
-        unsafe { abi::rtr_name_nonnull(named, number, output.as_mut_ptr(), output.len(), length) }
-    })
+    Text::by(|output| calls::name(named, number, output))
 }
 
 /// The first rule of RFC 8210 section 6 that these times break, or 0.
 #[cfg(feature = "std")]
 pub(crate) fn times_rule(timing: Timing) -> u8 {
-    let Timing {
-        refresh,
-        retry,
-        expire,
-    } = timing;
-    // SAFETY: it only takes numbers.
-    unsafe { abi::rtr_times_rule(refresh, retry, expire) }
+    calls::times_rule(timing.refresh, timing.retry, timing.expire)
 }
 
 /// Writes the line of the first unit of the input, as much as fits; returns the length of the whole
 /// line, and the size of the unit.
 #[cfg(feature = "alloc")]
 pub(crate) fn line(input: &[u8], offset: u64, output: &mut [u8]) -> Result<(usize, usize), Fault> {
-    let mut answer = abi::Line::default();
-    // SAFETY: as in `normalise`.
-    unsafe {
-        abi::rtr_line_nonnull(
-            input.as_ptr(),
-            input.len(),
-            offset,
-            output.as_mut_ptr(),
-            output.len(),
-            &mut answer,
-        )
-    };
-    lined(answer)
+    lined(calls::line(input, offset, output))
 }
 
 /// Like `line`, for the JSON object.
 #[cfg(feature = "alloc")]
 pub(crate) fn json(input: &[u8], offset: u64, output: &mut [u8]) -> Result<(usize, usize), Fault> {
-    let mut answer = abi::Line::default();
-    // SAFETY: as in `normalise`.
-    unsafe {
-        abi::rtr_json_nonnull(
-            input.as_ptr(),
-            input.len(),
-            offset,
-            output.as_mut_ptr(),
-            output.len(),
-            &mut answer,
-        )
-    };
-    lined(answer)
+    lined(calls::json(input, offset, output))
 }
 
 /// Like `line`, for the change that the unit makes.
 #[cfg(feature = "alloc")]
 pub(crate) fn change_line(input: &[u8], output: &mut [u8]) -> Result<(usize, usize), Fault> {
-    let mut answer = abi::Line::default();
-    // SAFETY: as in `normalise`.
-    unsafe {
-        abi::rtr_change_line_nonnull(
-            input.as_ptr(),
-            input.len(),
-            output.as_mut_ptr(),
-            output.len(),
-            &mut answer,
-        )
-    };
-    lined(answer)
+    lined(calls::change_line(input, output))
 }
 
 /// Like `change_line`, for the JSON object.
 #[cfg(feature = "alloc")]
 pub(crate) fn change_json(input: &[u8], output: &mut [u8]) -> Result<(usize, usize), Fault> {
-    let mut answer = abi::Line::default();
-    // SAFETY: as in `normalise`.
-    unsafe {
-        abi::rtr_change_json_nonnull(
-            input.as_ptr(),
-            input.len(),
-            output.as_mut_ptr(),
-            output.len(),
-            &mut answer,
-        )
-    };
-    lined(answer)
+    lined(calls::change_json(input, output))
 }
 
 #[cfg(feature = "alloc")]
@@ -253,47 +164,11 @@ fn lined(answer: abi::Line) -> Result<(usize, usize), Fault> {
 /// Writes the name to the output, which is long enough for any name.
 #[cfg(feature = "alloc")]
 pub(crate) fn check_name(input: &[u8], output: &mut [u8]) -> Result<abi::Naming, Fault> {
-    let mut answer = abi::Naming::default();
-    // SAFETY: as in `normalise`.
-    let status = unsafe {
-        abi::rtr_check_name_nonnull(
-            input.as_ptr(),
-            input.len(),
-            output.as_mut_ptr(),
-            output.len(),
-            &mut answer,
-        )
-    };
-    match status {
+    let answer = calls::check_name(input, output);
+    match answer.status {
         status::OK => Ok(answer),
         status => Err(Fault::of(status, answer.detail)),
     }
-}
-
-/// Takes the same units as `check_name`.
-#[cfg(feature = "alloc")]
-pub(crate) fn check_unit(check: &mut Check, input: &[u8], was_there: bool) -> abi::Checked {
-    let mut answer = abi::Checked::default();
-    // SAFETY: the slice is live and of this length, and the check and the answer overlap nothing.
-    unsafe {
-        abi::rtr_check_unit_nonnull(check, input.as_ptr(), input.len(), was_there, &mut answer)
-    };
-    answer
-}
-
-#[cfg(feature = "alloc")]
-pub(crate) fn check_end(check: Check) -> FindingNumbers {
-    let mut finding = FindingNumbers::default();
-    // SAFETY: both are live, and the finding overlaps nothing.
-    unsafe { abi::rtr_check_end(&check, &mut finding) };
-    finding
-}
-
-/// Writes the line; returns its length, or 0 if there is none.
-#[cfg(feature = "alloc")]
-pub(crate) fn finding_line(finding: FindingNumbers, offset: u64, output: &mut [u8]) -> usize {
-    // SAFETY: the slice is live and of this length, and overlaps nothing.
-    unsafe { abi::rtr_finding_line_nonnull(&finding, offset, output.as_mut_ptr(), output.len()) }
 }
 
 /// `part` is the key info, the providers, or the unit that a report is about. The fault has no
@@ -303,38 +178,14 @@ pub(crate) fn write(unit: &Unit, part: &[u8], output: &mut [u8]) -> Result<usize
         part_length: part.len(),
         ..*unit
     };
-    let mut written = 0;
-    // SAFETY: all slices are live and of these lengths, and the output and the count overlap
-    // nothing.
-    let status = unsafe {
-        abi::rtr_write_unit_nonnull(
-            &unit,
-            part.as_ptr(),
-            part.len(),
-            output.as_mut_ptr(),
-            output.len(),
-            &mut written,
-        )
-    };
-    match status {
-        status::OK => Ok(written),
-        status => Err(Fault::of(status, 0)),
+    match calls::write_unit(&unit, part, output) {
+        (written, status::OK) => Ok(written),
+        (_, status) => Err(Fault::of(status, 0)),
     }
 }
 
 pub(crate) fn same_meaning(left: &[u8], right: &[u8], limit: u64) -> Result<bool, NotCompared> {
-    let mut answer = Comparison::default();
-    // SAFETY: both slices are live and of these lengths, and the answer overlaps nothing.
-    unsafe {
-        abi::rtr_same_meaning_nonnull(
-            left.as_ptr(),
-            left.len(),
-            right.as_ptr(),
-            right.len(),
-            limit,
-            &mut answer,
-        )
-    };
+    let answer = calls::same_meaning(left, right, limit);
     match answer.status {
         status::OK => Ok(answer.same),
         status => Err(NotCompared {
@@ -370,20 +221,7 @@ fn data_result(answer: DataAnswer) -> Result<usize, DataError> {
 }
 
 pub(crate) fn delta(old: &[u8], new: &[u8], output: &mut [u8]) -> Result<usize, DataError> {
-    let mut answer = DataAnswer::default();
-    // SAFETY: as in `normalise`.
-    unsafe {
-        abi::rtr_delta_nonnull(
-            old.as_ptr(),
-            old.len(),
-            new.as_ptr(),
-            new.len(),
-            output.as_mut_ptr(),
-            output.len(),
-            &mut answer,
-        )
-    };
-    data_result(answer)
+    data_result(calls::delta(old, new, output))
 }
 
 /// Writes the delta to the capacity of an empty vector.
@@ -411,20 +249,7 @@ pub(crate) fn append_delta(
 }
 
 pub(crate) fn apply(data: &[u8], changes: &[u8], output: &mut [u8]) -> Result<usize, DataError> {
-    let mut answer = DataAnswer::default();
-    // SAFETY: as in `normalise`.
-    unsafe {
-        abi::rtr_apply_nonnull(
-            data.as_ptr(),
-            data.len(),
-            changes.as_ptr(),
-            changes.len(),
-            output.as_mut_ptr(),
-            output.len(),
-            &mut answer,
-        )
-    };
-    data_result(answer)
+    data_result(calls::apply(data, changes, output))
 }
 
 pub(crate) fn apply_in_order(
@@ -433,22 +258,7 @@ pub(crate) fn apply_in_order(
     index: &mut [usize],
     output: &mut [u8],
 ) -> Result<usize, DataError> {
-    let mut answer = DataAnswer::default();
-    // SAFETY: as in `normalise`; the index too is borrowed mutably.
-    unsafe {
-        abi::rtr_apply_in_order_nonnull(
-            data.as_ptr(),
-            data.len(),
-            changes.as_ptr(),
-            changes.len(),
-            index.as_mut_ptr(),
-            index.len(),
-            output.as_mut_ptr(),
-            output.len(),
-            &mut answer,
-        )
-    };
-    data_result(answer)
+    data_result(calls::apply_in_order(data, changes, index, output))
 }
 
 pub(crate) fn order(
@@ -456,56 +266,12 @@ pub(crate) fn order(
     index: &mut [usize],
     output: &mut [u8],
 ) -> Result<usize, DataError> {
-    let mut answer = DataAnswer::default();
-    // SAFETY: as in `normalise`; the index too is borrowed mutably.
-    unsafe {
-        abi::rtr_order_nonnull(
-            input.as_ptr(),
-            input.len(),
-            index.as_mut_ptr(),
-            index.len(),
-            output.as_mut_ptr(),
-            output.len(),
-            &mut answer,
-        )
-    };
-    data_result(answer)
-}
-
-/// Writes the data that a recording results in. After `NO_INDEX` the answer has the least number of
-/// entries that the index needs; after `NO_ROOM` the work or the output was too short.
-#[cfg(feature = "alloc")]
-pub(crate) fn load(
-    recording: &[u8],
-    index: &mut [usize],
-    work: &mut [u8],
-    output: &mut [u8],
-) -> abi::Loaded {
-    let mut loaded = abi::Loaded::default();
-    // SAFETY: as in `apply_in_order`; so is the work.
-    unsafe {
-        abi::rtr_load_nonnull(
-            recording.as_ptr(),
-            recording.len(),
-            index.as_mut_ptr(),
-            index.len(),
-            work.as_mut_ptr(),
-            work.len(),
-            output.as_mut_ptr(),
-            output.len(),
-            &mut loaded,
-        )
-    };
-    loaded
+    data_result(calls::order(input, index, output))
 }
 
 /// Builds the lookup of the data at the start of the slice.
 pub(crate) fn check_data(data: &[u8]) -> Result<Lookup, DataError> {
-    let (mut lookup, mut answer) = (Lookup::default(), DataAnswer::default());
-    // SAFETY: the slice is live and of this length, never null, and the rest overlaps nothing.
-    unsafe {
-        abi::rtr_check_data_nonnull(data.as_ptr(), data.len(), &mut lookup, &mut answer);
-    }
+    let (lookup, answer) = calls::check_data(data);
     data_result(answer)?;
     Ok(lookup)
 }
@@ -530,9 +296,7 @@ fn route_numbers(route: &Route) -> RouteNumbers {
 
 /// The validity of a route, whose length is in range, by the data of the lookup.
 pub(crate) fn validate(data: &[u8], lookup: &Lookup, route: &Route) -> Validity {
-    let route = route_numbers(route);
-    // SAFETY: the slice is live and of this length, never null, and the rest is borrowed.
-    match unsafe { abi::rtr_validate_nonnull(data.as_ptr(), data.len(), lookup, &route) } {
+    match calls::validate(data, lookup, &route_numbers(route)) {
         validity::VALID => Validity::Valid,
         validity::INVALID => Validity::Invalid,
         _ => Validity::NotFound,
@@ -546,31 +310,14 @@ pub(crate) fn covering(
     route: &Route,
     from: usize,
 ) -> Option<CoveringNumbers> {
-    let route = route_numbers(route);
-    let mut found = CoveringNumbers::default();
-    // SAFETY: as in `validate`; what is found overlaps nothing.
-    let answer = unsafe {
-        abi::rtr_covering_nonnull(data.as_ptr(), data.len(), lookup, &route, from, &mut found)
-    };
+    let (found, answer) = calls::covering(data, lookup, &route_numbers(route), from);
     (answer == covers::ONE).then_some(found)
 }
 
 /// The code of the report that is owed for this status of the first unit of the input.
 pub(crate) fn error_code(status: u8, input: &[u8]) -> Option<u16> {
-    let mut code = 0;
-    // SAFETY: the slice is live and of this length, and the code overlaps nothing.
-    unsafe { abi::rtr_error_code_nonnull(status, input.as_ptr(), input.len(), &mut code) }
-        .then_some(code)
-}
-
-pub(crate) fn serial_order(left: u32, right: u32) -> u8 {
-    // SAFETY: any numbers may be passed.
-    unsafe { abi::rtr_serial_order(left, right) }
-}
-
-pub(crate) fn version_has(version: u8, kind: u8) -> bool {
-    // SAFETY: any numbers may be passed.
-    unsafe { abi::rtr_version_has(version, kind) }
+    let (code, is_owed) = calls::error_code(status, input);
+    is_owed.then_some(code)
 }
 
 impl Unit {

@@ -26,7 +26,7 @@ impl Stop {
     /// Stops all threads. It doesn't block, so a signal handler may call it.
     pub(crate) fn set(&self) {
         self.is_set.store(true, Ordering::SeqCst);
-        // Whoever holds the lock checks this flag after releasing it.
+        // The thread that holds the lock checks this flag after releasing it.
         if let Ok(ends) = self.ends.try_lock() {
             if let Some((end, _)) = &*ends {
                 let _ = end.shutdown(Shutdown::Both);

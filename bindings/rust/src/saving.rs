@@ -1,0 +1,127 @@
+//! Writes the file of a cache, and retries it.
+
+use crate::cache::locked;
+use std::fs::{remove_file, rename, File};
+use std::io::{self, ErrorKind, Write};
+use std::path::{Path, PathBuf};
+use std::string::ToString;
+use std::sync::{Arc, Condvar, Mutex, PoisonError};
+use std::thread::{current, Builder, JoinHandle};
+use std::time::{Duration, Instant};
+
+/// The pause before the first retry, and the longest one; in between each is twice the last.
+const FIRST_PAUSE: Duration = Duration::from_secs(1);
+const LONGEST_PAUSE: Duration = Duration::from_secs(60);
+
+/// The name of the new file beside the old one, which it replaces when it is complete.
+fn new_beside(path: &Path) -> PathBuf {
+    let mut new = path.as_os_str().to_os_string();
+    new.push(".new");
+    new.into()
+}
+
+/// Removes what a save left that was killed.
+pub(crate) fn forget_new(path: &Path) {
+    let _ = remove_file(new_beside(path));
+}
+
+/// Replaces a file: writes and syncs another one beside it, renames that, and syncs the folder. If
+/// it fails, nothing is left beside the file.
+pub(crate) fn replace(path: &Path, parts: &[&[u8]]) -> io::Result<()> {
+    let new = new_beside(path);
+    let written = write(&new, parts).and_then(|()| rename(&new, path));
+    if written.is_err() {
+        forget_new(path);
+    }
+    written?;
+    sync_folder(path)
+}
+
+fn write(path: &Path, parts: &[&[u8]]) -> io::Result<()> {
+    let mut file = File::create(path)?;
+    for part in parts {
+        file.write_all(part)?;
+    }
+    file.sync_all()
+}
+
+/// Syncs the folder of a file, if its file system can sync folders.
+pub(crate) fn sync_folder(path: &Path) -> io::Result<()> {
+    let folder = path.parent().filter(|folder| *folder != Path::new(""));
+    match File::open(folder.unwrap_or_else(|| Path::new(".")))?.sync_all() {
+        Err(error) if error.kind() == ErrorKind::InvalidInput => Ok(()),
+        synced => synced,
+    }
+}
+
+/// A thread that repeats a task at growing intervals, while there is one to repeat.
+#[derive(Debug, Default)]
+pub(crate) struct Retries {
+    turn: Arc<(Mutex<Turn>, Condvar)>,
+    thread: Mutex<Option<JoinHandle<()>>>,
+}
+
+/// Which thread continues: the last one started, until it is cancelled.
+#[derive(Debug, Default)]
+struct Turn {
+    number: u64,
+    is_stopped: bool,
+}
+
+impl Retries {
+    /// Starts the thread, which ends once the task returns true.
+    pub(crate) fn start(
+        &self,
+        mut is_done: impl FnMut() -> bool + Send + 'static,
+    ) -> io::Result<()> {
+        let turn = Arc::clone(&self.turn);
+        let number = self.next_turn();
+        let task = move || {
+            let mut pause = FIRST_PAUSE;
+            while has_waited(&turn, number, pause) && !is_done() {
+                pause = LONGEST_PAUSE.min(2 * pause);
+            }
+        };
+        let thread = Builder::new().name("rtr save".to_string()).spawn(task)?;
+        *locked(&self.thread) = Some(thread);
+        Ok(())
+    }
+
+    /// Ends the thread, if there is one.
+    pub(crate) fn cancel(&self) {
+        self.next_turn();
+    }
+
+    fn next_turn(&self) -> u64 {
+        let mut turn = locked(&self.turn.0);
+        turn.number += 1;
+        self.turn.1.notify_all();
+        turn.number
+    }
+
+    /// Ends the thread, and all that are started later.
+    pub(crate) fn stop(&self) {
+        locked(&self.turn.0).is_stopped = true;
+        self.turn.1.notify_all();
+        let thread = locked(&self.thread).take();
+        // The thread itself may drop the cache.
+        if let Some(thread) = thread.filter(|thread| thread.thread().id() != current().id()) {
+            let _ = thread.join();
+        }
+    }
+}
+
+/// Waits for a time; returns whether the thread of this number may go on.
+fn has_waited((turn, changed): &(Mutex<Turn>, Condvar), number: u64, pause: Duration) -> bool {
+    let until = Instant::now() + pause;
+    let mut turn = locked(turn);
+    while turn.number == number && !turn.is_stopped {
+        let left = until.saturating_duration_since(Instant::now());
+        if left.is_zero() {
+            return true;
+        }
+        let woken = changed.wait_timeout(turn, left);
+        turn = woken.unwrap_or_else(PoisonError::into_inner).0;
+    }
+    false
+}
