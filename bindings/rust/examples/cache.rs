@@ -4,21 +4,24 @@
 //!
 //! By default it listens at `[::]:3323`, and serves 1024 clients at once.
 //!
-//! The file holds a list or a recording, whose data are served; what is left out of it is said. It
-//! is looked at four times a second, and read again when it has changed: put another in its place
-//! by renaming that one. A file that can't be taken is named, and the data before it stay; one that
-//! can't be read is tried again. With `--refuse` a report of code 0
-//! answers a client whose data aren't known any more, in place of a cache reset. What has to be
-//! known after a restart is in a file beside it, with `.kept` behind its name. SIGINT and SIGTERM
-//! end the program.
+//! The file holds a list or a recording, whose data are served; a line says what is left out of
+//! it. The cache checks it four times a second, and reads it again when it has changed: replace it
+//! by renaming another file. If a file is refused, the cache says why, and still serves the data
+//! before it; it retries to read a file that it can't read. With `--refuse` a router whose data
+//! aren't known any more gets a report of code 0 instead of a cache reset.
+//!
+//! Data are saved to a file beside it, with `.kept` behind its name, before they are served. If
+//! that fails, the cache says why, and retries after 1, 2, 4 .. seconds, up to a minute. A restart
+//! serves what that file has. If it is damaged, the cache doesn't start: remove it, and give the
+//! next data a session that was never used. SIGINT and SIGTERM end the program.
 //!
 //! Exits with status 0 after a signal, 1 if it can't serve, 2 for wrong arguments.
 
-use rtr_wire::{load_data, Data, Loaded, Server, ServerOptions};
+use rtr_wire::{load_data, Loaded, LogFields, LogLevel, Server, ServerOptions, UpdateError};
 use std::error::Error;
 use std::fmt::Display;
 use std::fs::File;
-use std::io::{self, ErrorKind, Read};
+use std::io::{self, Read};
 use std::os::unix::fs::MetadataExt;
 use std::process::ExitCode;
 use std::sync::atomic::{AtomicBool, Ordering};
@@ -154,7 +157,7 @@ fn mark(file: &str) -> io::Result<Mark> {
 /// The file that is served.
 struct Watched<'f> {
     file: &'f str,
-    /// The path of the server's state for a restart.
+    /// The file in which the server saves its data for a restart.
     kept: String,
     /// The mark of the file that was read last.
     mark: Option<Mark>,
@@ -163,63 +166,80 @@ struct Watched<'f> {
 }
 
 impl Watched<'_> {
-    /// Restores the server's state from before a restart.
-    fn restore(&self, server: &Server) {
-        match server.restore(&self.kept) {
-            Ok(data) => say_taken(&self.kept, &data),
-            Err(error) if error.kind() == ErrorKind::NotFound => {}
-            Err(error) => say(format_args!("{}: {error}", self.kept)),
+    /// Serves the data from before a restart. A file that is refused may have had data that routers
+    /// still have: so the server doesn't start without it.
+    fn restore(&self, server: &Server) -> Result<(), String> {
+        let found = server.save_to(&self.kept);
+        let data = found.map_err(|error| format!("{}: {error}", self.kept))?;
+        if let Some(data) = data {
+            let (end, count) = (data.end(), data.len());
+            say_data(&self.kept, &end.session, &end.serial, &count);
         }
+        Ok(())
     }
 
     /// Loads the file into the server if it has changed, and prints the result.
     fn look(&mut self, server: &Server) {
-        let failure = self.take(server).err().map(|error| error.to_string());
+        let failure = self.take(server).err();
         if let Some(text) = failure.as_ref().filter(|_| failure != self.failure) {
-            say(format_args!("{}: {text}", self.file));
+            say(text);
         }
         if failure.is_some() {
             self.failure = failure;
         }
     }
 
-    /// Loads the file if it has changed. A file that can't be read is tried again.
-    fn take(&mut self, server: &Server) -> Result<(), Box<dyn Error>> {
-        let found = mark(self.file)?;
+    /// Loads the file if it has changed, or couldn't be read the last time.
+    fn take(&mut self, server: &Server) -> Result<(), String> {
+        let of_file = |error: &dyn Display| format!("{}: {error}", self.file);
+        let found = mark(self.file).map_err(|error| of_file(&error))?;
         if self.mark == Some(found) {
             return Ok(());
         }
-        let bytes = read(self.file)?;
+        let bytes = read(self.file).map_err(|error| of_file(&error))?;
         (self.mark, self.failure) = (Some(found), None);
-        let loaded = loaded(&bytes)?;
-        server.update(loaded.data.clone())?;
-        say_taken(self.file, &loaded.data);
+        let loaded = loaded(&bytes).map_err(|error| of_file(&error))?;
+        drop(bytes);
+        server.update(loaded.data).map_err(|error| match error {
+            UpdateError::NotSaved(error) => format!("{}: {error}", self.kept),
+            error => of_file(&error),
+        })?;
         if loaded.has_cut {
             say(format_args!(
                 "{}: left out: an answer without an end of data",
                 self.file
             ));
         }
-        if let Err(error) = server.save(&self.kept) {
-            say(format_args!("{}: {error}", self.kept));
-        }
         Ok(())
     }
 }
 
-/// Prints which data were loaded from a file, and warns of serial number 0.
-fn say_taken(file: &str, data: &Data) {
-    let (end, count) = (data.end(), data.len());
-    let (session, serial) = (end.session, end.serial);
-    let plural = if count == 1 { "" } else { "s" };
+/// Prints which data are served.
+fn say_data(file: &str, session: &dyn Display, serial: &dyn Display, payloads: &dyn Display) {
+    let plural = if payloads.to_string() == "1" { "" } else { "s" };
     say(format_args!(
-        "{file}: session {session} serial {serial}: {count} payload{plural}"
+        "{file}: session {session} serial {serial}: {payloads} payload{plural}"
     ));
-    if serial == 0 {
-        say(format_args!(
-            "{file}: serial number 0: a router that lost its first answer may ask with it, and \
-             keep a part of the data"
-        ));
+}
+
+/// Prints what the server logs: data that it serves now, retries of a save that fail, and why
+/// connections ended.
+fn log(file: &str, kept: &str, level: LogLevel, message: &str, fields: &LogFields<'_>) {
+    let field = |name| {
+        let found = fields.iter().find(|(of, _)| *of == name);
+        found.map_or_else(String::new, |(_, field)| field.to_string())
+    };
+    match message {
+        "data" => say_data(
+            file,
+            &field("session"),
+            &field("serial"),
+            &field("payloads"),
+        ),
+        "ended" => say(format_args!("{}: {}", field("client"), field("error"))),
+        "not saved" => say(format_args!("{kept}: {}", field("error"))),
+        _ if level == LogLevel::Warn => say(format_args!("{file}: {message}")),
+        _ => {}
     }
 }
 
@@ -241,18 +261,20 @@ fn loaded(bytes: &[u8]) -> Result<Loaded, Box<dyn Error>> {
 
 /// Serves until a signal comes.
 fn serve(arguments: &Arguments) -> Result<(), Box<dyn Error>> {
-    let server = Server::telling(arguments.options.clone(), |client, error| {
-        say(format_args!("{client}: {error}"));
+    let (file, kept) = (arguments.file.clone(), format!("{}.kept", arguments.file));
+    let server = Server::logging(arguments.options.clone(), {
+        let kept = kept.clone();
+        move |level, message, fields| log(&file, &kept, level, message, fields)
     });
     signals::catch();
     give_back();
     let mut watched = Watched {
         file: &arguments.file,
-        kept: format!("{}.kept", arguments.file),
+        kept,
         mark: None,
         failure: None,
     };
-    watched.restore(&server);
+    watched.restore(&server)?;
     for address in &arguments.listen {
         let bound = server.listen(address.as_str());
         let bound = bound.map_err(|error| format!("{address}: {error}"))?;

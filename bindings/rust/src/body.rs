@@ -17,34 +17,80 @@ const FILED: usize = 1 << 16;
 /// The size of a huge page.
 const HUGE_PAGE: usize = 1 << 21;
 
-/// Bytes that are shared.
-#[derive(Clone, Debug)]
-pub(crate) enum Body {
-    Allocated(Arc<Vec<u8>>),
-    Filed(Arc<Filed>),
+/// Bytes that don't change.
+#[derive(Debug)]
+pub(crate) enum Memory {
+    Allocated(Vec<u8>),
+    Filed(Filed),
+}
+
+impl Memory {
+    /// Moves bytes to a file in memory if they are many and the system allows it.
+    pub(crate) fn of(bytes: Vec<u8>) -> Memory {
+        if bytes.len() < FILED {
+            return Memory::Allocated(bytes);
+        }
+        Filed::new(&bytes).map_or(Memory::Allocated(bytes), Memory::Filed)
+    }
+}
+
+impl Default for Memory {
+    fn default() -> Self {
+        Memory::Allocated(Vec::new())
+    }
+}
+
+impl Deref for Memory {
+    type Target = [u8];
+
+    fn deref(&self) -> &[u8] {
+        match self {
+            Memory::Allocated(bytes) => bytes,
+            Memory::Filed(filed) => filed.bytes(),
+        }
+    }
+}
+
+/// A part of bytes that are shared.
+#[derive(Clone, Debug, Default)]
+pub(crate) struct Body {
+    memory: Arc<Memory>,
+    offset: usize,
+    length: usize,
 }
 
 impl Body {
-    /// Moves bytes to a file in memory if they are many and the system allows it.
-    pub(crate) fn filed(bytes: Arc<Vec<u8>>) -> Body {
-        if bytes.len() < FILED {
-            return Body::Allocated(bytes);
-        }
-        Filed::new(&bytes).map_or(Body::Allocated(bytes), |filed| Body::Filed(Arc::new(filed)))
+    /// All of these bytes.
+    pub(crate) fn of(memory: Memory) -> Body {
+        let length = memory.len();
+        Body::part(Arc::new(memory), 0, length)
     }
 
-    /// The file that holds them, if one does.
-    pub(crate) fn file(&self) -> Option<&File> {
-        match self {
-            Body::Allocated(_) => None,
-            Body::Filed(filed) => Some(&filed.file),
+    /// `length` bytes from an offset on, which are there.
+    pub(crate) fn part(memory: Arc<Memory>, offset: usize, length: usize) -> Body {
+        Body {
+            memory,
+            offset,
+            length,
         }
     }
-}
 
-impl Default for Body {
-    fn default() -> Self {
-        Body::Allocated(Arc::default())
+    /// The same, of this body.
+    pub(crate) fn within(&self, offset: usize, length: usize) -> Body {
+        Body::part(Arc::clone(&self.memory), self.offset + offset, length)
+    }
+
+    /// Where this part of a body ends in it.
+    pub(crate) fn end_in(&self, whole: &Body) -> usize {
+        self.offset + self.length - whole.offset
+    }
+
+    /// The file that holds them, and their offset there, if they are in one.
+    pub(crate) fn file(&self) -> Option<(&File, usize)> {
+        match &*self.memory {
+            Memory::Allocated(_) => None,
+            Memory::Filed(filed) => Some((&filed.file, self.offset)),
+        }
     }
 }
 
@@ -52,10 +98,7 @@ impl Deref for Body {
     type Target = [u8];
 
     fn deref(&self) -> &[u8] {
-        match self {
-            Body::Allocated(bytes) => bytes,
-            Body::Filed(filed) => filed.bytes(),
-        }
+        &self.memory[self.offset..][..self.length]
     }
 }
 
@@ -138,7 +181,7 @@ impl Drop for Filed {
     }
 }
 
-/// Lets an empty file in memory start with huge pages, which are faster to send: as many as `size`
+/// Lets an empty file in memory start with huge pages, which are faster to send: those that `size`
 /// bytes fill at least by half. `MADV_COLLAPSE` needs a byte in each page. If the system has no
 /// huge pages, or a write beyond `RLIMIT_FSIZE` would kill the process, the file keeps small pages.
 fn begin_huge(file: &File, size: usize) {
@@ -190,10 +233,9 @@ pub(crate) fn send_from(
 
 #[cfg(test)]
 mod tests {
-    use super::{Body, FILED, HUGE_PAGE};
+    use super::{Body, Memory, FILED, HUGE_PAGE};
     use std::process::Command;
     use std::string::String;
-    use std::sync::Arc;
     use std::{env, vec};
 
     #[test]
@@ -202,9 +244,13 @@ mod tests {
         for length in [0, 1, FILED - 1, FILED, 3 * FILED + 1, HUGE_PAGE / 2, more] {
             let mut bytes = vec![7; length];
             bytes.iter_mut().step_by(5).for_each(|byte| *byte = 8);
-            let body = Body::filed(Arc::new(bytes.clone()));
+            let body = Body::of(Memory::of(bytes.clone()));
             assert_eq!(&body[..], bytes);
             assert_eq!(body.file().is_some(), length >= FILED);
+            let part = body.within(length / 3, length / 2).within(0, length / 4);
+            assert_eq!(part[..], bytes[length / 3..][..length / 4]);
+            let offset = part.file().map_or(length / 3, |(_, offset)| offset);
+            assert_eq!(offset, length / 3);
         }
     }
 
@@ -213,7 +259,7 @@ mod tests {
     fn many_bytes_for_a_file_lie_in_none() {
         const LIMITED: &str = "RTR_TEST_LIMITED";
         if env::var_os(LIMITED).is_some() {
-            let body = Body::filed(Arc::new(vec![7; 5 << 20]));
+            let body = Body::of(Memory::of(vec![7; 5 << 20]));
             assert!(body.file().is_none() && body[..] == vec![7; 5 << 20]);
             return;
         }

@@ -40,14 +40,16 @@ impl Canonical {
     }
 
     fn of(bytes: Vec<u8>) -> Self {
-        let (mut payloads, mut last) = (0, None);
-        for unit in Units::sequence(&bytes, u64::MAX) {
-            match unit {
-                Ok(Unit::EndOfData(end)) => last = Some(end),
-                _ => payloads += 1,
-            }
+        let (mut payloads, mut rest) = (0, &bytes[..]);
+        // Only the last unit is parsed: the others are payloads.
+        while let Some(size) = sys::unit_size(rest).ok().filter(|size| *size < rest.len()) {
+            rest = &rest[size..];
+            payloads += 1;
         }
-        let end = last.expect("the archive wrote an end of data");
+        let end = match Unit::first(rest) {
+            Ok((Unit::EndOfData(end), _)) => end,
+            _ => panic!("the archive wrote an end of data"),
+        };
         Canonical {
             bytes: Arc::new(bytes),
             payloads,
@@ -139,7 +141,7 @@ impl Canonical {
 }
 
 /// The changes from old data to new data of the same version and session.
-fn delta(old: &[u8], new: &[u8]) -> Result<Canonical, TryReserveError> {
+pub(crate) fn delta(old: &[u8], new: &[u8]) -> Result<Canonical, TryReserveError> {
     let most = old.len() + new.len();
     let mut changes = Vec::new();
     changes.try_reserve_exact(most / 8)?; // enough for most changes

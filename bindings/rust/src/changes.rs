@@ -11,9 +11,6 @@ use core::hash::{Hash, Hasher};
 use core::ptr;
 use core::sync::atomic::{AtomicPtr, Ordering};
 
-#[cfg(feature = "std")]
-use alloc::sync::Arc;
-
 /// Changes in canonical form, from [`order`](crate::order), [`Data::delta_to`] or an
 /// [`Event`](crate::Event). They own their bytes; clones share them.
 ///
@@ -114,25 +111,6 @@ impl Changes {
         let computed = self.computed().clone();
         drop(self);
         computed.into_bytes()
-    }
-
-    /// The bytes, shared.
-    #[cfg(feature = "std")]
-    pub(crate) fn shared(&self) -> Arc<Vec<u8>> {
-        Arc::clone(&self.computed().bytes)
-    }
-
-    /// The bytes of the payload units.
-    #[cfg(feature = "std")]
-    pub(crate) fn unit_bytes(&self) -> &[u8] {
-        self.computed().unit_bytes()
-    }
-
-    /// The changes for clients of a version, which has to exist.
-    #[cfg(feature = "std")]
-    pub(crate) fn in_version(&self, version: u8) -> Changes {
-        let form = self.computed().for_version(version);
-        Changes::of(form.expect("there is this version"))
     }
 
     /// The payload units, in order: first announcements, then withdrawals.

@@ -1,6 +1,7 @@
 //! Finds the protocol's rules that units break, as `rtr_list --check` does.
 
 use crate::abi::{FINDING_ROOM, NAME_ROOM};
+use crate::calls;
 use crate::fault::Fault;
 use crate::sys;
 use alloc::collections::BTreeSet;
@@ -76,7 +77,7 @@ impl Checker {
     pub fn unit(&mut self, input: &[u8]) -> Result<(Vec<Finding>, usize), Fault> {
         let naming = sys::check_name(input, &mut self.name)?;
         let name = &self.name[..naming.length];
-        let checked = sys::check_unit(&mut self.check, input, self.names.contains(name));
+        let checked = calls::check_unit(&mut self.check, input, self.names.contains(name));
         let offset = self.offset;
         let found = checked.findings.iter();
         let findings = found.filter_map(|finding| to_finding(*finding, offset));
@@ -95,7 +96,7 @@ impl Checker {
     /// Returns the finding for all units together, if there is one.
     #[must_use]
     pub fn finish(&self) -> Option<Finding> {
-        to_finding(sys::check_end(self.check), self.offset)
+        to_finding(calls::check_end(&self.check), self.offset)
     }
 }
 
@@ -108,7 +109,7 @@ impl Default for Checker {
 /// Converts the numbers of a finding; none if they are no finding.
 fn to_finding(finding: sys::FindingNumbers, offset: u64) -> Option<Finding> {
     let mut line = vec![0; FINDING_ROOM];
-    let length = sys::finding_line(finding, offset, &mut line);
+    let length = calls::finding_line(&finding, offset, &mut line);
     line.truncate(length);
     // A line is ASCII.
     let line = String::from_utf8(line).unwrap_or_default();

@@ -1,6 +1,6 @@
 //! Why a client ends a connection.
 
-use crate::abi::{cause, named, Todo, HEADER_SIZE};
+use crate::abi::{cause, failure, named, Todo, HEADER_SIZE, MOST_QUOTED};
 use crate::data::{DataError, Place, Side};
 use crate::error;
 use crate::fault::{ErrorCode, Fault};
@@ -14,6 +14,29 @@ use core::fmt;
 /// Writes the text of a cause.
 fn write_cause(f: &mut fmt::Formatter<'_>, cause: u8) -> fmt::Result {
     f.write_str(&sys::name(named::CAUSE, cause.into()))
+}
+
+/// Writes the name of a report's code, and the first bytes of its text in quotes, of which any but
+/// printable ASCII is a question mark.
+pub(crate) fn write_report(
+    f: &mut fmt::Formatter<'_>,
+    report: &ErrorReport<Vec<u8>>,
+) -> fmt::Result {
+    write!(f, ": {}", report.code)?;
+    match &report.parts {
+        Some(parts) if !parts.text.is_empty() => {
+            let shown = |&byte: &u8| {
+                if matches!(byte, b' '..=b'~') {
+                    byte.into()
+                } else {
+                    '?'
+                }
+            };
+            let quoted: String = parts.text.iter().take(MOST_QUOTED).map(shown).collect();
+            write!(f, ", \"{quoted}\"")
+        }
+        _ => Ok(()),
+    }
 }
 
 /// A breach of the rules of a session by a cache.
@@ -94,21 +117,15 @@ impl fmt::Display for ClientError {
             ClientError::TooSlow => write_cause(f, cause::SLOW),
             ClientError::TooLong => write_cause(f, cause::TOO_LONG),
             ClientError::Expired => write_cause(f, cause::EXPIRED),
-            ClientError::NoMemory => f.write_str("no memory"),
-            ClientError::Empty => f.write_str("the cache has no payloads"),
-            ClientError::Stopped => f.write_str("the client was stopped"),
+            ClientError::NoMemory => f.write_str(failure::NO_MEMORY),
+            ClientError::Empty => f.write_str(failure::EMPTY),
+            ClientError::Stopped => f.write_str(failure::STOPPED),
             ClientError::Refused(refusal) => refusal.fmt(f),
             ClientError::Data { error, .. } => error.fmt(f),
             ClientError::Breach { reason, .. } => reason.fmt(f),
             ClientError::Reported(report) => {
-                write!(f, "the cache reports: {}", report.code)?;
-                match &report.parts {
-                    Some(parts) if !parts.text.is_empty() => {
-                        let text = String::from_utf8_lossy(&parts.text);
-                        write!(f, ": {:?}", text.chars().take(200).collect::<String>())
-                    }
-                    _ => Ok(()),
-                }
+                write_cause(f, cause::REPORTED)?;
+                write_report(f, report)
             }
         }
     }

@@ -1,9 +1,9 @@
 //! Caches by preference.
 
 use crate::abi::{self, group_shown, status, GroupAnswer, MOST_MEMBERS};
+use crate::calls;
 use crate::sys::{self, milliseconds};
 use core::fmt;
-use core::mem::MaybeUninit;
 use core::time::Duration;
 
 /// Decides which of several members are asked, and whose data are used, by preference (RFC 8210
@@ -46,12 +46,8 @@ pub struct GroupSettings {
 
 impl Default for GroupSettings {
     fn default() -> Self {
-        let mut usual = MaybeUninit::uninit();
-        // SAFETY: the call initializes the whole struct.
-        let usual: abi::GroupSettings = unsafe {
-            abi::rtr_group_usual(usual.as_mut_ptr());
-            usual.assume_init()
-        };
+        let mut usual = abi::GroupSettings::default();
+        calls::group_usual(&mut usual);
         GroupSettings {
             patience: Duration::from_millis(usual.patience.into()),
             empty_is_data: usual.empty_is_data,
@@ -111,13 +107,8 @@ impl Group {
             patience: milliseconds(settings.patience),
             empty_is_data: settings.empty_is_data,
         };
-        let mut group = MaybeUninit::uninit();
-        // SAFETY: the call initializes the whole struct of the first pointer.
-        let (answer, group) = unsafe {
-            let answer = abi::rtr_group_init(group.as_mut_ptr(), &settings, members, now);
-            (answer, group.assume_init())
-        };
-        match answer {
+        let mut group = abi::Group::default();
+        match calls::group_init(&mut group, &settings, members, now) {
             status::OK => Ok(Group(group)),
             _ => Err(TooManyMembers),
         }
@@ -126,47 +117,36 @@ impl Group {
     /// When to call [`Group::tick`] if nothing happens before; `u64::MAX` for never.
     #[must_use]
     pub fn wakes(&self) -> u64 {
-        // SAFETY: the pointer is to a live group; so below.
-        unsafe { abi::rtr_group_wakes(&self.0) }
+        calls::group_wakes(&self.0)
     }
 
     /// Reports that time has passed. Starts the next member if the patience is over.
     pub fn tick(&mut self, now: u64) -> Decision {
-        let mut answer = GroupAnswer::default();
-        unsafe { abi::rtr_group_tick(&mut self.0, now, &mut answer) };
-        Decision::of(&answer)
+        Decision::of(&calls::group_tick(&mut self.0, now))
     }
 
     /// The member whose data are used.
     #[must_use]
     pub fn best(&self) -> Option<usize> {
-        let mut member = 0;
-        // SAFETY: both are live, and of their types; so below.
-        let has = unsafe { abi::rtr_group_best(&self.0, &mut member) };
+        let (member, has) = calls::group_best(&self.0);
         has.then_some(member)
     }
 
     /// Reports that a member has the data of a whole answer, with this number of payloads; they may
     /// be the same as before.
     pub fn shows(&mut self, now: u64, member: usize, payloads: usize) -> Decision {
-        let mut answer = GroupAnswer::default();
-        unsafe { abi::rtr_group_shows(&mut self.0, now, member, payloads, &mut answer) };
-        Decision::of(&answer)
+        Decision::of(&calls::group_shows(&mut self.0, now, member, payloads))
     }
 
     /// Reports that a member lost its data. This is also a failure: don't call [`Group::fails`] for
     /// the end of the connection.
     pub fn drops(&mut self, now: u64, member: usize) -> Decision {
-        let mut answer = GroupAnswer::default();
-        unsafe { abi::rtr_group_drops(&mut self.0, now, member, &mut answer) };
-        Decision::of(&answer)
+        Decision::of(&calls::group_drops(&mut self.0, now, member))
     }
 
     /// Reports that a member failed, or that its cache has no data. Its present data stay.
     pub fn fails(&mut self, now: u64, member: usize) -> Decision {
-        let mut answer = GroupAnswer::default();
-        unsafe { abi::rtr_group_fails(&mut self.0, now, member, &mut answer) };
-        Decision::of(&answer)
+        Decision::of(&calls::group_fails(&mut self.0, now, member))
     }
 }
 

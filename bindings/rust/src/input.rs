@@ -8,21 +8,14 @@ pub(crate) struct Input {
     came: Vec<u8>,
     /// The number of consumed bytes.
     taken: usize,
-    ended: bool,
 }
 
 impl Input {
-    /// Appends received bytes. No bytes mean the end of the stream.
+    /// Appends received bytes.
     pub(crate) fn add(&mut self, bytes: &[u8]) {
-        self.ended |= bytes.is_empty();
         self.came.drain(..self.taken);
         self.taken = 0;
         self.came.extend_from_slice(bytes);
-    }
-
-    /// Whether the stream has ended.
-    pub(crate) fn has_ended(&self) -> bool {
-        self.ended
     }
 
     /// The bytes that aren't consumed.

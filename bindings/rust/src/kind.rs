@@ -1,6 +1,7 @@
 //! The types of units.
 
 use crate::abi::{kind, named};
+use crate::calls;
 use crate::error::Error;
 use crate::sys;
 use core::fmt;
@@ -78,7 +79,7 @@ impl Kind {
     /// router keys and ASPAs, version 1 all but ASPAs, version 2 all; there are no higher versions.
     #[must_use]
     pub fn is_in(self, version: u8) -> bool {
-        sys::version_has(version, self.into())
+        calls::version_has(version, self.into())
     }
 
     /// Whether a sequence may have units of this type: payload units and the end of data.

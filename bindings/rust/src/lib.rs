@@ -97,6 +97,9 @@ mod body;
 mod cache;
 #[cfg(feature = "std")]
 mod cache_machine;
+#[rustfmt::skip]
+#[allow(clippy::pedantic)] // generated
+mod calls;
 #[cfg(feature = "alloc")]
 mod canonical;
 #[cfg(feature = "alloc")]
@@ -107,9 +110,11 @@ mod checking;
 mod client;
 #[cfg(feature = "alloc")]
 mod client_error;
+#[cfg(feature = "std")]
+mod connection;
 mod data;
 #[cfg(feature = "std")]
-mod editions;
+mod door;
 mod fault;
 #[cfg(feature = "std")]
 mod follow;
@@ -118,8 +123,6 @@ mod following;
 mod group;
 #[cfg(feature = "std")]
 mod input;
-#[cfg(feature = "std")]
-mod kept;
 mod kind;
 #[cfg(feature = "alloc")]
 mod lines;
@@ -143,6 +146,8 @@ mod reader;
 mod refusal;
 #[cfg(feature = "alloc")]
 mod router;
+#[cfg(feature = "std")]
+mod saving;
 mod sequence;
 #[cfg(feature = "std")]
 mod served;
@@ -153,7 +158,11 @@ mod server_error;
 #[cfg(feature = "std")]
 mod serving;
 #[cfg(feature = "std")]
+mod snapshot;
+#[cfg(feature = "std")]
 mod socket;
+#[cfg(feature = "std")]
+mod store;
 mod sys;
 #[cfg(feature = "std")]
 mod timed;
@@ -178,6 +187,8 @@ pub use client::Client;
 #[cfg(feature = "alloc")]
 pub use client_error::{Breach, ClientError};
 pub use data::{apply_in_order, apply_into, delta_into, order_into, DataError, Place, Side};
+#[cfg(feature = "std")]
+pub use door::{Door, Entry};
 pub use fault::{ErrorCode, Fault, PrefixRule};
 #[cfg(feature = "std")]
 pub use follow::{follow, follow_with};
@@ -187,6 +198,9 @@ pub use kind::{Kind, UnknownKind};
 pub use lines::{change_json, change_line, unit_json, unit_line};
 #[cfg(feature = "alloc")]
 pub use loading::{load_data, Loaded};
+#[cfg(feature = "std")]
+#[doc(hidden)]
+pub use log::log_retried;
 #[cfg(feature = "alloc")]
 pub use log::{Log, LogFields, LogLevel};
 #[cfg(feature = "alloc")]
@@ -207,7 +221,7 @@ pub use served::{Served, ServedStep};
 #[cfg(feature = "std")]
 pub use server::Server;
 #[cfg(feature = "std")]
-pub use server_error::{ServerError, TimeRule, UpdateError};
+pub use server_error::{SaveError, ServerError, TimeRule, UpdateError};
 #[cfg(feature = "std")]
 pub use socket::Socket;
 #[cfg(feature = "alloc")]

@@ -7,6 +7,7 @@ use crate::unit::UnitRef;
 use alloc::string::String;
 use alloc::vec;
 use alloc::vec::Vec;
+use core::str;
 
 /// Returns the line that `rtr_list` prints for the unit at the start of the input, with this offset
 /// and without a newline, and the size of the unit. Like `rtr_list` it accepts a prefix whose
@@ -69,15 +70,23 @@ pub fn change_line(unit: &UnitRef) -> Option<String> {
 fn line_by(
     mut call: impl FnMut(&mut [u8]) -> Result<(usize, usize), Fault>,
 ) -> Result<(String, usize), Fault> {
-    let mut line = vec![0; LINE_ROOM];
-    let (mut length, size) = call(&mut line)?;
-    if length > line.len() {
-        line.resize(length, 0);
-        length = call(&mut line)?.0;
+    // Most lines fit this array.
+    let mut short = [0; LINE_ROOM];
+    let (length, size) = call(&mut short)?;
+    if let Some(line) = short.get(..length) {
+        return Ok((text_of(line), size));
     }
-    line.truncate(length);
-    // A line is ASCII, an object UTF-8.
-    Ok((String::from_utf8_lossy(&line).into_owned(), size))
+    let mut long = vec![0; length];
+    call(&mut long)?;
+    Ok((text_of(&long), size))
+}
+
+/// Returns the text of a line, which is ASCII, or of an object, which is UTF-8.
+fn text_of(line: &[u8]) -> String {
+    match str::from_utf8(line) {
+        Ok(text) => text.into(),
+        Err(_) => String::from_utf8_lossy(line).into_owned(),
+    }
 }
 
 /// Returns a change as a JSON object, as `rtr_diff --json` prints it; none for a unit that isn't a
@@ -104,8 +113,14 @@ fn change_by(
     unit: &UnitRef,
 ) -> Option<String> {
     unit.announces()?;
-    let mut form = Vec::new();
-    unit.append(&mut form).ok()?;
-    let (text, _) = line_by(|output| call(&form, output)).ok()?;
+    // Most units fit this array.
+    let (mut short, mut long) = ([0; LINE_ROOM], Vec::new());
+    let form = if let Ok(length) = unit.write(&mut short) {
+        &short[..length]
+    } else {
+        unit.append(&mut long).ok()?;
+        long.as_slice()
+    };
+    let (text, _) = line_by(|output| call(form, output)).ok()?;
     Some(text)
 }

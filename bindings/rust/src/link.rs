@@ -3,6 +3,7 @@
 
 use crate::abi::{self, link_status, todo_kind, LinkState, Todo};
 use crate::abi::{LONGEST_UNIT, SERIAL_SIZE};
+use crate::calls;
 use crate::options::ClientOptions;
 use crate::owned_data::Data;
 use alloc::collections::TryReserveError;
@@ -40,8 +41,7 @@ pub(crate) struct Link {
 }
 
 /// A call that takes the input and the output.
-type InputOutputCall =
-    unsafe extern "C" fn(*mut abi::Link, u64, *mut u8, usize, *mut u8, usize, *mut Todo) -> u8;
+type InputOutputCall = fn(&mut abi::Link, u64, &mut [u8], &mut [u8]) -> (Todo, u8);
 
 /// Panics if a call was refused: either the caller's clock went back, or this crate has a bug.
 fn must(status: u8) {
@@ -74,8 +74,7 @@ impl Link {
     /// Returns a client with these options and a random number.
     pub(crate) fn new(options: &ClientOptions, chance: u16) -> Link {
         let mut client = abi::Link::default();
-        // SAFETY: both structs are live.
-        unsafe { abi::rtr_link_init(&mut client, &options.settings(chance)) };
+        calls::link_init(&mut client, &options.settings(chance));
         Link {
             client,
             input: Vec::new(),
@@ -96,8 +95,7 @@ impl Link {
 
     /// Restarts without data and connection: the waits for a failing cache continue to grow.
     pub(crate) fn again(&mut self) {
-        // SAFETY: the struct is live.
-        must(unsafe { abi::rtr_link_again(&mut self.client) });
+        must(calls::link_again(&mut self.client));
         self.data = None;
         self.former = None;
         self.is_starved = false;
@@ -129,14 +127,12 @@ impl Link {
 
     /// Reports that a connection was opened.
     pub(crate) fn opened(&mut self) {
-        // SAFETY: the struct is live.
-        must(unsafe { abi::rtr_link_opened(&mut self.client) });
+        must(calls::link_opened(&mut self.client));
     }
 
     /// Reports that connecting failed, or that the connection was lost.
     pub(crate) fn lost(&mut self) {
-        // SAFETY: the struct is live.
-        must(unsafe { abi::rtr_link_lost(&mut self.client) });
+        must(calls::link_lost(&mut self.client));
     }
 
     /// The buffer to read bytes into: not empty after [`todo_kind::WAIT`].
@@ -147,9 +143,7 @@ impl Link {
 
     /// Reports that `count` bytes were read into that buffer.
     pub(crate) fn received(&mut self, count: usize) {
-        let (input, length) = (self.input.as_ptr(), self.input.len());
-        // SAFETY: the struct and the buffer are live, and the buffer is of this length.
-        must(unsafe { abi::rtr_link_received_nonnull(&mut self.client, input, length, count) });
+        must(calls::link_received(&mut self.client, &self.input, count));
         self.received += count as u64;
     }
 
@@ -171,9 +165,7 @@ impl Link {
 
     /// Reports that `count` of them were sent.
     pub(crate) fn sent(&mut self, count: usize) {
-        let (output, length) = (self.output.as_mut_ptr(), self.output.len());
-        // SAFETY: the struct and the buffer are live, and the buffer is of this length.
-        let status = unsafe { abi::rtr_link_sent_nonnull(&mut self.client, output, length, count) };
+        let status = calls::link_sent(&mut self.client, &mut self.output, count);
         assert!(
             status != link_status::TOO_LONG,
             "more bytes were sent than there are"
@@ -219,7 +211,7 @@ impl Link {
     /// Requests current data. Returns what to do, as [`Link::next`].
     pub(crate) fn ask_now(&mut self, now: u64) -> Todo {
         loop {
-            let todo = self.tell(now, abi::rtr_link_ask_now_nonnull);
+            let todo = self.tell(now, calls::link_ask_now);
             if todo.kind != todo_kind::OUTPUT_ROOM {
                 return todo;
             }
@@ -232,20 +224,15 @@ impl Link {
     /// Gives up for lack of memory: the connection ends, and the data stay.
     fn give_up(&mut self, now: u64) -> Todo {
         self.gave_up = true;
-        self.tell(now, abi::rtr_link_give_up_nonnull)
+        self.tell(now, calls::link_give_up)
     }
 
     /// Makes a call on the input and the output.
     fn tell(&mut self, now: u64, call: InputOutputCall) -> Todo {
         self.filled_before = self.filled();
         self.now = now;
-        let mut todo = Todo::default();
-        let (input, output) = (&mut self.input, &mut self.output);
-        let (input, input_length) = (input.as_mut_ptr(), input.len());
-        let (output, length) = (output.as_mut_ptr(), output.len());
-        let client = &mut self.client;
-        // SAFETY: all structs and buffers are live, and the buffers are of these lengths.
-        must(unsafe { call(client, now, input, input_length, output, length, &mut todo) });
+        let (todo, status) = call(&mut self.client, now, &mut self.input, &mut self.output);
+        must(status);
         self.follow(&todo);
         todo
     }
@@ -339,19 +326,9 @@ impl Link {
     /// Returns the state of the buffers, if that of the present data has this length.
     fn state_of(&self, held: usize, now: u64) -> LinkState {
         let (first, second) = in_order(self.is_second, held, self.next_data.capacity());
-        let mut state = LinkState::default();
-        // SAFETY: both structs are live.
-        must(unsafe {
-            abi::rtr_link_state_of(
-                &self.client,
-                now,
-                self.input.len(),
-                first,
-                second,
-                self.output.len(),
-                &mut state,
-            )
-        });
+        let (input, output) = (self.input.len(), self.output.len());
+        let (state, status) = calls::link_state(&self.client, now, input, first, second, output);
+        must(status);
         state
     }
 }

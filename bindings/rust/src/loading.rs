@@ -1,10 +1,10 @@
 //! Data of recordings and lists.
 
 use crate::abi::{status, IPV4_SIZE};
+use crate::calls;
 use crate::data::{DataError, Place, Side};
 use crate::fault::Fault;
 use crate::owned_data::Data;
-use crate::sys;
 use alloc::vec;
 
 /// The first size, at most, of the buffers for the data; they grow if needed.
@@ -67,7 +67,7 @@ pub fn load_data(recording: &[u8]) -> Result<Loaded, DataError> {
     loop {
         let mut index = vec![0; entries];
         let (mut work, mut output) = (vec![0; capacity], vec![0; capacity]);
-        let loaded = sys::load(recording, &mut index, &mut work, &mut output);
+        let loaded = calls::load(recording, &mut index, &mut work, &mut output);
         match loaded.status {
             status::OK => {
                 return Ok(Loaded {

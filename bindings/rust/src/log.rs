@@ -2,6 +2,8 @@
 
 use crate::owned_data::Data;
 use crate::router::Event;
+#[cfg(feature = "std")]
+use crate::server_error::SaveError;
 use core::fmt::Display;
 
 /// The level of a log line.
@@ -69,5 +71,15 @@ impl Data {
         ];
         fields.extend_from_slice(others);
         log(LogLevel::Info, "data", &fields);
+    }
+}
+
+/// Logs the result of a retry to save the data of a cache: they are served now, or aren't saved.
+#[cfg(feature = "std")]
+#[doc(hidden)]
+pub fn log_retried(log: &Log, saved: Result<&Data, SaveError>) {
+    match saved {
+        Ok(data) => data.log_served(log),
+        Err(error) => log(LogLevel::Warn, "not saved", &[("error", &error)]),
     }
 }

@@ -1,6 +1,8 @@
 //! The limits of a client and of a cache.
 
-use crate::abi::{Settings, HIGHEST_VERSION, USUAL_EXPIRE};
+#[cfg(feature = "std")]
+use crate::abi::{CacheSettings, ServerSettings};
+use crate::abi::{Settings, HIGHEST_VERSION};
 use crate::sys::{self, milliseconds};
 use core::time::Duration;
 
@@ -89,7 +91,8 @@ pub struct ServerOptions {
     pub connections: usize,
     /// How long deltas from earlier data are kept after newer data came (default 2 hours).
     pub keep: Duration,
-    /// The most bytes of steps back to earlier data, and of encoded deltas (default 64 MiB each).
+    /// The most bytes of steps back to earlier data, with 16 bytes for each step, and of encoded
+    /// deltas (default 64 MiB each).
     pub keep_bytes: usize,
     /// Whether to close with a report of code 0, instead of sending a cache reset, if a client's
     /// serial number isn't known any more: BIRD 2.0 asks again soon only after such a report.
@@ -111,18 +114,40 @@ pub struct ServerOptions {
 
 impl Default for ServerOptions {
     fn default() -> Self {
-        let usual = sys::usual_cache_settings();
+        let usual = sys::usual_server_settings();
         ServerOptions {
-            connections: 1024,
-            keep: Duration::from_secs(USUAL_EXPIRE.into()),
-            keep_bytes: 1 << 26,
-            refuse: usual.refuses,
-            first_query: span(usual.first_limit),
-            unit: Duration::from_secs(10),
-            idle: span(usual.idle_limit),
-            write: Duration::from_secs(30),
-            response: Duration::from_secs(600),
-            notify: span(usual.pause),
+            connections: usize::try_from(usual.most_connections).unwrap_or(usize::MAX),
+            keep: Duration::from_millis(usual.keep),
+            keep_bytes: usual.keep_bytes,
+            refuse: usual.cache.refuses,
+            first_query: span(usual.cache.first_limit),
+            unit: span(usual.unit_limit),
+            idle: span(usual.cache.idle_limit),
+            write: span(usual.write_limit),
+            response: span(usual.response_limit),
+            notify: span(usual.cache.pause),
+        }
+    }
+}
+
+#[cfg(feature = "std")]
+impl ServerOptions {
+    /// The limits of a server with these options.
+    pub(crate) fn settings(&self) -> ServerSettings {
+        ServerSettings {
+            cache: CacheSettings {
+                first_limit: milliseconds(self.first_query),
+                idle_limit: milliseconds(self.idle),
+                pause: milliseconds(self.notify),
+                refuses: self.refuse,
+            },
+            keep: u64::try_from(self.keep.as_millis()).unwrap_or(u64::MAX),
+            keep_bytes: self.keep_bytes,
+            unit_limit: milliseconds(self.unit),
+            write_limit: milliseconds(self.write),
+            response_limit: milliseconds(self.response),
+            most_connections: u32::try_from(self.connections).unwrap_or(u32::MAX),
+            ..sys::usual_server_settings()
         }
     }
 }

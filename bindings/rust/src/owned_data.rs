@@ -205,13 +205,6 @@ impl Data {
         Ok(Changes::of(Canonical::new(bytes, length?)))
     }
 
-    /// Returns data without payloads, with the same end of data.
-    #[cfg(feature = "std")]
-    pub(crate) fn without_payloads(&self) -> Data {
-        let end = self.end();
-        Data::new(end.version, end.session, end.serial, end.timing).expect("its version has a form")
-    }
-
     /// Applies changes to these data, and returns the result, with the end of data of the changes.
     /// Either all changes are applied, or none. An announced ASPA replaces the one of its customer.
     ///
@@ -252,18 +245,6 @@ impl Data {
             return Ok(self.clone());
         }
         self.0.for_version(version).map(Data::of)
-    }
-
-    /// The same for a version that exists.
-    #[cfg(feature = "std")]
-    pub(crate) fn in_version(&self, version: u8) -> Data {
-        self.for_version(version).expect("there is this version")
-    }
-
-    /// The bytes, shared.
-    #[cfg(feature = "std")]
-    pub(crate) fn shared(&self) -> Arc<Vec<u8>> {
-        Arc::clone(&self.0.bytes)
     }
 
     /// The same payloads in another session and with another serial number.

@@ -1,6 +1,7 @@
 //! Units, typed.
 
 use crate::abi::{self, order, HEADER_SIZE, MOST_REPORT_PARTS, REPORT_SIZE};
+use crate::calls;
 use crate::fault::{ErrorCode, Fault, PrefixRule};
 use crate::kind::Kind;
 use crate::net::{Ipv4Addr, Ipv6Addr};
@@ -8,6 +9,12 @@ use crate::sys;
 #[cfg(feature = "alloc")]
 use alloc::vec::Vec;
 use core::cmp::Ordering;
+use core::ops::Range;
+
+/// Where a header has the length of its unit (RFC 8210 section 5.1).
+const LENGTH_FIELD: Range<usize> = 4..HEADER_SIZE;
+/// The size of an ASN of an ASPA's providers.
+const PROVIDER_SIZE: usize = 4;
 
 /// A serial notify: the cache has new data (RFC 8210 section 5.2).
 #[derive(Clone, Copy, Debug, PartialEq, Eq, Hash)]
@@ -185,7 +192,7 @@ impl<B: AsRef<[u8]>> Providers<B> {
     pub fn iter(&self) -> impl ExactSizeIterator<Item = u32> + DoubleEndedIterator + '_ {
         self.0
             .as_ref()
-            .chunks_exact(4)
+            .chunks_exact(PROVIDER_SIZE)
             .map(|bytes| u32::from_be_bytes([bytes[0], bytes[1], bytes[2], bytes[3]]))
     }
 }
@@ -482,8 +489,9 @@ impl<B: AsRef<[u8]>> ErrorReport<B> {
         }
         let number = |length| u32::try_from(length).expect("a report is shorter");
         let start = sys::write(&sys::Unit::of_report(self), unit, output)?;
-        output[4..8].copy_from_slice(&number(size).to_be_bytes());
-        output[start - 4..start].copy_from_slice(&number(text.len()).to_be_bytes());
+        output[LENGTH_FIELD].copy_from_slice(&number(size).to_be_bytes());
+        output[start - LENGTH_FIELD.len()..start]
+            .copy_from_slice(&number(text.len()).to_be_bytes());
         output[start..size].copy_from_slice(text);
         Ok(size)
     }
@@ -501,7 +509,7 @@ impl<B: AsRef<[u8]>> ErrorReport<B> {
 /// ```
 #[must_use]
 pub fn compare_serials(left: u32, right: u32) -> Option<Ordering> {
-    match sys::serial_order(left, right) {
+    match calls::serial_order(left, right) {
         order::EQUAL => Some(Ordering::Equal),
         order::LESS => Some(Ordering::Less),
         order::GREATER => Some(Ordering::Greater),

@@ -1,5 +1,5 @@
-//! The recordings of `tests/programs/listings --findings`, with the lines on the rules they break:
-//! from the file that `RTR_FINDINGS` names, or computed by python3. Without python3 nothing is
+//! The recordings of `tests/programs/listings.py --findings`, with the lines on the rules they
+//! break: from the file that `RTR_FINDINGS` names, or computed by python3. Without python3 nothing is
 //! tested here.
 #![cfg(feature = "alloc")]
 
@@ -27,7 +27,7 @@ fn check(recording: &[u8]) -> (Vec<Finding>, Option<Fault>) {
 
 #[test]
 fn rows_of_listings() {
-    let rows = computed::cases("RTR_FINDINGS", "programs/listings", &["--findings"]);
+    let rows = computed::cases("RTR_FINDINGS", "programs/listings.py", &["--findings"]);
     let rows = rows.unwrap_or_default();
     let mut rest = &rows[..];
     while !rest.is_empty() {

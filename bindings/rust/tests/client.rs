@@ -204,6 +204,33 @@ fn report(version: u8, code: ErrorCode) -> Vec<u8> {
     }))
 }
 
+/// As in all languages, texts of reports are shown in part, and in ASCII.
+#[test]
+fn texts_of_reports() {
+    let (long, cut) = ("a".repeat(99) + "bc", "a".repeat(99) + "b");
+    let rows = [
+        (2, "", "No Data Available".to_string()),
+        (1, "no ~", r#"Internal Error, "no ~""#.to_string()),
+        (12, "a\"\n\u{e4}", r#"error code 12, "a"???""#.to_string()),
+        (1, &long, format!(r#"Internal Error, "{cut}""#)),
+    ];
+    for (code, text, shown) in rows {
+        let parts = ReportParts {
+            unit: vec![],
+            text: text.as_bytes().to_vec(),
+        };
+        let error = ClientError::Reported(ErrorReport {
+            version: 1,
+            code: ErrorCode(code),
+            parts: Some(parts),
+        });
+        assert_eq!(
+            error.to_string(),
+            format!("the cache reports an error: {shown}")
+        );
+    }
+}
+
 /// A client of the crate's own cache gets all of its data, in each version.
 #[test]
 fn follows_a_server() {
@@ -212,6 +239,8 @@ fn follows_a_server() {
         notify: milliseconds(1),
         ..ServerOptions::default()
     });
+    let saved = std::env::temp_dir().join(format!("rtr-follows-{}", std::process::id()));
+    assert_eq!(server.save_to(&saved).unwrap(), None);
     let address = server.listen("127.0.0.1:0").unwrap();
     server.update(data(1)).unwrap();
     for version in 0..=2 {
@@ -246,6 +275,7 @@ fn follows_a_server() {
     let data = client.fetch().unwrap();
     assert_eq!((data.end().session, data.end().serial), (SESSION + 2, 4));
     drop(server);
+    std::fs::remove_file(saved).unwrap();
     assert!(matches!(client.fetch(), Err(ClientError::Io(_))));
     assert!(holds(|| threads("rtr ") == 0), "threads are left");
 }
@@ -264,7 +294,7 @@ fn no_version() {
             peer.send(&report(version, UNSUPPORTED));
         }
         let error = fetched.join().unwrap().unwrap_err();
-        let text = r#"the cache reports: Unsupported Protocol Version: "so it is""#;
+        let text = r#"the cache reports an error: Unsupported Protocol Version, "so it is""#;
         assert_eq!(error.to_string(), text);
     });
 }

@@ -59,3 +59,19 @@ fn long() {
     let unknown = [1, 5, 0, 0, 0, 0, 0, 8];
     assert!(matches!(unit_line(&unknown, 0), Err(Fault::UnitType(5))));
 }
+
+/// A change whose unit and texts are longer than the first buffers.
+#[test]
+fn long_change() {
+    let mut key = vec![1, 9, 1, 0, 0, 0, 4, 32];
+    key.resize(32 + 1024, 0);
+    let (unit, _) = Unit::first(&key).unwrap();
+    // Base64 has four digits for three bytes.
+    let info = "A".repeat((4 * 1024 + 2) / 3);
+    let identifier = "0".repeat(40);
+    let line = format!("+ router key {identifier} AS0 {info}");
+    assert_eq!(change_line(&unit), Some(line));
+    let object = change_json(&unit).unwrap();
+    assert!(object.contains(&identifier) && object.contains(&info));
+    assert!(object.ends_with('}'));
+}

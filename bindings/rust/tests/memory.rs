@@ -99,7 +99,7 @@ fn memory() {
         std::thread::sleep(Duration::from_millis(200));
     });
     assert!(held < count * (8 << 10), "{held} bytes");
-    // Slow routers hold at most three editions of fifteen.
+    // Slow routers hold at most three snapshots of fifteen.
     let before = HELD.load(Ordering::Relaxed);
     let mut slow = Vec::new();
     for serial in 2..=16 {

@@ -156,16 +156,24 @@ fn hidden_bytes() {
     });
     follows(&client, &server);
     assert!(holds(|| server.clients() == 0));
-    // A client without the transport gets a report, which it can't decode.
-    let mut plain = Peer::connect(address);
-    plain.send(&reset_query(2));
-    let mut report = Vec::new();
-    plain.stream.read_to_end(&mut report).unwrap();
-    invert(&mut report);
-    assert!(matches!(
-        Unit::first(&report),
-        Ok((Unit::ErrorReport(_), _))
-    ));
+    // A client without the transport gets a report, which it can't decode, whole; also one that
+    // has closed.
+    for closes in [false, true] {
+        let mut plain = Peer::connect(address);
+        if closes {
+            plain.send(&[2, 2]);
+            plain.finish();
+        } else {
+            plain.send(&reset_query(2));
+        }
+        let mut report = Vec::new();
+        plain.stream.read_to_end(&mut report).unwrap();
+        invert(&mut report);
+        assert!(matches!(
+            Unit::first(&report),
+            Ok((Unit::ErrorReport(_), []))
+        ));
+    }
 }
 
 /// A report reaches the cache over such a socket, too.

@@ -129,6 +129,15 @@ impl Peer {
         }
     }
 
+    /// Reports whether something has come, or the peer has closed, without waiting.
+    pub fn has_come(&self) -> bool {
+        let stream = self.stream.get_ref();
+        stream.set_nonblocking(true).unwrap();
+        let come = stream.peek(&mut [0]).is_ok();
+        stream.set_nonblocking(false).unwrap();
+        come
+    }
+
     pub fn finish(&self) {
         let _ = self.stream.get_ref().shutdown(Shutdown::Write);
     }
