@@ -1,0 +1,94 @@
+"""Serves the data of a file to routers: cache.py FILE [--listen HOST:PORT]
+
+The file has a list or a recording, as rtr_make writes it. It is read again when another file has
+its name, as after `mv`. Data are saved to FILE.kept before they are served, and a restart serves
+what that file has; if it is damaged, remove it, and give the next data another session.
+"""
+import argparse
+import asyncio
+import os
+import pathlib
+import socket
+import sys
+
+from rtr_wire import DamagedError, Data, Fault, FormerFileError, Server, UpdateError, load_data
+
+LOOK = 0.25  # seconds between two checks of the file
+LONGEST = 60.0  # the longest pause after failures
+
+
+def say(text: str) -> None:
+    """Writes a line on standard error."""
+    print(text, file=sys.stderr, flush=True)
+
+
+def say_served(name: str, data: Data) -> None:
+    """Says which data are served."""
+    say(f"{name}: session {data.session} serial {data.serial}: {len(data)} payloads")
+
+
+def take(server: Server, path: str) -> bool:
+    """Serves the data of a file; returns False to try again later."""
+    try:
+        data = load_data(pathlib.Path(path).read_bytes()).data
+    except OSError as error:
+        say(f"{path}: {error.strerror}")
+        return False
+    except Fault as fault:
+        say(f"{path}: {fault}")
+        return True
+    try:
+        server.update_saved(data, f"{path}.kept")
+    except OSError as error:
+        say(f"{path}.kept: {error.strerror}")
+        return False
+    except UpdateError as error:
+        say(f"{path}: {error}")
+        return True
+    say_served(path, data)
+    return True
+
+
+async def follow(server: Server, path: str) -> None:
+    """Serves the data of a file whenever another file has its name."""
+    seen, pause = 0, LOOK
+    while True:
+        found = os.stat(path).st_ino if os.path.exists(path) else 0
+        if found == seen and found != 0 or take(server, path):
+            seen, pause = found, LOOK
+        else:
+            pause = min(2 * pause, LONGEST)
+        await asyncio.sleep(pause)
+
+
+async def serve(path: str, host: str, port: int) -> None:
+    """Serves routers at this address."""
+    server = Server(ended=lambda address, error: say(f"{address}: {error}"))
+    try:
+        say_served(f"{path}.kept", server.restore(f"{path}.kept"))
+    except FileNotFoundError:
+        pass  # this is the first start
+    listener = socket.create_server((host, port))
+    say("listening on {}:{}".format(*listener.getsockname()[:2]))
+    following = asyncio.ensure_future(follow(server, path))
+    try:
+        await server.serve(sock=listener)
+    finally:
+        following.cancel()
+
+
+def main() -> None:
+    """Serves until a signal ends the program."""
+    parser = argparse.ArgumentParser(description=__doc__)
+    parser.add_argument("file")
+    parser.add_argument("--listen", default="127.0.0.1:3323", metavar="HOST:PORT")
+    words = parser.parse_args()
+    host, _, port = words.listen.rpartition(":")
+    try:
+        asyncio.run(serve(words.file, host, int(port)))
+    except (OSError, DamagedError, FormerFileError) as error:
+        sys.exit(f"cache.py: {error}")
+
+
+if __name__ == "__main__":
+    main()

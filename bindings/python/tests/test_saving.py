@@ -1,0 +1,317 @@
+"""What a server takes, saves and restores, and for which reasons it doesn't."""
+import errno
+import os
+import pathlib
+import subprocess
+import tempfile
+import unittest
+from unittest import mock
+
+from rtr_wire import (CacheResponse, DamagedError, Data, EndOfData, FormerFileError,
+                      ResetQuery, SerialQuery, Server, ServerLimits, StoresStatus, TimeRule,
+                      UnsyncedError, UpdateError, Vrp)
+from rtr_wire._rtr import Step
+from rtr_wire.serving import Served
+
+from . import PACKAGE, archive, compiler
+from .test_server import SESSION, data, many, prefix
+
+
+def answer(server, query):
+    """Returns what a new connection to the server gets as an answer to a query."""
+    served = Served(0, server._settings)
+    served.received(0, bytes(query))
+    sent = b""
+    while served.next(0, server._edition) == Step.SEND:
+        part = bytes(served.output)
+        served.sent(0, len(part))
+        sent += part
+    return sent
+
+
+def response(version=2, session=SESSION):
+    return bytes(CacheResponse(session, version=version))
+
+
+class Case(unittest.TestCase):
+    """A test with a folder for a file."""
+
+    def setUp(self):
+        folder = tempfile.TemporaryDirectory()
+        self.addCleanup(folder.cleanup)
+        self.folder = pathlib.Path(folder.name)
+        self.path = self.folder / "kept"
+
+    def has_changes(self, server, serial, old, new):
+        """The server has these data, and the changes to them from serial number 1."""
+        self.assertEqual(answer(server, ResetQuery(version=2)), response() + bytes(new))
+        changes = old.delta(new)
+        self.assertEqual(server.end, new.end)
+        self.assertEqual(answer(server, SerialQuery(SESSION, serial, version=2)),
+                         response() + bytes(changes))
+
+
+class Saving(Case):
+    """What is taken, served and saved."""
+
+    def test_restart(self):
+        first, second = data(1, [1, 2]), data(2, [2, 3])
+        for path in (str(self.path), self.path):
+            server = Server()
+            server.update_saved(first, path)
+            server.update_saved(second, path)
+            after = Server()
+            self.assertEqual(after.restore(path), second)
+            self.has_changes(after, 1, first, second)
+            with self.assertRaises(UpdateError):
+                after.update_saved(data(2, [4]), path)
+        self.assertEqual(os.listdir(self.folder), ["kept"])
+
+    def test_save(self):
+        server = Server()
+        server.save(self.path)
+        self.assertFalse(self.path.exists())
+        server.update(data(1, [1]))
+        server.update(data(5, [5]))
+        server.save(self.path)
+        after = Server()
+        after.restore(self.path)
+        self.has_changes(after, 1, data(1, [1]), data(5, [5]))
+
+    def test_a_large_restart(self):
+        first, second = many(1, 50_000), many(2, 49_000)
+        server = Server()
+        server.update(first)
+        server.update_saved(second, self.path)
+        after = Server()
+        after.restore(self.path)
+        self.has_changes(after, 1, first, second)
+
+    def test_sessions_that_were_left(self):
+        server = Server()
+        server.update_saved(data(1, [1]), self.path)
+        server.update_saved(data(1, [1], session=7), self.path)
+        for one in server, Server():
+            if one is not server:
+                one.restore(self.path)
+            with self.assertRaises(UpdateError) as caught:
+                one.update(data(9, [2]))
+            self.assertEqual(caught.exception.status, StoresStatus.SESSION_LEFT)
+            self.assertEqual(str(caught.exception),
+                             "the cache left this session: the data need a new one")
+        self.assertEqual(one.end.session, 7)
+
+    def test_limits_of_changes(self):
+        for limits, known in ((ServerLimits(), [1, 2]), (ServerLimits(keep_bytes=100), [2]),
+                              (ServerLimits(keep=2), [2]), (ServerLimits(keep=5), [1, 2])):
+            server = Server(limits)
+            for serial, date in ((1, 0), (2, 1000), (3, 5000)):
+                with mock.patch("rtr_wire.server._date", return_value=date):
+                    server.update(data(serial, range(serial, serial + 4)))
+            self.assertEqual(sorted(server._edition.known), known)
+
+    def test_refused_data(self):
+        server = Server()
+        server.update(data(4, [1]))
+        late = EndOfData(SESSION, 4, version=2, refresh=60, retry=60, expire=7200)
+        for new, status, text in (
+                (data(4, [2]), StoresStatus.OLD_SERIAL,
+                 "the serial number isn't later than that of the present data: new 4, present 4"),
+                (data(3, [1]), StoresStatus.OLD_SERIAL,
+                 "the serial number isn't later than that of the present data: new 3, present 4"),
+                (Data([prefix(1)], late), StoresStatus.OTHER_TIMES,
+                 "only the times differ from those of the present data")):
+            with self.assertRaises(UpdateError) as caught:
+                server.update(new)
+            self.assertEqual((caught.exception.status, str(caught.exception)), (status, text))
+            self.assertEqual(caught.exception.rule, TimeRule.NONE)
+        self.assertEqual(server.end, data(4, [1]).end)
+        self.assertFalse(server.update(data(4, [1])))
+        with self.assertRaises(TypeError):
+            server.update(bytes(data(5, [1])))
+
+    def test_refused_times(self):
+        server = Server()
+        for times, rule, text in (
+                ((0, 600, 7200), TimeRule.REFRESH, "the refresh time has to be 1 to 86400 seconds"),
+                ((3600, 600, 600), TimeRule.ABOVE_REFRESH,
+                 "the expire time has to be longer than the refresh time")):
+            refresh, retry, expire = times
+            end = EndOfData(SESSION, 1, version=1, refresh=refresh, retry=retry, expire=expire)
+            with self.assertRaises(UpdateError) as caught:
+                server.update(Data([], end))
+            self.assertEqual((caught.exception.rule, str(caught.exception)), (rule, text))
+        self.assertIsNone(server.end)
+        self.assertTrue(server.update(Data([], EndOfData(SESSION, 1, version=0))))
+
+    def test_lower_versions(self):
+        """Data of a lower version are served in all versions."""
+        server = Server()
+        server.update(Data.from_vrps([Vrp(prefix(1).prefix, asn=64496, max_length=24)],
+                                     EndOfData(SESSION, 1, version=0)))
+        for version in (0, 1, 2):
+            wanted = response(version) + bytes(data(1, [1]).for_version(version))
+            self.assertEqual(answer(server, ResetQuery(version=version)), wanted)
+
+    def test_answers_are_kept(self):
+        """Each answer is computed once for all routers, unless there is no space."""
+        for space, count in ((1 << 20, 1), (0, 2)):
+            server = Server()
+            server.update(data(1, [1]))
+            server.update(data(2, [2]))
+            server._edition._left = space
+            history = server._edition.history
+            with mock.patch.object(history, "since", wraps=history.since) as since:
+                for _ in range(2):
+                    answer(server, SerialQuery(SESSION, 1, version=1))
+            self.assertEqual(since.call_count, count)
+
+    def test_closed_server(self):
+        server = Server()
+        server.update_saved(data(1, [1]), self.path)
+        server.close()
+        for call in (lambda: server.update(data(2, [1])), lambda: server.restore(self.path)):
+            with self.assertRaisesRegex(Exception, "^the server is closed$"):
+                call()
+
+
+class Files(Case):
+    """Files that can't be written or read."""
+
+    def test_damaged_files(self):
+        Server().save(self.path)
+        server = Server()
+        server.update_saved(data(1, [1]), self.path)
+        whole = self.path.read_bytes()
+        other = whole[:30] + b"\1" + whole[31:]
+        for content in (b"", whole[:-1], whole + b"\0", other, whole[24:]):
+            self.path.write_bytes(content)
+            after = Server()
+            with self.assertRaises(DamagedError) as caught:
+                after.restore(self.path)
+            self.assertEqual(str(caught.exception), f"{self.path}: the saved file is damaged: the "
+                                                    "data need a new session")
+            self.assertIsNone(after.end)
+        self.path.write_bytes(b"rtrkept1" + bytes(40))
+        with self.assertRaisesRegex(FormerFileError, "kept: the file has the form before 0.3.0"):
+            Server().restore(self.path)
+
+    def test_no_file(self):
+        pathlib.Path(f"{self.path}.new").touch()
+        with self.assertRaises(FileNotFoundError):
+            Server().restore(self.path)
+        self.assertEqual(os.listdir(self.folder), [])
+
+    def test_restore_after_data(self):
+        server = Server()
+        server.update_saved(data(1, [1]), self.path)
+        with self.assertRaisesRegex(RuntimeError, "the server has data"):
+            server.restore(self.path)
+
+    def fails(self, call, number, kind=OSError):
+        with self.assertRaises(kind) as caught:
+            call()
+        self.assertEqual(caught.exception.errno, number)
+
+    def test_a_full_disk(self):
+        server = Server()
+        server.update_saved(data(1, [1]), self.path)
+        os.symlink("/dev/full", f"{self.path}.new")
+        self.fails(lambda: server.update_saved(data(2, [2]), self.path), errno.ENOSPC)
+        self.assertEqual((os.listdir(self.folder), server.end.serial), (["kept"], 1))
+        self.assertTrue(server.update_saved(data(2, [2]), self.path))
+        after = Server()
+        self.assertEqual(after.restore(self.path), data(2, [2]))
+
+    def test_failing_calls(self):
+        for number, call in enumerate(("os.fsync", "os.replace"), 2):
+            server = Server()
+            server.update_saved(data(1, [1]), self.path)
+            failing = OSError(errno.EIO, "failed")
+            with mock.patch(call, side_effect=failing):
+                self.fails(lambda: server.update_saved(data(2, [2]), self.path), errno.EIO)
+            self.assertEqual((os.listdir(self.folder), server.end.serial), (["kept"], 1))
+            self.assertEqual(Server().restore(self.path), data(1, [1]))
+
+    def test_a_folder_that_is_not_synced(self):
+        server = Server()
+        server.update_saved(data(1, [1]), self.path)
+        with mock.patch("os.fsync", side_effect=[None, OSError(errno.EIO, "failed")]):
+            self.fails(lambda: server.update_saved(data(2, [2]), self.path), errno.EIO,
+                       UnsyncedError)
+        self.assertEqual(server.end.serial, 1)
+        self.assertEqual(Server().restore(self.path), data(2, [2]))
+        with mock.patch("os.fsync", side_effect=OSError(errno.EIO, "failed")):
+            self.fails(lambda: Server().restore(self.path), errno.EIO)
+        with mock.patch("os.fsync", side_effect=OSError(errno.EINVAL, "no folders")):
+            self.assertEqual(Server().restore(self.path), data(2, [2]))
+
+    def test_a_file_of_c(self):
+        """Servers in C and in Python restore what the other one saved."""
+        first, second, third = data(1, [1, 2]), data(2, [2, 3]), data(3, [3])
+        other = self.folder / "other"
+        end = self.folder / "cache_end"
+        folder = PACKAGE.parent / "c"
+        subprocess.run([*compiler(), "-std=c11", "-O1", "-o", end, "cache_end.c", "rtr_cache.c",
+                        archive()], cwd=folder, check=True)
+
+        def play(*lines):
+            said = subprocess.run([end], input="".join(f"{line}\n" for line in lines), text=True,
+                                  stdout=subprocess.PIPE, check=True).stdout
+            return bytes.fromhex("".join(line.split()[2] for line in said.splitlines()
+                                         if " cache> " in line))
+
+        play("scene c", "cache usual", *(f"{time} data {{ {bytes(one).hex()} }}"
+                                         for time, one in enumerate((first, second))),
+             f"2 saves {self.path}")
+        server = Server()
+        self.assertEqual(server.restore(self.path), second)
+        self.has_changes(server, 1, first, second)
+        server.update_saved(third, other)
+        # By C's clock the changes before were made in 1970, so that the new data replace them.
+        query = bytes(SerialQuery(SESSION, 2, version=2)).hex()
+        got = play("scene python", "cache usual", f"0 restores {other}", "1 router connects",
+                   f"2 router> {query}")
+        self.assertEqual(got, response() + bytes(second.delta(third)))
+
+
+class Limits(unittest.TestCase):
+    """The limits of a server."""
+
+    def test_defaults(self):
+        usual = ServerLimits()
+        # docs/SESSIONS.md ("The cache").
+        self.assertEqual((usual.most_connections, usual.most_refused, usual.most_behind),
+                         (1024, 64, 2))
+        self.assertEqual((usual.first_limit, usual.unit_limit, usual.idle_limit),
+                         (30, 10, 25 * 3600))
+        self.assertEqual((usual.write_limit, usual.response_limit, usual.report_limit),
+                         (30, 600, 10))
+        self.assertEqual((usual.pause, usual.keep, usual.keep_bytes, usual.refuses),
+                         (60, 7200, 64 << 20, False))
+
+    def test_each_reaches_the_library(self):
+        given = {"most_connections": 1, "most_refused": 2, "most_behind": 3, "first_limit": 4,
+                 "unit_limit": 5, "idle_limit": 6, "write_limit": 7, "response_limit": 8,
+                 "report_limit": 9, "pause": 10, "keep": 11, "keep_bytes": 12, "refuses": True}
+        settings = ServerLimits(**given).for_library()
+        names = {name for name, *_ in (*settings._fields_, *settings.cache._fields_)}
+        self.assertEqual(set(given), names - {"cache"})
+        for name, value in given.items():
+            holder = settings if hasattr(settings, name) else settings.cache
+            is_time = name not in ("most_connections", "most_refused", "most_behind", "keep_bytes",
+                                   "refuses")
+            self.assertEqual(getattr(holder, name), value * 1000 if is_time else value, name)
+
+    def test_values(self):
+        self.assertEqual(ServerLimits(most_behind=1 << 40).for_library().most_behind, 2**32 - 1)
+        for limits, error in ((ServerLimits(unit_limit=-1), ValueError),
+                              (ServerLimits(most_refused=-1), ValueError),
+                              (ServerLimits(keep="long"), TypeError),
+                              (ServerLimits(most_connections=1.5), TypeError)):
+            with self.assertRaises(error):
+                Server(limits)
+
+
+if __name__ == "__main__":
+    unittest.main()
