@@ -187,7 +187,7 @@ def source_archive(archives, portable, pages, to, repository=None):
     repository's URL if it isn't that of pyproject.toml."""
     with tempfile.TemporaryDirectory() as top:
         folder = pathlib.Path(top, f"{NAME}-{version()}")
-        left_out = shutil.ignore_patterns("tests", "generate", "*.so", "__pycache__", ".*_cache",
+        left_out = shutil.ignore_patterns("tests", "generate.py", "*.so", "__pycache__", ".*_cache",
                                           "lib", "portable", "docs", "dist")
         shutil.copytree(HERE, folder, ignore=left_out)
         added = {f"lib/{machine}/{ARCHIVE}": archive for machine, archive in archives.items()}

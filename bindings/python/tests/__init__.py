@@ -17,20 +17,35 @@ import unittest
 PACKAGE = pathlib.Path(__file__).resolve().parent.parent
 
 
-def _linked() -> str:
-    """Returns the path of a library that is linked for this run."""
+def _backend():
     spec = importlib.util.spec_from_file_location("backend", PACKAGE / "backend.py")
     backend = importlib.util.module_from_spec(spec)
     spec.loader.exec_module(backend)
-    compiler = shlex.split(os.environ.get("CC", "cc"))
-    if not shutil.which(compiler[0]):
-        raise unittest.SkipTest(f"no {compiler[0]} here, which links the library: set CC")
+    return backend
+
+
+def compiler():
+    """Returns the words of the C compiler; without one it skips the tests."""
+    words = shlex.split(os.environ.get("CC", "cc"))
+    if not shutil.which(words[0]):
+        raise unittest.SkipTest(f"no {words[0]} here, which links the library: set CC")
+    return words
+
+
+def archive():
+    """Returns the path of the archive."""
+    backend = _backend()
+    built = PACKAGE.parent / "lib" / platform.machine() / backend.ARCHIVE
+    return built if built.exists() else backend.archive(platform.machine())
+
+
+def _linked() -> str:
+    """Returns the path of a library that is linked for this run."""
+    backend, words = _backend(), compiler()
     folder = tempfile.mkdtemp()
     atexit.register(shutil.rmtree, folder)
     library = os.path.join(folder, backend.LIBRARY)
-    built = PACKAGE.parent / "lib" / platform.machine() / backend.ARCHIVE
-    archive = built if built.exists() else backend.archive(platform.machine())
-    backend.link(archive, library, compiler=compiler)
+    backend.link(archive(), library, compiler=words)
     return library
 
 

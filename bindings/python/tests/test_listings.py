@@ -1,4 +1,4 @@
-"""Lines, objects and texts of faults, by tests/samples and tests/programs/listings."""
+"""Lines, objects and texts of faults, by tests/samples and tests/programs/listings.py."""
 import json
 import random
 import unittest
@@ -15,7 +15,7 @@ from .rows import samples
 
 def _listings():
     """The script that computes expected values without the library."""
-    loader = SourceFileLoader("listings", str(rows.TESTS / "programs" / "listings"))
+    loader = SourceFileLoader("listings", str(rows.TESTS / "programs" / "listings.py"))
     module = module_from_spec(spec_from_loader("listings", loader))
     loader.exec_module(module)
     return module

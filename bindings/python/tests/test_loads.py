@@ -71,7 +71,7 @@ class Loads(unittest.TestCase):
 
 def _recordings():
     """Returns the script that makes changed recordings, and reads them."""
-    loader = SourceFileLoader("recordings", str(rows.TESTS / "programs" / "recordings"))
+    loader = SourceFileLoader("recordings", str(rows.TESTS / "programs" / "recordings.py"))
     module = module_from_spec(spec_from_loader("recordings", loader))
     loader.exec_module(module)
     return module

@@ -362,6 +362,16 @@ class Failures(Routed):
         self.assertIsInstance(failed.error, SessionError)
         self.assertEqual((failed.error.cause, failed.error.reported), (Cause.REPORTED, report))
 
+    def test_reported_texts(self):
+        """As in all languages, texts of reports are shown in part, and in ASCII."""
+        front = "the cache reports an error: "
+        for code, text, shown in (
+                (2, b"", "No Data Available"), (1, b"no ~", 'Internal Error, "no ~"'),
+                (12, 'a"\nä'.encode(), 'error code 12, "a"???"'),
+                (1, b"a" * 99 + b"bc", f'Internal Error, "{"a" * 99}b"')):
+            error = SessionError(Cause.REPORTED, reported=ErrorReport(code, text=text))
+            self.assertEqual(str(error), front + shown)
+
 
 class Turns(Routed):
     """Calls out of turn, wrong times and settings, and a restarted router."""

@@ -307,16 +307,17 @@ class Header(unittest.TestCase):
 
     def test_layout(self):
         """Structs have the sizes, and their fields the offsets, of C."""
-        if not (rows_of.BINDINGS / "header.py").exists():
-            self.skipTest("no header.py beside")
+        if not (rows_of.BINDINGS / "calls.py").exists():
+            self.skipTest("no calls.py beside")
         sys.path.insert(0, str(rows_of.BINDINGS))
-        import header
+        import calls
 
-        for name, fields, size in header.structs(header.HEADER.read_text()):
-            structure = getattr(_rtr, name)
-            self.assertEqual(ctypes.sizeof(structure), size, name)
+        for struct in calls.structs():
+            structure = getattr(_rtr, struct.name)
+            self.assertEqual(ctypes.sizeof(structure), struct.size, struct.name)
             offsets = {field: getattr(structure, field).offset for field, _ in structure._fields_}
-            self.assertEqual(offsets, {field: offset for field, _, _, offset in fields}, name)
+            self.assertEqual(offsets, {field.name: field.offset for field in struct.fields},
+                             struct.name)
 
 
 if __name__ == "__main__":

@@ -1,7 +1,7 @@
-"""Units of the RPKI to Router protocol (RFC 6810, RFC 8210), data and their changes, and clients of
-a cache. All rules of the protocol are in a library whose functions are proved to meet their
-contracts; this package calls it by ctypes, and is tested. It requires Linux on x86-64 or aarch64,
-Python 3.9 or newer, and nothing else.
+"""Units of the RPKI to Router protocol (RFC 6810, RFC 8210), data and their changes, clients of a
+cache, and a cache. All rules of the protocol are in a library whose functions are proved to meet
+their contracts; this package calls it by ctypes, and is tested. It requires Linux on x86-64 or
+aarch64, Python 3.9 or newer, and nothing else.
 
 Units
     Each of the eleven kinds is a frozen dataclass: `IPv4Prefix` and `IPv6Prefix`, which are both a
@@ -31,10 +31,18 @@ Clients
         for update in Client("cache.example", 3323):
             print(update.data, list(update.changes))
 
+Servers
+    `Server` is a cache for asyncio: it serves data, notifies routers of new ones, sends the changes
+    from earlier data, and saves what a restart needs.
+
+        server = Server()
+        server.update(data)
+        await server.serve("::", 3323)
+
 Faults
     An input that the library refuses raises a `Fault`, a ValueError, with a class for each status.
     It has the offset and the bytes of the unit, and the error report that the peer is owed. Any
-    other reason for which a session ends is a `SessionError`.
+    other reason for which a session ends is a `SessionError`, or a `ServerError` of a server.
 
 Several threads may use units, data and changes at once, but an iterator or a client only one at a
 time.
@@ -45,11 +53,12 @@ Copyright (c) 2026, the authors of Fishreef; copyright (c) 2018, NLnet Labs. BSD
 """
 from __future__ import annotations
 
+import importlib
 from typing import TYPE_CHECKING, Any
 
 from ._rtr import VERSION as __version__
-from ._rtr import (Cause, ErrorCode, Kind, Mismatch, PrefixRule, Rule, SerialOrder, Side, Status,
-                   Validity)
+from ._rtr import (Cause, ErrorCode, Kind, Mismatch, PrefixRule, Reason, Rule, SerialOrder, Side,
+                   Status, StoresStatus, TimeRule, Validity)
 from .checking import Finding, check
 from .client import Client
 from .data import Changes, Covering, Data, Loaded, load_data
@@ -63,32 +72,40 @@ from .group import NoPayloads
 from .lines import change_json, change_line, unit_lines, unit_objects
 from .reading import Normalised, Units, normalise, same_meaning, units
 from .router import Close, Connect, Failed, NoData, Router, SessionError, Settings, Update
+from .serving import BehindError, ServerError, ServerLimits
+from .store import DamagedError, FormerFileError, UnsyncedError
 from .units import (AnyUnit, Aspa, CacheReset, CacheResponse, EndOfData, ErrorReport, IPv4Prefix,
                     IPv6Prefix, Payload, Prefix, ResetQuery, RouterKey, SerialNotify, SerialQuery,
                     Unit, Vrp, serial_order, version_has)
 
 if TYPE_CHECKING:
     from .aio import AsyncClient
+    from .server import Server, ServerClosed, UpdateError
 else:
+    _OF_ASYNCIO = {"AsyncClient": "aio", "Server": "server", "ServerClosed": "server",
+                   "UpdateError": "server"}
+
     def __getattr__(name: str) -> Any:
-        """Imports the asyncio client on first use, since importing asyncio is slow."""
-        if name != "AsyncClient":
+        """Imports what uses asyncio on first use, since importing asyncio is slow."""
+        if name not in _OF_ASYNCIO:
             raise AttributeError(f"module {__name__!r} has no attribute {name!r}")
-        from .aio import AsyncClient
-        globals()[name] = AsyncClient
-        return AsyncClient
+        module = importlib.import_module(f".{_OF_ASYNCIO[name]}", __name__)
+        globals()[name] = getattr(module, name)
+        return globals()[name]
 
 __all__ = [
-    "AnyUnit", "Aspa", "AsyncClient", "CacheReset", "CacheResponse", "Cause", "Changes", "Client",
-    "Close", "Connect", "Covering", "Data", "DuplicateError", "EmptyProvidersError", "EndOfData",
-    "ErrorCode", "ErrorReport", "Failed", "Fault", "Finding", "IPv4Prefix", "IPv6Prefix", "Kind",
-    "Loaded", "Mismatch", "NoData", "NoFormError", "NoIndexError", "NoPayloads", "NoRoomError",
-    "Normalised", "NotCanonicalError", "OldSerialError", "OtherSessionError", "OtherVersionError",
-    "Payload", "Prefix", "PrefixError", "PrefixRule", "ReportInsideError", "ResetInsideError",
-    "ResetQuery", "Router", "RouterKey", "Rule", "SerialNotify", "SerialOrder", "SerialQuery",
-    "SessionError", "Settings", "ShortError", "Side", "Status", "TooLongError", "TooManyError",
-    "UndecidedError", "Unit", "UnitLengthError", "UnitTypeError", "UnitVersionError", "Units",
-    "UnknownError", "Update", "Validity", "Vrp", "__version__", "change_json", "change_line",
-    "check", "follow", "load_data", "normalise", "same_meaning", "serial_order", "unit_lines",
-    "unit_objects", "units", "version_has",
+    "AnyUnit", "Aspa", "AsyncClient", "BehindError", "CacheReset", "CacheResponse", "Cause",
+    "Changes", "Client", "Close", "Connect", "Covering", "DamagedError", "Data", "DuplicateError",
+    "EmptyProvidersError", "EndOfData", "ErrorCode", "ErrorReport", "Failed", "Fault", "Finding",
+    "FormerFileError", "IPv4Prefix", "IPv6Prefix", "Kind", "Loaded", "Mismatch", "NoData",
+    "NoFormError", "NoIndexError", "NoPayloads", "NoRoomError", "Normalised", "NotCanonicalError",
+    "OldSerialError", "OtherSessionError", "OtherVersionError", "Payload", "Prefix", "PrefixError",
+    "PrefixRule", "Reason", "ReportInsideError", "ResetInsideError", "ResetQuery", "Router",
+    "RouterKey", "Rule", "SerialNotify", "SerialOrder", "SerialQuery", "Server", "ServerClosed",
+    "ServerError", "ServerLimits", "SessionError", "Settings", "ShortError", "Side", "Status",
+    "StoresStatus", "TimeRule", "TooLongError", "TooManyError", "UndecidedError", "Unit",
+    "UnitLengthError", "UnitTypeError", "UnitVersionError", "Units", "UnknownError",
+    "UnsyncedError", "Update", "UpdateError", "Validity", "Vrp", "__version__", "change_json",
+    "change_line", "check", "follow", "load_data", "normalise", "same_meaning", "serial_order",
+    "unit_lines", "unit_objects", "units", "version_has",
 ]

@@ -141,11 +141,7 @@ class _Canonical(Collection[Payload]):
     def end(self) -> EndOfData:
         """The end of data: the version, the session, the serial number and the times."""
         if self._end is None:
-            first = next(Units(_piece(self._part, 0, _rtr.LONGEST_UNIT)))
-            size = len(bytes(EndOfData(0, 0, version=first.version)))
-            last = next(Units(_piece(self._part, self._part.length - size, size)))
-            assert isinstance(last, EndOfData)
-            self._end = last
+            self._end = end_of(_library.address_of(self._part.memory), self._part.length)
         return self._end
 
     @property
@@ -192,6 +188,15 @@ class _Canonical(Collection[Payload]):
         payloads = "payload" if len(self) == 1 else "payloads"
         return (f"<{type(self).__name__} of {len(self)} {payloads}, session {end.session}, "
                 f"serial {end.serial}, version {end.version}>")
+
+
+def end_of(address: int, length: int) -> EndOfData:
+    """Returns the end of data of the canonical units at this address, which are this long."""
+    first = next(Units(ctypes.string_at(address, min(_rtr.LONGEST_UNIT, length))))
+    size = len(bytes(EndOfData(0, 0, version=first.version)))
+    last = next(Units(ctypes.string_at(address + length - size, size)))
+    assert isinstance(last, EndOfData)
+    return last
 
 
 def _pieces(data: bytes) -> Iterator[bytes]:

@@ -17,7 +17,7 @@ class NoPayloads(Exception):
     """A cache has no payloads, which `follow` doesn't accept as data (docs/SESSIONS.md)."""
 
     def __str__(self) -> str:
-        return "the cache has no payloads"
+        return _rtr.FAILURE_EMPTY
 
 
 class Decision(NamedTuple):

@@ -2,6 +2,7 @@
 from __future__ import annotations
 
 import math
+import re
 from collections import deque
 from dataclasses import dataclass
 from typing import Any, ClassVar, Deque, List, Optional, Union
@@ -14,6 +15,15 @@ from .faults import refusal
 from .link import Link
 from .reading import Units
 from .units import ErrorReport
+
+
+def report_text(report: ErrorReport) -> str:
+    """Returns the code of an error report by its name, and the printable part of its text."""
+    text = _library.name(_rtr.Named.CODE, report.code)
+    if report.text:
+        quoted = report.text[:_rtr.MOST_QUOTED].decode("latin-1")
+        text += f', "{re.sub("[^ -~]", "?", quoted)}"'
+    return text
 
 
 class SessionError(Exception):
@@ -37,11 +47,7 @@ class SessionError(Exception):
 
     def __str__(self) -> str:
         text = _library.name(_rtr.Named.CAUSE, self.cause)
-        if self.reported is not None:
-            text += f": code {self.reported.code}"
-            if self.reported.text:
-                text += f", {self.reported.text.decode(errors='replace')[:200]!r}"
-        return text
+        return text if self.reported is None else f"{text}: {report_text(self.reported)}"
 
 
 class NoData(SessionError):
@@ -97,9 +103,9 @@ class Settings:
             if seconds is not None:
                 setattr(settings, name, milliseconds(name, seconds))
         if self.most_bytes is not None:
-            settings.most_bytes = _bounded("most_bytes", self.most_bytes, 64)
+            settings.most_bytes = bounded("most_bytes", self.most_bytes, 64)
         if self.most_units is not None:
-            settings.most_units = _bounded("most_units", self.most_units, 32)
+            settings.most_units = bounded("most_units", self.most_units, 32)
         settings.chance = _library.number("chance", chance, 16)
         return settings
 
@@ -110,10 +116,10 @@ def milliseconds(name: str, seconds: float) -> int:
         raise TypeError(f"{name} must be a number of seconds, not {type(seconds).__name__}")
     if not 0 <= seconds < math.inf:
         raise ValueError(f"{name} is {seconds}: it must be from 0 on")
-    return _bounded(name, round(seconds * 1000) or int(seconds > 0), 32)
+    return bounded(name, round(seconds * 1000) or int(seconds > 0), 32)
 
 
-def _bounded(name: str, value: int, bits: int) -> int:
+def bounded(name: str, value: int, bits: int) -> int:
     """Returns the number, or if it is larger, the largest of this many bits."""
     if _library.integer(name, value) < 0:
         raise ValueError(f"{name} is {value}: it must be from 0 on")
@@ -290,7 +296,7 @@ class Router:
     def _reason(self, todo: _rtr.rtr_todo) -> Optional[Exception]:
         """Returns why the connection ends; None if it does for a lower or a higher version."""
         if self._link.gave_up:
-            return MemoryError("no memory for the answer")
+            return MemoryError(_rtr.FAILURE_NO_MEMORY)
         if isinstance(self._error, MemoryError):
             return self._error
         cause = Cause(todo.cause)
