@@ -1,0 +1,137 @@
+// A cache: serves the data of a file to routers, and reloads it when it changes, until a signal.
+//
+// usage: node cache.js FILE [--listen ADDRESS:PORT].. [--max-clients N] [--refuse]
+//
+// The file is a recording or a list: replace it by renaming. Data are saved to FILE.kept before
+// they are served, from which a restart goes on; if that fails, it is tried again after 1, 2, 4 ..
+// seconds, up to a minute. If FILE.kept is damaged, the cache doesn't start: remove it, and give
+// the data a session that was never used.
+
+import { readFile, stat } from "node:fs/promises";
+import { setTimeout as pause } from "node:timers/promises";
+import { parseArgs } from "node:util";
+import { Fault, load } from "../rtr_wire.js";
+import { Server, UpdateError } from "../server.js";
+
+// Milliseconds between two checks of the file, and at most between two tries to save.
+const [LOOK, LONGEST] = [250, 60_000];
+
+const OPTIONS = { "listen": { type: "string", multiple: true }, "max-clients": { type: "string" },
+    "refuse": { type: "boolean" } };
+
+/** Returns the options and the file; exits with status 2 for wrong arguments. */
+function argumentsOf(words) {
+    try {
+        const { values, positionals } = parseArgs({ args: words, options: OPTIONS,
+            allowPositionals: true });
+        const { listen = ["[::]:3323"], refuse = false, "max-clients": most } = values;
+        const where = listen.map((address) => /^\[?(.*?)\]?:(\d+)$/.exec(address).slice(1));
+        const limits = most === undefined ? {} : { mostConnections: Number(most) };
+        if (positionals.length === 1) {
+            return { file: positionals[0], where, settings: { refuses: refuse, ...limits } };
+        }
+    } catch {
+        // the usage follows
+    }
+    console.error("usage: cache.js FILE [--listen ADDRESS:PORT].. [--max-clients N] [--refuse]");
+    return process.exit(2);
+}
+
+const { file, where, settings } = argumentsOf(process.argv.slice(2));
+const kept = `${file}.kept`;
+const stop = new AbortController();
+["SIGINT", "SIGTERM"].forEach((name) => process.once(name, () => stop.abort()));
+
+const rtr = await load();
+const server = new Server({ rtr, settings });
+server.on("ended", ({ message }, { address, port }) => say(`${address}:${port}: ${message}`));
+server.on("failed", ({ message }) => say(message));
+
+/** Writes a line on standard error, with the time before it. */
+function say(line) {
+    console.error(`${new Date().toISOString().replace(/\.\d+/, "")} ${line}`);
+}
+
+function sayData(path, { end: { session, serial }, count }) {
+    say(`${path}: session ${session} serial ${serial}: ${count} payload${count === 1 ? "" : "s"}`);
+}
+
+/** Serves the data from before a restart, unless there are none. */
+async function restore() {
+    try {
+        sayData(kept, await server.restore(kept));
+    } catch (error) {
+        if (error.code !== "ENOENT") {
+            throw new Error(`${kept}: ${error.message}`);
+        }
+    }
+}
+
+/** Returns what differs in a changed file. */
+async function markOf(path) {
+    const { dev, ino, size, mtimeNs, ctimeNs } = await stat(path, { bigint: true });
+    return [dev, ino, size, mtimeNs, ctimeNs].join();
+}
+
+/** Serves what the file has, once it is saved. Throws errors of saving. */
+async function serve(bytes) {
+    let loaded = null;
+    try {
+        loaded = rtr.loadData(bytes);
+        await server.updateSaved(loaded.data, kept);
+    } catch (error) {
+        if (!(error instanceof Fault || error instanceof UpdateError)) {
+            throw error;
+        }
+        say(`${file}: ${error.message}`);
+        return;
+    }
+    sayData(file, server.data);
+    if (loaded.hasCut) {
+        say(`${file}: left out: an answer without an end of data`);
+    }
+}
+
+/** Follows the file until the signal. */
+async function follow() {
+    let [mark, failure, wait] = [null, null, LOOK];
+    for (;; await pause(wait, null, { signal: stop.signal })) {
+        let [found, bytes] = [null, null];
+        try {
+            found = await markOf(file);
+            bytes = found === mark ? null : await readFile(file);
+        } catch ({ message }) {
+            if (message !== failure) {
+                say(`${file}: ${message}`);
+            }
+            failure = message;
+            continue;
+        }
+        failure = null;
+        try {
+            if (bytes !== null) {
+                await serve(bytes);
+            }
+            [mark, wait] = [found, LOOK];
+        } catch ({ message }) {
+            say(`${kept}: ${message}`);
+            wait = Math.min(Math.max(2 * wait, 1000), LONGEST);
+        }
+    }
+}
+
+try {
+    await restore();
+    for (const [host, port] of where) {
+        const { address, port: bound } = await server.listen({ host, port: Number(port) });
+        say(`listening on ${address}:${bound}`);
+    }
+    await follow();
+} catch (error) {
+    if (!stop.signal.aborted) {
+        say(error.message);
+        process.exitCode = 1;
+    }
+} finally {
+    await server.close();
+}

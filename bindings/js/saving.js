@@ -1,0 +1,66 @@
+// Files of what a server saves.
+
+import { open, readFile, rename, rm } from "node:fs/promises";
+import { dirname } from "node:path";
+
+/** A file has the new data, but its folder couldn't be synced: after a power cut the file may have
+ * those before. Its `cause` is the error of the system. */
+export class Unsynced extends Error {
+    constructor(cause) {
+        super(cause.message, { cause });
+        this.name = "Unsynced";
+        this.code = cause.code;
+    }
+}
+
+const besideOf = (path) => `${path}.new`;
+
+/** Replaces a file by one of these pieces of bytes: writes and syncs a file beside it, renames
+ * that, and syncs the folder.
+ *
+ * Throws an error of the system; then no file stays beside it, and it has what it had, unless the
+ * error is Unsynced. */
+export async function replace(path, pieces) {
+    const beside = besideOf(path);
+    const file = await open(beside, "w");
+    try {
+        try {
+            for (const piece of pieces) {
+                await file.writeFile(piece);
+            }
+            await file.sync();
+        } finally {
+            await file.close();
+        }
+        await rename(beside, path);
+    } catch (error) {
+        await forgetNew(path).catch(() => {});
+        throw error;
+    }
+    await syncFolder(path).catch((error) => {
+        throw new Unsynced(error);
+    });
+}
+
+/** Returns the bytes of a file that `replace` wrote. The process that wrote it may have ended
+ * before it synced the folder, or removed the file beside it: this does. */
+export async function restored(path) {
+    const bytes = await readFile(path);
+    await syncFolder(path);
+    await forgetNew(path);
+    return bytes;
+}
+
+async function forgetNew(path) {
+    await rm(besideOf(path), { force: true });
+}
+
+/** Syncs the folder of a file. */
+async function syncFolder(path) {
+    const folder = await open(dirname(path), "r");
+    try {
+        await folder.sync();
+    } finally {
+        await folder.close();
+    }
+}

@@ -1,0 +1,129 @@
+/** A server for Node, over TCP or TLS: a cache that serves data to routers (RFC 8210 sections 5 to
+ * 8). The proved module decides each step; docs/SESSIONS.md has the rules. */
+
+import type { Data, ErrorReport, Session } from "./rtr_wire.js";
+import { Reason, StoresStatus } from "./rtr_table.js";
+import type { CacheSettings, ServerSettings } from "./rtr_table.js";
+import type { Stream } from "./client.js";
+
+export { Reason, StoresStatus };
+
+/** Why a server ended a connection, if the reason isn't an invalid unit (a Fault). */
+export class ServerError extends Error {
+    readonly reason: Reason;
+    /** The bytes of the unit that it is about, as far as they came, or null. */
+    readonly unit: Uint8Array | null;
+    /** The error code that was reported to the router, or null. */
+    readonly code: number | null;
+    /** The router's report, if that is the reason. */
+    readonly reported: ErrorReport | null;
+}
+
+/** More newer data than `mostBehind` came while the router was sent an answer. */
+export class Behind extends Error {}
+
+/** The server is closed. */
+export class Closed extends Error {}
+
+/** A server refuses data: they have the serial number of other ones, or their session was left, or
+ * their times aren't allowed (RFC 8210 section 6), or a saved file is damaged. */
+export class UpdateError extends Error {
+    /** Null if the times aren't allowed. */
+    readonly status: StoresStatus | null;
+}
+
+/** A file has the new data, but its folder couldn't be synced: after a power cut the file may have
+ * those before. `cause` is the error of the system, and `code` its code. */
+export class Unsynced extends Error {
+    readonly code: string;
+}
+
+export interface ServerOptions {
+    /** Limits and times, in milliseconds. Missing ones have the defaults of rtr.h. */
+    settings?: Partial<CacheSettings & Omit<ServerSettings, "cache">>;
+    /** The session whose memory it uses (default: a new one). */
+    rtr?: Session;
+}
+
+export interface ListenOptions {
+    /** By default, or if it is 0, any that is unused. */
+    port?: number;
+    /** A host name or an address (default: all of the machine's). */
+    host?: string;
+    /** The most connections that the system keeps for the server. */
+    backlog?: number;
+    /** Options of tls.createServer, for TLS: with `requestCert` and `ca` routers have to prove who
+     * they are. */
+    tls?: object;
+}
+
+/** The address of a router; undefined if its stream has none. */
+export interface RouterAddress {
+    address: string | undefined;
+    port: number | undefined;
+}
+
+/** The events of a server, with their values:
+ *
+ * - `ended`: why a connection ended, unless the router closed it between two units. A Fault, a
+ *   ServerError, Behind, Closed, OutOfMemory, or an error of node:net or node:tls
+ * - `failed`: why a listener couldn't accept a connection; it continues */
+export interface ServerEvents {
+    ended: [error: Error, router: RouterAddress];
+    failed: [error: Error];
+}
+
+type Listener<Name extends keyof ServerEvents> = (...values: ServerEvents[Name]) => void;
+
+/** A cache: it serves data to routers of versions 0 to 2, and notifies them of new ones. All
+ * routers share the bytes of an answer. It is an EventEmitter. */
+export class Server {
+    constructor(options?: ServerOptions);
+    /** The data that are served, in the version in which they are kept; null before the first. */
+    readonly data: Data | null;
+    /** Gives the server new data, and notifies routers. Connections of routers that have data of
+     * another session are closed. If the data are the present ones, nothing happens. Calls that
+     * change or save data run one after the other.
+     *
+     * Throws UpdateError, OutOfMemory, or Closed after `close` or `shutdown`; then nothing
+     * changes. */
+    update(data: Data): Promise<void>;
+    /** The same, but first saves the new data to a file, as `save` does. So whenever the process
+     * ends, the file has every serial number that a router may have data of, and after a restart
+     * none of them is used for other data.
+     *
+     * Throws what `update` throws, and errors of the file; then the data before are served. */
+    updateSaved(data: Data, path: string): Promise<void>;
+    /** Saves what a restart needs to a file: the sessions that the server left, the present data,
+     * and the changes from earlier data. It writes and syncs a file beside it, whose name ends in
+     * .new, renames that, and syncs the folder. Without data it writes nothing. Servers of each
+     * language of this library read the file.
+     *
+     * Throws an error of the file; no file stays beside it then, and it has what it had, unless the
+     * error is Unsynced. Throws Closed after `close` or `shutdown`. */
+    save(path: string): Promise<void>;
+    /** Loads what `save` wrote, if the server has no data yet, and returns the data of the file.
+     * With the saved session and serial number, routers get changes after a restart. Call it before
+     * `listen`. Files of a form that other versions of this library wrote are damaged for it.
+     *
+     * Throws an error of the file, with the code ENOENT if there is none; UpdateError if it is
+     * damaged or has invalid times; OutOfMemory; Closed after `close` or `shutdown`. */
+    restore(path: string): Promise<Data>;
+    /** Listens until the server is closed, and returns the address. It may listen at several.
+     *
+     * Throws an error of the listener, or Closed after `close` or `shutdown`. */
+    listen(options?: ListenOptions): Promise<{ address: string; family: string; port: number }>;
+    /** Serves a router over a Duplex stream, as a connection that `listen` accepted. A stream that
+     * was destroyed before isn't served. */
+    serve(stream: Stream): Promise<void>;
+    /** Closes all listeners and connections, and returns once they are closed. The server can't be
+     * used again. */
+    close(): Promise<void>;
+    /** Closes the server as `close` does, but first completes the answers that have begun.
+     * Connections without one are closed at once. If the signal aborts, the others are closed, too,
+     * and it throws the reason. */
+    shutdown(options?: { signal?: AbortSignal }): Promise<void>;
+    on<Name extends keyof ServerEvents>(name: Name, listener: Listener<Name>): this;
+    once<Name extends keyof ServerEvents>(name: Name, listener: Listener<Name>): this;
+    off<Name extends keyof ServerEvents>(name: Name, listener: Listener<Name>): this;
+}

@@ -1,0 +1,339 @@
+// A server for Node, over TCP or TLS: a cache that serves data to routers.
+//
+//     const server = new Server();
+//     await server.update(data);
+//     await server.listen({ port: 3323 });
+//
+// The proved module decides each step; docs/SESSIONS.md has the rules.
+
+import { EventEmitter, once } from "node:events";
+import { createServer } from "node:net";
+import { createServer as createTlsServer } from "node:tls";
+import { Entry, STRUCTS } from "./rtr_table.js";
+import { Data } from "./data.js";
+import { Closed } from "./fault.js";
+import { fieldsOf, numberOf, objectOf, textOf } from "./given.js";
+import { Kept } from "./kept.js";
+import { writeStruct } from "./memory.js";
+import { optionsOf, sessionOf, signalOf } from "./options.js";
+import { load } from "./rtr_wire.js";
+import { now } from "./running.js";
+import { replace, restored } from "./saving.js";
+import { Served } from "./served.js";
+import { RouterSocket } from "./socket.js";
+import { Store } from "./store.js";
+
+export { Reason, StoresStatus } from "./rtr_table.js";
+export { Behind, Closed, ServerError } from "./fault.js";
+export { Unsynced } from "./saving.js";
+export { UpdateError } from "./store.js";
+
+/** The fields of both structs of settings, as those of one. */
+const SETTINGS = [...STRUCTS.cacheSettings.fields,
+    ...STRUCTS.serverSettings.fields.filter(([name]) => name !== "cache")];
+
+/** The check of each option. */
+const OPTIONS = {
+    settings: (value, name) => fieldsOf(value, name, SETTINGS),
+    rtr: sessionOf,
+};
+
+/** The check of each option of `listen`. */
+const LISTEN_OPTIONS = {
+    port: (value, name) => numberOf(value, name, 0xffff),
+    host: textOf,
+    backlog: numberOf,
+    tls: objectOf,
+};
+
+/** Options of Node for listeners: a router that closes may still read. */
+const LISTENER = { allowHalfOpen: true, noDelay: true };
+
+/** The event that a connection has left; private to this file. */
+const LEFT = Symbol("left");
+
+/** Returns the settings of rtr.h, with those that are given. */
+function settingsOf(rtr, given) {
+    rtr.call("rtr_server_settings_usual", rtr.frame("serverSettings"));
+    const usual = rtr.answer("serverSettings");
+    return { ...usual, ...given, cache: { ...usual.cache, ...given } };
+}
+
+function dataOf(value) {
+    if (!(value instanceof Data)) {
+        throw new TypeError("data must be a Data, which session.data makes");
+    }
+    return value;
+}
+
+/** Waits until a listener listens, or is closed before; throws its error. */
+async function listening(listener) {
+    const done = new AbortController();
+    try {
+        await Promise.race(["listening", "close"].map((name) => (
+            once(listener, name, { signal: done.signal }))));
+    } finally {
+        done.abort();
+    }
+}
+
+/** Identifies a connection to a listener, from its accept to its close. */
+function nameOf({ remoteAddress, remotePort, localAddress }) {
+    return `${remoteAddress} ${remotePort} ${localAddress}`;
+}
+
+/** Returns the error of a router that had to prove who it is, and didn't; else null. */
+function strangerError(stream, { requestCert = false, rejectUnauthorized = true }) {
+    if (!requestCert || !rejectUnauthorized || stream.authorized) {
+        return null;
+    }
+    const code = String(stream.authorizationError);
+    return Object.assign(new Error(code), { code });
+}
+
+/** A cache: it serves data to routers, and notifies them of new ones. */
+export class Server extends EventEmitter {
+    #options;
+    #loading = null;
+    #rtr = null;
+    #settings; // a struct rtr_server_settings
+    #store;
+    #door;
+    #kept = { edition: null }; // the newest edition, for connections
+    #updating = Promise.resolve(); // the last call on the store
+    #listeners = new Set();
+    #sockets = new Set();
+    #isClosed = false;
+
+    constructor(options = {}) {
+        super();
+        this.#options = optionsOf(options, OPTIONS);
+    }
+
+    /** The data that are served; null before the first. */
+    get data() {
+        return this.#kept.edition?.data ?? null;
+    }
+
+    /** Gives the server new data, and notifies routers. */
+    async update(data) {
+        dataOf(data);
+        await this.#inTurn(() => this.#takes(data, null));
+    }
+
+    /** Gives the server new data, once a file has what a restart needs. */
+    async updateSaved(data, path) {
+        dataOf(data);
+        textOf(path, "path");
+        await this.#inTurn(() => this.#takes(data, path));
+    }
+
+    /** Saves what a restart needs to a file; nothing without data. */
+    async save(path) {
+        textOf(path, "path");
+        await this.#inTurn(async () => {
+            const pieces = this.#store.file;
+            if (pieces !== null) {
+                await replace(path, pieces);
+            }
+        });
+    }
+
+    /** Loads what a server saved, unless this one has data, and returns the data of the file. */
+    async restore(path) {
+        textOf(path, "path");
+        return this.#inTurn(() => this.#restores(path));
+    }
+
+    /** Listens until the server is closed, and returns the address and port. */
+    async listen(options = {}) {
+        const { tls, ...where } = optionsOf(options, LISTEN_OPTIONS);
+        await this.#ready();
+        this.#checkOpen();
+        const listener = tls ? this.#tlsListener(tls)
+            : createServer(LISTENER, (socket) => this.#enters(socket)?.opens(socket));
+        this.#listeners.add(listener);
+        try {
+            await listening(listener.listen(where));
+            this.#checkOpen();
+        } catch (error) {
+            this.#listeners.delete(listener);
+            listener.close();
+            throw error;
+        }
+        listener.on("error", (error) => this.emit("failed", error));
+        return listener.address();
+    }
+
+    /** Closes all listeners and connections, and returns once they are closed. */
+    async close() {
+        await this.#closes((socket) => socket.fails(new Closed()));
+    }
+
+    /** Closes the server, but first completes answers that have begun, until `signal` aborts. */
+    async shutdown({ signal } = {}) {
+        if (signal !== undefined) {
+            signalOf(signal, "signal");
+        }
+        const aborted = () => this.#sockets.forEach((socket) => socket.fails(new Closed()));
+        signal?.addEventListener("abort", aborted);
+        try {
+            await this.#closes((socket) => (
+                signal?.aborted ? socket.fails(new Closed()) : socket.leaves(new Closed())));
+        } finally {
+            signal?.removeEventListener("abort", aborted);
+        }
+        signal?.throwIfAborted();
+    }
+
+    /** Serves a router over a Duplex stream, unless that was destroyed before. */
+    async serve(stream) {
+        stream.on("error", () => {}); // one that comes before the module is there
+        await this.#ready();
+        this.#checkOpen();
+        if (!stream.destroyed) { // else it may have closed already, and would count for ever
+            this.#enters(stream)?.opens(stream);
+        }
+    }
+
+    /** Waits for the module, unless it is there. */
+    async #ready() {
+        this.#loading ??= this.#load();
+        await this.#loading;
+    }
+
+    async #load() {
+        this.#rtr = this.#options.rtr ?? await load();
+        this.#settings = settingsOf(this.#rtr, this.#options.settings);
+        this.#store = this.#newStore();
+        this.#door = new Kept(this.#rtr, "door");
+        const at = this.#rtr.frame("serverSettings");
+        writeStruct(this.#rtr.heap.view, "serverSettings", at, this.#settings);
+        this.#door.call("rtr_door_init", at);
+    }
+
+    #newStore() {
+        const { keep: time, keepBytes: bytes } = this.#settings;
+        return new Store(this.#rtr, { time, bytes });
+    }
+
+    #checkOpen() {
+        if (this.#isClosed) {
+            throw new Closed();
+        }
+    }
+
+    /** Calls a function on the store after all earlier ones have ended. */
+    #inTurn(call) {
+        const done = this.#updating.then(async () => {
+            await this.#ready();
+            this.#checkOpen();
+            return call();
+        });
+        this.#updating = done.catch(() => {});
+        return done;
+    }
+
+    /** Takes new data, and serves them, once they are saved if there is a path. */
+    async #takes(data, path) {
+        if (!this.#store.take(data, Date.now())) {
+            return;
+        }
+        if (path !== null) {
+            try {
+                await replace(path, this.#store.file);
+            } catch (error) {
+                this.#store.giveUp();
+                throw error;
+            }
+        }
+        this.#store.saved();
+        this.#serves();
+    }
+
+    async #restores(path) {
+        const file = await restored(path);
+        const store = this.#newStore();
+        try {
+            store.start(file);
+        } catch (error) {
+            store.drop();
+            throw error;
+        }
+        const { data } = store.edition;
+        if (this.data !== null) {
+            store.drop();
+            return data;
+        }
+        this.#store = store;
+        this.#serves();
+        return data;
+    }
+
+    /** Serves what the store has from now on. */
+    #serves() {
+        this.#kept.edition = this.#store.edition;
+        this.#sockets.forEach((socket) => socket.turn());
+    }
+
+    /** Lets a connection in at the door; returns null if it was closed there. */
+    #enters(socket) {
+        const entry = this.#door.call("rtr_door_enter", true);
+        if (this.#isClosed || entry === Entry.WAIT) {
+            this.#door.call("rtr_door_leave", entry);
+            socket.on("error", () => {}).destroy();
+            return null;
+        }
+        const served = new Served(this.#rtr, this.#kept, this.#settings, now());
+        const client = { address: socket.remoteAddress, port: socket.remotePort };
+        const router = new RouterSocket(served, socket, (error) => {
+            this.#sockets.delete(router);
+            this.#door.call("rtr_door_leave", entry);
+            if (error !== null) {
+                this.emit("ended", error, client);
+            }
+            this.emit(LEFT);
+        });
+        this.#sockets.add(router);
+        if (entry === Entry.REFUSE) {
+            served.refuse(now());
+        }
+        router.turn();
+        return router;
+    }
+
+    /** Returns a listener by TLS. It looks at certificates itself, where Node would close without
+     * saying whose connection it was, and why. */
+    #tlsListener(tls) {
+        const shaking = new Map();
+        const listener = createTlsServer({ ...tls, ...LISTENER, rejectUnauthorized: false });
+        listener.on("connection", (socket) => {
+            const name = nameOf(socket);
+            const router = this.#enters(socket);
+            if (router !== null) {
+                shaking.set(name, router);
+                socket.on("close", () => shaking.delete(name));
+            }
+        });
+        listener.on("secureConnection", (stream) => {
+            shaking.get(nameOf(stream))?.opens(stream, strangerError(stream, tls));
+        });
+        listener.on("tlsClientError", (error, stream) => {
+            shaking.get(nameOf(stream))?.opens(stream, error);
+        });
+        return listener;
+    }
+
+    /** Closes the listeners, and each connection by this function. */
+    async #closes(close) {
+        this.#isClosed = true;
+        const closed = [...this.#listeners].map((listener) => (
+            new Promise((resolve) => listener.close(resolve))));
+        this.#sockets.forEach(close);
+        while (this.#sockets.size > 0) {
+            await once(this, LEFT);
+        }
+        await Promise.all([...closed, this.#updating]);
+        this.#store?.drop();
+    }
+}

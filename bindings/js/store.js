@@ -1,0 +1,340 @@
+// What a server serves and saves: its data, and the changes since earlier data.
+
+import { FAILURE_DAMAGED, FAILURE_HIGHER_VERSION, FAILURE_OLD_SERIAL, FAILURE_OTHER_SESSION,
+    FAILURE_OTHER_TIMES, FAILURE_SESSION_LEFT, HIGHEST_VERSION, LONGEST_END, Named, Room,
+    SHORTEST_PAYLOAD, STRUCTS, StoresStatus, TimeRule } from "./rtr_table.js";
+import { Data, endOf, formOf } from "./data.js";
+import { Kept } from "./kept.js";
+import { writeStruct } from "./memory.js";
+
+// The size of an entry of an index.
+const ENTRY = 8;
+
+// The number of versions, each of which has an end of data of its own among the kept changes.
+const VERSIONS = HIGHEST_VERSION + 1;
+
+/** The memory that each room of an answer names. */
+const ROOMS = {
+    [Room.INDEX]: "index",
+    [Room.BUFFER]: "buffer",
+    [Room.SPARE]: "spare",
+    [Room.OUTPUT]: "output",
+    [Room.FIRST]: "output",
+    [Room.SECOND]: "output",
+};
+
+/** The texts of refused data. */
+const REFUSALS = {
+    [StoresStatus.OTHER_SESSION]: FAILURE_OTHER_SESSION,
+    [StoresStatus.SESSION_LEFT]: FAILURE_SESSION_LEFT,
+    [StoresStatus.OTHER_VERSION]: FAILURE_HIGHER_VERSION,
+    [StoresStatus.OTHER_TIMES]: FAILURE_OTHER_TIMES,
+    [StoresStatus.OLD_SERIAL]: FAILURE_OLD_SERIAL,
+    [StoresStatus.MALFORMED]: FAILURE_DAMAGED,
+};
+
+/** A server refuses data, for a `status` of StoresStatus, or null and the text of another rule. */
+export class UpdateError extends Error {
+    constructor(status, text = REFUSALS[status]) {
+        const named = () => Object.keys(StoresStatus).find((name) => StoresStatus[name] === status);
+        super(text ?? named());
+        this.name = "UpdateError";
+        this.status = status;
+    }
+}
+
+/** Throws an UpdateError if data have times that RFC 8210 section 6 doesn't allow. Those of version
+ * 0 have none. */
+function checkTimes(rtr, { end: { version, refresh, retry, expire } }) {
+    const rule = version === 0 ? TimeRule.NONE
+        : rtr.call("rtr_times_rule", refresh, retry, expire);
+    if (rule !== TimeRule.NONE) {
+        throw new UpdateError(null, rtr.name(Named.TIME_RULE, rule));
+    }
+}
+
+/** Repeats a call with more memory, until no part of it is too short, and returns its answer. */
+function withRoom(room, call) {
+    for (;;) {
+        const answer = call(room);
+        if (answer.status !== StoresStatus.NO_ROOM) {
+            return answer;
+        }
+        room[ROOMS[answer.room]] = answer.wanted;
+    }
+}
+
+/** Two buffers in a session's memory, one of which has the store that is served. */
+export class Store {
+    #session;
+    #limits; // of the history: `time` in milliseconds, and `bytes`
+    #stores;
+    #buffers = [null, null]; // their addresses and lengths
+    #edition = null;
+
+    /** `limits` are a struct rtr_history_limits. */
+    constructor(session, limits) {
+        this.#session = session;
+        this.#limits = limits;
+        this.#stores = new Kept(session, "stores");
+        this.#stores.call("rtr_stores_new");
+    }
+
+    /** The edition that is served, or null. */
+    get edition() {
+        return this.#edition;
+    }
+
+    /** Begins with the bytes of a file. Throws an UpdateError if they aren't those of a store, or
+     * its data have invalid times, and OutOfMemory; then only `drop` may follow. */
+    start(file) {
+        const [session, head] = [this.#session, STRUCTS.storeHead.size];
+        const isWhole = session.within([file], (at) => (
+            session.call("rtr_store_open_nonnull", at, file.length)));
+        if (!isWhole) {
+            throw new UpdateError(StoresStatus.MALFORMED);
+        }
+        const store = file.subarray(head);
+        this.#buffers[0] = this.#allocated(store.length);
+        session.heap.bytes(this.#buffers[0].start, store.length).set(store);
+        const room = { index: Math.floor(store.length / SHORTEST_PAYLOAD), buffer: store.length };
+        const { status } = withRoom(room, () => this.#started(store.length, room));
+        if (status !== StoresStatus.OK) {
+            throw new UpdateError(status);
+        }
+        this.#serve(0);
+        checkTimes(session, this.#edition.data);
+    }
+
+    #started(length, { index, buffer }) {
+        const session = this.#session;
+        return session.within([index * ENTRY, buffer], (indexAt, bufferAt) => {
+            this.#stores.call("rtr_stores_start_nonnull", length, ...this.#buffer(0), indexAt,
+                index, bufferAt, buffer, session.frame("storesAnswer"));
+            return session.answer("storesAnswer");
+        });
+    }
+
+    /** Takes new data at this time since 1970 in milliseconds. Returns false if they are those that
+     * are served. They wait for `saved`, or `giveUp`.
+     *
+     * Throws an UpdateError if they are refused, and OutOfMemory; then nothing changes. */
+    take(data, now) {
+        checkTimes(this.#session, data);
+        const bytes = this.#form(data);
+        try {
+            const { status, length } = withRoom(this.#firstRoom(bytes.length), (room) => (
+                this.#taken(bytes, now, room)));
+            if (status === StoresStatus.OK) {
+                this.#shrink(this.#other, length);
+                return true;
+            }
+            if (status !== StoresStatus.SAME_DATA) {
+                throw new UpdateError(status);
+            }
+        } catch (error) {
+            this.#release(this.#other);
+            throw error;
+        }
+        this.#release(this.#other);
+        return false;
+    }
+
+    #taken(bytes, now, { buffer, spare, output }) {
+        const session = this.#session;
+        this.#release(this.#other);
+        return session.within([bytes, buffer, spare], (at, bufferAt, spareAt) => {
+            this.#buffers[this.#other] = this.#allocated(output);
+            const limits = session.frame("historyLimits");
+            writeStruct(session.heap.view, "historyLimits", limits, this.#limits);
+            this.#stores.call("rtr_stores_take_nonnull", at, bytes.length, now, limits, bufferAt,
+                buffer, spareAt, spare, ...this.#buffer(0), ...this.#buffer(1),
+                session.frame("storesAnswer"));
+            return session.answer("storesAnswer");
+        });
+    }
+
+    /** Returns the bytes of new data in the version in which they are kept: the highest one, or
+     * that of the present data, if they are of a file with a lower one. */
+    #form(data) {
+        const present = this.#edition?.data.end;
+        const isAlike = present?.session === data.end.session && data.version <= present.version;
+        return formOf(this.#session, data, isAlike ? present.version : HIGHEST_VERSION);
+    }
+
+    /** Returns what suffices for few changes. */
+    #firstRoom(size) {
+        const { length: store } = this.#buffers[this.#served] ?? { length: 0 };
+        const buffer = (store + size) >> 3;
+        return { buffer, spare: size + 2 * buffer, output: store + size + 2 * buffer };
+    }
+
+    /** Returns the head of a file and the store that waits, or else that is served; null without
+     * one. */
+    get file() {
+        const { serves, waits, taken } = this.#state;
+        if (!waits && !serves) {
+            return null;
+        }
+        const session = this.#session;
+        const { start, length } = this.#buffers[waits ? this.#other : this.#served];
+        const size = waits ? taken : length;
+        session.call("rtr_store_seal_nonnull", start, size, session.frame("storeHead"));
+        return [session.answer("storeHead").bytes, session.copy(start, size)];
+    }
+
+    /** Serves the store that waited. */
+    saved() {
+        const before = this.#served;
+        this.#stores.call("rtr_stores_saved");
+        this.#release(before);
+        this.#serve((this.#edition?.number ?? 0) + 1);
+    }
+
+    /** Drops the store that waits. */
+    giveUp() {
+        this.#stores.call("rtr_stores_give_up");
+        this.#release(this.#other);
+    }
+
+    /** Frees the memory. */
+    drop() {
+        this.#release(0);
+        this.#release(1);
+    }
+
+    #serve(number) {
+        const { offset, length } = this.#state;
+        const { start } = this.#buffers[this.#served];
+        const history = { start: start + offset, length };
+        this.#edition = new Edition(this.#session, number, history, this.#limits.bytes);
+    }
+
+    get #state() {
+        const session = this.#session;
+        this.#stores.call("rtr_stores_state_nonnull", ...this.#buffer(0), ...this.#buffer(1),
+            session.frame("storesState"));
+        return session.answer("storesState");
+    }
+
+    /** The index of the buffer whose store is served. */
+    get #served() {
+        return this.#state.second ? 1 : 0;
+    }
+
+    /** The index of the other one. */
+    get #other() {
+        return 1 - this.#served;
+    }
+
+    /** Returns the address and the length of a buffer for a call. */
+    #buffer(index) {
+        const { start, length } = this.#buffers[index]
+            ?? { start: this.#session.frame("number"), length: 0 };
+        return [start, length];
+    }
+
+    #allocated(length) {
+        return { start: this.#session.heap.take(length), length };
+    }
+
+    #shrink(index, length) {
+        this.#session.heap.shrink(this.#buffers[index].start, length);
+        this.#buffers[index].length = length;
+    }
+
+    #release(index) {
+        if (this.#buffers[index] !== null) {
+            this.#session.heap.release(this.#buffers[index].start);
+            this.#buffers[index] = null;
+        }
+    }
+}
+
+/** The data that are served at one serial number. Answers that were made once are kept outside of
+ * the session's memory, for all routers: they stay when that memory grows, and when there are newer
+ * data. */
+class Edition {
+    #session;
+    #history; // its address and length, as long as the edition is the newest
+    #forms = new Map(); // the bytes of the data, by version
+    #changes = new Map(); // those of changes, by version and serial number
+    #room; // for more changes, in bytes
+
+    constructor(session, number, history, room) {
+        this.#session = session;
+        this.#history = history;
+        this.#room = room + VERSIONS * LONGEST_END;
+        this.number = number;
+        const bytes = this.#present();
+        this.#forms.set(bytes[0], bytes);
+        this.data = new Data(session, bytes, endOf(session, bytes, bytes[0]));
+    }
+
+    /** Copies the bytes of the present data out of the history. */
+    #present() {
+        const session = this.#session;
+        const { start, length } = this.#history;
+        return session.within([ENTRY, ENTRY], (offsetAt, lengthAt) => {
+            session.call("rtr_history_data_nonnull", start, length, offsetAt, lengthAt);
+            const [offset, size] = [offsetAt, lengthAt].map((at) => (
+                Number(session.heap.view.getBigUint64(at, true))));
+            return session.copy(start + offset, size);
+        });
+    }
+
+    /** Reports whether there are changes since the data of a serial number. */
+    knows(serial) {
+        const { start, length } = this.#history;
+        return this.#session.call("rtr_history_knows_nonnull", start, length, serial);
+    }
+
+    /** Returns the bytes of the data for routers of a version. */
+    form(version) {
+        if (!this.#forms.has(version)) {
+            const { form } = this.#session.normalise(this.#forms.get(this.data.version),
+                { version });
+            this.#forms.set(version, form);
+        }
+        return this.#forms.get(version);
+    }
+
+    /** Returns the changes since the data of a known serial number, for routers of a version. */
+    since(version, serial) {
+        const query = `${version} ${serial}`;
+        const kept = this.#changes.get(query);
+        if (kept !== undefined) {
+            return kept;
+        }
+        const changes = this.#since(version, serial);
+        if (changes.length <= this.#room) {
+            this.#room -= changes.length;
+            this.#changes.set(query, changes);
+        }
+        return changes;
+    }
+
+    #since(version, serial) {
+        const steps = this.#history.length - this.#forms.get(this.data.version).length;
+        const room = { index: Math.floor(steps / SHORTEST_PAYLOAD), buffer: 2 * steps,
+            spare: this.#history.length, output: 2 * steps };
+        const { status, changes } = withRoom(room, () => this.#written(version, serial, room));
+        if (status !== StoresStatus.OK) {
+            throw new UpdateError(status);
+        }
+        return changes;
+    }
+
+    #written(version, serial, { index, buffer, spare, output }) {
+        const session = this.#session;
+        const { start, length } = this.#history;
+        return session.within([index * ENTRY, buffer, spare, output], (...rooms) => {
+            const lengths = [index, buffer, spare, output];
+            session.call("rtr_history_since_nonnull", start, length, serial, version,
+                ...rooms.flatMap((at, place) => [at, lengths[place]]),
+                session.frame("storesAnswer"));
+            const answer = session.answer("storesAnswer");
+            return { ...answer, changes: session.copy(rooms.at(-1), answer.length) };
+        });
+    }
+}
