@@ -7,11 +7,12 @@
 
 import { randomInt } from "node:crypto";
 import { EventEmitter } from "node:events";
-import { Session, SessionError, load } from "./rtr_wire.js";
+import { SessionError, load } from "./rtr_wire.js";
 import { Cause, STRUCTS } from "./rtr_table.js";
 import { fieldsOf, numberOf, objectOf, textOf } from "./given.js";
 import { opened } from "./connection.js";
 import { EVENTS, SESSION, iterated } from "./iterated.js";
+import { functionOf, optionsOf, sessionOf, signalOf } from "./options.js";
 import { Run } from "./running.js";
 
 export { follow } from "./following.js";
@@ -37,38 +38,9 @@ const OPTIONS = {
     rtr: sessionOf,
 };
 
-function functionOf(value, name) {
-    if (typeof value !== "function") {
-        throw new TypeError(`${name} must be a function`);
-    }
-    return value;
-}
-
-function signalOf(value, name) {
-    if (typeof value?.throwIfAborted !== "function") {
-        throw new TypeError(`${name} must be an AbortSignal`);
-    }
-    return value;
-}
-
-function sessionOf(value, name) {
-    if (!(value instanceof Session)) {
-        throw new TypeError(`${name} must be a Session, which load returns`);
-    }
-    return value;
-}
-
 /** Checks options, and returns them with defaults for missing ones. */
-function optionsOf(value) {
-    const named = Object.entries(objectOf(value, "options"))
-        .filter(([, value]) => value !== undefined);
-    for (const [name, value] of named) {
-        if (!Object.hasOwn(OPTIONS, name)) {
-            throw new TypeError(`options has no field ${name}`);
-        }
-        OPTIONS[name](value, name);
-    }
-    const options = { reportLimit: REPORT_LIMIT, settings: {}, ...Object.fromEntries(named) };
+function clientOptionsOf(value) {
+    const options = { reportLimit: REPORT_LIMIT, settings: {}, ...optionsOf(value, OPTIONS) };
     if (options.connect === undefined) {
         textOf(options.host, "host");
         OPTIONS.port(options.port, "port");
@@ -85,7 +57,7 @@ export class Client extends EventEmitter {
 
     constructor(options) {
         super();
-        this.#options = optionsOf(options);
+        this.#options = clientOptionsOf(options);
     }
 
     /** Iterates over the updates: one for each answer, and one when the data are lost. The loop

@@ -9,7 +9,7 @@ import { checkServerIdentity, connect as connectTls } from "node:tls";
 const LAST_BYTES = 1 << 20;
 
 // The most milliseconds that a timer of Node takes: for more it is over at once.
-const LONGEST_TIMER = 2 ** 31 - 1;
+export const LONGEST_TIMER = 2 ** 31 - 1;
 
 /** Opens a connection to the first address of a host that answers, by TCP or, with options of
  * tls.connect, TLS. Each address but the last gets its share of the remaining milliseconds; the

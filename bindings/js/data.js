@@ -157,12 +157,12 @@ export function changesBetween(session, old, next) {
 }
 
 /** Returns the bytes of data in a version. */
-function formOf(session, data, version) {
+export function formOf(session, data, version) {
     return data.version === version ? data.bytes : session.normalise(data.bytes, { version }).form;
 }
 
 /** Returns the end of data at the end of bytes of a version. */
-function endOf(session, bytes, version) {
+export function endOf(session, bytes, version) {
     return session.next(bytes, bytes.length - (version === 0 ? SHORTEST_END : LONGEST_END));
 }
 

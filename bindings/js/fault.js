@@ -1,6 +1,7 @@
-// The errors of calls of the library, and of a router's end of a session.
+// The errors of calls of the library, and of both ends of a session.
 
-import { causeText, statusText } from "./rtr_table.js";
+import { causeText, codeText, Cut, FAILURE_BEHIND, FAILURE_CLOSED, FAILURE_EMPTY, MOST_QUOTED,
+    Reason, reasonText, statusText } from "./rtr_table.js";
 
 /** A call was refused, because of a unit, its position in a sequence, or an input. */
 export class Fault extends Error {
@@ -24,9 +25,11 @@ export class Fault extends Error {
     }
 }
 
-/** Describes a cache's report for a message: its code, and up to 200 characters of its text. */
-function reportText({ code, text }) {
-    return text ? `: code ${code}, ${JSON.stringify(text.slice(0, 200))}` : `: code ${code}`;
+/** Describes a peer's report for a message: its code, and up to 200 characters of its text. */
+function reportText({ code, textBytes }) {
+    const bytes = (textBytes ?? []).slice(0, MOST_QUOTED);
+    const quoted = String.fromCharCode(...bytes).replace(/[^ -~]/gu, "?");
+    return `: ${codeText(code)}${quoted && `, "${quoted}"`}`;
 }
 
 /** Why a connection to a cache ended, if the reason isn't an invalid unit (a Fault). */
@@ -54,7 +57,50 @@ export class NoData extends SessionError {
 /** The answer has no payloads, which a client of several caches doesn't accept as data. */
 export class Empty extends Error {
     constructor() {
-        super("the cache has no payloads");
+        super(FAILURE_EMPTY);
         this.name = "Empty";
+    }
+}
+
+/** Why a server ended a connection, if the reason isn't an invalid unit (a Fault). */
+export class ServerError extends Error {
+    /** @param fields the `reason`, a Reason; `unit`, the bytes of the unit that it is about;
+     *      `code`, the error code that was reported to the router; `reported`, the router's own
+     *      report */
+    constructor({ reason, unit = null, code = null, reported = null }) {
+        super(reasonText(reason) + (reported === null ? "" : reportText(reported)));
+        this.name = "ServerError";
+        this.reason = reason;
+        this.unit = unit;
+        this.code = code;
+        this.reported = reported;
+    }
+}
+
+/** The router is sent an answer, and too many newer data came meanwhile. */
+export class Behind extends Error {
+    constructor() {
+        super(FAILURE_BEHIND);
+        this.name = "Behind";
+    }
+}
+
+/** The server is closed. */
+export class Closed extends Error {
+    constructor() {
+        super(FAILURE_CLOSED);
+        this.name = "Closed";
+    }
+}
+
+/** Returns the error for a limit that ended a connection. */
+export function cutError(cut) {
+    switch (cut) {
+        case Cut.BEHIND:
+            return new Behind();
+        case Cut.NEW_SESSION:
+            return new ServerError({ reason: Reason.NEW_SESSION });
+        default:
+            return new ServerError({ reason: Reason.SLOW });
     }
 }

@@ -1,7 +1,7 @@
 // A router's end of the protocol with buffers and data, without sockets or a clock.
 
-import { Cause, HEADER_SIZE, LONGEST_END, LONGEST_UNIT, LinkStatus, SHORTEST_END, STRUCTS, Status,
-    TodoKind } from "./rtr_table.js";
+import { Cause, LONGEST_END, LONGEST_UNIT, LinkStatus, SHORTEST_END, STRUCTS, Status, TodoKind }
+    from "./rtr_table.js";
 import { Fault, NoData, SessionError } from "./fault.js";
 import { bytesOf, numberOf } from "./given.js";
 import { OutOfMemory } from "./memory.js";
@@ -285,17 +285,9 @@ export class Link {
         });
     }
 
-    /** Returns the bytes of the unit at an offset of the input, as far as they came; only the
-     * header if its length is invalid. */
+    /** Returns the bytes of the unit at an offset of the input, as far as they came. */
     #unitAt(offset) {
-        const at = this.#buffers.input.start + offset;
-        const length = Math.min(this.#filled - offset, LONGEST_UNIT);
-        const [number, detail] = [this.#session.frame("number"), this.#session.frame("unit")];
-        const status = this.#session.call("rtr_unit_size_nonnull", at, length, number, detail);
-        const isKnown = status === Status.OK || status === Status.SHORT;
-        const size = isKnown ? Number(this.#session.heap.view.getBigUint64(number, true))
-            : HEADER_SIZE;
-        return this.#session.copy(at, Math.min(size, length));
+        return this.#session.unitAt(this.#buffers.input.start + offset, this.#filled - offset);
     }
 
     /** Returns the cache's report at an offset of the input. */

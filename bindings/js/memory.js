@@ -61,6 +61,12 @@ export class Heap {
         return start;
     }
 
+    /** Frees the end of the part at an address, which keeps `length` bytes. */
+    shrink(start, length) {
+        const part = this.#allocated.find(([first]) => first === start);
+        part[1] = start + Math.max(rounded(length), 16);
+    }
+
     /** Frees the part at an address. */
     release(start) {
         const index = this.#allocated.findIndex((part) => part[0] === start);

@@ -1,6 +1,6 @@
 // The library in its own memory.
 
-import { FUNCTIONS, IPV4_SIZE, LINE_ROOM, LONGEST_UNIT, STRUCTS, Status, TEXT_ROOM }
+import { FUNCTIONS, HEADER_SIZE, IPV4_SIZE, LINE_ROOM, LONGEST_UNIT, STRUCTS, Status, TEXT_ROOM }
     from "./rtr_table.js";
 import { Heap, offsetsOf, readStruct, writeStruct } from "./memory.js";
 import { Fault } from "./fault.js";
@@ -264,6 +264,17 @@ export class Session {
             }
             return size;
         });
+    }
+
+    /** Returns the bytes of the unit at an address, as far as they came; only the header if its
+     * length is invalid. */
+    unitAt(at, given) {
+        const length = Math.min(given, LONGEST_UNIT);
+        const { number, unit } = this.#frame;
+        const status = this.call("rtr_unit_size_nonnull", at, length, number, unit);
+        const isKnown = status === Status.OK || status === Status.SHORT;
+        const size = isKnown ? Number(this.heap.view.getBigUint64(number, true)) : HEADER_SIZE;
+        return this.copy(at, Math.min(size, length));
     }
 
     /** Encodes a unit: an object as `units` yields it. */

@@ -51,8 +51,8 @@ export async function unused() {
     return port;
 }
 
-/** A connection of a router, for a script. */
-class Peer {
+/** A connection, for a script. */
+export class Peer {
     #came = Buffer.alloc(0);
 
     constructor(socket) {

@@ -1,26 +1,21 @@
 // Tests of a Client over sockets, with scripted caches.
 
 import assert from "node:assert/strict";
-import { spawnSync } from "node:child_process";
 import dns from "node:dns/promises";
 import { once } from "node:events";
-import { mkdtempSync, readFileSync, rmSync } from "node:fs";
 import { syncBuiltinESMExports } from "node:module";
 import { createServer } from "node:net";
-import { tmpdir } from "node:os";
-import { join } from "node:path";
 import { setTimeout as sleep } from "node:timers/promises";
 import { Cause, Fault, NoData, OutOfMemory, SessionError, Status, load } from "../rtr_wire.js";
 import { Client, follow } from "../client.js";
 import { RESET_QUERY, answer, cache, cacheReset, end, notify, prefix, report, response,
     serialQuery, unused } from "./caches.js";
+import { NO_OPENSSL, certified } from "./certificates.js";
 
 /** Short waits, and limits that suffice on a busy machine. */
 const SOON = { pause: 1, retry: 1, responseLimit: 60_000, connectLimit: 60_000 };
 
 const HOST = "127.0.0.1";
-
-const NO_OPENSSL = "no openssl here, which makes certificates";
 
 /** Returns a client of the cache at a port, with its own session. */
 function clientOf(rtr, port, options = {}) {
@@ -97,20 +92,24 @@ async function resolved(addresses, run) {
     }
 }
 
-/** Returns the key and the certificate of a cache with this name; null without openssl. */
-function certified(name) {
-    const folder = mkdtempSync(join(tmpdir(), "rtr-"));
-    const [key, certificate] = ["key", "certificate"].map((file) => join(folder, file));
-    const done = spawnSync("openssl", ["req", "-x509", "-newkey", "ec", "-pkeyopt",
-        "ec_paramgen_curve:prime256v1", "-nodes", "-days", "2", "-subj", "/CN=cache", "-addext",
-        `subjectAltName=${name}`, "-keyout", key, "-out", certificate]);
-    const files = done.status === 0
-        ? { key: readFileSync(key), cert: readFileSync(certificate) } : null;
-    rmSync(folder, { recursive: true });
-    return files;
-}
-
 const isAborted = (error) => error.name === "AbortError";
+
+/** Calls with a port at which a silent server listens at 127.0.0.2; again with another one, if the
+ * port is taken at the cache's address. */
+async function withSilent(calls, tries = 5) {
+    const silent = createServer().listen(0, "127.0.0.2");
+    await once(silent, "listening");
+    try {
+        return await calls(silent.address().port);
+    } catch (error) {
+        if (error.code !== "EADDRINUSE" || tries === 0) {
+            throw error;
+        }
+    } finally {
+        silent.close();
+    }
+    return withSilent(calls, tries - 1);
+}
 
 export const TESTS = {
     /** All data, changes after a notify, all data after a cache reset: the events and the changes.
@@ -203,16 +202,12 @@ export const TESTS = {
             t.skip(NO_OPENSSL);
             return;
         }
-        const silent = createServer().listen(0, "127.0.0.2");
-        await once(silent, "listening");
-        const { port } = silent.address();
-        await withCache([gives(answer(1, prefix(1)))], () => (
+        await withSilent((port) => withCache([gives(answer(1, prefix(1)))], () => (
             resolved(["127.0.0.2", HOST], async () => {
                 const client = clientOf(rtr, port, { host: "cache.example", tls: { ca: tls.cert },
                     settings: { connectLimit: 1000 } });
                 assert.equal((await taken(client, 1))[0].data.serial, 1);
-            })), { port, tls });
-        silent.close();
+            })), { port, tls }));
     },
 
     /** A truncated answer: between units, inside a unit, and by a reset. */
@@ -319,7 +314,7 @@ export const TESTS = {
             const events = noted(client);
             assert.equal((await taken(client, 1))[0].data.serial, 1);
             assert.deepEqual(events, ["connect",
-                'noData the cache reports an error: code 2, "later"', "data 1"]);
+                'noData the cache reports an error: No Data Available, "later"', "data 1"]);
             await assert.rejects(clientOf(rtr, port).fetch(), NoData);
         });
     },

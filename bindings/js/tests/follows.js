@@ -1,9 +1,9 @@
 // Tests of a Group, and of clients of several caches.
 
 import assert from "node:assert/strict";
-import { spawn, spawnSync } from "node:child_process";
+import { spawn } from "node:child_process";
 import { once } from "node:events";
-import { existsSync, mkdtempSync, renameSync, rmSync, writeFileSync } from "node:fs";
+import { mkdtempSync, renameSync, rmSync, writeFileSync } from "node:fs";
 import { createServer } from "node:net";
 import { tmpdir } from "node:os";
 import { join } from "node:path";
@@ -12,6 +12,7 @@ import { setTimeout as sleep } from "node:timers/promises";
 import { fileURLToPath } from "node:url";
 import { Client, follow } from "../client.js";
 import { GroupShown } from "../rtr_wire.js";
+import { compiledCache, lineOf } from "./c_cache.js";
 import { answer, cache, end, prefix, response, unused } from "./caches.js";
 
 const { SAME, DATA, NOTHING } = GroupShown;
@@ -51,29 +52,6 @@ async function withCaches(scripts, run) {
             await server.close();
         }
     }
-}
-
-/** Compiles the cache in C; returns null if that isn't possible. */
-function compiledCache(folder) {
-    const C = fileURLToPath(new URL("../../c", import.meta.url));
-    const archive = ["../lib", "../../prebuilt"]
-        .map((folder) => join(C, folder, "x86_64", "librtr_wire.a")).find(existsSync);
-    const program = join(folder, "cache");
-    const done = process.platform === "linux" && process.arch === "x64"
-        ? spawnSync("cc", ["-O1", "-o", program, "cache.c", "rtr_cache.c", archive], { cwd: C })
-        : {};
-    return done.status === 0 ? program : null;
-}
-
-/** Waits for the first line that matches, and returns the match. */
-async function lineOf(stream, pattern) {
-    for await (const line of createInterface({ input: stream })) {
-        const match = pattern.exec(line);
-        if (match) {
-            return match;
-        }
-    }
-    throw new Error(`no line matches ${pattern}`);
 }
 
 export const TESTS = {

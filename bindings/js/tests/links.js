@@ -158,13 +158,26 @@ export const TESTS = {
         const { kind, error } = gives(link, 0, report(2, "later"));
         assert.equal(kind, TodoKind.NO_DATA);
         assert.ok(error instanceof NoData);
-        assert.equal(error.message, 'the cache reports an error: code 2, "later"');
+        assert.equal(error.message, 'the cache reports an error: No Data Available, "later"');
         assert.deepEqual([error.reason, error.reported.text, error.code],
             [Cause.REPORTED, "later", null]);
         const other = closes(gives(link, 0, end(1)), Cause.OUT_OF_PLACE);
         assert.deepEqual([other.message, other.code, Buffer.from(other.unit)],
             ["unit is not allowed here", 5, end(1)]);
         link.drop();
+    },
+
+    /** As in all languages, texts of reports are shown in part, and in ASCII. */
+    quotesReports() {
+        for (const [code, text, shown] of [
+            [2, "", "No Data Available"], [1, "no ~", 'Internal Error, "no ~"'],
+            [12, 'a"\n\u00e4', 'error code 12, "a"???"'],
+            [1, `${"a".repeat(99)}bc`, `Internal Error, "${"a".repeat(99)}b"`],
+        ]) {
+            const reported = { code, text, textBytes: new TextEncoder().encode(text) };
+            assert.equal(new SessionError({ reason: Cause.REPORTED, reported }).message,
+                `the cache reports an error: ${shown}`);
+        }
     },
 
     /** Output that is sent in parts. */

@@ -234,8 +234,8 @@ export function texts(rtr, bytes) {
     return count;
 }
 
-/** The rows of tests/programs/listings --findings: recordings, and the lines of the rules that they
- * break. */
+/** The rows of tests/programs/listings.py --findings: recordings, and the lines of the rules that
+ * they break. */
 export function findings(rtr, bytes) {
     const rows = new Rows(bytes);
     const text = new TextDecoder();

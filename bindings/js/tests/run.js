@@ -11,17 +11,16 @@ import { existsSync, readFileSync } from "node:fs";
 import { resolve } from "node:path";
 import { test } from "node:test";
 import { fileURLToPath } from "node:url";
-import v8 from "node:v8";
-import { Unsupported, has64BitMemory, load } from "../rtr_wire.js";
 import * as rows from "./rows.js";
 import { TESTS as large, loads, read } from "./loads.js";
+import { opened } from "./opened.js";
 import { samples } from "./samples.js";
-import { scenes, scenesOfLinks } from "./scenes.js";
 import { TESTS as clients } from "./clients.js";
 import { TESTS as follows } from "./follows.js";
 import { TESTS as given } from "./given.js";
 import { TESTS as links } from "./links.js";
 import { TESTS as own } from "./own.js";
+import { TESTS as servers } from "./servers.js";
 
 const TOP = fileURLToPath(new URL("../../..", import.meta.url));
 const MODULE = resolve(process.argv[2] ?? `${TOP}/prebuilt/wasm32/rtr_wire.wasm`);
@@ -35,9 +34,7 @@ const SCRIPTS = {
     sessions: ["tests/libraries/sessions.py", "cases"],
     deltas: ["tests/libraries/deltas.py"],
     validity: ["tests/libraries/validity.py"],
-    findings: ["tests/programs/listings", "--findings"],
-    scenes: ["tests/transcripts/play", "--print"],
-    scenesOfLinks: ["tests/transcripts/play", "--print"],
+    findings: ["tests/programs/listings.py", "--findings"],
 };
 
 /** The examples, and the recordings that they read. */
@@ -60,9 +57,6 @@ const ROUTES = {
     nothing: [1, "", "routes: unexpected end of input, at byte 0\n"],
 };
 
-/** The flag that enables 64-bit memory in older engines. */
-const FLAG = "--experimental-wasm-memory64";
-
 const python = spawnSync("python3", ["--version"]).status === 0;
 
 /** Runs a program in the repository's folder, and returns what it prints. */
@@ -84,21 +78,11 @@ function missing(name) {
     if (rtr === null) {
         return `node ${process.version} has no 64-bit memory for WebAssembly`;
     }
-    return name in SCRIPTS && !python && "no python3 here, whose scripts make the rows";
+    return (name in SCRIPTS || name === "scenes") && !python && "no python3 here, whose scripts make the rows";
 }
 
-/** Returns a session of the module; null if it needs 64-bit memory and the engine has none. */
-async function opened(bytes) {
-    try {
-        return await load(bytes);
-    } catch (error) {
-        if (!(error instanceof Unsupported)) {
-            throw error;
-        }
-        v8.setFlagsFromString(FLAG);
-        return has64BitMemory() ? load(bytes) : null;
-    }
-}
+/** The tests of JavaScript only. */
+const GROUPS = { own, given, large, links, clients, follows, servers };
 
 if (!existsSync(MODULE)) {
     console.error(`there is no ${MODULE}: node run.js MODULE names another`);
@@ -106,10 +90,22 @@ if (!existsSync(MODULE)) {
 }
 const bytes = new Uint8Array(readFileSync(MODULE));
 const rtr = await opened(bytes);
-for (const [name, play] of Object.entries({ ...rows, samples, loads, scenes, scenesOfLinks })) {
+for (const [name, play] of Object.entries({ ...rows, samples, loads })) {
     test(name, { skip: missing(name) }, (t) => t.diagnostic(`${play(rtr, input(name))} rows`));
 }
-for (const [group, tests] of Object.entries({ own, given, large, links, clients, follows })) {
+for (const end of ["link", "router"]) {
+    test(`scenes of a ${end}`, { skip: missing("scenes") }, (t) => {
+        const words = [`${TOP}/tests/transcripts/play.py`, "router", process.execPath,
+            `${TOP}/bindings/js/tests/router_end.js`, MODULE, end];
+        t.diagnostic(printed("python3", words).toString().trim());
+    });
+}
+test("scenes of a cache", { skip: missing("scenes") }, (t) => {
+    const words = [`${TOP}/tests/transcripts/play.py`, "cache", process.execPath,
+        `${TOP}/bindings/js/tests/cache_end.js`, MODULE];
+    t.diagnostic(printed("python3", words).toString().trim());
+});
+for (const [group, tests] of Object.entries(GROUPS)) {
     for (const [name, call] of Object.entries(tests)) {
         test(`${group}: ${name}`, { skip: missing(name) }, (t) => call(rtr, bytes, t));
     }

@@ -4,6 +4,7 @@ import { Cause, Fault, Kind, SessionError, Status, TodoKind, Validity, load } fr
 import type { Data, Loaded, Session, Unit } from "../rtr_wire.js";
 import { Client, follow } from "../client.js";
 import type { Update } from "../client.js";
+import { Reason, Server, ServerError, StoresStatus, UpdateError } from "../server.js";
 
 /** Describes a unit, whose kind determines its fields. */
 function told(unit: Unit): string | null {
@@ -72,4 +73,20 @@ export function linked(rtr: Session): Uint8Array {
     }
     console.log(link.next(0).error, link.data(0)?.isEmpty, rtr.group(2, 0).tick(0).start);
     return link.output;
+}
+
+export async function served(rtr: Session, data: Data, signal: AbortSignal): Promise<number> {
+    const server = new Server({ rtr, settings: { mostConnections: 2, refuses: true } });
+    server.on("ended", (error, { address, port }) => {
+        console.log(error instanceof ServerError && error.reason === Reason.SLOW, address, port);
+    }).on("failed", ({ message }) => console.log(message));
+    try {
+        await server.restore("state");
+        await server.updateSaved(data, "state");
+    } catch (error) {
+        console.log(error instanceof UpdateError && error.status === StoresStatus.OLD_SERIAL);
+    }
+    const { port } = await server.listen({ port: 0, host: "::1", tls: { key: "", cert: "" } });
+    await server.shutdown({ signal });
+    return port + (server.data?.serial ?? 0);
 }

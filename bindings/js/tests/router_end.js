@@ -1,66 +1,52 @@
-// Plays scenes of a router and its cache (tests/transcripts/README.md), with a simulated clock: by
-// a Router, and by a Link.
+// A client with a simulated clock, a Link or a Router, as an end of a connection
+// (tests/joined/README.md).
+//
+// usage: node router_end.js MODULE [router]     a Link, or a Router
 
-import { ActionKind, Fault, Kind, TodoKind } from "../rtr_wire.js";
+import { readFileSync } from "node:fs";
+import { createInterface } from "node:readline";
+import { ActionKind, Fault, TodoKind } from "../rtr_wire.js";
+import { opened } from "./opened.js";
 
 const NOTHING = new Uint8Array(0);
 
 const SETTINGS = { "version": "highest", "connect-limit": "connectLimit", "most-units": "mostUnits",
     "response-limit": "responseLimit", "most-bytes": "mostBytes" };
 
-/** Returns bytes in hexadecimal. */
-export function hex(bytes) {
-    return Array.from(bytes, (byte) => byte.toString(16).padStart(2, "0")).join("");
-}
+const hex = (bytes) => Buffer.from(bytes).toString("hex");
 
 function bytesOf(text) {
-    const pairs = text.replaceAll(" ", "").match(/../g) ?? [];
-    return Uint8Array.from(pairs, (pair) => parseInt(pair, 16));
+    return Uint8Array.from(Buffer.from(text.replaceAll(" ", ""), "hex"));
 }
 
-function joined(...pieces) {
-    const all = new Uint8Array(pieces.reduce((sum, piece) => sum + piece.length, 0));
-    let at = 0;
-    for (const piece of pieces) {
-        all.set(piece, at);
-        at += piece.length;
-    }
-    return all;
-}
+const joined = (...pieces) => Uint8Array.from(Buffer.concat(pieces));
 
-/** The steps of a router under test, as lines of a scene. */
-class Seen {
+/** The steps of a router under test. */
+class Steps {
     now = 0;
-    seen = [];
+    taken = [];
 
     constructor(rtr) {
         this.rtr = rtr;
     }
 
     note(what) {
-        this.seen.push(`${this.now} ${what}`);
+        this.taken.push(`${this.now} ${what}\n`);
     }
 
-    /** Records the units that are sent. */
     notesSent(bytes) {
-        for (const { offset, size, kind, ...unit } of this.rtr.units(bytes)) {
-            const { version, code, about, text } = unit;
-            this.note(kind === Kind.ERROR_REPORT
-                ? `router> report ${version} ${code} ${hex(about) || "-"} ${text}`
-                : `router> ${hex(bytes.subarray(offset, offset + size))}`);
+        if (bytes.length > 0) {
+            this.note(`router> ${hex(bytes)}`);
         }
     }
 
-    /** Records data that are shown. */
     notesData(bytes) {
-        const shown = Array.from(this.rtr.units(bytes),
-            ({ offset, size }) => hex(bytes.subarray(offset, offset + size)));
-        this.note(`shows { ${shown.join(" ")} }`);
+        this.note(`shows { ${hex(bytes)} }`);
     }
 }
 
 /** A Link under test. */
-export class LinkPlayer extends Seen {
+class LinkEnd extends Steps {
     #link;
     #isOpen = false; // whether bytes of the cache are read
     #isBroken = false;
@@ -157,7 +143,7 @@ export class LinkPlayer extends Seen {
 }
 
 /** A Router under test, with the buffers and data that it needs. */
-class RouterPlayer extends Seen {
+class RouterEnd extends Steps {
     #router;
     #input = NOTHING;
     #kept = NOTHING;
@@ -169,6 +155,11 @@ class RouterPlayer extends Seen {
     constructor(rtr, settings) {
         super(rtr);
         this.#router = rtr.router(settings);
+    }
+
+    /** When it acts by itself. */
+    get wakes() {
+        return this.#router.wakes;
     }
 
     /** A no-op: it has no memory to free. */
@@ -297,104 +288,37 @@ class RouterPlayer extends Seen {
     }
 }
 
-/** Formats an expected step, with one space between words and none in a query. */
-function plain(step) {
-    const [time, who, ...words] = step.split(/\s+/);
-    const isQuery = who === "router>" && words[0] !== "report";
-    return [time, who, ...(isQuery ? [words.join("")] : words)].join(" ");
+/** Carries out a step of the cache or the caller. */
+function takeStep(end, step) {
+    const steps = {
+        "caller asks": () => end.asked(),
+        "cache accepts": () => end.accepted(),
+        "cache refuses": () => end.refused(),
+        "cache closes": () => end.closed(false),
+        "cache breaks": () => end.closed(true),
+    };
+    (steps[step] ?? (() => end.received(bytesOf(step.replace("cache>", "")))))();
 }
 
-/** A scene in progress, with a player of this class. */
-export class Scene {
-    #rtr;
-    #Player;
-    #name;
-    #settings = { highest: 1 };
-    #player = null;
-    #expected = [];
-    #differs = null;
-
-    constructor(rtr, Player, name) {
-        this.#rtr = rtr;
-        this.#Player = Player;
-        this.#name = name;
-    }
-
-    line(text) {
-        const step = text.replace(/#.*/, "").trim();
-        const [, time, what] = /^(?:at (\d+)$|(\d+ (?:cache|caller).*))/.exec(step) ?? [];
-        if (step.startsWith("router ")) {
-            const [, key, value] = step.split(/\s+/);
-            this.#settings[SETTINGS[key] ?? key] = Number(value);
-        } else if (time) {
-            this.#begun().pass(Number(time));
-        } else if (what) {
-            this.#takeStep(...what.split(/ (.*)/));
-        } else if (step) {
-            this.#expected.push(plain(step));
+const [path, kind] = process.argv.slice(2);
+const rtr = await opened(readFileSync(path));
+const End = kind === "router" ? RouterEnd : LinkEnd;
+let end = null;
+let settings = {};
+for await (const line of createInterface({ input: process.stdin })) {
+    const [first, ...words] = line.split(" ");
+    if (first === "scene") {
+        end?.drop();
+        end = null;
+        settings = { highest: 1 };
+    } else if (first === "router") {
+        settings[SETTINGS[words[0]] ?? words[0]] = Number(words[1]);
+    } else {
+        end ??= new End(rtr, { ...rtr.usualSettings(settings.highest), ...settings });
+        end.pass(Number(first === "at" ? words[0] : first));
+        if (first !== "at") {
+            takeStep(end, words.join(" "));
         }
+        process.stdout.write(`${end.taken.splice(0).join("")}wakes ${end.wakes}\n`);
     }
-
-    #begun() {
-        const usual = this.#rtr.usualSettings(this.#settings.highest);
-        this.#player ??= new this.#Player(this.#rtr, { ...usual, ...this.#settings });
-        return this.#player;
-    }
-
-    #takeStep(time, step) {
-        const player = this.#begun();
-        player.pass(Number(time));
-        this.compare();
-        const steps = {
-            "caller asks": () => player.asked(),
-            "cache accepts": () => player.accepted(),
-            "cache refuses": () => player.refused(),
-            "cache closes": () => player.closed(false),
-            "cache breaks": () => player.closed(true),
-        };
-        (steps[step] ?? (() => player.received(bytesOf(step.replace("cache>", "")))))();
-    }
-
-    /** Compares the router's steps since the last input. Returns the first difference. */
-    compare() {
-        const seen = this.#player?.seen.splice(0) ?? [];
-        const expected = this.#expected.splice(0);
-        if (seen.join("\n") !== expected.join("\n")) {
-            this.#differs ??= [`${this.#name}: expected`, ...expected, "seen", ...seen].join("\n");
-        }
-        return this.#differs;
-    }
-
-    /** Returns the router's steps since the last input, and when it acts by itself. */
-    taken() {
-        return [...this.#player.seen.splice(0), `wakes ${this.#player.wakes}`];
-    }
-
-    /** Ends the scene. Returns the first difference. */
-    end() {
-        const differs = this.compare();
-        this.#player?.drop();
-        return differs;
-    }
-}
-
-/** Plays all scenes of a text by a Router, and returns their number. */
-export const scenes = (rtr, bytes) => played(rtr, bytes, RouterPlayer);
-
-/** Plays them by a Link. */
-export const scenesOfLinks = (rtr, bytes) => played(rtr, bytes, LinkPlayer);
-
-function played(rtr, bytes, Player) {
-    let count = 0;
-    for (const text of new TextDecoder().decode(bytes).split(/^scene /m).slice(1)) {
-        const [name, ...lines] = text.split("\n");
-        const scene = new Scene(rtr, Player, name);
-        lines.forEach((line) => scene.line(line));
-        const differs = scene.end();
-        if (differs) {
-            throw new Error(differs);
-        }
-        count += 1;
-    }
-    return count;
 }
