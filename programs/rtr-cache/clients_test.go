@@ -29,7 +29,7 @@ type router struct {
 // routers returns the entries of /clients.
 func routers(t *testing.T, url string) []router {
 	t.Helper()
-	_, text := read(t, url+"/clients")
+	_, text := trial.Get(t, url+"/clients")
 	var all struct{ Clients []router }
 	if err := json.Unmarshal([]byte(text), &all); err != nil {
 		t.Fatal(err, text)
@@ -92,7 +92,7 @@ func TestClients(t *testing.T) {
 	if behind := routers(t, url)[0].Behind; behind == nil || *behind != 1 {
 		t.Error(behind)
 	}
-	_, metrics := read(t, url+"/metrics")
+	_, metrics := trial.Get(t, url+"/metrics")
 	if !strings.Contains(metrics, `rtr_cache_client_behind{client="`+first.LocalAddr().String()+`",transport="tcp"} 1`) {
 		t.Error("there is no metric of the client")
 	}

@@ -164,13 +164,13 @@ func TestFetches(t *testing.T) {
 		t.Error(process.Stderr())
 	}
 	process.Await("metrics", func() bool {
-		_, says := read(t, metrics+"/metrics")
+		_, says := trial.Get(t, metrics+"/metrics")
 		label := `{file="` + server.URL + `/vrps.csv",result=`
 		return strings.Contains(says, "rtr_cache_fetches_total"+label+`"new"} 2`) &&
 			!strings.Contains(says, "rtr_cache_fetches_total"+label+`"same"} 0`) &&
 			strings.Contains(says, `rtr_cache_file_fetched_timestamp_seconds{file=`)
 	})
-	if status, says := read(t, metrics+"/health"); status != http.StatusOK {
+	if status, says := trial.Get(t, metrics+"/health"); status != http.StatusOK {
 		t.Error(status, says)
 	}
 	process.Signal(hangup)
@@ -202,21 +202,21 @@ func TestLastModified(t *testing.T) {
 	process, _, metrics := fetching(t, "--csv", server.URL+"/f")
 	process.Says("serial 1: 2 payloads", 1)
 	process.Await("stale", func() bool {
-		_, says := read(t, metrics+"/health")
+		_, says := trial.Get(t, metrics+"/health")
 		return strings.Contains(says, "/f: it was written 3h")
 	})
 	server.answers(func(answer http.ResponseWriter, ask *http.Request) {
 		answer.Header().Set("Last-Modified", format(now))
 		answer.WriteHeader(http.StatusNotModified)
 	})
-	process.Await("good", func() bool { status, _ := read(t, metrics+"/health"); return status == 200 })
-	_, says := read(t, metrics+"/metrics")
+	process.Await("good", func() bool { status, _ := trial.Get(t, metrics+"/health"); return status == 200 })
+	_, says := trial.Get(t, metrics+"/metrics")
 	if !strings.Contains(says, "rtr_cache_file_modified_timestamp_seconds{file=") || !strings.Contains(says, metric(now)) {
 		t.Error(says)
 	}
 	server.answers(conditional(`"two"`, format(now.Add(time.Minute)), "AS64496,10.0.0.0/33,33\n"))
 	process.Says("f: line 1: prefix", 1)
-	if _, says := read(t, metrics+"/metrics"); !strings.Contains(says, metric(now)) {
+	if _, says := trial.Get(t, metrics+"/metrics"); !strings.Contains(says, metric(now)) {
 		t.Error(says)
 	}
 }
@@ -271,11 +271,11 @@ func TestFailedFetches(t *testing.T) {
 			!strings.Contains(process.Stderr(), url+": it can't be fetched: "+row.says) {
 			t.Errorf("%s: %s", row.name, process.Stderr())
 		}
-		status, says := read(t, metrics+"/health")
+		status, says := trial.Get(t, metrics+"/health")
 		if status != 503 || !strings.HasPrefix(says, url+": it can't be fetched: ") {
 			t.Errorf("%s: %d %s", row.name, status, says)
 		}
-		_, says = read(t, metrics+"/metrics")
+		_, says = trial.Get(t, metrics+"/metrics")
 		if strings.Contains(says, `result="`+row.reason+`"} 0`) ||
 			!strings.Contains(says, `rtr_cache_unhealthy{reason="fetch"} 1`) {
 			t.Errorf("%s: %s", row.name, says)
@@ -294,7 +294,7 @@ func TestFailedFetches(t *testing.T) {
 	process.Says("serial 4: 5 payloads", 1)
 	server.answers(text("AS64496,10.0.0.0/33,33\n"))
 	process.Says(url+": line 1: prefix", 1)
-	if status, says := read(t, metrics+"/health"); status != 503 ||
+	if status, says := trial.Get(t, metrics+"/health"); status != 503 ||
 		!strings.HasPrefix(says, url+": line 1: prefix") {
 		t.Error(status, says)
 	}
@@ -308,7 +308,7 @@ func TestTwoLists(t *testing.T) {
 	process, address, metrics := fetching(t, "--csv", first.URL+"/a", "--json", "http://"+at+"/b")
 	process.Says("2 payloads, waiting for http://"+at+"/b", 1)
 	process.Says("http://"+at+"/b: it can't be fetched: dial tcp "+at+": connect: connection refused", 1)
-	if status, says := read(t, metrics+"/health"); status != 503 || !strings.Contains(says, "there are no data") ||
+	if status, says := trial.Get(t, metrics+"/health"); status != 503 || !strings.Contains(says, "there are no data") ||
 		!strings.Contains(says, "/b: it can't be fetched") {
 		t.Error(status, says)
 	}
@@ -537,7 +537,7 @@ func TestWrongURLs(t *testing.T) {
 	})
 	process, _, metrics := fetching(t, "--csv", strings.Replace(secret.URL, "://", "://name:word@", 1))
 	process.Says("serial 1: 2 payloads", 1)
-	_, says := read(t, metrics+"/metrics")
+	_, says := trial.Get(t, metrics+"/metrics")
 	if strings.Contains(process.Stderr()+says, "word@") || !strings.Contains(process.Stderr(), "name:xxxxx@") {
 		t.Error(process.Stderr())
 	}
@@ -591,7 +591,7 @@ func TestRestartsWithoutServer(t *testing.T) {
 		t.Error(lines(data))
 	}
 	metrics := strings.TrimSuffix(process.After("metrics are at "), "/metrics")
-	if status, says := read(t, metrics+"/health"); status != 503 || strings.Count(says, "\n") != 1 {
+	if status, says := trial.Get(t, metrics+"/health"); status != 503 || strings.Count(says, "\n") != 1 {
 		t.Error(status, says)
 	}
 	serves(rows(3))

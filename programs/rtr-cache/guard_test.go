@@ -48,7 +48,7 @@ func TestHolds(t *testing.T) {
 		process.Signal(hangup)
 		process.Says("it would withdraw 7 of 8 payloads", 2+i)
 	}
-	if status, says := read(t, health); status != http.StatusServiceUnavailable || !strings.Contains(says, "f: it would") {
+	if status, says := trial.Get(t, health); status != http.StatusServiceUnavailable || !strings.Contains(says, "f: it would") {
 		t.Error(status, says)
 	}
 	if process.Lines("serial 3") != 0 {
@@ -56,7 +56,7 @@ func TestHolds(t *testing.T) {
 	}
 	trial.Write(t, file, rows(9))
 	process.Says("serial 3: 9 payloads", 1)
-	process.Await("good", func() bool { status, _ := read(t, health); return status == http.StatusOK })
+	process.Await("good", func() bool { status, _ := trial.Get(t, health); return status == http.StatusOK })
 	trial.Write(t, file, rows(1))
 	process.Says("it would withdraw 8 of 9 payloads", 1)
 }

@@ -126,7 +126,7 @@ func TestAgreesAgain(t *testing.T) {
 	trial.Write(t, b, provided(64511, 2))
 	process, address := started(t, folder, "--json", "a", "--json", "b", "--metrics", "127.0.0.1:0")
 	health := strings.TrimSuffix(process.After("metrics are at "), "/metrics") + "/health"
-	good := func() bool { status, _ := read(t, health); return status == 200 }
+	good := func() bool { status, _ := trial.Get(t, health); return status == 200 }
 	process.Says("b: ASPA AS64496 providers AS64511: another file has other providers", 1)
 	trial.Write(t, a, provided(64511, 1))
 	process.Says("serial 1: 3 payloads", 1)
@@ -246,7 +246,8 @@ func TestWrongWords(t *testing.T) {
 		{"--csv f --tls-cert a", "--tls-cert and --tls-key need each other"},
 		{"--csv f --tls-client-ca a", "--tls-client-ca needs"},
 		{"--csv f --ssh-host-key a", "--ssh-host-key and --ssh-routers need each other"},
-		{"--csv f --log-level loud", `--log-level: not a valid logrus Level: "loud"`},
+		{"--csv f --log-level loud", `--log-level: "loud" is none of debug, info, warning and error`},
+		{"--csv f --log-level panic", `--log-level: "panic" is none of debug, info, warning and error`},
 	} {
 		process := trial.Start(t, folder, strings.Fields(row.words)...)
 		status, stderr := process.Status(), process.Stderr()

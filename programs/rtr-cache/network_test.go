@@ -4,10 +4,7 @@ import (
 	"context"
 	"crypto/tls"
 	"crypto/x509"
-	"fmt"
-	"io"
 	"net"
-	"net/http"
 	"os"
 	"os/exec"
 	"strings"
@@ -165,35 +162,20 @@ func asked(t *testing.T, connection net.Conn) rtr.Data {
 	return data
 }
 
-// read returns the status and the text of an HTTP answer.
-func read(t *testing.T, url string) (int, string) {
-	t.Helper()
-	answer, err := http.Get(url)
-	if err != nil {
-		t.Fatal(err)
-	}
-	defer answer.Body.Close()
-	text, err := io.ReadAll(answer.Body)
-	if err != nil {
-		t.Fatal(err)
-	}
-	return answer.StatusCode, string(text)
-}
-
 // /metrics has the data, the clients and the failures, and /health the faults.
 func TestMetrics(t *testing.T) {
 	folder := t.TempDir()
 	process, address := started(t, folder, "--json", "f", "--stale", "1h", "--metrics", "127.0.0.1:0")
 	url := strings.TrimSuffix(process.After("http://"), "/metrics")
 	process.Says("f: no such file", 1)
-	if status, text := read(t, "http://"+url+"/health"); status != 503 ||
+	if status, text := trial.Get(t, "http://"+url+"/health"); status != 503 ||
 		text != "there are no data\nf: no such file or directory\n" {
 		t.Error(status, text)
 	}
 	trial.Write(t, folder+"/f", validators)
 	process.Says("3 payloads", 1)
 	process.Await("a good state", func() bool {
-		status, text := read(t, "http://"+url+"/health")
+		status, text := trial.Get(t, "http://"+url+"/health")
 		return status == 200 && text == "good\n"
 	})
 	first := dialed(t, address)
@@ -205,7 +187,7 @@ func TestMetrics(t *testing.T) {
 	third := dialed(t, address)
 	third.Write([]byte{1, 10, 0, 3, 0, 0, 0, 16, 0, 0, 0, 0, 0, 0, 0, 0})
 	process.Says("reason=reported", 1)
-	_, text := read(t, "http://"+url+"/metrics")
+	_, text := trial.Get(t, "http://"+url+"/metrics")
 	for _, line := range []string{
 		`rtr_cache_clients{transport="tcp",version="1"} 1`,
 		`rtr_cache_clients{transport="tcp",version="0"} 0`,
@@ -236,13 +218,13 @@ func TestMetrics(t *testing.T) {
 	}
 	process.Says("f: nothing changed", 1)
 	process.Await("an old file", func() bool {
-		status, text := read(t, "http://"+url+"/health")
+		status, text := trial.Get(t, "http://"+url+"/health")
 		return status == 503 && strings.HasPrefix(text, "f: it was written 2h0m")
 	})
 	trial.Write(t, folder+"/f", "[")
 	process.Says("level=warning msg=\"f: ", 2)
 	process.Await("a refused file", func() bool {
-		status, text := read(t, "http://"+url+"/health")
+		status, text := trial.Get(t, "http://"+url+"/health")
 		return status == 503 && strings.HasPrefix(text, "f: ") && !strings.Contains(text, "ago")
 	})
 }
@@ -296,7 +278,7 @@ type everywhere struct {
 // addresses.
 func reachable(t *testing.T, folder string) everywhere {
 	t.Helper()
-	e := everywhere{folder, trial.NewAuthority(t), reserved(t), reserved(t), reserved(t)}
+	e := everywhere{folder, trial.NewAuthority(t), trial.Reserved(t), trial.Reserved(t), trial.Reserved(t)}
 	trial.Save(t, e.authority.Issue("127.0.0.1"), folder+"/cert", folder+"/key")
 	trial.Write(t, folder+"/routers", trial.ECDSA.Save(t, folder+"/router"))
 	host := trial.ECDSA.Save(t, folder+"/host")
@@ -348,29 +330,6 @@ func TestSocketActivation(t *testing.T) {
 	if status := process.End(); status != 0 {
 		t.Error(status)
 	}
-}
-
-// reserved returns an address whose port the system gives to no other process while the test runs,
-// since a socket is bound to it. With SO_REUSEADDR on both sockets, a program that asks for that
-// port can still listen there.
-func reserved(t *testing.T) string {
-	t.Helper()
-	socket, err := syscall.Socket(syscall.AF_INET, syscall.SOCK_STREAM|syscall.SOCK_CLOEXEC, 0)
-	if err != nil {
-		t.Fatal(err)
-	}
-	t.Cleanup(func() { syscall.Close(socket) })
-	if err := syscall.SetsockoptInt(socket, syscall.SOL_SOCKET, syscall.SO_REUSEADDR, 1); err != nil {
-		t.Fatal(err)
-	}
-	if err := syscall.Bind(socket, &syscall.SockaddrInet4{Addr: [4]byte{127, 0, 0, 1}}); err != nil {
-		t.Fatal(err)
-	}
-	own, err := syscall.Getsockname(socket)
-	if err != nil {
-		t.Fatal(err)
-	}
-	return fmt.Sprintf("127.0.0.1:%d", own.(*syscall.SockaddrInet4).Port)
 }
 
 // awaitNotify waits for the next notification of systemd, and compares its first line.

@@ -73,7 +73,7 @@ func knownOverSSH(t *testing.T, keys trial.Keys) {
 	}
 	url := strings.TrimSuffix(process.After("http://"), "/metrics")
 	process.Await("no client is left", func() bool {
-		_, text := read(t, "http://"+url+"/metrics")
+		_, text := trial.Get(t, "http://"+url+"/metrics")
 		return strings.Contains(text, `rtr_cache_clients{transport="ssh",version="1"} 0`+"\n")
 	})
 }

@@ -89,7 +89,7 @@ func TestTornState(t *testing.T) {
 		trial.Write(t, editions, text)
 		process, address := started(t, folder, "--csv", "f", "--state", "state")
 		process.Says("f: session", 1)
-		if process.Lines("state/editions: the file of editions is torn; it is now state/editions.refused") != 1 {
+		if process.Lines("state/editions: the saved file is damaged: the data need a new session; it is now state/editions.refused") != 1 {
 			t.Errorf("%s: %s", name, process.Stderr())
 		}
 		if data := fetched(t, address, 2); data.Serial() != 1 || data.Len() != 3 {

@@ -78,7 +78,7 @@ func TestUnitFilter(t *testing.T) {
 	}
 	filter, folder := allowed(t), t.TempDir()
 	trial.Write(t, folder+"/f", rows(3))
-	e, metrics := reachable(t, folder), reserved(t)
+	e, metrics := reachable(t, folder), trial.Reserved(t)
 	server := newWeb(t, text(rows(3)))
 	line := append([]string{"-D", "-f", "-o", "calls", "-e", "trace=!" + filter,
 		"-e", "inject=!" + filter + ":error=EPERM", os.Args[0], "--csv", "f", "--state", "state",
@@ -91,7 +91,7 @@ func TestUnitFilter(t *testing.T) {
 	trial.Write(t, folder+"/f", rows(4))
 	process.Says("serial 2: 4 payloads", 1)
 	e.checkPayloads(t, 4)
-	if status, _ := read(t, "http://"+metrics+"/metrics"); status != 200 {
+	if status, _ := trial.Get(t, "http://"+metrics+"/metrics"); status != 200 {
 		t.Error(status)
 	}
 	process.Signal(hangup)

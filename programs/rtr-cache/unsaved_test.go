@@ -25,11 +25,11 @@ func unsaved(t *testing.T, folder string, breaks func()) (*trial.Process, string
 		t.Error(data.Len())
 	}
 	metrics := strings.TrimSuffix(process.After("metrics are at "), "/metrics")
-	status, says := read(t, metrics+"/health")
+	status, says := trial.Get(t, metrics+"/health")
 	if status != http.StatusServiceUnavailable || !strings.HasPrefix(says, "the data aren't saved: ") {
 		t.Error(status, says)
 	}
-	_, says = read(t, metrics+"/metrics")
+	_, says = trial.Get(t, metrics+"/metrics")
 	for _, line := range []string{
 		"rtr_cache_healthy 0\n", "rtr_cache_unhealthy{reason=\"unsaved\"} 1\n", "rtr_cache_unsaved_total 1\n",
 	} {
@@ -44,7 +44,7 @@ func unsaved(t *testing.T, folder string, breaks func()) (*trial.Process, string
 func saved(t *testing.T, folder string, process *trial.Process, address, metrics string) {
 	t.Helper()
 	process.Says("state: the data are saved again", 1)
-	process.Await("good", func() bool { status, _ := read(t, metrics+"/health"); return status == http.StatusOK })
+	process.Await("good", func() bool { status, _ := trial.Get(t, metrics+"/health"); return status == http.StatusOK })
 	before := fetched(t, address, 2)
 	process.Kill()
 	process, address = started(t, folder, "--csv", "f", "--state", "state")

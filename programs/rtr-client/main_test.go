@@ -139,10 +139,10 @@ func TestOnce(t *testing.T) {
 		says          []string
 	}{
 		{full, "+ IPv4 prefix 192.0.2.0/24-24 AS64496\n", 0, []string{full + ": session 7 serial 1 version 2: 1 payload"}},
-		{empty, "", 1, []string{empty + ": the peer reports: No Data Available", "there are no data"}},
+		{empty, "", 1, []string{empty + ": the cache reports an error: No Data Available", "there are no data"}},
 		{nobody, "", 1, []string{nobody + ": dial tcp", "connection refused"}},
 		{nobody + " " + empty + " " + full, "+ IPv4 prefix 192.0.2.0/24-24 AS64496\n", 0,
-			[]string{nobody + ": dial", empty + ": the peer reports", full + ": session 7"}},
+			[]string{nobody + ": dial", empty + ": the cache reports an error", full + ": session 7"}},
 		{full + " --validate 192.0.2.0/25 AS64496",
 			"192.0.2.0/25 AS64496 invalid: 192.0.2.0/24-24 AS64496 (longer than 24)\n", 0, nil},
 		{full + " --validate 192.0.2.0/24 64496 --validate 198.51.100.0/24 AS1",

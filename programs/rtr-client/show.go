@@ -83,10 +83,15 @@ func (s *show) say(what ...any) {
 // print prints changes.
 func (s *show) print(changes *rtr.Units, stamp stamp) error {
 	output := bufio.NewWriter(s.output)
+	var text []byte
 	for changes.Scan() {
-		line := s.colours.of(rtr.ChangeLine(changes.Unit()))
+		var line string
 		if s.options.json {
-			line = rtr.ChangeJSON(changes.Unit())
+			text = changes.AppendJSON(text[:0])
+			line = string(text)
+		} else {
+			text = changes.AppendLine(text[:0])
+			line = s.colours.of(string(text))
 		}
 		output.WriteString(s.stamped(line, stamp))
 		output.WriteByte('\n')

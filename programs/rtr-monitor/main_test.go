@@ -2,7 +2,6 @@ package main
 
 import (
 	"fmt"
-	"io"
 	"net"
 	"net/http"
 	"net/http/httptest"
@@ -62,26 +61,11 @@ func monitoring(t *testing.T, folder string, line ...string) (process *trial.Pro
 	return process, process.After("the page is at ")
 }
 
-// read returns the answer of an address by HTTP, and its status.
-func read(t *testing.T, url string) (int, string) {
-	t.Helper()
-	answer, err := http.Get(url)
-	if err != nil {
-		t.Fatal(err)
-	}
-	defer answer.Body.Close()
-	text, err := io.ReadAll(answer.Body)
-	if err != nil {
-		t.Fatal(err)
-	}
-	return answer.StatusCode, string(text)
-}
-
 // shows waits until an answer has a text.
 func shows(t *testing.T, process *trial.Process, url, text string) {
 	t.Helper()
 	process.Await(url+" with "+text, func() bool {
-		_, says := read(t, url)
+		_, says := trial.Get(t, url)
 		return strings.Contains(says, text)
 	})
 }
@@ -95,7 +79,7 @@ func TestDifferences(t *testing.T) {
 	other := cache(t, second, prefixes(t, 3, 1))
 	process, page := monitoring(t, t.TempDir(), first, second, "--grace", "4s", "--refresh", "1s")
 	shows(t, process, page+"health", "good")
-	if status, _ := read(t, page+"health"); status != 200 || process.Lines("difference") != 0 {
+	if status, _ := trial.Get(t, page+"health"); status != 200 || process.Lines("difference") != 0 {
 		t.Error(status, process.Stderr())
 	}
 	updated(t, other, prefixes(t, 4, 2))
@@ -108,7 +92,7 @@ func TestDifferences(t *testing.T) {
 	if took := time.Since(began); took < 4*time.Second || process.Lines("10.0.3.0") != 0 {
 		t.Errorf("after %v: %s", took, process.Stderr())
 	}
-	if status, says := read(t, page+"health"); status != 503 ||
+	if status, says := trial.Get(t, page+"health"); status != 503 ||
 		says != second+": 1 payload is missing for longer than 4s\n" {
 		t.Error(status, says)
 	}
@@ -118,7 +102,7 @@ func TestDifferences(t *testing.T) {
 		"diff.json": `"old":true,"payload":"IPv4 prefix 10.0.2.0/24-24 AS64496"`,
 		"":          "<td>IPv4 prefix 10.0.2.0/24-24 AS64496<td class=\"text\">" + second,
 	} {
-		if _, text := read(t, page+path); !strings.Contains(text, says) {
+		if _, text := trial.Get(t, page+path); !strings.Contains(text, says) {
 			t.Errorf("/%s: %s", path, text)
 		}
 	}

@@ -52,9 +52,17 @@ func (p Program) Unnamed(text string) string {
 func (p Program) Run(
 	ctx context.Context, input io.Reader, line ...string,
 ) (written, messages []byte, err error) {
+	return p.RunInto(ctx, input, 0, line...)
+}
+
+// RunInto is Run with a buffer of this size for the output, which grows if it has to.
+func (p Program) RunInto(
+	ctx context.Context, input io.Reader, size int, line ...string,
+) (written, messages []byte, err error) {
 	ctx, cancel := context.WithTimeout(ctx, patience)
 	defer cancel()
 	var output, stderr bytes.Buffer
+	output.Grow(size)
 	run := exec.CommandContext(ctx, string(p), line...)
 	run.Stdin, run.Stdout, run.Stderr = input, &output, &stderr
 	err = run.Run()

@@ -39,6 +39,7 @@ type Cache struct {
 	present   rtr.Data   // the data that are served
 	had       bool       // the cache has served payloads
 	unsaved   error      // why the data aren't saved; nil if they are
+	retry     retry      // of saving them
 	clock     trust.Clock
 	confirmed bool // a person confirmed the held list
 }
@@ -129,28 +130,36 @@ func (c *Cache) recordServed(data rtr.Data, from string, size *payloads.Size) {
 	c.log.Info(line)
 }
 
-// update serves changed payloads with the next serial number. If they can't be saved, and the state
-// folder has older data of their session, they get another session.
-func (c *Cache) update(merged rtr.Data, from string, size payloads.Size) error {
-	session, serial := c.present.Session(), after(c.present.Serial())
-	var err error
+// next returns payloads with the next serial number, or with the first one of a random session.
+func (c *Cache) next(merged rtr.Data) (rtr.Data, error) {
+	session := c.present.Session()
 	if c.present.IsZero() {
-		session, err = anotherSession(nil)
+		var err error
+		if session, err = anotherSession(nil); err != nil {
+			return rtr.Data{}, err
+		}
 	}
-	var data rtr.Data
-	if err == nil {
-		data, err = c.under(merged, session, serial)
-	}
-	if errors.Is(err, state.ErrSession) {
-		if session, err = anotherSession(&session); err == nil {
-			c.log.Warnf("%s: %v: another session begins", c.settings.State, state.ErrSession)
-			data, err = c.under(merged, session, serial)
+	return merged.With(session, after(c.present.Serial()), c.settings.Timing)
+}
+
+// update serves new data. If they can't be saved, and the state folder has older data of their
+// session, they get another session; so they do if the cache left their session before.
+func (c *Cache) update(next rtr.Data, from string, size payloads.Size) error {
+	err := c.serve(next)
+	for errors.Is(err, state.ErrSession) || errors.Is(err, rtr.ErrSessionLeft) {
+		c.log.Warnf("%s: %s: another session begins", c.settings.State, plainText(err))
+		session := next.Session()
+		if session, err = anotherSession(&session); err != nil {
+			break
+		}
+		if next, err = next.With(session, next.Serial(), next.Timing()); err == nil {
+			err = c.serve(next)
 		}
 	}
 	if !c.recordSaved(err) {
 		return err
 	}
-	c.recordServed(data, from, &size)
+	c.recordServed(c.server.Data(), from, &size)
 	debug.FreeOSMemory() // of the file's content, and of the former data
 	return nil
 }
@@ -178,16 +187,12 @@ func anotherSession(before *uint16) (session uint16, err error) {
 	}
 }
 
-// under serves payloads with a session and a serial number.
-func (c *Cache) under(merged rtr.Data, session uint16, serial uint32) (rtr.Data, error) {
-	data, err := payloads.Under(merged, session, serial, c.settings.Timing)
-	switch {
-	case err != nil:
-		return rtr.Data{}, err
-	case c.folder != nil:
-		return data, c.folder.Update(c.server, data)
+// serve serves data, and first saves them if there is a state folder.
+func (c *Cache) serve(data rtr.Data) error {
+	if c.folder != nil {
+		return c.folder.Update(c.server, data)
 	}
-	return data, c.server.Update(data)
+	return c.server.Update(data)
 }
 
 // recordSaved records whether data were saved, and reports whether they are served.
@@ -202,6 +207,7 @@ func (c *Cache) recordSaved(err error) bool {
 	c.unsaved = nil
 	if unsaved != nil {
 		c.unsaved = unsaved.Reason
+		c.retry = firstRetry(c.running())
 		c.metrics.Unsaved()
 		c.log.Errorf("%s: the data aren't saved: %v: a restart now will begin another session",
 			c.settings.State, unsaved)
@@ -211,11 +217,44 @@ func (c *Cache) recordSaved(err error) bool {
 	return true
 }
 
-// save retries to save data that couldn't be saved.
+// save retries to save data that couldn't be saved, if it is time for that.
 func (c *Cache) save() {
-	if c.unsaved != nil && c.folder.Save(c.server, c.present) == nil {
-		c.recordSaved(nil)
+	if c.unsaved == nil || c.running() < c.retry.at {
+		return
 	}
+	if err := c.folder.Save(c.server, c.present); err != nil {
+		c.retry = c.retry.next(c.running())
+		c.log.Warnf("%s: the data still aren't saved: %v", c.settings.State, err)
+		return
+	}
+	c.recordSaved(nil)
+}
+
+// running returns the time for which the cache has run.
+func (c *Cache) running() time.Duration {
+	_, running := c.time()
+	return running
+}
+
+// The pause before the first retry of saving, and the longest one. Each is twice the one before.
+const (
+	firstPause   = time.Second
+	longestPause = 10 * time.Minute
+)
+
+// retry is the next retry of saving, by the time for which the cache has run.
+type retry struct{ at, pause time.Duration }
+
+// firstRetry returns the retry after data couldn't be saved.
+func firstRetry(now time.Duration) retry { return retry{now + firstPause, firstPause} }
+
+// next returns the retry after this one, which failed.
+func (r retry) next(now time.Duration) retry {
+	pause := 2 * r.pause
+	if pause > longestPause {
+		pause = longestPause
+	}
+	return retry{now + pause, pause}
 }
 
 // same reports whether these payloads are already served, with the same times.

@@ -209,14 +209,32 @@ func (c *Cache) replace(
 	merged rtr.Data, file *followed, list payloads.List, others []*followed, expires bool,
 	running time.Duration,
 ) error {
-	size, err := payloads.Changed(c.present, merged)
+	next, err := c.next(merged)
+	if err != nil {
+		return err
+	}
+	size, err := c.sizeOf(next)
 	if err == nil {
 		err = c.judge(file, list, size, others, expires, running)
 	}
 	if err == nil {
-		err = c.update(merged, file.Path, size)
+		err = c.update(next, file.Path, size)
 	}
 	return err
+}
+
+// sizeOf returns the size of the change to new data.
+func (c *Cache) sizeOf(next rtr.Data) (payloads.Size, error) {
+	if c.present.IsZero() {
+		return payloads.Size{
+			Had: payloads.Kinds(c.present), Announced: payloads.Kinds(next), Withdrawn: trust.Counts{},
+		}, nil
+	}
+	delta, err := c.server.Changes(next)
+	if err != nil {
+		return payloads.Size{}, err
+	}
+	return payloads.SizeOf(c.present, delta), nil
 }
 
 // acceptOffered records that the offered lists of files were taken.
@@ -248,8 +266,8 @@ func (c *Cache) judge(
 	file *followed, list payloads.List, size payloads.Size, others []*followed, expires bool,
 	running time.Duration,
 ) error {
-	sum := sha256.Sum256(list.Data.Bytes())
-	same := file.held != nil && (file.held.sum == sum || file.held.state.SameContent(list.State))
+	same := file.held != nil && (file.held.state.SameContent(list.State) ||
+		file.held.sum == sha256.Sum256(list.Data.Bytes()))
 	offer := trust.Offer{
 		Had: size.Had, Withdrawn: size.Withdrawn, Expiry: expires,
 		Anchors:   file.lost(list.Anchors),
@@ -264,7 +282,7 @@ func (c *Cache) judge(
 	}
 	err := c.settings.Rules.Judge(offer)
 	if err != nil && !same {
-		file.held = &held{sum, list.State, running}
+		file.held = &held{sha256.Sum256(list.Data.Bytes()), list.State, running}
 	}
 	return err
 }

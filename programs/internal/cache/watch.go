@@ -16,6 +16,21 @@ const quiet = 100 * time.Millisecond
 // The next expiry is computed again at least this often, since the system's clock may be set.
 const longest = time.Hour
 
+// untilNext returns the time until the next item of a file expires, or saving is retried.
+func (c *Cache) untilNext() time.Duration {
+	wait := c.untilExpiry()
+	if c.unsaved == nil {
+		return wait
+	}
+	if saving := c.retry.at - c.running(); saving < wait {
+		wait = saving
+	}
+	if wait < quiet {
+		return quiet
+	}
+	return wait
+}
+
 // untilExpiry returns the time until the next item of a file expires.
 func (c *Cache) untilExpiry() time.Duration {
 	next := c.nextExpiry()
@@ -74,12 +89,12 @@ func (c *Cache) follow(ctx context.Context, signals Signals, s *sockets) error {
 }
 
 // lookAndWait checks the files, and sets the timers for the next check: soon after a change, and at
-// the next expiry of an item.
+// the next expiry of an item or retry of saving.
 func (c *Cache) lookAndWait(ctx context.Context, asked bool, soon, expiry *time.Timer) {
 	if c.look(ctx, asked) {
 		soon.Reset(quiet)
 	}
-	expiry.Reset(c.untilExpiry())
+	expiry.Reset(c.untilNext())
 }
 
 // paths returns the local files that the cache follows: lists and SLURM files.

@@ -2,6 +2,8 @@
 package logs
 
 import (
+	"fmt"
+
 	"github.com/sirupsen/logrus"
 
 	"fishreef/programs/internal/words"
@@ -28,12 +30,20 @@ func (l *Logging) Options() []words.Option {
 			Name: "log-level", Argument: "LEVEL",
 			Help: "Log lines of this level and above: debug, info, warning or\n" +
 				"error (default info)",
-			Set: func(level string) (err error) {
-				l.Level, err = logrus.ParseLevel(level)
-				return err
-			},
+			Set: l.setLevel,
 		},
 	}
+}
+
+// setLevel sets the level by its name. The levels above error would hide why a program ends.
+func (l *Logging) setLevel(name string) error {
+	switch name {
+	case "debug", "info", "warning", "error":
+		level, err := logrus.ParseLevel(name)
+		l.Level = level
+		return err
+	}
+	return fmt.Errorf("%q is none of debug, info, warning and error", name)
 }
 
 // Logger writes lines on standard error.

@@ -16,11 +16,36 @@ type Anchors map[string]int
 // any number.
 const mostAnchors = 64
 
-// count counts an item.
-func (a Anchors) count(name string) {
-	if _, known := a[name]; known || len(a) < mostAnchors {
-		a[name]++
+// counter counts the items of anchors.
+type counter struct {
+	all  map[string]*int
+	last string // the anchor of the last item, and its number
+	item *int
+}
+
+// count counts an item. Most items have the same anchor as the one before.
+func (c *counter) count(name []byte) {
+	if c.item == nil || c.last != string(name) {
+		found, known := c.all[string(name)]
+		if !known {
+			if len(c.all) == mostAnchors {
+				return
+			}
+			found = new(int)
+			c.all[string(name)] = found
+		}
+		c.last, c.item = string(name), found
 	}
+	*c.item++
+}
+
+// anchors returns the numbers.
+func (c *counter) anchors() Anchors {
+	all := Anchors{}
+	for name, count := range c.all {
+		all[name] = *count
+	}
+	return all
 }
 
 // anchorsOf counts the items of a file that rtr_make has accepted; nil if the format has no
@@ -42,25 +67,72 @@ var member = []byte(`"ta"`)
 
 // jsonAnchors counts the strings of members named "ta" in a text that is valid JSON.
 func jsonAnchors(input *bufio.Reader) (Anchors, error) {
-	for anchors := (Anchors{}); ; {
+	for found := (counter{all: map[string]*int{}}); ; {
 		if _, err := input.Peek(len(member)); err != nil {
-			return anchors, unlessEnd(err)
+			return found.anchors(), unlessEnd(err)
 		}
 		chunk, _ := input.Peek(input.Buffered())
-		at := bytes.Index(chunk, member)
-		if at < 0 {
+		at := found.countWhole(chunk)
+		if at == len(chunk) {
 			input.Discard(len(chunk) - len(member) + 1)
 			continue
 		}
 		input.Discard(at + len(member))
 		name, ok, err := stringAfterColon(input)
 		if err != nil {
-			return anchors, unlessEnd(err)
+			return found.anchors(), unlessEnd(err)
 		}
 		if ok {
-			anchors.count(name)
+			found.count(name)
 		}
 	}
+}
+
+// countWhole counts the members whose string is whole in a chunk. It returns the offset of the first
+// other member, or the length of the chunk.
+func (c *counter) countWhole(chunk []byte) int {
+	for at := 0; ; {
+		next := memberIn(chunk[at:])
+		if next < 0 {
+			return len(chunk)
+		}
+		at += next
+		name, size := wholeString(chunk[at+len(member):])
+		if size == 0 {
+			return at
+		}
+		c.count(name)
+		at += len(member) + size
+	}
+}
+
+// memberIn returns the offset of the member's name; -1 if there is none. The letter t is rarer than
+// a quote.
+func memberIn(chunk []byte) int {
+	for at := 1; at < len(chunk); at++ {
+		next := bytes.IndexByte(chunk[at:], member[1])
+		if next < 0 {
+			break
+		}
+		if at += next; bytes.HasPrefix(chunk[at-1:], member) {
+			return at - 1
+		}
+	}
+	return -1
+}
+
+// wholeString returns the string behind a colon and at most a space, without escapes, and the size
+// of all; size 0 if the bytes begin with something else, or end before.
+func wholeString(rest []byte) (name []byte, size int) {
+	for _, begin := range []string{`: "`, `:"`} {
+		if len(rest) < len(begin) || string(rest[:len(begin)]) != begin {
+			continue
+		}
+		if end := bytes.IndexByte(rest[len(begin):], '"'); end >= 0 {
+			return rest[len(begin) : len(begin)+end], len(begin) + end + 1
+		}
+	}
+	return nil, 0
 }
 
 // unlessEnd returns the error of a reader, except for its end.
@@ -72,21 +144,21 @@ func unlessEnd(err error) error {
 }
 
 // stringAfterColon returns the string after a colon, if there is one, without escapes.
-func stringAfterColon(input *bufio.Reader) (name string, ok bool, err error) {
+func stringAfterColon(input *bufio.Reader) (name []byte, ok bool, err error) {
 	colon := false
 	for {
 		next, err := input.ReadByte()
 		switch {
 		case err != nil:
-			return "", false, err
+			return nil, false, err
 		case strings.IndexByte(" \t\r\n", next) >= 0:
 		case next == ':' && !colon:
 			colon = true
 		case next == '"' && colon:
-			name, err := input.ReadString('"')
-			return strings.TrimSuffix(name, `"`), err == nil, err
+			name, err := input.ReadBytes('"')
+			return bytes.TrimSuffix(name, []byte{'"'}), err == nil, err
 		default:
-			return "", false, input.UnreadByte()
+			return nil, false, input.UnreadByte()
 		}
 	}
 }
@@ -98,11 +170,11 @@ const column = "trust anchor"
 func csvAnchors(input io.Reader) (Anchors, error) {
 	rows := csv.NewReader(input)
 	rows.ReuseRecord, rows.FieldsPerRecord, rows.LazyQuotes = true, -1, true
-	anchors, index := Anchors{}, -1
+	found, index := counter{all: map[string]*int{}}, -1
 	for first := true; ; first = false {
 		row, err := rows.Read()
 		if err != nil {
-			return anchors, unlessEnd(err)
+			return found.anchors(), unlessEnd(err)
 		}
 		if first {
 			index = columnIndex(row)
@@ -111,7 +183,7 @@ func csvAnchors(input io.Reader) (Anchors, error) {
 			return nil, nil
 		}
 		if !first && index < len(row) {
-			anchors.count(strings.Clone(row[index]))
+			found.count([]byte(row[index]))
 		}
 	}
 }

@@ -118,7 +118,7 @@ type List struct {
 // loaded, with the offset.
 func (r *Reader) Read(ctx context.Context, file File, how Read) (list List, err error) {
 	state := r.StateOf(file, how.Body)
-	if list, err = r.read(ctx, file, how); err == nil {
+	if list, err = r.read(ctx, file, how, state.Size); err == nil {
 		list.Data, err = plain(list.Data)
 	}
 	list.State = state
@@ -169,8 +169,10 @@ func (r Read) open(file File) (input, error) {
 	return openFile(file.Path)
 }
 
-// read reads a file of any format.
-func (r *Reader) read(ctx context.Context, file File, how Read) (list List, err error) {
+// read reads a file of any format, and of this size.
+func (r *Reader) read(
+	ctx context.Context, file File, how Read, size int64,
+) (list List, err error) {
 	input, err := how.open(file)
 	if err != nil {
 		return List{}, err
@@ -179,7 +181,9 @@ func (r *Reader) read(ctx context.Context, file File, how Read) (list List, err 
 	if file.Format == Sequence {
 		return r.loadUnits(input)
 	}
-	if list, err = r.runMaker(ctx, input, r.words(file.Format, how)); err == nil {
+	// Most items of a list take at least four times the bytes of their unit.
+	room := int(size / 4)
+	if list, err = r.runMaker(ctx, input, room, r.words(file.Format, how)); err == nil {
 		list.Anchors, err = anchorsOf(io.NewSectionReader(input, 0, rtr.MostDataBytes), file.Format)
 	}
 	return list, err
@@ -241,8 +245,10 @@ func IsTransient(err error) bool {
 }
 
 // runMaker returns the data that rtr_make makes of an input.
-func (r *Reader) runMaker(ctx context.Context, input io.Reader, line []string) (list List, err error) {
-	output, messages, err := r.Maker.Run(ctx, input, line...)
+func (r *Reader) runMaker(
+	ctx context.Context, input io.Reader, room int, line []string,
+) (list List, err error) {
+	output, messages, err := r.Maker.RunInto(ctx, input, room, line...)
 	if IsTransient(err) {
 		return List{}, err
 	}

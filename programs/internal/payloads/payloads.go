@@ -14,23 +14,17 @@ import (
 // versions.
 const Version = 2
 
-// Under returns the payloads of data of version 2 with another session, serial number and timing.
-func Under(data rtr.Data, session uint16, serial uint32, timing rtr.Timing) (rtr.Data, error) {
-	end, err := rtr.NewData(Version, session, serial, timing)
-	if err != nil {
-		return rtr.Data{}, err
-	}
-	return rtr.ParseData(append(units(data), end.Bytes()...))
-}
+// The fixed end of data that all data of this package have until they are served. It is that of
+// rtr_make, so that its output is used as it is.
+const fixedSession, fixedSerial = 0, 1
 
-// plain returns the payloads of data, with the fixed end of data that all data of this package have
-// until they are served.
+// plain returns the payloads of data, with the fixed end of data.
 func plain(data rtr.Data) (rtr.Data, error) {
 	data, err := data.For(Version)
 	if err != nil {
 		return rtr.Data{}, err
 	}
-	return Under(data, 0, 0, rtr.RecommendedTiming)
+	return data.With(fixedSession, fixedSerial, rtr.RecommendedTiming)
 }
 
 // In returns the payloads of data that a version has, with the fixed end of data.
@@ -56,7 +50,7 @@ func units(data rtr.Data) []byte {
 
 // Same reports whether two data have the same payloads.
 func Same(left, right rtr.Data) bool {
-	return left.Len() == right.Len() && string(units(left)) == string(units(right))
+	return left.SamePayloads(right)
 }
 
 // Merged returns the payloads of all of these data, each once.
@@ -92,7 +86,7 @@ func Merged(all ...rtr.Data) (rtr.Data, error) {
 
 // inOrder returns the data of payload units in any order.
 func inOrder(units []byte) (rtr.Data, error) {
-	end, err := rtr.NewData(Version, 0, 0, rtr.RecommendedTiming)
+	end, err := rtr.NewData(Version, fixedSession, fixedSerial, rtr.RecommendedTiming)
 	if err != nil {
 		return rtr.Data{}, err
 	}
@@ -123,22 +117,6 @@ func (c *Contradiction) Error() string {
 	return line + ": another file has other providers of this customer"
 }
 
-// Changes returns the units that change old data into new, of any sessions and versions. The zero
-// Data stands for none.
-func Changes(old, new rtr.Data) ([]byte, error) {
-	for _, side := range []*rtr.Data{&old, &new} {
-		converted, err := rtr.NewData(Version, 0, 0, rtr.RecommendedTiming)
-		if !side.IsZero() {
-			converted, err = plain(*side)
-		}
-		if err != nil {
-			return nil, err
-		}
-		*side = converted
-	}
-	return rtr.Delta(old, new)
-}
-
 // Size is the size of a change of the data.
 type Size struct{ Had, Announced, Withdrawn trust.Counts }
 
@@ -162,28 +140,24 @@ func kinds(counts trust.Counts) string {
 	return " (" + strings.Join(all, ", ") + ")"
 }
 
-// Changed returns the size of the change from old data to new.
-func Changed(old, new rtr.Data) (size Size, err error) {
-	size = Size{Kinds(old), trust.Counts{}, trust.Counts{}}
-	changes, err := Changes(old, new)
-	Each(changes, func(unit *rtr.Unit, _ []byte) {
+// SizeOf returns the size of a change of old data by the units of a delta.
+func SizeOf(old rtr.Data, delta []byte) Size {
+	size := Size{Kinds(old), trust.Counts{}, trust.Counts{}}
+	Each(delta, func(unit *rtr.Unit, _ []byte) {
 		if unit.Announce {
 			size.Announced[unit.Kind]++
 		} else {
 			size.Withdrawn[unit.Kind]++
 		}
 	})
-	return size, err
+	return size
 }
 
 // Kinds returns the number of payloads of each kind.
 func Kinds(data rtr.Data) trust.Counts {
 	counts := trust.Counts{}
 	for _, kind := range trust.Kinds {
-		counts[kind] = 0
-	}
-	for units := data.Units(); units.Scan(); {
-		counts[units.Unit().Kind]++
+		counts[kind] = data.Count(kind)
 	}
 	return counts
 }

@@ -21,13 +21,14 @@ const (
 
 // Folder is the folder of one cache.
 type Folder struct {
-	path    string
-	lock    *os.File
-	saved   bool   // the file may have data
-	session uint16 // the session of those data
+	path     string
+	lock     *os.File
+	sessions map[uint16]bool // the sessions of which the file may have data
 }
 
-// Open locks the folder for this process, and creates it if it is missing.
+// Open locks the folder for this process, and creates it if it is missing. The lock is a record
+// lock of fcntl(2), which ends with the process: one of flock(2) would stay with a child that a
+// killed cache has forked and that hasn't executed its program yet.
 //
 // Errors: those of the system; one if another process has locked the folder.
 func Open(path string) (*Folder, error) {
@@ -38,12 +39,12 @@ func Open(path string) (*Folder, error) {
 	if err != nil {
 		return nil, err
 	}
-	err = syscall.Flock(int(lock.Fd()), syscall.LOCK_EX|syscall.LOCK_NB)
+	err = syscall.FcntlFlock(lock.Fd(), syscall.F_SETLK, &syscall.Flock_t{Type: syscall.F_WRLCK})
 	if err == nil {
-		return &Folder{path: path, lock: lock}, nil
+		return &Folder{path: path, lock: lock, sessions: map[uint16]bool{}}, nil
 	}
 	lock.Close()
-	if errors.Is(err, syscall.EWOULDBLOCK) {
+	if errors.Is(err, syscall.EAGAIN) {
 		return nil, fmt.Errorf("%s: another cache uses this folder", path)
 	}
 	return nil, fmt.Errorf("%s: %w", lock.Name(), err)
@@ -60,10 +61,11 @@ func (f *Folder) editions() string {
 }
 
 // Restore loads the folder's data into a server. A damaged file is renamed, and kept for
-// examination.
+// examination. It removes a file that a cache left that was killed while it saved.
 //
 // Errors: os.ErrNotExist if the folder has no data; those of the system; rtr.ErrTorn.
 func (f *Folder) Restore(server *rtr.Server) (rtr.Data, error) {
+	os.Remove(f.editions() + ".new")
 	data, err := server.Restore(f.editions())
 	if errors.Is(err, rtr.ErrTorn) {
 		refused := filepath.Join(f.path, refusedName)
@@ -72,7 +74,7 @@ func (f *Folder) Restore(server *rtr.Server) (rtr.Data, error) {
 		}
 		err = fmt.Errorf("%w; it is now %s", err, refused)
 	}
-	f.saved, f.session = err == nil, data.Session()
+	f.note(data, err)
 	return data, err
 }
 
@@ -100,12 +102,13 @@ func (f *Folder) Update(server *rtr.Server, data rtr.Data) error {
 		f.note(data, err)
 		return err
 	}
-	if f.saved && f.session == data.Session() {
-		failed := os.Remove(f.editions())
-		if failed != nil && !errors.Is(failed, os.ErrNotExist) {
+	if f.sessions[data.Session()] {
+		if f.remove() != nil {
 			return ErrSession
 		}
-		f.saved = false
+		f.sessions = map[uint16]bool{}
+	} else if errors.Is(err, rtr.ErrUnsynced) {
+		f.sessions[data.Session()] = true
 	}
 	if failed := server.Update(data); failed != nil {
 		return failed
@@ -113,16 +116,33 @@ func (f *Folder) Update(server *rtr.Server, data rtr.Data) error {
 	return &Unsaved{err}
 }
 
+// remove removes the file, and syncs the folder, so that no restart finds it.
+func (f *Folder) remove() error {
+	err := os.Remove(f.editions())
+	if err != nil && !errors.Is(err, os.ErrNotExist) {
+		return err
+	}
+	folder, err := os.Open(f.path)
+	if err != nil {
+		return err
+	}
+	defer folder.Close()
+	return folder.Sync()
+}
+
 // Save saves the data of a server that couldn't be saved before.
 func (f *Folder) Save(server *rtr.Server, data rtr.Data) error {
 	err := server.Save(f.editions())
+	if errors.Is(err, rtr.ErrUnsynced) {
+		f.sessions[data.Session()] = true
+	}
 	f.note(data, err)
 	return err
 }
 
-// note records the session of the data in the file.
+// note records the session of the data in the file, if there is no error.
 func (f *Folder) note(data rtr.Data, err error) {
 	if err == nil {
-		f.saved, f.session = true, data.Session()
+		f.sessions = map[uint16]bool{data.Session(): true}
 	}
 }

@@ -1,0 +1,185 @@
+package main
+
+import (
+	"os"
+	"os/exec"
+	"testing"
+
+	"fishreef/programs/internal/trial"
+	"fishreef/rtr"
+)
+
+// saveCalls are the system calls of a save in their order, each with the path that it is about, in
+// the state folder, and the serial number that the folder has before it. Those of the folder itself
+// come at a start, too, before the saved data are served.
+var saveCalls = []struct {
+	name, path string
+	serial     uint32
+}{
+	{"openat", "/editions.new", 1},
+	{"write", "/editions.new", 1},
+	{"fsync", "/editions.new", 1},
+	{"close", "/editions.new", 1},
+	{"renameat", "/editions.new", 1},
+	{"openat", "", 1},
+	{"fsync", "", 1},
+}
+
+// injected starts a cache by strace, which injects something into the calls about a path. It knows
+// them by the absolute path.
+func injected(t *testing.T, folder, path, injection string) *trial.Process {
+	t.Helper()
+	// As a grandchild, so that the cache is the process that the test kills.
+	run := exec.Command("strace", "-D", "-f", "-qq", "-o", folder+"/trace",
+		"-P", folder+"/state"+path, "-e", "inject="+injection,
+		os.Args[0], "--csv", "f", "--state", folder+"/state", "--listen", "127.0.0.1:0")
+	return trial.StartBy(t, folder, nil, run)
+}
+
+// withState returns a folder with a list of 201 payloads and the state of a cache that served 200 of
+// them, and the data of that cache.
+func withState(t *testing.T) (folder string, first rtr.Data) {
+	t.Helper()
+	folder = t.TempDir()
+	trial.Write(t, folder+"/f", rows(200))
+	process, address := started(t, folder, "--csv", "f", "--state", "state")
+	process.Says("200 payloads", 1)
+	first = fetched(t, address, 2)
+	process.End()
+	trial.Write(t, folder+"/f", rows(201))
+	return folder, first
+}
+
+// continues starts a cache over the state, and checks that it goes on from data of this serial
+// number of the same session, and that a router gets from its first data to the present ones.
+func continues(t *testing.T, folder string, first rtr.Data, serial uint32) {
+	t.Helper()
+	trial.Write(t, folder+"/f", rows(202))
+	process, address := started(t, folder, "--csv", "f", "--state", "state")
+	process.Says("202 payloads", 1)
+	last := fetched(t, address, 2)
+	if last.Session() != first.Session() || last.Serial() != serial+1 || last.Len() != 202 {
+		t.Errorf("session %d serial %d: %s", last.Session(), last.Serial(), process.Stderr())
+	}
+	leads(t, address, first, last)
+	process.End()
+}
+
+// withStrace skips a test if strace isn't installed, or may not trace.
+func withStrace(t *testing.T) {
+	t.Helper()
+	if err := exec.Command("strace", "-o", os.DevNull, "true").Run(); err != nil {
+		t.Skip("no strace here: ", err)
+	}
+}
+
+// A cache that is killed at any system call of saving didn't serve what it saved, and goes on from
+// older or newer data after a restart.
+func TestKilledInEachCall(t *testing.T) {
+	withStrace(t)
+	for _, call := range saveCalls {
+		call := call
+		t.Run(call.name+" of state"+call.path, func(t *testing.T) {
+			folder, first := withState(t)
+			process := injected(t, folder, call.path, call.name+":signal=SIGKILL")
+			if process.Status() != -1 || process.Lines("201 payloads") > 0 {
+				t.Fatal(process.Status(), process.Stderr())
+			}
+			if call.path == "" && process.Lines("payloads") > 0 {
+				t.Fatal("it serves data that may not be on the disk:", process.Stderr())
+			}
+			continues(t, folder, first, call.serial)
+		})
+	}
+}
+
+// A cache that is killed before the folder is synced has served nothing, and its next run serves
+// the data that it saved, or newer ones.
+func TestKilledBeforeFolderIsSynced(t *testing.T) {
+	withStrace(t)
+	for _, call := range []string{"openat", "fsync"} {
+		call := call
+		t.Run(call, func(t *testing.T) {
+			folder := t.TempDir()
+			trial.Write(t, folder+"/f", rows(200))
+			process := injected(t, folder, "", call+":signal=SIGKILL")
+			if process.Status() != -1 || process.Lines("200 payloads") > 0 {
+				t.Fatal(process.Status(), process.Stderr())
+			}
+			trial.Write(t, folder+"/f", rows(202))
+			process, address := started(t, folder, "--csv", "f", "--state", "state")
+			process.Says("serial 1: 200 payloads", 1)
+			process.Says("serial 2: 202 payloads", 1)
+			if last := fetched(t, address, 2); last.Serial() != 2 || last.Len() != 202 {
+				t.Error(last.Serial(), last.Len())
+			}
+			process.End()
+		})
+	}
+}
+
+// A cache that can't sync the folder at a start serves none of the saved data, and says why.
+func TestStartNeedsSync(t *testing.T) {
+	withStrace(t)
+	folder, _ := withState(t)
+	process := injected(t, folder, "", "fsync:error=EIO")
+	if status := process.Status(); status != 3 || process.Lines("payloads") > 0 ||
+		process.Lines("input/output error") != 1 {
+		t.Error(status, process.Stderr())
+	}
+}
+
+// If a system call of saving fails in each thread once, the new data are served, and no file stays
+// beside the old one. Saving is retried, and then a restart has the data.
+func TestEachCallFails(t *testing.T) {
+	withStrace(t)
+	for _, call := range saveCalls {
+		call := call
+		if call.path == "" {
+			continue // the folder is synced as well where its old file is removed
+		}
+		t.Run(call.name+" of state"+call.path, func(t *testing.T) {
+			t.Parallel()
+			folder, first := withState(t)
+			process := injected(t, folder, call.path, call.name+":error=EIO:when=1")
+			process.Says("/state: the data aren't saved: ", 1)
+			process.Says("serial 2: 201 payloads", 1)
+			process.Says("/state: the data are saved again", 1)
+			if _, err := os.Stat(folder + "/state/editions.new"); !os.IsNotExist(err) {
+				t.Error("a file stays:", err)
+			}
+			process.Kill()
+			continues(t, folder, first, 2)
+		})
+	}
+}
+
+// A cache whose folder can't be synced has replaced its file all the same. If the next data can't be
+// saved either, they don't get the session of that file: after a restart their serial number would
+// name other data.
+func TestFileMayBeReplaced(t *testing.T) {
+	withStrace(t)
+	folder := t.TempDir()
+	trial.Write(t, folder+"/f", rows(200))
+	process := injected(t, folder, "", "fsync:error=EIO")
+	process.Says("serial 1: 200 payloads", 1)
+	// No file of this name can be made now.
+	if err := os.Mkdir(folder+"/state/editions.new", 0o700); err != nil {
+		t.Fatal(err)
+	}
+	trial.Write(t, folder+"/f", rows(201))
+	process.Says("201 payloads", 1)
+	second := fetched(t, process.After("listening at "), 2)
+	process.Kill()
+	if err := os.Remove(folder + "/state/editions.new"); err != nil {
+		t.Fatal(err)
+	}
+	trial.Write(t, folder+"/f", rows(202))
+	process, address := started(t, folder, "--csv", "f", "--state", "state")
+	process.Says("202 payloads", 1)
+	last := fetched(t, address, 2)
+	if second.Session() == last.Session() && second.Serial() == last.Serial() {
+		t.Errorf("two data of session %d and serial %d", last.Session(), last.Serial())
+	}
+	process.End()
+}
