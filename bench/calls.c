@@ -10,8 +10,8 @@
  *
  * The first prints for each job the best of 41 runs each way, interleaved, in nanoseconds a unit,
  * and how many times as long the calls take. With --count callgrind dumps the cost of each job,
- * labelled `JOB WAY FILE`: bench/count reads that. Both exit with status 1 if the two ways disagree
- * on an input; the first also if they disagree with any bit of its front flipped, or on units of
+ * labelled `JOB WAY FILE`: bench/count.py reads that. Both exit with status 1 if the two ways
+ * disagree on an input; the first also if they disagree with any bit of its front flipped, or on units of
  * all kinds with lengths at the limits. */
 #include <stdio.h>
 #include <stdlib.h>

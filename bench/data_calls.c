@@ -1,5 +1,5 @@
 /* Compares the calls on data from C with sorted arrays of plain structs, in data_by_hand.c; and
- * does to such an array what rtr_bench_data does to a `Data`.
+ * does to such an array what bench_data does to a `Data`.
  *
  * usage: data_calls --count FILE..          does each job once over each file, to be counted by
  *                                           callgrind
@@ -10,8 +10,8 @@
  *        data_calls deltas < SEQUENCES      the same 20 times
  *
  * Each file has an old and a new data, one after the other, as generate_data.py writes them. With
- * --count callgrind dumps the cost of each job, labelled `JOB FILE`: bench/data reads that. If the
- * calls and the code by hand write different bytes, the exit status is 1. Without --count each job
+ * --count callgrind dumps the cost of each job, labelled `JOB FILE`: bench/data.py reads that. If
+ * the calls and the code by hand write different bytes, the exit status is 1. Without --count each job
  * prints how many origins it read. */
 #include <stdio.h>
 #include <stdlib.h>

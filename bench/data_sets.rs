@@ -1,4 +1,4 @@
-//! What `rtr_bench_data` does with a `Data`, with the sets of Rust's standard library over plain
+//! What `bench_data` does with a `Data`, with the sets of Rust's standard library over plain
 //! structs.
 //!
 //! usage: data_sets units|announce|both|delta|deltas < SEQUENCES

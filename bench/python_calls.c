@@ -1,4 +1,4 @@
-/* Measures rtr_delta and rtr_apply_in_order in C, as bench/python measures them in Python: each
+/* Measures rtr_delta and rtr_apply_in_order in C, as bench/python.py measures them in Python: each
  * call allocates its memory.
  *
  * usage: python_calls OLD NEW ROUNDS    prints of each the least time in ns, and what it writes

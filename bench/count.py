@@ -1,7 +1,7 @@
 #!/usr/bin/env python3
 """Counts the instructions a unit of our calls and programs, and of the same jobs by hand in C.
 
-usage: bench/count [--check | --write] [--jobs N]
+usage: bench/count.py [--check | --write] [--jobs N]
 
 Prints a table. A cell says, for one kind of units, `ours / by hand = ratio`: instructions a unit by
 callgrind, as the difference of two lengths of input, so that what comes once falls away. Those of
@@ -12,7 +12,7 @@ With --check the tables of README.md and docs/SPEED.md that follow a line `<!-- 
 compared instead: a number may differ by 3 in a hundred, or by 1. --write renews them: after
 `<!-- counted: all -->` the whole table, after `<!-- counted: these -->` the rows that are there.
 
-`normalise` and `normalise_slice` are counted in rtr_bench, which `rt run < stdin` in its folder
+`normalise` and `normalise_slice` are counted in bench_units, which `rt run < stdin` in its folder
 builds: if it isn't built they are left out, and stay as they are on the pages. The other programs
 and the archive are those of .ci/built.py. The code by hand is bench/by_hand.c and programs.c,
 compiled by gcc, and by clang if it is installed. First a test compares the results of both ways.
@@ -52,11 +52,11 @@ LENGTHS = (0, 2000)
 # The units of the input whose bits are flipped in a test.
 FLIPPED = 30
 
-# The jobs of rtr_bench, how many times it does each, and the same job by hand.
+# The jobs of bench_units, how many times it does each, and the same job by hand.
 BENCH = {"normalise": "rtr_normalise_slice", "normalise_slice": "rtr_normalise_slice"}
 BENCH_RUNS = 21
 
-# The argument with which rtr_bench only reads its input.
+# The argument with which bench_units only reads its input.
 READING = "none"
 
 # The calls of rtr.h.
@@ -95,7 +95,7 @@ def source(name):
 
 def warn(text):
     """Warns of what is left out."""
-    print(f"!!! bench/count: {text}", file=sys.stderr)
+    print(f"!!! bench/count.py: {text}", file=sys.stderr)
 
 
 def version(command):
@@ -133,7 +133,7 @@ def compiled(folder, compiler, name, *others):
     made = os.path.join(folder, f"{name}.{compiler}")
     files = [source(name + ".c"), source("by_hand.c"), *others]
     if subprocess.run([compiler, *FLAGS, "-o", made, *files]).returncode != 0:
-        sys.exit(f"bench/count: {name}.c FAILED to compile: is the archive that of rtr.h?")
+        sys.exit(f"bench/count.py: {name}.c FAILED to compile: is the archive that of rtr.h?")
     return made
 
 
@@ -146,7 +146,7 @@ def callgrind(command, input_path=os.devnull, dump=os.devnull):
                              env=ENVIRONMENT)
     counted = re.search(r"Collected : (\d+)", ran.stderr)
     if ran.returncode > 1 or not counted:
-        sys.exit(f"{ran.stderr}bench/count: {' '.join(command)} FAILED")
+        sys.exit(f"{ran.stderr}bench/count.py: {' '.join(command)} FAILED")
     return int(counted[1])
 
 
@@ -208,7 +208,7 @@ def test_calls(folder, program):
     make_sample(path, "mix", FLIPPED, False)
     with open(path, "rb") as file:
         if subprocess.run([program], stdin=file, stdout=subprocess.DEVNULL).returncode != 0:
-            sys.exit("bench/count: the calls and those by hand differ")
+            sys.exit("bench/count.py: the calls and those by hand differ")
 
 
 def test_programs(folder, hand):
@@ -220,14 +220,14 @@ def test_programs(folder, hand):
                                 for command in (program_of(row), [hand, word])
                                 if file.seek(0) == 0)
             if (ours.stdout, ours.returncode) != (theirs.stdout, theirs.returncode):
-                sys.exit(f"bench/count: {row} and the program by hand differ over {path}")
+                sys.exit(f"bench/count.py: {row} and the program by hand differ over {path}")
 
 
 def start_runs(folder, pool, rows):
     """Starts the runs of our programs that these rows need, by command and input."""
     commands = {tuple(program_of(row)): is_clean(row) for row in rows if row not in BENCH}
     if set(rows) & set(BENCH):
-        bench = built.program("rtr_bench")
+        bench = built.program("bench_units")
         commands |= {(bench, way): False for way in [*BENCH, READING]}
     return {(command, path): pool.submit(callgrind, command, path)
             for command, clean in commands.items()
@@ -235,14 +235,14 @@ def start_runs(folder, pool, rows):
 
 
 def ours_of(folder, runs, row, kind):
-    """Instructions a unit of a row of our programs; in rtr_bench without reading the input."""
+    """Instructions a unit of a row of our programs; in bench_units without reading the input."""
     def of_run(command):
         return a_unit([runs[tuple(command), sample(folder, kind, length, is_clean(row))].result()
                        for length in LENGTHS])
 
     if row not in BENCH:
         return of_run(program_of(row))
-    bench = built.program("rtr_bench")
+    bench = built.program("bench_units")
     return (of_run([bench, row]) - of_run([bench, READING])) / BENCH_RUNS
 
 
@@ -255,10 +255,10 @@ def count_all(folder, pool, compilers):
     test_calls(folder, calls[compilers[0]])
     test_programs(folder, programs[compilers[0]])
     rows = list(PROGRAMS)
-    if built.fresh("rtr_bench"):
+    if built.fresh("bench_units"):
         rows = list(BENCH) + rows
     else:
-        warn(f"rtr_bench isn't built: {' and '.join(BENCH)} are left out")
+        warn(f"bench_units isn't built: {' and '.join(BENCH)} are left out")
     router = compiled(folder, compilers[0], "router", archive)
     machine = pool.submit(machine_parts, folder, router)
     called = {each: pool.submit(parts, folder, calls[each]) for each in compilers}
@@ -407,12 +407,17 @@ def same_tools(used):
     return bool(said) and all(re.search(rf"\b{re.escape(name)}[,.]", said[0]) for name in used)
 
 
-def main():
+def options(number, default):
+    """The options of a script that counts: --check, --write, and one that takes a number."""
     parser = argparse.ArgumentParser()
     parser.add_argument("--check", action="store_true")
     parser.add_argument("--write", action="store_true")
-    parser.add_argument("--jobs", type=int, default=os.cpu_count())
-    asked = parser.parse_args()
+    parser.add_argument(number, type=int, default=default)
+    return parser.parse_args()
+
+
+def main():
+    asked = options("--jobs", os.cpu_count())
     missing = [name for name in ("valgrind", "gcc") if not shutil.which(name)]
     if missing or platform.machine() != "x86_64":
         warn(f"no {' and no '.join(missing) or 'x86-64'} here: nothing is counted")

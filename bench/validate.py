@@ -1,7 +1,7 @@
 #!/usr/bin/env python3
 """Measures lookups of routes by `rtr_validate` beside those in rtrlib's table.
 
-usage: bench/validate [--check | --write] [--rounds N]
+usage: bench/validate.py [--check | --write] [--rounds N]
 
 Prints a table: for made-up lists of VRPs how long our tables and rtrlib's take to make, and how
 long a lookup takes by each, as the median of N rounds, 7 by default, over a million routes, a third
@@ -17,10 +17,12 @@ import shutil
 import subprocess
 import sys
 import tempfile
-from importlib.machinery import SourceFileLoader
-from importlib.util import module_from_spec, spec_from_loader
 
 TOP = os.path.realpath(os.path.join(os.path.dirname(os.path.abspath(__file__)), ".."))
+sys.path.insert(0, os.path.join(TOP, ".ci"))
+
+import built  # noqa: E402  (it lies in another folder)
+
 PAGE = os.path.join(TOP, "docs", "SPEED.md")
 MARKER = "<!-- measured: validate -->"
 
@@ -34,18 +36,9 @@ HEAD = ["| VRPs | Tables, ms | rtrlib's, ms | IPv4, ns | rtrlib, ns | IPv6, ns |
 
 def warn(text):
     """Warns of what is left out."""
-    print(f"!!! bench/validate: {text}", file=sys.stderr)
+    print(f"!!! bench/validate.py: {text}", file=sys.stderr)
 
 
-def load(path):
-    """Loads a script of the repository as a module."""
-    loader = SourceFileLoader(os.path.basename(path), os.path.join(TOP, path))
-    module = module_from_spec(spec_from_loader(loader.name, loader))
-    loader.exec_module(module)
-    return module
-
-
-built = load(".ci/built.py")
 
 
 def compiler():
@@ -82,7 +75,7 @@ def measured(program, vrps, routes, rounds):
     done = subprocess.run([program, str(vrps), str(routes), str(rounds)], capture_output=True,
                           text=True)
     if done.returncode not in (0, 1) or not done.stdout:
-        sys.exit(f"bench/validate: {done.stderr or done.returncode}")
+        sys.exit(f"bench/validate.py: {done.stderr or done.returncode}")
     return [float(number) for number in done.stdout.split()]
 
 

@@ -2,7 +2,7 @@
 """Measures the package for Python: reading units beside the same by hand with `struct`, and data
 and changes beside the same calls in C.
 
-usage: bench/python [--write] [--units N] [--rounds N]
+usage: bench/python.py [--write] [--units N] [--rounds N]
 
 Prints a table of the least processor times of N rounds, 9 by default, over N prefixes, 100000 by
 default, and as ratios; --write puts the table into docs/SPEED.md. By hand a loop reads each unit by
@@ -20,8 +20,9 @@ import tempfile
 import time
 from dataclasses import dataclass
 
+from cache import write
+
 TOP = os.path.realpath(os.path.join(os.path.dirname(os.path.abspath(__file__)), ".."))
-PAGE = os.path.join(TOP, "docs", "SPEED.md")
 MARKER = "<!-- measured: python -->"
 RUN = re.compile(r"Python: the least of \d+ rounds over \d+ prefixes\.$")
 LAYOUT = struct.Struct(">BBHIBBBB4sI")
@@ -97,29 +98,16 @@ def main():
     args = parser.parse_args()
     with tempfile.TemporaryDirectory() as folder:
         library = os.path.join(folder, "librtr_wire.so")
-        subprocess.run([os.path.join(TOP, "bindings/package"), "--library", library], check=True)
+        subprocess.run([os.path.join(TOP, "bindings/package.py"), "--library", library], check=True)
         os.environ["RTR_WIRE_LIBRARY"] = library
         sys.dont_write_bytecode = True
         sys.path.insert(0, os.path.join(TOP, "bindings/python/src"))
         lines = list(measured(folder, args.units, args.rounds))
     said = f"Python: the least of {args.rounds} rounds over {args.units} prefixes."
     if args.write:
-        write(lines, said)
+        write(MARKER, RUN, lines, said)
     else:
         print(*lines, "", said, sep="\n")
-
-
-def write(table, said):
-    """Renews the table of the page and the line below it."""
-    with open(PAGE, encoding="utf-8") as file:
-        lines = file.read().splitlines()
-    begin = end = lines.index(MARKER) + 1
-    while end < len(lines) and lines[end].startswith("|"):
-        end += 1
-    lines[begin:end] = table
-    lines = [said if RUN.match(line) else line for line in lines]
-    with open(PAGE, "w", encoding="utf-8") as file:
-        file.write("\n".join(lines) + "\n")
 
 
 def measured(folder, count, rounds):

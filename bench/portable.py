@@ -1,10 +1,10 @@
 #!/usr/bin/env python3
 """Counts the instructions a unit of calls over the portable C file and over the archive.
 
-usage: bench/portable [--check]
+usage: bench/portable.py [--check]
 
-Prints a table, as bench/count does: a cell says, for one kind of units, `portable / archive = ratio`.
-With --check it fails where normalising takes more than half as many again over the C file. The
+Prints a table, as bench/count.py does: a cell says, for one kind of units, `portable / archive =
+ratio`. With --check it fails where normalising takes more than half as many again over the C file. The
 compiler is gcc, with -O2 for the C file.
 """
 import os
@@ -19,8 +19,8 @@ sys.path.insert(0, os.path.join(TOP, ".ci"))
 sys.dont_write_bytecode = True
 
 import built  # noqa: E402  (it lies in another folder)
+import count
 
-count = built.script("bench/count")
 
 # The calls that may take this many times the archive's instructions, at most.
 CHECKED = ("rtr_normalise_slice", "rtr_normalise_for_slice")
@@ -55,7 +55,7 @@ def main():
         sys.exit(__doc__)
     missing = [name for name in ("valgrind", "gcc") if not shutil.which(name)]
     if missing or platform.machine() != "x86_64":
-        print(f"!!! bench/portable: no {' and no '.join(missing) or 'x86-64'} here: SKIPPED the "
+        print(f"!!! bench/portable.py: no {' and no '.join(missing) or 'x86-64'} here: SKIPPED the "
               "portable C file's instructions", file=sys.stderr)
         return
     found = table()
@@ -66,7 +66,7 @@ def main():
     slow = [f"{call} of {kind}" for (call, kind), (portable, archive) in found.items()
             if call in CHECKED and portable > MOST * archive]
     if check and slow:
-        sys.exit(f"bench/portable: more than {MOST} times the archive's: {', '.join(slow)}")
+        sys.exit(f"bench/portable.py: more than {MOST} times the archive's: {', '.join(slow)}")
 
 
 if __name__ == "__main__":

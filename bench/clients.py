@@ -1,7 +1,7 @@
 #!/usr/bin/env python3
 """Measures what our clients take for a full table, beside rtrlib's, in one run.
 
-usage: bench/clients [--check | --write] [--rounds N]
+usage: bench/clients.py [--check | --write] [--rounds N]
 
 A small cache sends the same made-up table to each client of bindings/, which exits after it, and to
 `rtrclient -e` of rtrlib (rtr-tools): once in the order of payloads and once in no order. Each
@@ -14,7 +14,6 @@ one. The archive is that of .ci/built.py.
 table as it is computed here, and instructions are compared: a number may differ by 3 in a hundred.
 What isn't installed is left out with a loud message.
 """
-import argparse
 import contextlib
 import hashlib
 import ipaddress
@@ -26,10 +25,14 @@ import struct
 import subprocess
 import sys
 import tempfile
-from importlib.machinery import SourceFileLoader
-from importlib.util import module_from_spec, spec_from_loader
 
 TOP = os.path.realpath(os.path.join(os.path.dirname(os.path.abspath(__file__)), ".."))
+sys.path.insert(0, os.path.join(TOP, "interop"))
+
+import count
+import processes  # noqa: E402  (it lies in another folder)
+from cache import load_examples, write
+
 PAGE = os.path.join(TOP, "docs", "SPEED.md")
 MARKER = "<!-- measured: clients -->"
 RUN = re.compile(r"Measured with .*\.$")
@@ -65,30 +68,10 @@ with socket.create_server(("127.0.0.1", 0)) as listener:
 
 def warn(text):
     """Warns of what is left out."""
-    print(f"!!! bench/clients: {text}", file=sys.stderr)
+    print(f"!!! bench/clients.py: {text}", file=sys.stderr)
 
 
-def load(path):
-    """Loads a script of the repository as a module."""
-    loader = SourceFileLoader(os.path.basename(path), os.path.join(TOP, path))
-    module = module_from_spec(spec_from_loader(loader.name, loader))
-    loader.exec_module(module)
-    return module
-
-
-def load_examples():
-    """The module that builds our clients, with the archive that is picked here."""
-    archive = load(".ci/built.py").program("rtr_c")
-    os.environ["RTR_ARCHIVE"] = archive
-    os.environ["RTR_LIB_DIR"] = os.path.dirname(archive)
-    os.environ["CGO_LDFLAGS"] = f"-L{os.path.dirname(archive)} -g -O2"
-    sys.path.insert(0, os.path.join(TOP, "interop"))
-    return load("interop/ours.py")
-
-
-count = load("bench/count")
 examples = load_examples()
-processes = load("interop/processes.py")
 
 
 def generated(units, shuffled):
@@ -161,7 +144,7 @@ def run(words, units):
         _, status, used = os.wait4(process.pid, 0)
         process.returncode = status
     if status or not is_whole(said, units):
-        sys.exit(f"bench/clients: {words[0]} ended with {status}, and said {said[-300:]}")
+        sys.exit(f"bench/clients.py: {words[0]} ended with {status}, and said {said[-300:]}")
     return used.ru_utime + used.ru_stime, used.ru_maxrss / 1024
 
 
@@ -209,19 +192,6 @@ def how(loads):
             f"{least:.0f} to {most:.0f}.")
 
 
-def write(table, said):
-    """Renews the table of the page and the line below it."""
-    with open(PAGE, encoding="utf-8") as file:
-        lines = file.read().splitlines()
-    begin = end = lines.index(MARKER) + 1
-    while end < len(lines) and lines[end].startswith("|"):
-        end += 1
-    lines[begin:end] = table
-    lines = [said if RUN.match(line) else line for line in lines]
-    with open(PAGE, "w", encoding="utf-8") as file:
-        file.write("\n".join(lines) + "\n")
-
-
 def check(found):
     """What is wrong: clients that print another table, and instructions that differ from the
     page."""
@@ -247,11 +217,7 @@ def check(found):
 
 
 def main():
-    parser = argparse.ArgumentParser()
-    parser.add_argument("--check", action="store_true")
-    parser.add_argument("--write", action="store_true")
-    parser.add_argument("--rounds", type=int, default=5)
-    asked = parser.parse_args()
+    asked = count.options("--rounds", 5)
     missing = [name for name in ("valgrind", "gcc") if not shutil.which(name)]
     if missing:
         warn(f"no {' and no '.join(missing)} here: nothing is measured")
@@ -267,7 +233,7 @@ def main():
         loads.append(os.getloadavg()[0])
     print(*table, how(loads), sep="\n")
     if asked.write:
-        write(table, how(loads))
+        write(MARKER, RUN, table, how(loads))
     return 0
 
 

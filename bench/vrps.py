@@ -1,7 +1,7 @@
 #!/usr/bin/env python3
 """Measures `rtr_make --csv` against the kit's `csv` and `Data` with the same list of VRPs.
 
-usage: bench/vrps [--check | --write] [--runs N]
+usage: bench/vrps.py [--check | --write] [--runs N]
 
 Prints a table: instructions a VRP by callgrind, as the difference of a list of 20,000 VRPs and an
 empty one, divided by its length; and for a million VRPs the median of the processor time of N runs,
@@ -9,14 +9,13 @@ empty one, divided by its length; and for a million VRPs the median of the proce
 not.
 
 `rows` reads the rows, `origins` also makes an origin of each, and `data` also announces it: runs of
-rtr_bench_data, which `rt run < stdin` in its folder builds. `Data` alone is what `data` takes more
+bench_data, which `rt run < stdin` in its folder builds. `Data` alone is what `data` takes more
 than `origins`. `rtr_make`, the program of .ci/built.py, also keeps the list, and writes units.
 
 --write renews the table of docs/SPEED.md. With --check instructions are counted and the table is
 compared: a number may differ by 3 in a hundred. The exit status is 1 if a number differs more, or
 if rtr_make takes more than 1.6 times the instructions of `data`.
 """
-import argparse
 import os
 import platform
 import re
@@ -26,8 +25,8 @@ import statistics
 import subprocess
 import sys
 import tempfile
-from importlib.machinery import SourceFileLoader
-from importlib.util import module_from_spec, spec_from_loader
+
+import count
 
 TOP = os.path.realpath(os.path.join(os.path.dirname(os.path.abspath(__file__)), ".."))
 PAGE = os.path.join(TOP, "docs", "SPEED.md")
@@ -41,27 +40,18 @@ COUNTED, TIMED = 20_000, 1_000_000
 # differ.
 MOST, SHARE = 1.6, 0.03
 
-BENCH = "rtr_bench_data"
+BENCH = "bench_data"
 GOALS = ["rows", "origins", "data"]
 
 # The row whose number may be MOST at most.
 SHARE_ROW = "as a share of both together"
 
 
-def load_count():
-    """The script that counts, beside this one."""
-    loader = SourceFileLoader("count", os.path.join(TOP, "bench", "count"))
-    module = module_from_spec(spec_from_loader("count", loader))
-    loader.exec_module(module)
-    return module
-
-
-count = load_count()
 
 
 def warn(text):
     """Warns of what is left out."""
-    print(f"!!! bench/vrps: {text}", file=sys.stderr)
+    print(f"!!! bench/vrps.py: {text}", file=sys.stderr)
 
 
 def commands():
@@ -163,11 +153,7 @@ def check(instructions):
 
 
 def main():
-    parser = argparse.ArgumentParser()
-    parser.add_argument("--check", action="store_true")
-    parser.add_argument("--write", action="store_true")
-    parser.add_argument("--runs", type=int, default=5)
-    asked = parser.parse_args()
+    asked = count.options("--runs", 5)
     if platform.machine() != "x86_64":
         warn("no x86-64 here: nothing is counted")
         return 0 if asked.check else 1

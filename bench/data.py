@@ -1,7 +1,7 @@
 #!/usr/bin/env python3
 """Measures data and deltas: the calls of C over slices, `Data`, and code by hand.
 
-usage: bench/data [--check | --write] [--runs N]
+usage: bench/data.py [--check | --write] [--runs N]
 
 Prints three tables. generate_data.py makes old and new data for them, of which one origin in a
 thousand differs.
@@ -14,7 +14,7 @@ structs, in data_by_hand.c. First a test compares what they write.
 A third, printed alone, has the ways to apply changes in no order to data: `rtr_order` and then
 `rtr_apply`, and `rtr_apply_in_order`, for a delta and for an answer that has all of the new data.
 
-The second has announcements in no order and deltas: of `Data`, in rtr_bench_data, which `rt run <
+The second has announcements in no order and deltas: of `Data`, in bench_data, which `rt run <
 stdin` in its folder builds; of the sets of Rust's standard library over plain structs, in
 data_sets.rs; and of a sorted array in C, in data_calls.c. Instructions are counted over few
 origins, nanoseconds are of a million: the median of the processor time of N runs, 5 by default.
@@ -23,10 +23,9 @@ subtracted. All three have to print the same.
 
 --write renews both tables of docs/SPEED.md. With --check instructions are counted and compared: a
 number may differ by 3 in a hundred. What isn't there is left out with a loud message:
-rtr_bench_data where it isn't built, Rust's sets without rustc or with another one than the page
+bench_data where it isn't built, Rust's sets without rustc or with another one than the page
 names.
 """
-import argparse
 import os
 import platform
 import re
@@ -36,8 +35,8 @@ import subprocess
 import sys
 import tempfile
 from concurrent.futures import ThreadPoolExecutor
-from importlib.machinery import SourceFileLoader
-from importlib.util import module_from_spec, spec_from_loader
+
+import count
 
 TOP = os.path.realpath(os.path.join(os.path.dirname(os.path.abspath(__file__)), ".."))
 PAGE = os.path.join(TOP, "docs", "SPEED.md")
@@ -50,7 +49,7 @@ COUNTED, COUNTED_IN_SETS, TIMED = 10_000, 20_000, 1_000_000
 # By how much a number of the page may differ, as a share or as a number.
 SHARE, LEAST = 0.03, 0.02
 
-BENCH = "rtr_bench_data"
+BENCH = "bench_data"
 WORDS = ["units", "announce", "both", "delta", "deltas"]
 
 # The argument whose deltas are timed, and how many it writes. The argument that writes one is
@@ -89,20 +88,11 @@ SETS = {
 }
 
 
-def load_count():
-    """The script that counts, beside this one."""
-    loader = SourceFileLoader("count", os.path.join(TOP, "bench", "count"))
-    module = module_from_spec(spec_from_loader("count", loader))
-    loader.exec_module(module)
-    return module
-
-
-count = load_count()
 
 
 def warn(text):
     """Warns of what is left out."""
-    print(f"!!! bench/data: {text}", file=sys.stderr)
+    print(f"!!! bench/data.py: {text}", file=sys.stderr)
 
 
 def page_lines():
@@ -128,7 +118,7 @@ def compiled(folder):
     files = [count.source("data_calls.c"), count.source("data_by_hand.c"),
              count.built.needed("rtr_c")[0]]
     if subprocess.run(["gcc", *count.FLAGS, "-o", made, *files]).returncode != 0:
-        sys.exit("bench/data: data_calls.c FAILED to compile: is the archive that of rtr.h?")
+        sys.exit("bench/data.py: data_calls.c FAILED to compile: is the archive that of rtr.h?")
     return made
 
 
@@ -207,7 +197,7 @@ def ran(command, path, output):
         _, status, used = os.wait4(child.pid, 0)
         child.returncode = os.waitstatus_to_exitcode(status)
     if child.returncode != 0:
-        sys.exit(f"bench/data: {' '.join(command)} FAILED")
+        sys.exit(f"bench/data.py: {' '.join(command)} FAILED")
     return used.ru_utime + used.ru_stime, 1024 * used.ru_maxrss
 
 
@@ -222,7 +212,7 @@ def test_sets(folder, found):
             with open(output, "rb") as file:
                 printed.add(file.read())
         if len(printed) != 1:
-            sys.exit(f"bench/data: what is printed for {word} differs")
+            sys.exit(f"bench/data.py: what is printed for {word} differs")
 
 
 def timed(folder, found, runs):
@@ -325,11 +315,7 @@ def check(calls, counted):
 
 
 def main():
-    parser = argparse.ArgumentParser()
-    parser.add_argument("--check", action="store_true")
-    parser.add_argument("--write", action="store_true")
-    parser.add_argument("--runs", type=int, default=5)
-    asked = parser.parse_args()
+    asked = count.options("--runs", 5)
     missing = [name for name in ("valgrind", "gcc") if not shutil.which(name)]
     if missing or platform.machine() != "x86_64":
         warn(f"no {' and no '.join(missing) or 'x86-64'} here: nothing is counted")

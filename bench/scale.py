@@ -2,7 +2,7 @@
 """Measures caches with many routers at once beside a program that sends the same bytes by sendfile,
 in one run.
 
-usage: bench/scale [--write] [--routers N[:VRPS],..] [SERVER]..
+usage: bench/scale.py [--write] [--routers N[:VRPS],..] [SERVER]..
 
 Each server sends a made-up table of VRPS, 500,000 by default, to N routers at once, on addresses of
 127.0.0.0/8; many.c has the routers, sends.c the program over sendfile. By default N are 1, 100,
@@ -32,8 +32,8 @@ import sys
 import tempfile
 import threading
 import time
-from importlib.machinery import SourceFileLoader
-from importlib.util import module_from_spec, spec_from_loader
+
+import cache
 
 TOP = os.path.realpath(os.path.join(os.path.dirname(os.path.abspath(__file__)), ".."))
 MARKER = "<!-- measured: scale -->"
@@ -49,15 +49,6 @@ MOST_SECONDS, MOST_MEMORY = 120, 6 << 30
 SENDFILE = "`sendfile`"
 
 
-def load(path):
-    """Loads a script of the repository as a module."""
-    loader = SourceFileLoader(os.path.basename(path), os.path.join(TOP, path))
-    module = module_from_spec(spec_from_loader(loader.name, loader))
-    loader.exec_module(module)
-    return module
-
-
-cache = load("bench/cache")
 
 
 class Stopped(Exception):

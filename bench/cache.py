@@ -1,7 +1,7 @@
 #!/usr/bin/env python3
 """Measures our caches beside stayrtr, in one run.
 
-usage: bench/cache [--write] [--rounds N] [CACHE]..
+usage: bench/cache.py [--write] [--rounds N] [CACHE]..
 
 The caches serve the same made-up table of 500,000 VRPs, one after the other. Prints a table:
 
@@ -18,6 +18,7 @@ are left out with a loud message. --write renews the table of docs/SPEED.md and 
 """
 import argparse
 import contextlib
+import importlib
 import ipaddress
 import json
 import os
@@ -31,10 +32,14 @@ import subprocess
 import sys
 import tempfile
 import time
-from importlib.machinery import SourceFileLoader
-from importlib.util import module_from_spec, spec_from_loader
 
 TOP = os.path.realpath(os.path.join(os.path.dirname(os.path.abspath(__file__)), ".."))
+sys.path[:0] = [os.path.join(TOP, ".ci"), os.path.join(TOP, "interop")]
+
+import built  # noqa: E402  (it lies in another folder)
+import count
+import processes  # noqa: E402  (it lies in another folder)
+
 PAGE = os.path.join(TOP, "docs", "SPEED.md")
 MARKER = "<!-- measured: cache -->"
 RUN = re.compile(r"Caches: measured with .*\.$")
@@ -56,15 +61,7 @@ PIECE = 1 << 20
 
 def warn(text):
     """Warns of what is left out."""
-    print(f"!!! bench/cache: {text}", file=sys.stderr)
-
-
-def load(path):
-    """Loads a script of the repository as a module."""
-    loader = SourceFileLoader(os.path.basename(path), os.path.join(TOP, path))
-    module = module_from_spec(spec_from_loader(loader.name, loader))
-    loader.exec_module(module)
-    return module
+    print(f"!!! bench/cache.py: {text}", file=sys.stderr)
 
 
 def counted(process, name):
@@ -86,12 +83,11 @@ def in_files(process):
 
 def load_examples():
     """The module that builds our caches, with the archive that is picked here."""
-    archive = load(".ci/built.py").program("rtr_c")
+    archive = built.program("rtr_c")
     os.environ["RTR_ARCHIVE"] = archive
     os.environ["RTR_LIB_DIR"] = os.path.dirname(archive)
     os.environ["CGO_LDFLAGS"] = f"-L{os.path.dirname(archive)} -g -O2"
-    sys.path.insert(0, os.path.join(TOP, "interop"))
-    return load("interop/ours.py")
+    return importlib.import_module("ours")
 
 
 class Table:
@@ -185,7 +181,7 @@ def read_until(clients, done):
                     ready.unregister(key.fileobj)
                     left -= 1
             if time.monotonic() > end:
-                sys.exit(f"bench/cache: {left} clients wait in vain")
+                sys.exit(f"bench/cache.py: {left} clients wait in vain")
 
 
 def read_all(port, count):
@@ -196,7 +192,7 @@ def read_all(port, count):
         client.socket.close()
     sizes = {client.came for client in clients}
     if len(sizes) != 1 or sizes.pop() < 20 * UNITS:
-        sys.exit("bench/cache: an answer is too short")
+        sys.exit("bench/cache.py: an answer is too short")
     return struct.unpack(">2xH4xI12x", clients[0].last)
 
 
@@ -248,7 +244,7 @@ class Cache:
                 if probe.recv(8)[1:2] == bytes([RESPONSE]):
                     return
             time.sleep(0.2)
-        sys.exit(f"bench/cache: {self.name} doesn't come up: see {self.log}")
+        sys.exit(f"bench/cache.py: {self.name} doesn't come up: see {self.log}")
 
     def used(self):
         """The processor time that it has taken, in seconds."""
@@ -298,7 +294,7 @@ def seconds_of_change(cache, session, serial):
         client.socket.close()
     serials = {struct.unpack_from(">I", client.last, 8)[0] for client in clients}
     if len(serials) != 1 or serials == {serial} or min(c.came for c in clients) < 20 * CHANGES:
-        sys.exit(f"bench/cache: {cache.name} gave no {CHANGES} changes")
+        sys.exit(f"bench/cache.py: {cache.name} gave no {CHANGES} changes")
     return seconds, serials.pop()
 
 
@@ -361,7 +357,6 @@ def caches(examples, folder, asked):
 
 def how(name, loads):
     """The machine and the versions that it was measured with."""
-    count, processes = load("bench/count"), load("interop/processes.py")
     tools = [count.version(name) for name in ("gcc", "rustc") if shutil.which(name)]
     if shutil.which("go"):
         said = subprocess.run(["go", "version"], capture_output=True, text=True).stdout
