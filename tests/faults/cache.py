@@ -8,6 +8,7 @@ import struct
 import subprocess
 import time
 
+import held
 from units import END, LONG, NOTIFY, REPORT, RESET_QUERY, RESPONSE, SERIAL_QUERY, SESSION
 from units import Wrong, end, prefix, size_of, unit
 
@@ -25,11 +26,12 @@ class Cache:
     def __init__(self, command, faults, library, folder):
         self.path = os.path.join(folder, "data")
         self.seen, self.log = os.path.join(folder, "seen"), os.path.join(folder, "log")
+        self.state = os.path.join(folder, "state")
         with open(self.log, "wb") as log:
             self.process = subprocess.Popen(
                 [*command, self.path, "--listen", "127.0.0.1:0"], stdout=log, stderr=log,
                 env={**os.environ, "LD_PRELOAD": library, "FAULTS": faults,
-                     "FAULTS_SEEN": self.seen})
+                     "FAULTS_SEEN": self.seen, "FAULTS_STATE": self.state})
         self.port = int(self.says(r"listening on 127\.0\.0\.1:(\d+)")[1])
 
     def said(self):
@@ -52,41 +54,52 @@ class Cache:
         return self.waits(lambda: re.search(f"{pattern}$", self.said(), re.MULTILINE), pattern)
 
     def serves(self, serial):
-        """Waits until it has taken the data of this serial number, or restored them."""
-        return self.says(rf"session {SESSION} serial {serial}: \d+ payloads?")
+        """Waits until it has taken the data of this serial number, or restored them. In Go it then
+        opens /dev/null, to have a descriptor for the next file."""
+        self.says(rf"session {SESSION} serial {serial}: \d+ payloads?")
+        if os.path.exists(self.state):
+            self.waits(lambda: "/dev/null" in self.links()[3:], "it has loaded the data")
 
     def puts(self, content):
         put(self.path, content)
 
     def holds(self):
-        """Returns how many descriptors and threads it has, except files in memory, which hold
-        encoded data, and how many of those. That of the list of faults is left out."""
-        folder = f"/proc/{self.process.pid}"
+        """Returns how many descriptors and threads or goroutines it has, except files in memory,
+        which hold encoded data, and how many of those. That of the list of faults is left out."""
+        links = self.links()
+        memory = sum(link.startswith("/memfd:") for link in links)
+        return len(links) - memory, held.tasks(self.process, self.state), memory
+
+    def links(self):
+        """Returns what its descriptors are, except the list of faults."""
+        folder = f"/proc/{self.process.pid}/fd"
         links = []
-        for name in os.listdir(f"{folder}/fd"):
+        for name in sorted(os.listdir(folder), key=int):
             try:
-                link = os.readlink(f"{folder}/fd/{name}")
+                link = os.readlink(f"{folder}/{name}")
             except FileNotFoundError:
                 continue  # it was closed meanwhile
             if link != self.seen:
                 links.append(link)
-        memory = sum(link.startswith("/memfd:") for link in links)
-        return len(links) - memory, len(os.listdir(f"{folder}/task")), memory
+        return links
 
-    def settles(self, first, memory):
-        """Waits until it has these descriptors and threads, and at most so many files in memory."""
+    def settles(self, first, memory, routers=0):
+        """Waits until it has these descriptors and threads, and those of connected routers, and at
+        most so many files in memory. In Go each router has a goroutine."""
+        tasks = routers if os.path.exists(self.state) else 0
+        wanted = first[0] + routers, first[1] + tasks
+
         def is_settled():
             now = self.holds()
-            return now[:2] == first[:2] and now[2] <= memory
+            return now[:2] == wanted and now[2] <= memory
         try:
             self.waits(is_settled, "descriptors and threads as at the start")
         except Wrong as wrong:
-            raise Wrong(f"{wrong}: {self.holds()}, not {first} and {memory}") from None
+            raise Wrong(f"{wrong}: {self.holds()}, not {wanted} and {memory}") from None
 
     def resident(self):
         """Returns its resident memory in bytes."""
-        with open(f"/proc/{self.process.pid}/statm", encoding="ascii") as file:
-            return int(file.read().split()[1]) * os.sysconf("SC_PAGESIZE")
+        return held.memory(self.process, self.state)
 
     def injected(self):
         """Returns the faults that were injected, as words: the call, its number, the fault."""

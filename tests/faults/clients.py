@@ -14,10 +14,16 @@ import subprocess
 import threading
 import time
 
+import held
 from units import AS, LONG, NOTIFY, RESET_QUERY, RESPONSE, SERIAL_QUERY, SESSION, Wrong
 from units import end, prefix, size_of, unit
 
 RECONNECTS = 4
+
+# Two hundred connects of a client, whose memory after the second hundred is that after the first.
+CONNECTS = "two hundred connects"
+PAUSE = ["--pause", "10ms"]  # between two connections, for clients that take it
+MEMORY = 1 << 15  # bytes by which it may grow; a connection alone has more than 200
 
 # What is injected: faults that end a connection, or keep one from being opened, and all.
 BREAKING = {
@@ -126,13 +132,14 @@ class Run:
 
     def __init__(self, command, faults, library, folder):
         self.cache = Cache(socket.AF_INET)
-        self.seen = os.path.join(folder, "seen")
+        self.seen, self.state = (os.path.join(folder, name) for name in ("seen", "state"))
         self.said = open(os.path.join(folder, "said"), "w+b")
         # The name has two addresses, and the cache is at the second.
         words = [word.replace("ADDRESS", f"localhost:{self.cache.port}") for word in command]
         self.process = subprocess.Popen(
             words, stdout=subprocess.PIPE, stderr=self.said,
-            env={**os.environ, "LD_PRELOAD": library, "FAULTS": faults, "FAULTS_SEEN": self.seen})
+            env={**os.environ, "LD_PRELOAD": library, "FAULTS": faults, "FAULTS_SEEN": self.seen,
+                 "FAULTS_STATE": self.state})
         self.held, self.lines = b"", collections.deque()
 
     def read(self, wanted):
@@ -153,9 +160,9 @@ class Run:
             raise Wrong(f"it printed {got}, not {wanted}")
 
     def holds(self):
-        """Returns how many descriptors and threads the client has."""
-        folder = f"/proc/{self.process.pid}"
-        return len(os.listdir(f"{folder}/fd")), len(os.listdir(f"{folder}/task"))
+        """Returns how many descriptors, and threads or goroutines, the client has."""
+        descriptors = len(os.listdir(f"/proc/{self.process.pid}/fd"))
+        return descriptors, held.tasks(self.process, self.state)
 
     def settles(self, wanted):
         """The client has at most these descriptors and threads, after a while."""
@@ -165,20 +172,31 @@ class Run:
                 raise Wrong(f"it has {self.holds()} descriptors and threads, and had {wanted}")
             time.sleep(0.1)
 
-    def play(self, may_break):
-        data = self.cache.had[1]
-        self.read([line(one, "+") for one in data])
-        first = self.holds()
-        for number in range(1 + RECONNECTS):
-            new = [*data[1:], f"198.51.{number}.0/24"]
-            if number:
-                self.cache.hang_up()
-            self.cache.change(new, notifies=not number)
-            self.read([line(data[0], "-"), line(new[-1], "+")])
-            data = new
+    def change(self, number):
+        """The data change, and the client gets the changes: by a notify if the number is 0, else by
+        a new connection."""
+        data = self.cache.had[self.cache.serial]
+        new = [*data[1:], f"198.51.{number}.0/24"]
+        self.cache.change(new, notifies=not number)
+        if number:
+            self.cache.hang_up()
+        self.read([line(data[0], "-"), line(new[-1], "+")])
+
+    def play(self, may_break, reconnects):
+        self.read([line(one, "+") for one in self.cache.had[1]])
+        first, sizes = self.holds(), []
+        for number in range(1 + reconnects):
+            self.change(number)
+            if may_break and not number:
+                first = self.holds()  # the first connection may have ended before it was counted
+            if number and number % 100 == 0:
+                self.settles(first)
+                sizes.append(held.memory(self.process, self.state))
+        if sizes and sizes[1] > sizes[0] + MEMORY:
+            raise Wrong(f"it has {sizes[1]} bytes of memory, and had {sizes[0]}")
         self.settles(first)
-        if not may_break and self.cache.accepted != 1 + RECONNECTS:
-            raise Wrong(f"it connected {self.cache.accepted} times, not {1 + RECONNECTS}")
+        if not may_break and self.cache.accepted != 1 + reconnects:
+            raise Wrong(f"it connected {self.cache.accepted} times, not {1 + reconnects}")
         self.process.send_signal(signal.SIGTERM)
         status = self.process.wait(LONG)
         if status not in (0, -signal.SIGTERM):
@@ -199,11 +217,13 @@ class Run:
 
 def play(command, name, library, folder):
     """Plays a client with the faults of this name; returns what was wrong, or nothing."""
-    run = Run(command, FAULTS[name], library, folder)
+    faults = FAULTS.get(name, "")
+    run = Run([*command, *(PAUSE if name == CONNECTS else [])], faults, library, folder)
     wrong = None
     try:
-        run.play(name in BREAKING)
-        if FAULTS[name] and not os.path.exists(run.seen):
+        connects = 200 if name == CONNECTS else RECONNECTS
+        run.play(name in BREAKING or name == CONNECTS, connects)
+        if faults and not os.path.exists(run.seen):
             raise Wrong("the fault wasn't injected")
     except (Wrong, OSError, subprocess.TimeoutExpired) as error:
         wrong = error
@@ -211,6 +231,8 @@ def play(command, name, library, folder):
     return wrong and f"{wrong}\n{said}"
 
 
-def names(_):
-    """Returns the names of the runs of a client."""
-    return list(FAULTS)
+def names(program):
+    """Returns the names of the runs of a client. In Go only calls of connections get faults."""
+    if program != "Go":
+        return list(FAULTS)
+    return [*(name for name in FAULTS if name != "interrupted waits"), CONNECTS]

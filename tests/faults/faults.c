@@ -1,9 +1,9 @@
-/* Decides which calls of a program get a fault, for `tests/faults/run`, which preloads it.
+/* Decides which calls of a program get a fault, for `tests/faults/run.py`, which preloads it.
  *
  * FAULTS is a list of words CALL:FIRST:LAST:FAULT or CALL:FIRST:LAST:FAULT:STEP. CALL is connect,
  * accept, send, receive or wait, counted over all sockets from 1, or open, write, sync, close,
- * rename or save, counted over calls on files whose names end with `.kept.new`; save is any of
- * these. The calls from FIRST to LAST get the fault, to the end if LAST is 0; with a STEP only each
+ * rename or save, counted over calls on files whose names end with `.kept.new`, and syncs of
+ * folders; save is any of these. The calls from FIRST to LAST get the fault, to the end if LAST is 0; with a STEP only each
  * STEP-th of them. FAULT is the name of an error, a number, the most bytes that the call moves, or
  * KILL, which kills the process before the call, or in the middle of a write. EAGAIN is injected
  * only where the socket doesn't block. FAULTS_SEEN is a file that gets a line for each of the first

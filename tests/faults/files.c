@@ -1,5 +1,5 @@
-/* Calls on the file that a cache saves before it is renamed, in which faults are injected, as
- * faults.c says. */
+/* Calls on the file that a cache saves before it is renamed, and syncs of a folder, in which faults
+ * are injected, as faults.c says. */
 #define _GNU_SOURCE
 #include <errno.h>
 #include <fcntl.h>
@@ -33,6 +33,14 @@ static int is_saved(int fd)
     path[length < 0 ? 0 : length] = 0;
     errno = error_before;
     return is_saved_path(path);
+}
+
+static int is_folder(int fd)
+{
+    struct stat found;
+    int error_before = errno, failed = fstat(fd, &found);
+    errno = error_before;
+    return !failed && S_ISDIR(found.st_mode);
 }
 
 /* Counts a call on the file, and returns the fault to inject, or 0. */
@@ -135,7 +143,7 @@ int fileno(FILE *file)
 int fsync(int fd)
 {
     int (*next)(int) = real("fsync");
-    return is_saved(fd) && fails(SYNC) ? -1 : next(fd);
+    return (is_saved(fd) || is_folder(fd)) && fails(SYNC) ? -1 : next(fd);
 }
 
 int fdatasync(int fd)

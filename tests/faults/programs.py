@@ -29,6 +29,15 @@ rtr-wire = {{ path = "{rust}" }}
 rtr-wire-tokio = {{ path = "{rust}/tokio" }}
 tokio = {{ version = "1", features = ["macros", "net", "rt-multi-thread", "time"] }}
 """
+# The project of the client and the cache in Go.
+GO_MOD = """module faulty
+
+go 1.19
+
+require fishreef/rtr v0.0.0
+
+replace fishreef/rtr => {package}
+"""
 CARGO_CONFIG = f"""[source.crates-io]
 replace-with = "debian"
 [source.debian]
@@ -74,15 +83,35 @@ def c_clients(archives, work):
     yield "C link", ["stdbuf", "-oL", link, "ADDRESS", "2"]
 
 
-def python_clients(archives, work):
+def python_package(archives, work):
+    """Links the library of Python's package, and lets programs find both."""
     shared = os.path.join(work, "librtr_wire.so")
-    run([os.path.join(BINDINGS, "package"), "--archives", os.path.dirname(archives), "--library",
-         shared], TOP)
+    if not os.path.exists(shared):
+        run([os.path.join(BINDINGS, "package.py"), "--archives", os.path.dirname(archives),
+             "--library", shared], TOP)
     os.environ["RTR_WIRE_LIBRARY"] = shared
     os.environ["PYTHONPATH"] = os.path.join(BINDINGS, "python", "src")
+
+
+def python_clients(archives, work):
+    python_package(archives, work)
     client = [sys.executable, os.path.join(HERE, "follow.py"), "ADDRESS", "--version", "2"]
     yield "Python", client
     yield "asyncio", [*client, "--asyncio"]
+
+
+def python_caches(archives, work):
+    python_package(archives, work)
+    cache = os.path.join(BINDINGS, "python", "examples", "cache.py")
+    yield "Python cache", [sys.executable, cache]
+
+
+def node_caches(*_):
+    """The example; it reads the module of the repository."""
+    node = shutil.which("node")
+    if not node:
+        return skipped("node", "the cache in JavaScript")
+    yield "Node cache", [node, os.path.join(BINDINGS, "js", "examples", "cache.js")]
 
 
 def node_clients(archives, _):
@@ -117,6 +146,33 @@ def rust_caches(archives, work):
     if not shutil.which("cargo"):
         return skipped("cargo", "the cache in Rust")
     yield "Rust cache", [rust_example("cache", archives, work)]
+
+
+def go_programs(archives, work):
+    """A client and a cache in Go, one program with faults of its own, built in a project."""
+    if not shutil.which("go"):
+        return skipped("go", "the client and the cache in Go")
+    project, program = os.path.join(work, "faulty"), os.path.join(work, "faulty_go")
+    shutil.copytree(os.path.join(HERE, "go"), project)
+    with open(os.path.join(project, "go.mod"), "w", encoding="ascii") as file:
+        file.write(GO_MOD.format(package=os.path.join(BINDINGS, "go")))
+    run(["go", "build", "-o", program, "."], project, CGO_LDFLAGS=f"-L{archives} -g -O2",
+        GOCACHE=os.environ.get("GOCACHE", os.path.join(work, "gocache")))
+    return program
+
+
+def go_clients(archives, work):
+    program = go_programs(archives, work)
+    if program:
+        yield "Go", [program, "ADDRESS", "--version", "2"]
+
+
+def go_caches(archives, work):
+    program = os.path.join(work, "faulty_go")
+    if not os.path.exists(program):
+        program = go_programs(archives, work)
+    if program:
+        yield "Go cache", [program]
 
 
 def tokio_caches(archives, work):

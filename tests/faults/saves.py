@@ -1,6 +1,6 @@
 """Runs a cache whose saving of its data fails, or that is killed in it: the cache says why, serves
-on, and saves the next data; and a cache that is started again finds older or newer data whole,
-never a part.
+the data before, and tries again; it serves data only once they are saved; and a cache that is
+started again finds older or newer data whole, never a part.
 """
 import errno
 import os
@@ -13,7 +13,9 @@ from cache import Cache, Lost, Router, put
 from caches import NEW, content
 from units import LONG, Wrong
 
-# What is injected into the first saving, and the error that the cache says; none where it saves.
+CLOSE = "a saving with a failing close"
+# What is injected into the first saving, and the error that the cache logs, if any. The first sync
+# is that of the folder at the start.
 FAULTS = {
     "a saving": ("", None),
     "a saving by short writes": ("write:1:0:4000", None),
@@ -21,23 +23,44 @@ FAULTS = {
     "a saving that isn't allowed": ("open:1:1:EACCES", errno.EACCES),
     "a saving without space": ("write:1:1:ENOSPC", errno.ENOSPC),
     "a saving without space for all": ("write:1:1:100 write:2:2:ENOSPC", errno.ENOSPC),
-    "a saving with a failing write": ("write:3:3:EIO", errno.EIO),
-    "a saving with a failing sync": ("sync:1:1:EIO", errno.EIO),
+    "a saving with a failing write": ("write:1:1:100 write:2:2:EIO", errno.EIO),
+    "a saving with a failing sync": ("sync:2:2:EIO", errno.EIO),
     "a saving with a failing rename": ("rename:1:1:EIO", errno.EIO),
     "a saving without space for the name": ("rename:1:1:ENOSPC", errno.ENOSPC),
+    "a saving with a failing sync of the folder": ("sync:3:3:EIO", errno.EIO),
+    # Once a file is synced its close has nothing left to report.
+    CLOSE: ("close:1:1:EIO", None),
 }
-# Once a file is synced its close has nothing left to say.
-CLOSING = {"a saving with a failing close": "close:1:1:EIO"}
+# What is injected into each saving, its error, and whether the file is replaced all the same.
+LASTING = {
+    "savings without space": ("write:1:0:ENOSPC", errno.ENOSPC, False),
+    "savings with failing syncs": ("sync:2:0:EIO", errno.EIO, False),
+    "savings with failing renames": ("rename:1:0:EIO", errno.EIO, False),
+    "savings with failing syncs of the folder": ("sync:3:0:EIO:2", errno.EIO, True),
+}
 KILLS = "killed savings"
-LEAST_CALLS = 4  # of a saving: open, write, sync, rename
+START = "a start with a failing sync of the folder"
+FULL = "a saving to a full disk"  # the system's own: what is written there has no space
+LEAST_CALLS = 5  # of a saving: open, write, sync, rename, and sync of the folder
 
 # The data of each serial number: enough for several writes of a stream.
 OLD = [f"10.{i >> 8}.{i & 255}.0/24" for i in range(1_000)]
 DATA = {1: OLD, 2: [NEW[0], *OLD[1:]], 3: [*NEW, *OLD[1:]]}
 
 
-def names(_):
-    return [KILLS, *CLOSING, *FAULTS]
+def names(program):
+    """Returns the names of the runs of a cache. A program in Go makes the calls on files itself, so
+    that its faults are those of the system; Node makes that to close a file itself."""
+    if program == "Go cache":
+        return [FULL, "a saving"]
+    every = [KILLS, START, *LASTING, FULL, *FAULTS]
+    return [name for name in every if program != "Node cache" or name != CLOSE]
+
+
+def text_of(number):
+    """Returns a pattern of what a program says of an error of the system: its text, or in Node its
+    name before another text."""
+    return f"({os.strerror(number)}|{errno.errorcode[number]}: )"
 
 
 class Saved:
@@ -78,10 +101,9 @@ class Saved:
                 os.remove(f"{folder}/{name}")
         after = Cache(self.command, "", self.library, folder)
         try:
-            after.waits(lambda: re.search(r"No such file", after.said()), "it looks for its file")
-            found = re.search(rf"serial (\d+): {len(DATA[1])} payload|serial (\d+): \d+ payload",
-                              after.said())
-            serial = found and int(found[1] or found[2])
+            after.waits(lambda: re.search(r"(?i)No such file", after.said()), "it looks for its file")
+            found = re.search(r"serial (\d+): \d+ payload", after.said())
+            serial = found and int(found[1])
             if serial not in serials:
                 raise Wrong(f"a restart found serial {serial}, not one of {serials}: "
                             + after.said())
@@ -92,70 +114,123 @@ class Saved:
             new, old = DATA[serial], DATA[1]
             router.gets_answer(serial, [one for one in new if one not in old],
                                [one for one in old if one not in new])
+            if os.path.exists(f"{after.path}.kept.new"):
+                raise Wrong("a file that a killed cache left stays beside")
             router.close()
             after.ends()
         finally:
             after.kill()
 
 
-def takes(cache, router, serial):
-    """Gives the cache the next data, which a router that has those before gets."""
-    cache.puts(content(serial, DATA[serial]))
-    cache.serves(serial)
-    new, old = DATA[serial], DATA[serial - 1]
-    router.asks_after(serial - 1)
-    router.gets_answer(serial, [one for one in new if one not in old],
-                       [one for one in old if one not in new])
-
-
 def inode(cache):
     return os.stat(f"{cache.path}.kept").st_ino
 
 
-def play_fault(saved, faults, number, serials):
-    """The first saving fails, or doesn't; the next one succeeds."""
-    cache = saved.started(faults)
+def answers_changes(router, old, new):
+    """A router gets the changes from the data of one serial number to those of another."""
+    router.asks_after(old)
+    router.gets_answer(new, [one for one in DATA[new] if one not in DATA[old]],
+                       [one for one in DATA[old] if one not in DATA[new]])
+
+
+def takes(cache, router, serial):
+    """Gives the cache the next data, which a router that has those before gets, once they are
+    saved."""
+    before = inode(cache)
+    cache.puts(content(serial, DATA[serial]))
+    cache.serves(serial)
+    if inode(cache) == before:
+        raise Wrong(f"it serves serial {serial}, and hasn't saved it")
+    answers_changes(router, serial - 1, serial)
+
+
+def play_fault(saved, faults, number):
+    """The first saving fails, or doesn't; the next try succeeds."""
+    cache = saved.started("" if faults == FULL else faults)
     try:
         cache.serves(1)
         first = cache.holds()
-        router, before = Router(cache), inode(cache)
+        router = Router(cache)
+        if faults == FULL:
+            os.symlink("/dev/full", f"{cache.path}.kept.new")
         takes(cache, router, 2)
         if number:
-            cache.says(rf"\.kept: {os.strerror(number)}.*")
-        else:
-            cache.waits(lambda: inode(cache) != before or "close" in faults, "it saves")
-        saved.finds(cache, serials)
-        before = inode(cache)
+            cache.says(rf"(?i)\.kept(\.new)?: {text_of(number)}.*")
+        saved.finds(cache, (2,))
         takes(cache, router, 3)
-        cache.waits(lambda: inode(cache) != before, "it saves the next data")
-        if faults and not cache.injected():
+        if faults not in ("", FULL) and not cache.injected():
             raise Wrong("the fault wasn't injected")
         saved.finds(cache, (3,))
         router.close()
         cache.settles(first, 1)
         cache.ends()
-    except (Wrong, Lost) as error:
-        raise Wrong(f"{error!r}\n{cache.said()}") from error
     finally:
         cache.kill()
 
 
+def failures(cache, number):
+    """Returns how often it logged that a saving failed for this error."""
+    return len(re.findall(rf"\.kept: {text_of(number)}", cache.said()))
+
+
+def play_lasting(saved, faults, number, replaces):
+    """All savings fail: routers get the data before, and no other file is left."""
+    cache = saved.started(faults)
+    try:
+        cache.serves(1)
+        cache.puts(content(2, DATA[2]))
+        cache.waits(lambda: failures(cache, number), "it logs the failure")
+        # In Rust with a thread that waits for the next try.
+        first, router = cache.holds(), Router(cache)
+        for count in 1, 2:
+            cache.waits(lambda wanted=count: failures(cache, number) >= wanted, "it tries again")
+            answers_changes(router, 1, 1)
+        cache.waits(lambda: not os.path.exists(f"{cache.path}.kept.new"), "it removes its file")
+        saved.finds(cache, (2,) if replaces else (1,))
+        router.close()
+        cache.settles(first, 1)
+        cache.ends()
+    finally:
+        cache.kill()
+
+
+def play_start(saved):
+    """The cache can't sync the folder at a start: it says why, and serves nothing. Its last run may
+    have ended between the rename and the sync, and after a power cut the file would be an older
+    one."""
+    try:
+        cache = saved.started("sync:1:1:EIO")
+    except Wrong:
+        pass
+    else:
+        cache.kill()
+        raise Wrong("it listens")
+    with open(os.path.join(saved.folder, str(saved.count), "log"), encoding="utf-8") as log:
+        said = log.read()
+    if not re.search(text_of(errno.EIO), said) or "serial 1" in said:
+        raise Wrong(said)
+
+
 def play_kills(saved):
-    """The cache is killed at each call of a saving, until none is left."""
+    """The cache is killed at each call of a saving, until none is left. The first call is that of
+    the start."""
     count = 0
     is_killed = True
     while is_killed:
-        cache = saved.started(f"save:{count + 1}:{count + 1}:KILL")
+        cache = saved.started(f"save:{count + 2}:{count + 2}:KILL")
         try:
             cache.serves(1)
-            before = inode(cache)
+            router = Router(cache)
+            answers_changes(router, 1, 1)
             cache.puts(content(2, DATA[2]))
             until = time.monotonic() + LONG
-            while cache.process.poll() is None and inode(cache) == before:
+            while cache.process.poll() is None and f"serial 2: {len(DATA[2])}" not in cache.said():
                 if time.monotonic() > until:
-                    raise Wrong("it neither ended nor renamed a file")
+                    raise Wrong("it neither ended nor served the data")
                 time.sleep(0.01)
-            is_killed = bool(cache.injected()) and cache.process.wait() == -signal.SIGKILL
+            is_killed = cache.process.poll() == -signal.SIGKILL
+            if is_killed != bool(cache.injected()):
+                raise Wrong(f"its status is {cache.process.poll()}")
             saved.finds(cache, (1, 2) if is_killed else (2,))
             count += is_killed
         finally:
@@ -170,11 +245,14 @@ def play(command, name, library, folder):
         saved = Saved(command, library, folder)
         if name == KILLS:
             play_kills(saved)
-        elif name in CLOSING:
-            play_fault(saved, CLOSING[name], None, (1, 2))
+        elif name == START:
+            play_start(saved)
+        elif name == FULL:
+            play_fault(saved, FULL, errno.ENOSPC)
+        elif name in LASTING:
+            play_lasting(saved, *LASTING[name])
         else:
-            faults, number = FAULTS[name]
-            play_fault(saved, faults, number, (1,) if number else (2,))
+            play_fault(saved, *FAULTS[name])
     except (Wrong, Lost, OSError) as error:
         return f"{error!r}"
     return None

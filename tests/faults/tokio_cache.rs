@@ -3,10 +3,10 @@
 //! usage: tokio_cache FILE --listen ADDRESS
 //!
 //! It reads the file again when it was replaced, and saves its data beside it, as the example of
-//! the crate rtr-wire does. On standard error is where it listens, which data it took, and why a
+//! the crate rtr-wire does. On standard error is where it listens, which data it serves, and why a
 //! connection ended.
 
-use rtr_wire::{load_data, ServerOptions};
+use rtr_wire::{load_data, EndOfData, ServerOptions, UpdateError};
 use rtr_wire_tokio::AsyncServer;
 use std::error::Error;
 use std::fs;
@@ -17,18 +17,36 @@ use tokio::net::TcpListener;
 /// The time between two checks of the file.
 const LOOK: Duration = Duration::from_millis(100);
 
+/// Prints which data are served.
+fn say_taken(file: &str, end: EndOfData, count: usize) {
+    let (session, serial) = (end.session, end.serial);
+    eprintln!("{file}: session {session} serial {serial}: {count} payloads");
+}
+
 /// Loads the file into the server when its inode is another.
 async fn follow(server: AsyncServer, file: String) -> Result<(), Box<dyn Error>> {
-    let mut inode = 0;
+    let (mut inode, mut unsaved) = (0, None);
     loop {
-        let found = fs::metadata(&file)?.ino();
+        let found = fs::metadata(&file).map_or(inode, |found| found.ino());
         if found != inode {
             inode = found;
             let data = load_data(&fs::read(&file)?)?.data;
-            let (session, serial, count) = (data.end().session, data.end().serial, data.len());
-            server.update(data)?;
-            eprintln!("{file}: session {session} serial {serial}: {count} payloads");
-            server.save(format!("{file}.kept"))?;
+            let (end, count) = (data.end(), data.len());
+            match server.update(data) {
+                Err(UpdateError::NotSaved(error)) => {
+                    eprintln!("{file}.kept: {error}");
+                    unsaved = Some((end, count));
+                }
+                updated => {
+                    updated?;
+                    unsaved = None;
+                    say_taken(&file, end, count);
+                }
+            }
+        }
+        if let Some((end, count)) = unsaved.filter(|(end, _)| server.end() == Some(*end)) {
+            unsaved = None;
+            say_taken(&file, end, count);
         }
         tokio::time::sleep(LOOK).await;
     }
@@ -40,6 +58,10 @@ async fn main() -> Result<(), Box<dyn Error>> {
     let server = AsyncServer::telling(ServerOptions::default(), |from, error| {
         eprintln!("{from}: {error}");
     });
+    let kept = format!("{}.kept", words[1]);
+    if let Some(data) = server.save_to(&kept)? {
+        say_taken(&kept, data.end(), data.len());
+    }
     let listener = TcpListener::bind(&words[3]).await?;
     eprintln!("listening on {}", listener.local_addr()?);
     tokio::select! {

@@ -1,13 +1,15 @@
 #!/usr/bin/env python3
-"""Runs clients of C, Rust, Python, there also that for asyncio, and Node beside a cache on the
-loopback interface, and caches of C and Rust, there also that over tokio, beside routers, with
-faults in their system calls: short reads and writes, interrupted calls, spurious wakes, broken
+"""Runs clients of C, Rust, Go, Python, there also that for asyncio, and Node beside a cache on the
+loopback interface, and caches of the same languages, in Rust also that over tokio, beside routers,
+with faults in their system calls: short reads and writes, interrupted calls, spurious wakes, broken
 connections, addresses that refuse, no descriptors left, failing files, kills. A preloaded library
-(`faults.c`) injects them. `clients.py`, `caches.py` and `saves.py` say what must happen.
+(`faults.c`) injects them; in Go, which makes its system calls itself, connections that a program
+wraps (`go/faults.go`). `clients.py`, `caches.py` and `saves.py` say what must happen, and
+`waits.py` how the waits of clients differ.
 
-usage: run [FOLDER] [PROGRAM [FAULT]]  the folder has the archive; bindings/lib/x86_64 if not said,
-                                       or else prebuilt/x86_64. PROGRAM and FAULT are names that a
-                                       failure prints
+usage: run.py [FOLDER] [PROGRAM [FAULT]]  the folder has the archive; bindings/lib/x86_64 if not
+                                          said, or else prebuilt/x86_64. PROGRAM and FAULT are names
+                                          that a failure prints
 
 A program without its compiler is skipped, with a loud message. Prints how many runs there were.
 """
@@ -20,18 +22,23 @@ import caches
 import clients
 import programs
 import saves
+import waits
 
 AT_ONCE = 24  # runs; most of their time they wait
 
 # The names of programs, what builds them, in this order, and what is run with them.
 PLAYS = (
-    (["C client", "C link"], programs.c_clients, (clients,)),
-    (["Python", "asyncio"], programs.python_clients, (clients,)),
-    (["Node"], programs.node_clients, (clients,)),
+    (["C client", "C link"], programs.c_clients, (clients, waits)),
+    (["Python", "asyncio"], programs.python_clients, (clients, waits)),
+    (["Node"], programs.node_clients, (clients, waits)),
+    (["Node cache"], programs.node_caches, (caches, saves)),
     (["C cache"], programs.c_caches, (caches, saves)),
-    (["Rust"], programs.rust_clients, (clients,)),
+    (["Rust"], programs.rust_clients, (clients, waits)),
+    (["Go"], programs.go_clients, (clients, waits)),
+    (["Go cache"], programs.go_caches, (caches, saves)),
     (["Rust cache"], programs.rust_caches, (caches, saves)),
     (["tokio cache"], programs.tokio_caches, (caches,)),
+    (["Python cache"], programs.python_caches, (caches, saves)),
 )
 
 

@@ -1,0 +1,82 @@
+"""Starts many clients at once beside caches that answer each query by a report: a random number of
+its own shortens the growing waits of each, of 1, 2, 4 seconds, by up to half, so that the routers
+of a site don't come back at the same moment.
+"""
+import os
+import selectors
+import socket
+import subprocess
+import time
+
+from units import LONG, REPORT, Wrong, unit
+
+NAME = "the waits of twelve clients"
+CLIENTS = 12
+WAIT = 3  # the number of the wait that is measured
+SECONDS = 4  # its length, without a random number
+INTERNAL_ERROR = 1  # the code of the report (RFC 8210 section 12)
+# The least difference of the longest and the shortest: twelve numbers at random are closer once in
+# a million times.
+SPREAD = SECONDS / 2 / 5
+
+
+def names(_):
+    return [NAME]
+
+
+def measured(listeners):
+    """Returns the wait of each client, in seconds."""
+    closed, waits = {one: [] for one in listeners}, {}
+    until = time.monotonic() + LONG
+    with selectors.DefaultSelector() as selector:
+        for one in listeners:
+            selector.register(one, selectors.EVENT_READ)
+        while len(waits) < len(listeners):
+            ready = selector.select(until - time.monotonic())
+            if not ready:
+                raise Wrong(f"only {len(waits)} clients connected {WAIT + 1} times")
+            for key, _ in ready:
+                one = key.fileobj
+                connection, _ = one.accept()
+                if len(closed[one]) == WAIT:
+                    waits[one] = time.monotonic() - closed[one][-1]
+                    selector.unregister(one)
+                refuse(connection)
+                closed[one].append(time.monotonic())
+    return sorted(waits.values())
+
+
+def refuse(connection):
+    """Answers a query by a report without a unit and a text, and closes."""
+    connection.settimeout(LONG)
+    query = connection.recv(16)
+    if query:
+        connection.sendall(unit(REPORT, INTERNAL_ERROR, bytes(8), query[0]))
+    connection.close()
+
+
+def play(command, _, __, folder):
+    """Plays the clients; returns what was wrong, or nothing."""
+    listeners = [socket.create_server(("127.0.0.1", 0)) for _ in range(CLIENTS)]
+    processes = []
+    with open(os.path.join(folder, "said"), "wb") as said:
+        for one in listeners:
+            address = f"127.0.0.1:{one.getsockname()[1]}"
+            words = [word.replace("ADDRESS", address) for word in command]
+            processes.append(subprocess.Popen(words, stdout=said, stderr=said))
+    try:
+        waits = measured(listeners)
+        text = ", ".join(f"{wait:.3f}" for wait in waits)
+        if waits[0] < SECONDS / 2:
+            return f"a wait is shorter than {SECONDS / 2} seconds: {text}"
+        if waits[-1] - waits[0] < SPREAD:
+            return f"the waits are alike: {text}"
+    except Wrong as wrong:
+        return f"{wrong}"
+    finally:
+        for process in processes:
+            process.kill()
+            process.wait()
+        for one in listeners:
+            one.close()
+    return None
