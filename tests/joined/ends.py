@@ -40,7 +40,16 @@ class End:
             did.append((self.begun + int(words[0]), words[1:]))
         raise EOFError(f"it ended, with status {self.process.wait()}")
 
+    def write(self, lines):
+        """Writes lines of scenes, and ends the input. Blocks while nobody reads the answers."""
+        try:
+            with self.process.stdin as input_:
+                input_.write(lines.encode())
+        except BrokenPipeError:
+            pass  # it stopped, as its output shows
+
     def end(self):
+        """Ends the input, if nothing else did. Returns its status."""
         self.process.stdin.close()
         self.output.close()
-        self.process.wait()
+        return self.process.wait()

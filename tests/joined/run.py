@@ -1,13 +1,12 @@
 #!/usr/bin/env python3
-"""Connects the clients of C, Go, Rust, Python and JavaScript with the caches of C, Go and Rust, by
-tests/joined, with the two seeds of `seeds.py`. A failure is printed with its seed, and with the
-steps that led to it.
+"""Connects the clients of C, Go, Rust, Python and JavaScript with the caches of the same
+languages, by tests/joined, with the two seeds of `seeds.py`. A failure is printed with its seed,
+and with the steps that led to it.
 
-usage: run [FOLDER]                    the folder has the archive; bindings/lib/x86_64 if not said,
-                                       or else prebuilt/x86_64
-       run [FOLDER] CLIENT CACHE SEED STEPS
-                                       one pair of these (c, go, rust; python and js as clients)
-                                       alone
+usage: run.py [FOLDER]                    the folder has the archive; bindings/lib/x86_64 if not
+                                          said, or else prebuilt/x86_64
+       run.py [FOLDER] CLIENT CACHE SEED STEPS
+                                          one pair of these (c, go, rust, python, js) alone
 
 The module for JavaScript is that of the folder wasm32 beside the archive's.
 
@@ -29,10 +28,11 @@ sys.path.insert(0, os.path.join(TOP, "tests"))
 
 from seeds import seeds  # noqa: E402  (it lies in the folder above)
 
-JOIN = os.path.join(TOP, "tests", "joined", "join")
+JOIN = os.path.join(TOP, "tests", "joined", "join.py")
 LANGUAGES = ("c", "go", "rust", "python", "js")
 STEPS = 45_000  # of each pair, by each seed: a million in all
-FEWER_STEPS = 9_000  # of a client in Python or JavaScript, which takes more time for a step
+FEWER_STEPS = 9_000  # of an end in Python or JavaScript, which takes more time for a step
+SLOWER = {"python", "js"}
 
 
 def bindings(language):
@@ -53,12 +53,12 @@ def c_ends(archives, work):
     if not compiler:
         return None
     commands = []
-    for player, end in (("scenes", "client"), ("cache_scenes", "cache")):
-        program = os.path.join(work, player)
+    for name, end in (("router_end", "client"), ("cache_end", "cache")):
+        program = os.path.join(work, name)
         run([*shlex.split(compiler), "-std=c11", "-O1", "-g", "-fsanitize=address,undefined", "-o",
-             program, f"{player}.c", f"rtr_{end}.c", os.path.join(archives, "librtr_wire.a")],
+             program, f"{name}.c", f"rtr_{end}.c", os.path.join(archives, "librtr_wire.a")],
             bindings("c"))
-        commands.append([program, "--joined"])
+        commands.append([program])
     return commands
 
 
@@ -84,25 +84,25 @@ def rust_ends(archives, work):
         if message.get("executable"):
             programs[message["target"]["kind"][0]] = message["executable"]
     return ([programs["test"], "--exact", "joined"],
-            [programs["lib"], "--exact", "server::scenes::joined"])
+            [programs["lib"], "--exact", "server::cache_end::joined"])
 
 
 def python_ends(archives, work):
     library = os.path.join(work, "librtr_wire.so")
-    run([os.path.join(TOP, "bindings", "package"), "--archives", os.path.dirname(archives),
+    run([os.path.join(TOP, "bindings", "package.py"), "--archives", os.path.dirname(archives),
          "--library", library], TOP)
     package = bindings("python")
-    client = ["env", f"RTR_WIRE_LIBRARY={library}", f"PYTHONPATH={package}",
-              "PYTHONDONTWRITEBYTECODE=yes", sys.executable, "-m", "tests.joined"]
-    return client, None
+    end = ["env", f"RTR_WIRE_LIBRARY={library}", f"PYTHONPATH={package}",
+           "PYTHONDONTWRITEBYTECODE=yes", sys.executable, "-m"]
+    return [*end, "tests.router_end"], [*end, "tests.cache_end"]
 
 
 def js_ends(archives, _):
-    """A client alone."""
     module = os.path.join(os.path.dirname(archives), "wasm32", "rtr_wire.wasm")
     if not shutil.which("node") or not os.path.exists(module):
         return None
-    return ["node", os.path.join(bindings("js"), "tests", "joined.js"), module], None
+    return [["node", os.path.join(bindings("js"), "tests", f"{end}_end.js"), module]
+            for end in ("router", "cache")]
 
 
 def main():
@@ -120,12 +120,12 @@ def main():
             ends[language] = made(archives, work)
             if not ends[language]:
                 tool = {"c": "gcc", "rust": "cargo", "js": "node or module"}.get(language, language)
-                print(f"!!! tests/joined/run: no {tool} here: SKIPPED the ends in {language}")
+                print(f"!!! tests/joined/run.py: no {tool} here: SKIPPED the ends in {language}")
         if arguments:
             runs = [arguments]
         else:
             here = [language for language in LANGUAGES if ends[language]]
-            runs = [(*pair, str(seed), str(FEWER_STEPS if pair[0] in ("python", "js") else STEPS))
+            runs = [(*pair, str(seed), str(FEWER_STEPS if SLOWER & {*pair} else STEPS))
                     for seed in seeds("bindings")
                     for pair in itertools.product(here, here) if ends[pair[1]][1]]
         with concurrent.futures.ThreadPoolExecutor(2) as workers:
@@ -139,7 +139,8 @@ def join(ends, client, cache, seed, steps):
         [JOIN, seed, steps, shlex.join(ends[client][0]), shlex.join(ends[cache][1])],
         text=True, stdout=subprocess.PIPE, stderr=subprocess.STDOUT)
     if done.returncode:
-        print(f"{done.stdout}once more: tests/joined/run {client} {cache} {seed} {steps}")
+        again = f"tests/joined/run.py {client} {cache} {seed} {steps}"
+        print(f"{done.stdout}once more: {again}", flush=True)  # os._exit writes no buffer
         os._exit(1)
     return int(done.stdout.split()[0])
 

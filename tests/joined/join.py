@@ -2,7 +2,7 @@
 """Connects a client and a cache, programs that read their events from standard input, and prints
 where they break their rules (README.md).
 
-usage: join SEED STEPS CLIENT CACHE     both commands, with their arguments"""
+usage: join.py SEED STEPS CLIENT CACHE     both commands, with their arguments"""
 import os
 import shlex
 import sys
