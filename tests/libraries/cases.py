@@ -3,8 +3,9 @@
 
 usage: cases.py [--seed N] [--inputs N] > CASES
 
-The inputs are those of the table of whole runs in `tests/programs/runs`, and N of the hostile ones
-of `fuzz/inputs.py`. Each is a case as it is, and a case for one version, which varies. A case is
+The inputs are those of the table of whole runs in `tests/programs/runs.py`, and N of the hostile
+ones of `fuzz/inputs.py`. Each is a case as it is, and a case for one version, which varies. A case
+is
 
 - one byte each for the version, or 255, the status and the detail;
 - eight bytes each, little-endian, for the payload units, the forms, the bytes taken, the length of
@@ -12,16 +13,15 @@ of `fuzz/inputs.py`. Each is a case as it is, and a case for one version, which 
 - the input and the form.
 """
 import argparse
-import importlib.machinery
-import importlib.util
 import os
 import random
 import struct
 import sys
 
 TOP = os.path.realpath(os.path.join(os.path.dirname(os.path.abspath(__file__)), "..", ".."))
-sys.path.insert(0, os.path.join(TOP, "fuzz"))
+sys.path[:0] = [os.path.join(TOP, ".ci"), os.path.join(TOP, "fuzz")]
 
+import built
 import expected
 import inputs
 
@@ -34,11 +34,7 @@ MOST = 1 << 18
 
 def runs():
     """Yields the inputs of the table of whole runs."""
-    path = os.path.join(TOP, "tests", "programs", "runs")
-    loader = importlib.machinery.SourceFileLoader("runs", path)
-    table = importlib.util.module_from_spec(importlib.util.spec_from_loader("runs", loader))
-    loader.exec_module(table)
-    return [row[2] for row in table.RUNS]
+    return [row[2] for row in built.script("tests/programs/runs.py").RUNS]
 
 
 def detail(row, rest):

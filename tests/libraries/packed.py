@@ -1,5 +1,5 @@
 #!/usr/bin/env python3
-"""What tests/libraries/packages asks of the packages that bindings/package makes.
+"""What tests/libraries/packages asks of the packages that bindings/package.py makes.
 
 usage: packed.py names FOLDER..        each text file names only files that there are, and each
                                        folder has what each package has
@@ -40,8 +40,8 @@ IN_EACH_C_LIBRARY = {"memcpy", "memmove", "memset"}  # ISO C, 7.24
 
 
 def package():
-    """Returns the script bindings/package as a module."""
-    loader = SourceFileLoader("package", str(TOP / "bindings" / "package"))
+    """Returns the script bindings/package.py as a module."""
+    loader = SourceFileLoader("package", str(TOP / "bindings" / "package.py"))
     made = module_from_spec(spec_from_loader("package", loader))
     loader.exec_module(made)
     return made

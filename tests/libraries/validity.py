@@ -1,6 +1,6 @@
 #!/usr/bin/env python3
 """Routes and VRPs, and the validity of each route by RFC 6811: `covering`, `mismatch` and `state`,
-which check all VRPs. `interop/run` uses it, too.
+which check all VRPs. `interop/run.py` uses it, too.
 
 usage: validity.py [SEED] > TABLES    for the tests of the bindings
 

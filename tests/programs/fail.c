@@ -1,5 +1,5 @@
 /* Makes reads of standard input and writes of standard output fail in a program that preloads it,
- * for `tests/programs/faults`, and limits the bytes per call.
+ * for `tests/programs/faults.py`, and limits the bytes per call.
  *
  * READING is the read that fails, and WRITING the first write that fails, with all after it, both
  * counted from 1, or 0. MOST is the most bytes of a call, or 0. SEEN is the file descriptor that

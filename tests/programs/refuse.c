@@ -1,4 +1,4 @@
-/* Makes one allocation fail in a program that preloads it, for `tests/programs/growth`.
+/* Makes one allocation fail in a program that preloads it, for `tests/programs/growth.py`.
 
    REFUSED is the number of the allocation, counted from 1. MARK is 0, or the size of the two
    allocations between which it counts. When the allocation fails, one byte is written to the file

@@ -1,14 +1,5 @@
-#!/usr/bin/env python3
-"""Writes the families of scenes: each kind of unit in each state, and cut answers (README.md).
-
-usage: make [--cache] DIRECTORY    those of a router, or those of a cache
-"""
+"""The families of scenes: each kind of unit in each state, and what is cut (README.md)."""
 import itertools
-import os
-import sys
-
-sys.dont_write_bytecode = True
-sys.path.insert(0, os.path.dirname(os.path.abspath(__file__)))
 
 import cache_cuts
 import cache_outcomes
@@ -81,20 +72,8 @@ def units_at_cache():
                                              of_unit)
 
 
-def main():
-    arguments = sys.argv[1:]
-    of_cache = arguments[:1] == ["--cache"]
-    if len(arguments) != 1 + of_cache:
-        sys.exit(__doc__)
-    os.makedirs(arguments[-1], exist_ok=True)
-    if of_cache:
-        scenes = itertools.chain(units_at_cache(), cache_cuts.scenes())
-    else:
-        scenes = itertools.chain(units_in_states(), cuts.scenes())
-    for scene in scenes:
-        path = os.path.join(arguments[-1], scene.name + ".scene")
-        with open(path, "w", encoding="ascii") as file:
-            file.write(scene.text())
-
-
-main()
+def scenes_of(end):
+    """Generates the families of a router or a cache."""
+    if end == "cache":
+        return itertools.chain(units_at_cache(), cache_cuts.scenes())
+    return itertools.chain(units_in_states(), cuts.scenes())

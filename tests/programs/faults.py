@@ -22,7 +22,7 @@ import built  # noqa: E402  (it lies in another folder)
 SECONDS = 60
 
 # Units as they come, and their forms.
-UNITS = built.script("tests/programs/cleans")
+UNITS = built.script("tests/programs/cleans.py")
 NOTIFY, QUERY, RESPONSE, REPORT = UNITS.NOTIFY, UNITS.QUERY, UNITS.RESPONSE, UNITS.REPORT
 ASKS_STRAY, ASKS, RESET_STRAY = UNITS.ASKS_STRAY, UNITS.ASKS, UNITS.RESET_STRAY
 IPV4_STRAY, IPV4, IPV6_STRAY, IPV6 = UNITS.IPV4_STRAY, UNITS.IPV4, UNITS.IPV6_STRAY, UNITS.IPV6

@@ -1,7 +1,7 @@
 #!/usr/bin/env python3
 """Runs the program `rtr_normalise` and compares the output and status of each run.
 
-usage: runs [PROGRAM]..
+usage: runs.py [PROGRAM]..
 
 Without PROGRAM it runs those of `built.py`. Each row of RUNS is one run: the arguments, a
 redirection of the shell, the input, and then the expected output, line on standard error and

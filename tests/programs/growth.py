@@ -1,5 +1,5 @@
 #!/usr/bin/env python3
-"""Makes each allocation fail in turn: those of the calls in the table of `rtr_rows`, and those of
+"""Makes each allocation fail in turn: those of the calls in the table of `test_rows`, and those of
 whole runs of `rtr_normalise`, `rtr_list`, `rtr_diff`, `rtr_validate` and `rtr_clean`; of `rtr_list`
 and `rtr_clean` also over a named pipe, which loses what was written to it if it is opened twice.
 
@@ -83,7 +83,7 @@ CLEAN_WORDS = b"[--version 0|1|2] [FILE]"
 LIST_WORDS = b"[--json | --check | --summary | --csv | --vrps] [FILE]"
 
 # The summary of all units of an input, and that where there is no memory for a first one.
-LISTINGS = built.script("tests/programs/listings")
+LISTINGS = built.script("tests/programs/listings.py")
 SUMMARY = LISTINGS.summary(KEY_INPUT).encode()
 SUMMARY_OF_NONE = LISTINGS.summary(b"", "no").encode()
 
@@ -195,7 +195,7 @@ def piped(shim, command, path, given, refused):
 def table():
     """The lines of tests/rows that give bytes a name, and the rows whose allocations are made to
     fail, each with its own name."""
-    play = built.script("tests/rows/play")
+    play = built.script("tests/rows/play.py")
     named = play.names_of_rows(play.FILES)
     names, rows = [], []
     for line in play.joined(play.FILES).splitlines():
@@ -209,7 +209,7 @@ def table():
 
 def row_problem(shim, names, name, row):
     """Returns what is wrong with the runs of a row, if anything is."""
-    command = [built.program("rtr_rows"), str(MARK)]
+    command = [built.program("test_rows"), str(MARK)]
     given = f"{names}\n{row}\n".encode()
     said = [ran.stdout.decode().split("\n")[0] for ran in runs(shim, command, given, MARK)]
     answers = row.split("=>")[2].strip()

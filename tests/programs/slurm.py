@@ -2,7 +2,7 @@
 """Runs `rtr_make --slurm` and `rtr_validate --slurm` with the examples of RFC 8416 and with files
 that it doesn't allow.
 
-usage: slurm [--validate] [PROGRAM]..
+usage: slurm.py [--validate] [PROGRAM]..
 
 With no PROGRAM it runs those of `built.py`. Payloads that are expected are written by hand here, and
 a route is valid exactly if an expected VRP matches it (RFC 6811 section 2). `rtr_validate` reads

@@ -2,7 +2,7 @@
 """Tries the seeded bugs that the gate leaves out: the edits in crates/NAME/more-must-fail/, each of
 which the prover has to refuse.
 
-usage: tests/bugs [--check] [NAME..]
+usage: tests/bugs.py [--check] [NAME..]
 
 The gate (rt ci) tries those in must-fail/, some ten of a crate that say most of its contracts: each
 costs half a minute of processor time. This tries the others, of all crates or of those named, in a
@@ -80,7 +80,7 @@ def main(words):
     crates = [folder.parent for folder in sorted((TOP / "crates").glob("*/more-must-fail"))]
     unknown = set(names) - {crate.name for crate in crates}
     if unknown:
-        sys.exit(f"tests/bugs: there are no further edits of {', '.join(sorted(unknown))}")
+        sys.exit(f"tests/bugs.py: there are no further edits of {', '.join(sorted(unknown))}")
     if "--check" in words:
         return 0 if check(sorted((TOP / "crates").iterdir())) else 1
     crates = [crate for crate in crates if not names or crate.name in names]

@@ -2,7 +2,7 @@
 """Runs the module of bindings/js in Firefox without a window, with the sample of rtr_list, and
 compares its lines with those of rtr_list. Without Firefox it prints that it is skipped.
 
-usage: firefox
+usage: firefox.py
 
 The program and the module are those of `built.py`.
 """
@@ -80,13 +80,13 @@ def said_in(firefox, folder, modules):
 def main():
     firefox = shutil.which("firefox") or shutil.which("firefox-esr")
     if firefox is None:
-        print("!!! tests/pages/firefox: no firefox here: SKIPPED the module in Firefox")
+        print("!!! tests/pages/firefox.py: no firefox here: SKIPPED the module in Firefox")
         return
     try:
         modules = {f"/prebuilt/{memory}/rtr_wire.wasm": built.module(memory)
                    for memory in built.MEMORIES}
     except SystemExit as missing:
-        print(f"!!! tests/pages/firefox: {missing}: SKIPPED the module in Firefox")
+        print(f"!!! tests/pages/firefox.py: {missing}: SKIPPED the module in Firefox")
         return
     with open(SAMPLE, "rb") as sample:
         wanted = subprocess.run([built.program("rtr_list")], stdin=sample, check=True,

@@ -1,7 +1,7 @@
 #!/usr/bin/env python3
 """Runs the program `rtr_make` and compares the output and status of each run.
 
-usage: makes [PROGRAM]..
+usage: makes.py [PROGRAM]..
 
 Without PROGRAM it runs those of `built.py`. Each row of RUNS is one run: the arguments, a
 redirection of the shell, the standard input, and then the expected output, lines on standard error
@@ -22,11 +22,9 @@ sys.path.insert(0, os.path.join(TOP, ".ci"))
 import built  # noqa: E402  (it lies in another folder)
 import samples  # noqa: E402
 from places import places  # noqa: E402
+from redirected import run  # noqa: E402
 
 SAMPLES = os.path.join(TOP, "crates", "rtr_make", "data")
-
-# The time limit of a run in seconds.
-SECONDS = 60
 
 # More allocations than any run makes.
 MOST = 200
@@ -636,13 +634,6 @@ def told(line):
     return "".join(f"rtr_make: {part}\n" for part in line.split("\n"))
 
 
-def run(program, arguments, redirection, given):
-    """Returns the output, standard error and status of the program."""
-    words = ["sh", "-c", f'exec "$0" "$@" {redirection}', program, *arguments]
-    done = subprocess.run(words, input=given, capture_output=True, timeout=SECONDS)
-    return done.stdout, done.stderr.decode(), done.returncode
-
-
 def check_rows(program):
     wrong = 0
     for place, row in zip(places(globals()), RUNS):
@@ -702,7 +693,7 @@ def check_growth(program):
     """Makes each allocation fail in turn: the program writes nothing then, or everything."""
     if not subprocess.run(["sh", "-c", "command -v rt"], capture_output=True).stdout:
         return 0
-    growth = built.script("tests/programs/growth")
+    growth = built.script("tests/programs/growth.py")
     wrong = 0
     with tempfile.TemporaryDirectory() as folder:
         shim = os.path.join(folder, "refuse.so")

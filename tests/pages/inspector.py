@@ -2,7 +2,7 @@
 """Drives the page of inspector/ in Chromium without a window: drops recordings on it, and compares
 its content with the output of rtr_list and rtr_diff.
 
-usage: inspector [--pictures FOLDER]    with --pictures it also writes pictures of the page
+usage: inspector.py [--pictures FOLDER]    with --pictures it also writes pictures of the page
 
 The programs and the module are those of `built.py`. Without Chromium it prints that it is skipped.
 """
@@ -637,12 +637,12 @@ def begin(driven, url):
 def main():
     path = browser.found()
     if path is None:
-        print("!!! tests/pages/inspector: no chromium here: SKIPPED the page of inspector/")
+        print("!!! tests/pages/inspector.py: no chromium here: SKIPPED the page of inspector/")
         return
     try:
         module = {"/prebuilt/wasm32/rtr_wire.wasm": built.module()}
     except SystemExit as missing:
-        print(f"!!! tests/pages/inspector: {missing}: SKIPPED the page of inspector/")
+        print(f"!!! tests/pages/inspector.py: {missing}: SKIPPED the page of inspector/")
         return
     driven = browser.Browser(path)
     try:

@@ -1,5 +1,5 @@
 #!/usr/bin/env python3
-"""Gives `rtr_rows` generated rows: calls whose input, reader, writer or output stops after each
+"""Gives `test_rows` generated rows: calls whose input, reader, writer or output stops after each
 number of bytes, headers of all types, versions and lengths, and all short runs of changes.
 
 The expected answers are computed from docs/PROTOCOL.md, for headers by `fuzz/expected.py`. Each row
@@ -358,7 +358,7 @@ def main():
     if sys.argv[1:] == ["--print"]:
         print("\n".join(rows))
         return
-    for program in built.needed("rtr_rows"):
+    for program in built.needed("test_rows"):
         ran = subprocess.run([program], input="\n".join(rows).encode(), capture_output=True)
         if ran.returncode != 0 or ran.stdout:
             sys.exit(f"{ran.stdout.decode()}{ran.stderr.decode()}rows: {program} FAILED")

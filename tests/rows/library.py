@@ -2,7 +2,7 @@
 """Plays those rows of this folder whose calls the archive for C has, too, through a shared library
 that the C compiler links of it, and names those that fail by their file and line.
 
-usage: library
+usage: library.py
 
 The archive is that of `built.py`. Where a row says more than a call of the archive answers, as the
 report that is owed or the bytes of an output that was too short, that isn't compared. Prints
@@ -21,7 +21,7 @@ sys.path[:0] = [os.path.join(TOP, ".ci"), os.path.join(TOP, "bindings", "python"
 
 import built  # noqa: E402  (it lies in another folder)
 
-PLAY = built.script("tests/rows/play")
+PLAY = built.script("tests/rows/play.py")
 
 # What an output holds before a call, and more than any row's output has.
 FILL, MOST_UNITS = 0xEE, 2**32 - 1
@@ -319,7 +319,7 @@ def main():
     archive = os.path.dirname(os.path.dirname(built.needed("rtr_c")[0]))
     with tempfile.TemporaryDirectory() as folder:
         linked = os.path.join(folder, "librtr_wire.so")
-        subprocess.run([os.path.join(TOP, "bindings", "package"), "--archives", archive,
+        subprocess.run([os.path.join(TOP, "bindings", "package.py"), "--archives", archive,
                         "--library", linked], check=True)
         os.environ["RTR_WIRE_LIBRARY"] = linked
         return play(Rows())

@@ -2,7 +2,7 @@
 """Runs `rtr_make` over changed lists, and compares the payloads it reads with those of short
 readers.
 
-usage: mutants [PROGRAM]..
+usage: mutants.py [PROGRAM]..
 
 Without PROGRAM it runs those of `built.py`. The lists are the samples of validators in
 `crates/rtr_make/data`, each cut off after each of its bytes, each with a byte changed, left out or

@@ -2,7 +2,7 @@
 """Runs the programs that print colours on a terminal, `rtr_list` and `rtr_diff`, on a terminal and
 elsewhere.
 
-usage: colours
+usage: colours.py
 
 On a terminal the line of each announcement is green, and of each withdrawal red, by the bytes of
 its unit; the text without the escape sequences is that of a pipe. Through a pipe, with options for
@@ -129,7 +129,7 @@ def compare(found, expected, *run):
     """Reports whether a run did what is expected, and prints how it differs."""
     if found == expected:
         return True
-    print(f"tests/programs/colours: {run}: status {found[1]}, not {expected[1]}, of "
+    print(f"tests/programs/colours.py: {run}: status {found[1]}, not {expected[1]}, of "
           f"{len(found[0])} bytes for {len(expected[0])}: {found[0][:300]} for {expected[0][:300]}")
     return False
 
@@ -186,7 +186,7 @@ def main():
     with tempfile.TemporaryDirectory() as folder:
         good = [*check_list(folder), *check_diff(folder)]
     if not all(good):
-        sys.exit(f"tests/programs/colours: FAILED, {good.count(False)} of {len(good)}")
+        sys.exit(f"tests/programs/colours.py: FAILED, {good.count(False)} of {len(good)}")
 
 
 if __name__ == "__main__":

@@ -4,7 +4,7 @@ their last argument. With the same options they print and end as on standard inp
 can't be opened or read, and wrong arguments, get their line and status. Prints nothing if all is
 well.
 
-usage: named
+usage: named.py
 """
 import os
 import subprocess
@@ -64,7 +64,7 @@ def compare(name, words, expected, data=b""):
     """Runs a program, and prints how it differs from what is expected."""
     found = run([built.program(name), *words], data)
     if found != expected:
-        print(f"tests/programs/named: {name} {words}: {found}, not {expected}")
+        print(f"tests/programs/named.py: {name} {words}: {found}, not {expected}")
     return found == expected
 
 
@@ -109,7 +109,8 @@ def faulty(name, folder):
             output, said, status = run([built.program(name), *words, path])
             is_quiet = not output or words == ["--summary"]
             if (said.replace(NO_UNITS, ""), status) != (line, 1) or not is_quiet:
-                print(f"tests/programs/named: {name} {words} {content}: {output}, {said}, {status}")
+                print(f"tests/programs/named.py: {name} {words} {content}: {output}, {said}, "
+                      f"{status}")
                 yield False
             yield True
 

@@ -9,7 +9,7 @@ A million units of each kind, and more than a thousand of 65535 bytes, go throug
 - `rtr_clean`;
 - the two tables of `rtr_list`, and `rtr_diff`, whose data doesn't grow, as each is withdrawn again;
 - as lines of routes, `rtr_validate`, whose file has one VRP;
-- as keys, ASPAs, prefixes and refused prefixes, calls of `same_meaning` that `rtr_rows` makes, and as
+- as keys, ASPAs, prefixes and refused prefixes, calls of `same_meaning` that `test_rows` makes, and as
   all kinds, calls of `apply`.
 
 Each run has ROOM of address space. A run that kept 32 bytes of each unit, the least that malloc
@@ -154,7 +154,7 @@ def row_problem(count, row):
     """What is wrong with `count` calls of the row, if anything is."""
     names = "".join(f"{name} = {unit.hex()}\n" for name, unit in NAMES.items())
     line = f"{row}\n".encode()
-    return problem("rtr_rows", [], line, count, b"", 0, names.encode())
+    return problem("test_rows", [], line, count, b"", 0, names.encode())
 
 
 def runs(alone, listed):

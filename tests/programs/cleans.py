@@ -1,7 +1,7 @@
 #!/usr/bin/env python3
 """Runs the program `rtr_clean` and compares the output and status of each run.
 
-usage: cleans [PROGRAM]..
+usage: cleans.py [PROGRAM]..
 
 Without PROGRAM it runs those of `built.py`. Each row of RUNS is one run: the arguments, a
 redirection of the shell, the standard input, and then the expected output, line on standard error
@@ -23,6 +23,7 @@ import built  # noqa: E402  (it lies in another folder, as they all do)
 import samples  # noqa: E402
 import sessions  # noqa: E402
 from places import places  # noqa: E402
+from redirected import run  # noqa: E402
 
 # The time limit of a run in seconds.
 SECONDS = 60
@@ -264,13 +265,6 @@ def expected(data, version):
         data = data[size:]
         place += size
     return output, "", 0
-
-
-def run(program, arguments, redirection, given):
-    """Returns the output, standard error and status of the program."""
-    words = ["sh", "-c", f'exec "$0" "$@" {redirection}', program, *arguments]
-    done = subprocess.run(words, input=given, capture_output=True, timeout=SECONDS)
-    return done.stdout, done.stderr.decode(), done.returncode
 
 
 def shown(data):

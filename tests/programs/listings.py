@@ -1,8 +1,8 @@
 #!/usr/bin/env python3
 """Runs the program `rtr_list` and compares the output and status of each run.
 
-usage: listings [PROGRAM]..
-       listings --findings    prints recordings with their `--check` lines, for the tests of the
+usage: listings.py [PROGRAM]..
+       listings.py --findings    prints recordings with their `--check` lines, for the tests of the
                               languages: the length of each recording in four bytes, the length of
                               its lines, and both
 

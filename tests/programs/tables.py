@@ -1,7 +1,7 @@
 #!/usr/bin/env python3
 """Runs `rtr_list --csv` and `rtr_list --vrps`, and compares the output and status of each run.
 
-usage: tables [PROGRAM]..
+usage: tables.py [PROGRAM]..
 
 Without PROGRAM it runs those of `built.py`. Each row of RUNS is one run: the arguments, a
 redirection of the shell, the standard input, and then the expected output, line on standard error
@@ -23,10 +23,8 @@ sys.path.insert(0, os.path.join(TOP, ".ci"))
 import built  # noqa: E402  (it lies in another folder)
 import samples  # noqa: E402
 from places import places  # noqa: E402
+from redirected import run  # noqa: E402
 
-
-# The time limit of a run in seconds.
-SECONDS = 60
 
 # More allocations than any run makes.
 MOST = 200
@@ -332,13 +330,6 @@ ALIKE = [
 # fmt: on
 
 
-def run(program, arguments, redirection, given):
-    """Returns the output, standard error and status of the program."""
-    words = ["sh", "-c", f'exec "$0" "$@" {redirection}', program, *arguments]
-    done = subprocess.run(words, input=given, capture_output=True, timeout=SECONDS)
-    return done.stdout, done.stderr.decode(), done.returncode
-
-
 def check_rows(program):
     wrong = 0
     for place, row in zip(places(globals()), RUNS):
@@ -505,7 +496,7 @@ def check_growth(program):
     """Makes each allocation fail in turn: the program writes nothing then, or everything."""
     if not subprocess.run(["sh", "-c", "command -v rt"], capture_output=True).stdout:
         return 0
-    growth = built.script("tests/programs/growth")
+    growth = built.script("tests/programs/growth.py")
     wrong = 0
     given = RESPONSE_ELSE + KEY + LESS + END_ELSE + REPORT
     given += RESPONSE + V6 + V4 + END + RESPONSE + OTHER + ASPA + KEY + END

@@ -2,7 +2,7 @@
 """Compares the output of rtr_change_line and rtr_change_json with that of the program `rtr_diff`
 for the same changes: random units, also with free bits set, that announce or withdraw payloads.
 
-usage: changes [SEED]
+usage: changes.py [SEED]
 
 Without SEED it uses those of `seeds.py`. The archive and the programs are those of `built.py`.
 Prints nothing if all is well.
@@ -113,12 +113,12 @@ def main():
     if len(sys.argv) > 2:
         print(__doc__)
         return 2
-    picked = [int(sys.argv[1])] if sys.argv[1:] else seeds("crates/rtr_texts")
+    picked = [int(sys.argv[1])] if sys.argv[1:] else seeds("crates/text_lines")
     archive = os.path.dirname(os.path.dirname(built.needed("rtr_c")[0]))
     wrong = []
     with tempfile.TemporaryDirectory() as folder:
         linked = os.path.join(folder, "librtr_wire.so")
-        subprocess.run([os.path.join(TOP, "bindings", "package"), "--archives", archive,
+        subprocess.run([os.path.join(TOP, "bindings", "package.py"), "--archives", archive,
                         "--library", linked], check=True)
         os.environ["RTR_WIRE_LIBRARY"] = linked
         from rtr_wire import _library, _rtr  # noqa: E402  (the library is named first)

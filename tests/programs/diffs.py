@@ -1,7 +1,7 @@
 #!/usr/bin/env python3
 """Runs the program `rtr_diff` and compares the output and status of each run.
 
-usage: diffs [PROGRAM]..
+usage: diffs.py [PROGRAM]..
 
 Without PROGRAM it runs those of `built.py`. Each row of RUNS is one run: the arguments, a
 redirection of the shell, the files `old` and `new`, the standard input, and then the expected
@@ -12,19 +12,15 @@ turn the old sequence into the new. Prints nothing if all is well.
 import json
 import os
 import random
-import subprocess
 import sys
-import tempfile
 
 TOP = os.path.realpath(os.path.join(os.path.dirname(os.path.abspath(__file__)), "..", ".."))
 sys.path.insert(0, os.path.join(TOP, ".ci"))
 
 import built  # noqa: E402  (it lies in another folder)
+import redirected  # noqa: E402
 import samples  # noqa: E402
 from places import places  # noqa: E402
-
-# The time limit of a run in seconds.
-SECONDS = 60
 
 KEY_ID = "0102030405060708090a0b0c0d0e0f1011121314"
 
@@ -226,14 +222,8 @@ RUNS = [
 
 
 def run(program, arguments, redirection, old, new, given):
-    """Returns the output, standard error and status of the program."""
-    with tempfile.TemporaryDirectory() as folder:
-        for name, data in (("old", old), ("new", new)):
-            with open(os.path.join(folder, name), "wb") as file:
-                file.write(data)
-        words = ["sh", "-c", f'exec "$0" "$@" {redirection}', program, *arguments]
-        done = subprocess.run(words, input=given, capture_output=True, timeout=SECONDS, cwd=folder)
-        return done.stdout, done.stderr.decode(), done.returncode
+    """Returns the output, standard error and status of the program over two recordings."""
+    return redirected.run(program, arguments, redirection, given, {"old": old, "new": new})
 
 
 def check_rows(program):

@@ -1,7 +1,7 @@
 #!/usr/bin/env python3
 """Runs programs over changed recordings, and compares what they take with a short reader of them.
 
-usage: recordings [--all] [PROGRAM]..
+usage: recordings.py [--all] [PROGRAM]..
 
 Without PROGRAM it runs `rtr_list`, `rtr_diff` and `rtr_validate` of `built.py`. The recordings have
 several answers, sessions, queries, cache resets, notifies and reports; they are cut off at each of

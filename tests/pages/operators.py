@@ -2,7 +2,7 @@
 """Runs the commands of docs/OPERATORS.md, and those of the pages in AT_TOP, unchanged, and compares
 their output.
 
-usage: operators [--write] with --write the output is written into the pages
+usage: operators.py [--write] with --write the output is written into the pages
 
 They run one after the other in a fresh folder, with the programs of `built.py` in PATH, also in the
 place of those in `prebuilt/x86_64/`: those of OPERATORS.md beside a cache at $CACHE that sends
@@ -40,8 +40,8 @@ PAGE = "docs/OPERATORS.md"
 AT_TOP = ["README.md", "docs/PROGRAMS.md", "docs/C.md"]
 PREBUILT = re.compile(r"prebuilt/x86_64/(rtr_\w+)")
 # The files with the lines of findings, and the words before them.
-FINDINGS = [("rtr_findings/src/finding.rt", "impl fmt::Display for Finding"),
-            ("rtr_times/src/times.rt", "pub fn text")]
+FINDINGS = [("text_findings/src/finding.rt", "impl fmt::Display for Finding"),
+            ("session_times/src/times.rt", "pub fn text")]
 FILE = re.compile(r"<!-- file: (\S+) -->$")
 USAGE = re.compile(r"usage: (rtr_\w+)")
 COMMAND = "$ "
@@ -77,7 +77,7 @@ PIECE = 13
 
 def warn(text):
     """Prints what is skipped."""
-    print(f"!!! tests/pages/operators: {text}", file=sys.stderr)
+    print(f"!!! tests/pages/operators.py: {text}", file=sys.stderr)
 
 
 def answer(connection):

@@ -1,10 +1,10 @@
 #!/usr/bin/env python3
-"""Gives `rtr_rows` the rows of this folder, which are by kind of unit, and names those that fail by
+"""Gives `test_rows` the rows of this folder, which are by kind of unit, and names those that fail by
 their file and line, with what they are for.
 
-usage: play [FILE..]    with FILE, as aspa, the rows of these files alone
-       play --check     says whether crates/rtr_rows/stdin is what the files have together
-       play --write     makes it so
+usage: play.py [FILE..]    with FILE, as aspa, the rows of these files alone
+       play.py --check     says whether crates/test_rows/stdin is what the files have together
+       play.py --write     makes it so
 
 `rt ci` and `rt run` give the program that file. The programs are those of `built.py`. Prints
 nothing if all is well.
@@ -24,7 +24,7 @@ WORDS = "words"
 FILES = ("ipv4_prefix", "ipv6_prefix", "router_key", "aspa", "end_of_data", "session",
          "error_report", "several", "routes")
 
-WHOLE = os.path.join(TOP, "crates", "rtr_rows", "stdin")
+WHOLE = os.path.join(TOP, "crates", "test_rows", "stdin")
 ORIGIN = "// Made of tests/rows by its `play --write`.\n\n"
 
 
@@ -55,7 +55,7 @@ def names_of_rows(names):
 def play(names):
     """Has each program play the rows. Answers whether all are met."""
     given, named, is_met = joined(names), names_of_rows(names), True
-    for program in built.needed("rtr_rows"):
+    for program in built.needed("test_rows"):
         ran = subprocess.run([program], input=given, capture_output=True, text=True, check=False)
         if ran.returncode == 0 and not ran.stdout:
             continue
@@ -76,7 +76,8 @@ def main():
         return 0
     if words == ["--check"]:
         if read(WHOLE) != whole:
-            print("rows: crates/rtr_rows/stdin isn't what tests/rows has: tests/rows/play --write")
+            print("rows: crates/test_rows/stdin isn't what tests/rows has: tests/rows/play.py "
+                  "--write")
             return 1
         return 0
     if not set(words) <= set(FILES):

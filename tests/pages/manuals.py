@@ -2,18 +2,16 @@
 """Runs the examples of the man pages of the programs in Rattle unchanged, and compares their
 output; and checks each page with mandoc.
 
-usage: manuals
+usage: manuals.py
 
 Of each page the blocks `.Bd -literal` below EXAMPLES are run one after the other in a fresh folder,
-beside the cache of `operators`, in the place of cache.example:323, with the programs that it finds.
+beside the cache of `operators.py`, in the place of cache.example:323, with the programs that it finds.
 A line that begins with `$ ` is a command, with the lines after it that a `\\\\`, a `|` or an open
 quote leads on to; the others are what it prints, on standard error too. Each page has an example.
 A block with a program that isn't here is left out, loudly, and one of socat, which runs until it is
 stopped, without a word: docs/OPERATORS.md has the same. Without rtr-client another program stands
 in its place, loudly, that records the same.
 """
-import importlib.machinery
-import importlib.util
 import os
 import re
 import shutil
@@ -25,17 +23,7 @@ import threading
 
 sys.dont_write_bytecode = True
 
-
-def load(name):
-    """Loads a script of this folder as a module."""
-    path = os.path.join(os.path.dirname(os.path.abspath(__file__)), name)
-    loader = importlib.machinery.SourceFileLoader(name, path)
-    module = importlib.util.module_from_spec(importlib.util.spec_from_loader(name, loader))
-    loader.exec_module(module)
-    return module
-
-
-operators = load("operators")
+import operators
 
 PAGES = ["rtr_clean", "rtr_diff", "rtr_list", "rtr_make", "rtr_normalise", "rtr_validate"]
 BLOCK = re.compile(r"^\.Bd -literal.*?\n(.*?)^\.Ed$", re.MULTILINE | re.DOTALL)
@@ -60,7 +48,7 @@ def stand_in(path):
         script.write(STAND_IN)
         session.write(operators.QUERY + operators.ANSWER)
     os.chmod(place, 0o755)
-    print("!!! tests/pages/manuals: no rtr-client here: SKIPPED it in examples of man pages")
+    print("!!! tests/pages/manuals.py: no rtr-client here: SKIPPED it in examples of man pages")
 
 
 def plain(line):
@@ -102,7 +90,8 @@ def run_block(page, block, shell, cache):
               if re.search(rf"\b{name}\b", text)
               and not shutil.which(name, path=shell.environment["PATH"])]
     if absent:
-        print(f"!!! tests/pages/manuals: no {', '.join(absent)} here: SKIPPED an example of {page}")
+        print(f"!!! tests/pages/manuals.py: no {', '.join(absent)} here: SKIPPED an example of "
+              f"{page}")
     if absent or LISTENS in text:
         return 0, 0
     for command, wanted in commands(block):
@@ -157,7 +146,7 @@ def main():
         counts = [check(name, cache, path) for name in PAGES]
     ran, wrong = map(sum, zip(*counts))
     if not shutil.which("mandoc"):
-        print("!!! tests/pages/manuals: no mandoc here: SKIPPED the lints of man pages")
+        print("!!! tests/pages/manuals.py: no mandoc here: SKIPPED the lints of man pages")
     print(f"{ran} commands of man pages run, {wrong} wrong")
     return 1 if wrong else 0
 

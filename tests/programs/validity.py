@@ -1,7 +1,7 @@
 #!/usr/bin/env python3
 """Runs the program `rtr_validate` and compares the output and status of each run.
 
-usage: validity [PROGRAM]..
+usage: validity.py [PROGRAM]..
 
 Without PROGRAM it runs those of `built.py`. Each row of RUNS is one run: the arguments, a
 redirection of the shell, the file `vrps`, the standard input, and then the expected output, line on
@@ -27,6 +27,7 @@ TOP = os.path.realpath(os.path.join(os.path.dirname(os.path.abspath(__file__)), 
 sys.path.insert(0, os.path.join(TOP, ".ci"))
 
 import built  # noqa: E402  (it lies in another folder)
+import redirected  # noqa: E402
 import samples  # noqa: E402
 from places import places  # noqa: E402
 
@@ -485,14 +486,8 @@ RUNS = [
 
 
 def run(program, arguments, redirection, vrps, given):
-    """Returns the output, standard error and status of the program."""
-    with tempfile.TemporaryDirectory() as folder:
-        for name, content in {"vrps": vrps, **FILES}.items():
-            with open(os.path.join(folder, name), "wb") as file:
-                file.write(content)
-        words = ["sh", "-c", f'exec "$0" "$@" {redirection}', program, *arguments]
-        done = subprocess.run(words, input=given, capture_output=True, timeout=SECONDS, cwd=folder)
-        return done.stdout, done.stderr.decode(), done.returncode
+    """Returns the output, standard error and status of the program by a list of VRPs."""
+    return redirected.run(program, arguments, redirection, given, {"vrps": vrps, **FILES})
 
 
 def check_rows(program):
