@@ -276,13 +276,12 @@ class Phase(NamedTuple):
     name: str
 
 
-# All system calls of a save, in order, and half of a file in between.
+# All system calls of a save, in order, and the head of a file in between.
 NEW, FOLDER = "editions.new", "."
 PHASES = (
     Phase("before the new file", "openat", NEW),
     Phase("with an empty new file", "write", NEW),
-    Phase("with half of the new file", "", NEW),
-    Phase("before the head of the new file", "pwrite64", NEW),
+    Phase("with the head of the new file", "", NEW),
     Phase("before the new file is on the disk", "fsync", NEW),
     Phase("before the new file is closed", "close", NEW),
     Phase("before the new file gets its name", "renameat", NEW),
@@ -292,9 +291,9 @@ PHASES = (
 )
 # If the kill comes after the writes of the new file, each of these is delayed by this many
 # microseconds, so that routers would get data that are served too early. In the phase without a
-# call the kill comes once the file has this many bytes, which come before its first unit; the call
-# after the writes waits for it.
-SLOWED, STOPPED, HEAD = 50000, 60_000_000, 32
+# call the kill comes once the file has its head, of this many bytes; the write after that waits for
+# it.
+SLOWED, STOPPED, HEAD = 50000, 5_000_000, 24
 
 # How long a phase may take, also on a machine under load.
 DIES_SECONDS = 60
@@ -308,10 +307,10 @@ class Injected:
         state = os.path.join(cache.folder, "state")
         path = os.path.normpath(os.path.join(state, phase.name))
         words = [program("strace"), "-f", "-p", str(cache.server.process.pid), "-P", path]
-        call = phase.call or "pwrite64"
+        call = phase.call or "write"
         harm = "signal=SIGKILL" if phase.call else f"delay_enter={STOPPED}"
         words += ["-e", f"trace=write,{call}", "-e", f"inject={call}:{harm}"]
-        if phase.name == NEW and phase.call not in ("openat", "write"):
+        if phase.name == NEW and phase.call not in ("", "openat", "write"):
             words += ["-e", f"inject=write:delay_enter={SLOWED}"]
         self.file = os.path.join(state, NEW)
         log = os.path.join(cache.folder, f"strace.{PHASES.index(phase)}")
@@ -335,13 +334,13 @@ class Injected:
     def kills(self):
         """Waits until the cache is killed, and reports whether it was."""
         if not self.phase.call:
-            until(self.is_half, DIES_SECONDS, "half of the file")
+            until(self.has_head, DIES_SECONDS, "the head of the file")
             self.cache.server.process.kill()
             self.server.end()  # while a system call is delayed, the end isn't visible
         return self.cache.server.process.wait(DIES_SECONDS) == -signal.SIGKILL
 
-    def is_half(self):
-        """Reports whether a part of the file exists."""
+    def has_head(self):
+        """Reports whether the file has its head."""
         with contextlib.suppress(FileNotFoundError):
             return os.stat(self.file).st_size >= HEAD
         return False
@@ -393,7 +392,7 @@ def kill(results, maker, folder):
     with Pair(results, PART, maker.name, "v1", maker.release()) as pair, \
             contextlib.ExitStack() as stack:
         program("strace")
-        last = 2 * len(PHASES)
+        last = 2 * len(PHASES) if len(PHASES) % 2 == 0 else len(PHASES)  # as `killed` changes it
         scene = Scene(results, maker, folder, last, stack)
         scene.hold("holds the list before kills", scene.listed, routing.FIRST_SECONDS)
         for turn, phase in enumerate(PHASES, 1):

@@ -13,7 +13,7 @@ from processes import Server, on_port, program
 from results import Pair
 
 PART = "a filter"
-SOIL = os.path.join(os.path.dirname(os.path.abspath(__file__)), "soil")
+SOIL = os.path.join(os.path.dirname(os.path.abspath(__file__)), "soil.py")
 
 
 class Relay:

@@ -90,7 +90,7 @@ class Example:
         if done.returncode:
             raise OSError(f"{' '.join(words)}: {done.stderr[-500:]}")
         if self.name == "Rust":
-            shutil.copy(os.path.join(target, "release/examples", self.example), out)
+            shutil.copy(os.path.join(target, "release", "examples", self.example), out)
 
     def fetch(self, port, version):
         """Returns what this client holds after one answer of a cache, as lines of `rtr_diff
@@ -170,13 +170,13 @@ class InPython:
         if self.lacks():
             raise Missing(self.lacks())
         archives = os.path.dirname(os.path.dirname(os.path.join(TOP, ARCHIVE)))
-        words = [os.path.join(TOP, "bindings", "package"), "--archives", archives]
+        words = [os.path.join(TOP, "bindings", "package.py"), "--archives", archives]
         with InPython.lock:
             if not os.path.exists(self.library):
                 done = subprocess.run([*words, "--library", self.library], capture_output=True,
                                       text=True, timeout=SECONDS, check=False)
                 if done.returncode:
-                    raise OSError(f"bindings/package: {done.stderr[-500:]}")
+                    raise OSError(f"bindings/package.py: {done.stderr[-500:]}")
         return self.library
 
     def words(self):

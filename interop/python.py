@@ -47,7 +47,7 @@ def installed(folder):
             raise Missing("python3 has no ensurepip (python3-venv)") from None
         made = os.path.join(folder, "packages")
         archives = os.path.dirname(os.path.dirname(os.path.join(TOP, ours.ARCHIVE)))
-        ran([os.path.join(TOP, "bindings", "package"), "--archives", archives, made])
+        ran([os.path.join(TOP, "bindings", "package.py"), "--archives", archives, made])
         wheels = os.path.join(made, "python")
         ran([sys.executable, "-m", "venv", environment])
         ran([python, "-m", "pip", "install", "--no-index", "--disable-pip-version-check",

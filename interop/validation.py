@@ -62,13 +62,21 @@ def lines_of(routes):
                    for route in routes)
 
 
+def has_header(name):
+    """Reports whether the compiler finds a header."""
+    words = [program("cc", "gcc", "clang"), "-include", name, "-E", "-x", "c", os.devnull]
+    return not subprocess.run(words, capture_output=True, timeout=SECONDS, check=False).returncode
+
+
 def compiled(folder, name, *words):
-    """A program of this folder in C."""
+    """Compiles a program of this folder in C, and returns its path."""
     out = os.path.join(folder, name)
     command = [program("cc", "gcc", "clang"), "-std=c11", "-D_DEFAULT_SOURCE", "-O1", "-o", out,
                os.path.join(TOP, "interop", f"{name}.c"), *words]
     done = subprocess.run(command, capture_output=True, text=True, timeout=SECONDS, check=False)
-    return None if done.returncode else out
+    if done.returncode:
+        raise OSError(f"interop/{name}.c isn't compiled: {done.stderr[-300:]}")
+    return out
 
 
 def answers(words, routes):
@@ -84,16 +92,14 @@ def by_us(folder, sequence, routes):
     """Returns the output of `rtr_validate` for the routes, by this sequence."""
     path = compiled(folder, "routes", "-I", os.path.join(TOP, "bindings", "c"),
                     os.path.join(TOP, ours.ARCHIVE))
-    if path is None:
-        raise Missing(f"{ours.ARCHIVE} is older than rtr_validate")
     return [validity.VALIDITIES[number] for number in answers([path, sequence], routes)]
 
 
 def by_rtrlib(folder, port, routes):
     """Returns the states of rtrlib's manager for the routes, by the data of a cache."""
-    path = compiled(folder, "rtr_mgr", "-lrtr")
-    if path is None:
+    if not has_header("rtrlib/rtrlib.h"):
         raise Missing("librtr-dev isn't installed")
+    path = compiled(folder, "rtr_mgr", "-lrtr")
     return [OF_RTRLIB[number] for number in answers([path, str(port)], routes)]
 
 

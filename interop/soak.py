@@ -1,7 +1,7 @@
 #!/usr/bin/env python3
 """Changes the list of a cache a thousand times while clients connect, leave and misbehave.
 
-usage: interop/soak MINUTES [CACHE]
+usage: interop/soak.py MINUTES [CACHE]
 
 CACHE is go, rust or stayrtr; by default each of our caches that can be built is run in turn, or
 stayrtr. At the end the tables of all routers and clients have to equal the list, and the memory of
@@ -167,7 +167,7 @@ def main():
         makers = {"stayrtr": caches.StayRTR}
     chosen = sys.argv[2:] or list(makers)
     if not set(chosen) <= set(makers):
-        sys.exit(f"interop/soak: there is no cache {chosen[0]} here")
+        sys.exit(f"interop/soak.py: there is no cache {chosen[0]} here")
     signal.alarm((seconds + 600) * len(chosen))
     found = results.Results()
     for name in chosen:

@@ -2,8 +2,8 @@
 """Runs other projects' caches, routers and a dissector with the programs of this repository, on the
 loopback interface, and compares sets of payloads.
 
-usage: interop/run [--write] [--folder FOLDER] [PART]..
-       interop/run --long [--write] [--folder FOLDER] [PART]..
+usage: interop/run.py [--write] [--folder FOLDER] [PART]..
+       interop/run.py --long [--write] [--folder FOLDER] [PART]..
 
 Parts are caches, routers, transports, filter, validation, exceptions, python, pages, dissector,
 defaults, recovery and cuts; by default all are run. With --long there are two: cuts, for ten minutes

@@ -1,7 +1,7 @@
 #!/usr/bin/env python3
 """Forwards between a client and a cache, and sets the free bits in the cache's units.
 
-usage: interop/soil PORT
+usage: interop/soil.py PORT
 
 It reads queries from standard input, forwards them to the cache at PORT of this machine, and writes
 the answers to standard output: in each payload unit all bits without a meaning are set: those that
