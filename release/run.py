@@ -2,14 +2,14 @@
 """The only step that updates measurements in the repository: speeds and sizes, and the copies of
 built files in prebuilt/. No other commit changes them.
 
-usage: release/run [--dry-run] [--module PATH] [--repository URL] [VERSION]
+usage: release/run.py [--dry-run] [--module PATH] [--repository URL] [VERSION]
 
 It proves and builds everything, copies what was built, runs the measurements of bench/ and
 interop/, writes the results into the pages, and commits that. With VERSION, as 0.3.0, it first
 writes that into each file that .ci/versions compares, gives the unreleased changes in CHANGELOG.md
 this heading and today's date, and at the end it tags the commit vVERSION, makes packages, tar
 files and root folders in out/release (release/packages), and the packages of each language in
-out/release/libraries (bindings/package): there the Go module has the path PATH, and all name the
+out/release/libraries (bindings/package.py): there the Go module has the path PATH, and all name the
 repository URL, or those that release/published has. It pushes nothing: .ci/run from a fresh clone
 comes before that.
 
@@ -52,7 +52,7 @@ def version_steps(version):
     """Returns the commands that write a version into the files, after the heading of its
     changes."""
     return [[".ci/versions", "--write", version],
-            ["bindings/constants"], [".ci/versions"]]
+            ["bindings/constants.py"], [".ci/versions"]]
 
 
 def number_steps():
@@ -60,9 +60,9 @@ def number_steps():
     return [["rt", "ci"],
             ["bindings/build", "x86_64", "aarch64", "wasm64", "wasm32", "portable"],
             ["programs/arm64"], ["prebuilt/renew"],
-            *([f"bench/{name}", "--write"] for name in BENCHES), ["interop/run", "--write"],
-            ["tests/pages/operators", "--write"], ["docs/reference/generate"],
-            [".ci/shown", "--write"], [".ci/links"], [".ci/prebuilt"],
+            *([f"bench/{name}.py", "--write"] for name in BENCHES), ["interop/run.py", "--write"],
+            ["tests/pages/operators.py", "--write"], ["docs/reference/generate.py"],
+            [".ci/shown.py", "--write"], [".ci/links.py"], [".ci/prebuilt"],
             ["prebuilt/renew", "--packages"], ["git", "add", "--all", "prebuilt"]]
 
 
@@ -104,7 +104,7 @@ def version_faults(version):
 def package_steps(module, repository):
     """Returns the commands that make the files of a release."""
     return [["release/packages", "out/release"],
-            ["bindings/package", "--module", module, "--repository", repository, LIBRARIES]]
+            ["bindings/package.py", "--module", module, "--repository", repository, LIBRARIES]]
 
 
 def published_faults(module, repository):
@@ -172,7 +172,7 @@ def main():
     wrong = list(faults(version, steps))
     wrong += published_faults(args.module, args.repository) if version else []
     for fault in wrong:
-        print(f"release/run: {fault}")
+        print(f"release/run.py: {fault}")
     if dry:
         print(*((f"{CHANGES}: ## {version}, of {day}",) if version else ()),
               *(" ".join(step) for step in steps), sep="\n")
@@ -185,9 +185,9 @@ def main():
     if version:
         head_changes(TOP, version, day)
     for step in steps:
-        print(f"release/run: {' '.join(step)}", flush=True)
+        print(f"release/run.py: {' '.join(step)}", flush=True)
         if subprocess.run(step, cwd=TOP, check=False).returncode:
-            print(f"release/run: failed: {' '.join(step)}")
+            print(f"release/run.py: failed: {' '.join(step)}")
             return 1
     print("Now .ci/run from a fresh clone, and then the push, of the tag too.")
     return 0
