@@ -15,18 +15,18 @@ prove: ## the gate: proves and builds all with the kit, and tests what it built,
 	@.ci/run
 
 bugs: ## tries the seeded bugs that the gate leaves out: the prover has to refuse them, in hours
-	@tests/bugs
+	@tests/bugs.py
 
 interop: ## runs the caches and routers of others that are here beside ours, and compares
-	@interop/run
+	@interop/run.py
 
 bench: ## measures how fast the programs and the libraries are, beside C by hand
-	@set -e; for name in count data vrps validate clients; do bench/$$name; done
+	@set -e; for name in count data vrps validate clients; do bench/$$name.py; done
 
-fmt: ## formats the code in Rattle, Go and Rust
+fmt: ## formats the code in Rattle, Go, Rust and C
 	@.ci/format
 
-lint: ## says what linters find in scripts, Go and Rust, and what make fmt would change
+lint: ## says what linters find in scripts, Go, Rust and C, and what make fmt would change
 	@.ci/lint
 
 clean: ## removes what was built and tested, but not what was proved

@@ -31,7 +31,7 @@ MEMORIES = ("wasm32", "wasm64")
 # What is made of the crate rtr_c besides, by the name of its folder.
 MADE = {**dict.fromkeys(MEMORIES, "rtr_wire.wasm"), "portable": "rtr_wire.c"}
 # What the C file for other platforms is made of beside the crate.
-PORTABLE = ("portable", "header.py", "c/rtr.h", "c/rtr_abi.h", "c/portable_front.h")
+PORTABLE = ("portable.py", "calls.py", "c/rtr.h", "c/rtr_abi.h", "c/portable_front.h")
 
 
 def crates(name):

@@ -2,7 +2,7 @@
 """Checks each link and each path on the pages: README.md, CONTRIBUTING.md, CHANGELOG.md, docs/ and
 the README.md of other folders.
 
-usage: links
+usage: links.py
 
 - A link `[text](page.md#heading)` leads to a file, and to a heading of it.
 - A word that begins with a folder of the repository, or of `crates/`, is a file or a folder there,
@@ -11,7 +11,8 @@ usage: links
   `out`, `target` and `bindings/lib`. Of CHANGELOG.md only the newest version is checked.
 - A page that is named, as PROTOCOL.md, is at the top, in docs/ or in the folder of the page that
   names it.
-- A page that a comment in code or a script names with its folder, as docs/PROTOCOL.md, exists.
+- A page or a script that code or a script names with its folder, as docs/PROTOCOL.md or
+  .ci/links.py, exists: at the top, in a folder above that file, or in one of bindings/.
 - Each page is reached from README.md by links, and README.md from each page in docs/.
 - README.md has at most 100 lines, and each page in docs/ begins with the question that it answers.
 
@@ -29,6 +30,8 @@ LINK = re.compile(r"\]\(([^)\s]+)\)")
 PATH = re.compile(r"(?<![\w./:{-])((?:[\w.-]+/)+[\w.*-]*)")
 PAGE = re.compile(r"(?<![\w./-])([A-Z]+\.md)\b")
 IN_DOCS = re.compile(r"docs/[A-Za-z/]+\.md")
+SCRIPT = re.compile(r"(?<![\w./$}-])(?:/|\.\./|\$\w+/|\$?\{\w+\}/)*"
+                    r"((?:\.ci|bench|fuzz|interop|release|tests)/[\w./-]*\w)(?![\w*{$/-]|\.?[{*<])")
 README_LINES, HEAD_LINES = 100, 8
 BUILT = {"out", "target"}
 BINARY = {".a", ".so", ".wasm", ".png", ".pyc"}
@@ -109,18 +112,27 @@ def wrong_heads(found):
                 yield page, "begins with no question"
 
 
-def wrong_comments(found):
-    """Returns the files that aren't pages and name missing pages in docs/."""
+def is_script(name, file):
+    """Reports whether a script or a folder of this name exists where the file can mean it."""
+    if BUILT & set(name.split("/")):
+        return True
+    return any((place / name).exists() for place in (*file.parents, *(TOP / "bindings").iterdir()))
+
+
+def wrong_mentions(found):
+    """Returns the files that aren't pages and name missing pages in docs/ or missing scripts."""
     for folder, folders, names in os.walk(TOP):
         folders[:] = [name for name in folders if name not in BUILT | {".git"}]
         for path in (pathlib.Path(folder, name) for name in names):
             if path.suffix in BINARY or path in found:
                 continue
             try:
-                named = set(IN_DOCS.findall(path.read_text(encoding="utf-8")))
+                text = path.read_text(encoding="utf-8")
             except (UnicodeDecodeError, OSError):
                 continue
-            for name in sorted(name for name in named if not (TOP / name).exists()):
+            missing = {name for name in IN_DOCS.findall(text) if not (TOP / name).exists()}
+            missing |= {name for name in SCRIPT.findall(text) if not is_script(name, path)}
+            for name in sorted(missing):
                 yield path, f"no {name}"
 
 
@@ -147,7 +159,7 @@ def main():
     found = pages()
     wrong = [(page, said) for page in found for check in (wrong_links, wrong_paths)
              for said in check(page)]
-    wrong += [*reached(found), *wrong_heads(found), *wrong_comments(found)]
+    wrong += [*reached(found), *wrong_heads(found), *wrong_mentions(found)]
     for page, said in wrong:
         print(f"{name_of(page)}: {said}")
     print(f"{len(found)} pages, {sum(len(list(links(page))) for page in found)} links, "

@@ -24,7 +24,7 @@ DEFINED = re.compile(r"(?:(?:abbrev|unfoldable|opaque|inline) +)?pub +(record|da
 CONSTRUCTOR = re.compile(r"  (?:pub +)?([^\s:(-][^\s:(]*) +:")
 # The crates whose modules the tables of docs/SESSIONS.md describe; their modules have distinct
 # names.
-MACHINES = ["rtr_router", "rtr_cache"]
+MACHINES = ["session_router", "session_cache"]
 QUOTED = re.compile(r"`([\w:.]+)`")
 NAME_LIKE = re.compile(r"\w*[a-z]\w*(?:_|[A-Z])\w*|\w+_\w+")
 # Pages with names of other projects, too.

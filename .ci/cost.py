@@ -2,8 +2,8 @@
 """Prints what the gate costs: processor seconds of `rt ci` by crate and part, and how many times
 those of `rt check` of rtr_units as it was in commit 38ceba3, from nothing.
 
-usage: .ci/cost [NAME..]   it takes an hour or more, and proves in worktrees of its own; with names
-                           of crates it only runs `rt ci` of these and those below them
+usage: .ci/cost.py [NAME..]   it takes an hour or more, and proves in worktrees of its own; with
+                              names of crates it only runs `rt ci` of these and those below them
 
 Everything is pinned to two processors, so that the measure depends little on the machine. Run
 nothing else meanwhile: work on other processors can add a third. A machine's speed can also change
@@ -29,8 +29,8 @@ from collections import defaultdict, namedtuple
 TOP = os.path.realpath(os.path.join(os.path.dirname(os.path.abspath(__file__)), ".."))
 YARDSTICK = "38ceba3"
 KEPT = "begins with what a check kept"
-SINCE = ["rtr_data", "rtr_slices", "rtr_clean", "rtr_differences", "rtr_diff", "rtr_tables",
-         "rtr_vrps", "rtr_make", "rtr_bench_data", "rtr_times"]
+SINCE = ["data_memory", "data_slices", "rtr_clean", "diff_work", "rtr_diff", "list_tables",
+         "make_work", "rtr_make", "bench_data", "session_times"]
 
 # Seconds between two samples of a run's processes, and samples between two runs of the fixed job.
 BETWEEN = 0.5

@@ -15,7 +15,7 @@ from concurrent.futures import ThreadPoolExecutor
 TOP = os.path.join(os.path.dirname(os.path.abspath(__file__)), "..")
 
 # The crates that the programs depend on; their lines of crates.txt are copied.
-LIBRARIES = ["rtr_base", "rtr_units", "rtr_payload", "rtr_views", "rtr_wire"]
+LIBRARIES = ["rtr_base", "rtr_units", "rtr_payload", "unit_views", "rtr_wire"]
 
 # The program; the input is put at `{before}` or `{inside}`.
 PROGRAM = """//! Looks at a view after a block.

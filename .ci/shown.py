@@ -2,7 +2,7 @@
 """Compares each piece of code that README.md, CONTRIBUTING.md, the pages in docs/ and
 bindings/*/README.md show with its source.
 
-usage: shown [--write]      with --write the pages are updated from the sources
+usage: shown.py [--write]      with --write the pages are updated from the sources
 
 A piece is a fenced block right after a line
 
@@ -11,7 +11,7 @@ A piece is a fenced block right after a line
                                     its comments and attributes
 
 Each block of Rust, C, Go, Python or JavaScript needs such a line, or is a file that
-`tests/pages/operators` extracts.
+`tests/pages/operators.py` extracts.
 
 It also compares the rows of tables with the lines of clauses: each name of the first cell is that
 of a clause, a field or an item that begins on the line that the last cell names, as `PATH:LINE`, in
