@@ -10,7 +10,7 @@ FIELD = re.compile(r"(crate|here|why|has|lacks): (.+)$")
 
 HEAD = """# Differences from the Rust crate
 
-<!-- made by docs/reference/generate -->
+<!-- made by docs/reference/generate.py -->
 I know the Rust crate `rpki`: what is different here, and why? ([README](../README.md))
 
 This library keeps names and behaviour of `payload.rs`, `pdu.rs` and `state.rs` of `src/rtr` in `rpki` 0.20.1, *the crate*.

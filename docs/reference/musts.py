@@ -17,7 +17,7 @@ SHOWN = {"proved": "proved", "tested": "tested", "caller": "left to the caller",
 
 HEAD = """# Each MUST and SHOULD
 
-<!-- made by docs/reference/generate -->
+<!-- made by docs/reference/generate.py -->
 What does this library do about each MUST and SHOULD of RFC 8210 and RFC 6810? ([README](../../README.md),
 [PROOF](../PROOF.md))
 

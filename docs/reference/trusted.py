@@ -7,7 +7,7 @@ usage: trusted.py --write [CRATE..]    with the kit: checks these crates, or eac
                                        `rt ci` leaves in out/, and writes trusted.txt
        trusted.py --check [CRATE..]    compares instead, with status 1 where one differs
 
-docs/reference/generate writes the page's part from trusted.txt, and from what nm lists of
+docs/reference/generate.py writes the page's part from trusted.txt, and from what nm lists of
 prebuilt/.
 A crate takes half a minute to two.
 """
@@ -24,7 +24,7 @@ PREBUILT = TOP / "prebuilt"
 STATIC = "staticlib"
 
 # The part of the page, and the lines of the checker's report.
-BEGIN, END = "<!-- made by docs/reference/generate: trusted -->\n", "<!-- end of trusted -->\n"
+BEGIN, END = "<!-- made by docs/reference/generate.py: trusted -->\n", "<!-- end of trusted -->\n"
 REACHED = re.compile(r"^  (\S+) +reached$", re.MULTILINE)
 PROVED = re.compile(r"^logic=proved ", re.MULTILINE)
 HEAD = """# Of each program and of the static library, the C functions whose contracts its check
@@ -150,7 +150,7 @@ def page():
     """Returns PROOF.md with the part written anew; as it is where there is no nm."""
     text = PAGE.read_text(encoding="utf-8")
     if not shutil.which("nm"):
-        print("docs/reference/generate: no nm here: SKIPPED what PROOF.md lists as trusted",
+        print("docs/reference/generate.py: no nm here: SKIPPED what PROOF.md lists as trusted",
               file=sys.stderr)
         return text
     before, rest = text.split(BEGIN)

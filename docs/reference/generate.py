@@ -1,9 +1,10 @@
 #!/usr/bin/env python3
 """Writes the pages of this folder: promises.md of the contracts of public functions and the seeded
 bugs, specs.md of the heads of the modules of definitions, musts.md of musts.txt; and above it of
-differences.txt the page DIFFERENCES.md, and of trusted.txt and prebuilt/ a part of PROOF.md.
+differences.txt the page DIFFERENCES.md, and of trusted.txt and prebuilt/ a part of PROOF.md. Of the
+rules of both ends it draws router.svg and cache.svg.
 
-usage: generate [--check]    with --check it writes nothing, and ends with status 1 where a page
+usage: generate.py [--check]    with --check it writes nothing, and ends with status 1 where a page
                              isn't what it is generated from
 """
 import pathlib
@@ -15,13 +16,14 @@ sys.dont_write_bytecode = True
 
 import differences
 import musts
+import states
 import trusted
 from sources import CRATES, all_definitions, crates, functions_of, head_of, specifications
 
 DEFINITIONS = all_definitions()
 REFUSING = re.compile(r"\b[Ff]aults?\b|\brefus|`(?:Short|Reader|Writer|Memory|AllocError|NO_ROOM)`")
 HERE = pathlib.Path(__file__).resolve().parent
-MADE = "<!-- made by docs/reference/generate -->"
+MADE = "<!-- made by docs/reference/generate.py -->"
 
 
 def cell(text):
@@ -187,14 +189,15 @@ def main():
         return 2
     wrong = 0
     pages = {"promises.md": promises, "specs.md": specs, "musts.md": musts.page,
-             "../DIFFERENCES.md": differences.page, "../PROOF.md": trusted.page}
+             "../DIFFERENCES.md": differences.page, "../PROOF.md": trusted.page,
+             "router.svg": states.router, "cache.svg": states.cache}
     for name, made in pages.items():
         path, text = (HERE / name).resolve(), made()
         if not sys.argv[1:]:
             path.write_text(text, encoding="utf-8")
         elif not path.exists() or path.read_text(encoding="utf-8") != text:
             print(f"{path.relative_to(HERE.parents[1])} isn't what it is generated from: call "
-                  "docs/reference/generate")
+                  "docs/reference/generate.py")
             wrong = 1
     return wrong
 
