@@ -1242,178 +1242,205 @@ static void w2c_f93(M *, u64, u64, u64, u64, u64, u32, u64, u64);
 static void w2c_f94(M *, u64, u64, u64, u64, u64, u64, u64, u64, u64, u64);
 static void w2c_f95(M *, u64, u64, u64, u64, u64, u32, u64, u64, u64, u64, u64);
 static void w2c_f96(M *, u64, u64, u64, u64, u64, u64, u64, u64, u64, u64, u64, u64, u64, u64);
-static void w2c_f97(M *, u64, u64, u64, u64);
-static void w2c_f98(M *, u64, u64, u64, u64, u64, u64);
-static u64 w2c_f99(M *, u64, u64, u32, u64, u64);
-static void w2c_f100(M *, u64, u64, u64, u64, u64, u64, u64, u64, u64, u64);
+static void w2c_f97(M *, u64, u64, u64, u64, u64, u64);
+static u64 w2c_f98(M *, u64, u64, u32, u64, u64);
+static void w2c_f99(M *, u64, u64, u64, u64, u64, u64, u64, u64, u64, u64);
 static void w2c_rtr_cache_init(M *, u64, u64, u64);
-static void w2c_f102(M *, u64, u64, u64);
+static void w2c_f101(M *, u64, u64, u64);
 static void w2c_rtr_cache_settings_usual(M *, u64);
-static void w2c_f104(M *, u64);
+static void w2c_f103(M *, u64);
 static u64 w2c_rtr_cache_wakes(M *, u64, u64);
-static u64 w2c_f106(M *, u64, u64);
+static u64 w2c_f105(M *, u64, u64);
+static u32 w2c_rtr_door_enter(M *, u64, u32);
+static u32 w2c_f107(M *, u64, u32);
+static u32 w2c_rtr_door_leave(M *, u64, u32);
+static u32 w2c_f109(M *, u64, u32);
+static u32 w2c_rtr_door_next(M *, u64, u32);
+static u32 w2c_f111(M *, u64, u32);
 static u32 w2c_rtr_error_code_nonnull(M *, u32, u64, u64, u64);
-static u32 w2c_f108(M *, u32, u64, u64, u64);
+static u32 w2c_f113(M *, u32, u64, u64, u64);
 static u32 w2c_rtr_group_best(M *, u64, u64);
-static u32 w2c_f110(M *, u64, u64);
+static u32 w2c_f115(M *, u64, u64);
 static u32 w2c_rtr_group_init(M *, u64, u64, u64, u64);
-static u32 w2c_f112(M *, u64, u64, u64, u64);
+static u32 w2c_f117(M *, u64, u64, u64, u64);
 static void w2c_rtr_group_usual(M *, u64);
-static void w2c_f114(M *, u64);
+static void w2c_f119(M *, u64);
 static u64 w2c_rtr_group_wakes(M *, u64);
-static u64 w2c_f116(M *, u64);
+static u64 w2c_f121(M *, u64);
 static u32 w2c_rtr_history_data_nonnull(M *, u64, u64, u64, u64);
-static u32 w2c_f118(M *, u64, u64, u64, u64);
+static u32 w2c_f123(M *, u64, u64, u64, u64);
 static u32 w2c_rtr_history_knows_nonnull(M *, u64, u64, u32);
-static u32 w2c_f120(M *, u64, u64, u32);
+static u32 w2c_f125(M *, u64, u64, u32);
 static u32 w2c_rtr_provider_nonnull(M *, u64, u64, u64, u64, u64);
-static u32 w2c_f122(M *, u64, u64, u64, u64, u64);
+static u32 w2c_f127(M *, u64, u64, u64, u64, u64);
 static u64 w2c_rtr_router_query_nonnull(M *, u64, u64, u64);
-static u64 w2c_f124(M *, u64, u64, u64);
+static u64 w2c_f129(M *, u64, u64, u64);
 static u32 w2c_rtr_serial_order(M *, u32, u32);
-static u32 w2c_f126(M *, u32, u32);
+static u32 w2c_f131(M *, u32, u32);
 static u32 w2c_rtr_store_open_nonnull(M *, u64, u64);
-static u32 w2c_f128(M *, u64, u64);
+static u32 w2c_f133(M *, u64, u64);
 static void w2c_rtr_store_seal_nonnull(M *, u64, u64, u64);
-static void w2c_f130(M *, u64, u64, u64);
+static void w2c_f135(M *, u64, u64, u64);
 static u32 w2c_rtr_times_rule(M *, u32, u32, u32);
-static u32 w2c_f132(M *, u32, u32, u32);
+static u32 w2c_f137(M *, u32, u32, u32);
 static u32 w2c_rtr_version_has(M *, u32, u32);
-static u32 w2c_f134(M *, u32, u32);
+static u32 w2c_f139(M *, u32, u32);
 static u32 w2c_rtr_wire_version(M *);
-static void w2c_f136(M *);
+static void w2c_f141(M *);
 static u32 w2c_rtr_cache_report_nonnull(M *, u64, u64, u64, u64, u64, u64);
-static u32 w2c_f138(M *, u64, u64, u64, u64, u64, u64);
+static u32 w2c_f143(M *, u64, u64, u64, u64, u64, u64);
 static u32 w2c_rtr_router_report_nonnull(M *, u64, u64, u64, u64, u64, u64);
-static u32 w2c_f140(M *, u64, u64, u64, u64, u64, u64);
+static u32 w2c_f145(M *, u64, u64, u64, u64, u64, u64);
 static u32 w2c_rtr_check_name_nonnull(M *, u64, u64, u64, u64, u64);
-static u32 w2c_f142(M *, u64, u64, u64, u64, u64);
+static u32 w2c_f147(M *, u64, u64, u64, u64, u64);
 static u32 w2c_rtr_unit_size_nonnull(M *, u64, u64, u64, u64);
-static u32 w2c_f144(M *, u64, u64, u64, u64);
+static u32 w2c_f149(M *, u64, u64, u64, u64);
+static void w2c_rtr_door_init(M *, u64, u64);
+static void w2c_f151(M *, u64, u64);
+static void w2c_rtr_server_settings_usual(M *, u64);
+static void w2c_f153(M *, u64);
 static u32 w2c_rtr_router_has_data(M *, u64, u64);
-static u32 w2c_f146(M *, u64, u64);
+static u32 w2c_f155(M *, u64, u64);
 static u64 w2c_rtr_router_wakes(M *, u64);
-static u64 w2c_f148(M *, u64);
+static u64 w2c_f157(M *, u64);
 static void w2c_rtr_link_init(M *, u64, u64);
-static void w2c_f150(M *, u64, u64);
+static void w2c_f159(M *, u64, u64);
 static void w2c_rtr_router_again(M *, u64);
-static void w2c_f152(M *, u64);
+static void w2c_f161(M *, u64);
 static void w2c_rtr_router_init(M *, u64, u64);
-static void w2c_f154(M *, u64, u64);
+static void w2c_f163(M *, u64, u64);
 static void w2c_rtr_settings_usual(M *, u64, u32);
-static void w2c_f156(M *, u64, u32);
+static void w2c_f165(M *, u64, u32);
 static u32 w2c_rtr_covering_nonnull(M *, u64, u64, u64, u64, u64, u64);
-static u32 w2c_f158(M *, u64, u64, u64, u64, u64, u64);
+static u32 w2c_f167(M *, u64, u64, u64, u64, u64, u64);
 static void w2c_rtr_group_tick(M *, u64, u64, u64);
-static void w2c_f160(M *, u64, u64, u64);
+static void w2c_f169(M *, u64, u64, u64);
 static void w2c_rtr_check_end(M *, u64, u64);
-static void w2c_f162(M *, u64, u64);
+static void w2c_f171(M *, u64, u64);
 static u32 w2c_rtr_check_unit_nonnull(M *, u64, u64, u64, u32, u64);
-static u32 w2c_f164(M *, u64, u64, u64, u32, u64);
+static u32 w2c_f173(M *, u64, u64, u64, u32, u64);
+static u64 w2c_rtr_connection_wakes(M *, u64, u64, u64);
+static u64 w2c_f175(M *, u64, u64, u64);
 static u64 w2c_rtr_cache_unit_nonnull(M *, u64, u64, u64);
-static u64 w2c_f166(M *, u64, u64, u64);
+static u64 w2c_f177(M *, u64, u64, u64);
+static u32 w2c_rtr_connection_answers(M *, u64, u64, u64, u64);
+static u32 w2c_f179(M *, u64, u64, u64, u64);
+static void w2c_rtr_connection_closed(M *, u64);
+static void w2c_f181(M *, u64);
+static u32 w2c_rtr_connection_ends(M *, u64, u64, u64);
+static u32 w2c_f183(M *, u64, u64, u64);
+static void w2c_rtr_connection_heard(M *, u64, u64, u64);
+static void w2c_f185(M *, u64, u64, u64);
+static void w2c_rtr_connection_init(M *, u64, u64, u64);
+static void w2c_f187(M *, u64, u64, u64);
+static void w2c_rtr_connection_received(M *, u64, u64, u64);
+static void w2c_f189(M *, u64, u64, u64);
+static u32 w2c_rtr_connection_sent(M *, u64, u64, u64);
+static u32 w2c_f191(M *, u64, u64, u64);
 static void w2c_rtr_group_drops(M *, u64, u64, u64, u64);
-static void w2c_f168(M *, u64, u64, u64, u64);
+static void w2c_f193(M *, u64, u64, u64, u64);
 static void w2c_rtr_group_fails(M *, u64, u64, u64, u64);
-static void w2c_f170(M *, u64, u64, u64, u64);
+static void w2c_f195(M *, u64, u64, u64, u64);
 static void w2c_rtr_group_shows(M *, u64, u64, u64, u64, u64);
-static void w2c_f172(M *, u64, u64, u64, u64, u64);
+static void w2c_f197(M *, u64, u64, u64, u64, u64);
 static void w2c_rtr_router_applied(M *, u64, u64, u64);
-static void w2c_f174(M *, u64, u64, u64);
+static void w2c_f199(M *, u64, u64, u64);
 static void w2c_rtr_router_asked(M *, u64, u64, u64);
-static void w2c_f176(M *, u64, u64, u64);
+static void w2c_f201(M *, u64, u64, u64);
 static void w2c_rtr_router_connected(M *, u64, u64, u64);
-static void w2c_f178(M *, u64, u64, u64);
+static void w2c_f203(M *, u64, u64, u64);
 static void w2c_rtr_router_lost(M *, u64, u64, u64);
-static void w2c_f180(M *, u64, u64, u64);
+static void w2c_f205(M *, u64, u64, u64);
 static void w2c_rtr_router_not_applied(M *, u64, u64, u32, u64);
-static void w2c_f182(M *, u64, u64, u32, u64);
+static void w2c_f207(M *, u64, u64, u32, u64);
 static void w2c_rtr_router_tick(M *, u64, u64, u64);
-static void w2c_f184(M *, u64, u64, u64);
+static void w2c_f209(M *, u64, u64, u64);
+static u32 w2c_rtr_connection_next(M *, u64, u64, u64, u64, u64, u64);
+static u32 w2c_f211(M *, u64, u64, u64, u64, u64, u64);
 static u32 w2c_rtr_stores_give_up(M *, u64);
-static u32 w2c_f186(M *, u64);
+static u32 w2c_f213(M *, u64);
 static void w2c_rtr_stores_new(M *, u64);
-static void w2c_f188(M *, u64);
+static void w2c_f215(M *, u64);
 static u32 w2c_rtr_stores_saved(M *, u64);
-static u32 w2c_f190(M *, u64);
+static u32 w2c_f217(M *, u64);
 static void w2c_rtr_stores_unsaved(M *, u64, u32);
-static void w2c_f192(M *, u64, u32);
+static void w2c_f219(M *, u64, u32);
 static u32 w2c_rtr_stores_state_nonnull(M *, u64, u64, u64, u64, u64, u64);
-static u32 w2c_f194(M *, u64, u64, u64, u64, u64, u64);
+static u32 w2c_f221(M *, u64, u64, u64, u64, u64, u64);
 static u32 w2c_rtr_link_again(M *, u64);
-static u32 w2c_f196(M *, u64);
+static u32 w2c_f223(M *, u64);
 static u32 w2c_rtr_link_lost(M *, u64);
-static u32 w2c_f198(M *, u64);
+static u32 w2c_f225(M *, u64);
 static u32 w2c_rtr_link_opened(M *, u64);
-static u32 w2c_f200(M *, u64);
+static u32 w2c_f227(M *, u64);
 static u32 w2c_rtr_link_received_nonnull(M *, u64, u64, u64, u64);
-static u32 w2c_f202(M *, u64, u64, u64);
+static u32 w2c_f229(M *, u64, u64, u64);
 static u32 w2c_rtr_link_sent_nonnull(M *, u64, u64, u64, u64);
-static u32 w2c_f204(M *, u64, u64, u64, u64);
+static u32 w2c_f231(M *, u64, u64, u64, u64);
 static u32 w2c_rtr_link_state_of(M *, u64, u64, u64, u64, u64, u64, u64);
-static u32 w2c_f206(M *, u64, u64, u64, u64, u64, u64, u64);
+static u32 w2c_f233(M *, u64, u64, u64, u64, u64, u64, u64);
 static u32 w2c_rtr_text_nonnull(M *, u32, u32, u64, u64, u64);
-static u32 w2c_f208(M *, u32, u32, u64, u64, u64);
+static u32 w2c_f235(M *, u32, u32, u64, u64, u64);
 static u32 w2c_rtr_name_nonnull(M *, u32, u32, u64, u64, u64);
-static u32 w2c_f210(M *, u32, u32, u64, u64, u64);
+static u32 w2c_f237(M *, u32, u32, u64, u64, u64);
 static u64 w2c_rtr_finding_line_nonnull(M *, u64, u64, u64, u64);
-static u64 w2c_f212(M *, u64, u64, u64, u64);
+static u64 w2c_f239(M *, u64, u64, u64, u64);
 static u32 w2c_rtr_link_ask_now_nonnull(M *, u64, u64, u64, u64, u64, u64, u64);
-static u32 w2c_f214(M *, u64, u64, u64, u64, u64, u64, u64);
+static u32 w2c_f241(M *, u64, u64, u64, u64, u64, u64, u64);
 static u32 w2c_rtr_link_give_up_nonnull(M *, u64, u64, u64, u64, u64, u64, u64);
-static u32 w2c_f216(M *, u64, u64, u64, u64, u64, u64, u64);
+static u32 w2c_f243(M *, u64, u64, u64, u64, u64, u64, u64);
 static u32 w2c_rtr_link_next_nonnull(M *, u64, u64, u64, u64, u64, u64, u64, u64, u64, u64, u64, u64, u64);
-static u32 w2c_f218(M *, u64, u64, u64, u64, u64, u64, u64, u64, u64, u64, u64, u64, u64);
+static u32 w2c_f245(M *, u64, u64, u64, u64, u64, u64, u64, u64, u64, u64, u64, u64, u64);
 static u32 w2c_rtr_validate_nonnull(M *, u64, u64, u64, u64);
-static u32 w2c_f220(M *, u64, u64, u64, u64);
+static u32 w2c_f247(M *, u64, u64, u64, u64);
 static void w2c_rtr_cache_full(M *, u64, u64, u64, u64);
-static void w2c_f222(M *, u64, u64, u64, u64);
+static void w2c_f249(M *, u64, u64, u64, u64);
 static void w2c_rtr_cache_lost(M *, u64, u64, u64, u64);
-static void w2c_f224(M *, u64, u64, u64, u64);
+static void w2c_f251(M *, u64, u64, u64, u64);
 static void w2c_rtr_cache_tick(M *, u64, u64, u64, u64);
-static void w2c_f226(M *, u64, u64, u64, u64);
+static void w2c_f253(M *, u64, u64, u64, u64);
 static u32 w2c_rtr_load_nonnull(M *, u64, u64, u64, u64, u64, u64, u64, u64, u64);
-static u32 w2c_f228(M *, u64, u64, u64, u64, u64, u64, u64, u64, u64);
+static u32 w2c_f255(M *, u64, u64, u64, u64, u64, u64, u64, u64, u64);
 static u32 w2c_rtr_same_meaning_nonnull(M *, u64, u64, u64, u64, u64, u64);
-static u32 w2c_f230(M *, u64, u64, u64, u64, u64, u64);
+static u32 w2c_f257(M *, u64, u64, u64, u64, u64, u64);
 static void w2c_rtr_cache_read_nonnull(M *, u64, u64, u64, u64, u64, u64, u64, u32, u64);
-static void w2c_f232(M *, u64, u64, u64, u64, u64, u64, u64, u32, u64);
+static void w2c_f259(M *, u64, u64, u64, u64, u64, u64, u64, u32, u64);
 static u32 w2c_rtr_next_nonnull(M *, u64, u64, u64);
-static u32 w2c_f234(M *, u64, u64, u64);
+static u32 w2c_f261(M *, u64, u64, u64);
 static u32 w2c_rtr_next_many_nonnull(M *, u64, u64, u64, u64, u64, u64);
-static u32 w2c_f236(M *, u64, u64, u64, u64, u64, u64);
+static u32 w2c_f263(M *, u64, u64, u64, u64, u64, u64);
 static u32 w2c_rtr_normalise_for_slice_nonnull(M *, u64, u64, u64, u64, u64, u32, u64);
-static u32 w2c_f238(M *, u64, u64, u64, u64, u64, u32, u64);
+static u32 w2c_f265(M *, u64, u64, u64, u64, u64, u32, u64);
 static u32 w2c_rtr_normalise_slice_nonnull(M *, u64, u64, u64, u64, u64, u64);
-static u32 w2c_f240(M *, u64, u64, u64, u64, u64, u64);
+static u32 w2c_f267(M *, u64, u64, u64, u64, u64, u64);
 static void w2c_rtr_router_read_nonnull(M *, u64, u64, u64, u64, u32, u64);
-static void w2c_f242(M *, u64, u64, u64, u64, u32, u64);
+static void w2c_f269(M *, u64, u64, u64, u64, u32, u64);
 static u32 w2c_rtr_write_unit_nonnull(M *, u64, u64, u64, u64, u64, u64);
-static u32 w2c_f244(M *, u64, u64, u64, u64, u64, u64);
+static u32 w2c_f271(M *, u64, u64, u64, u64, u64, u64);
 static u32 w2c_rtr_change_json_nonnull(M *, u64, u64, u64, u64, u64);
-static u32 w2c_f246(M *, u64, u64, u64, u64, u64);
+static u32 w2c_f273(M *, u64, u64, u64, u64, u64);
 static u32 w2c_rtr_change_line_nonnull(M *, u64, u64, u64, u64, u64);
-static u32 w2c_f248(M *, u64, u64, u64, u64, u64);
+static u32 w2c_f275(M *, u64, u64, u64, u64, u64);
 static u32 w2c_rtr_json_nonnull(M *, u64, u64, u64, u64, u64, u64);
-static u32 w2c_f250(M *, u64, u64, u64, u64, u64, u64);
+static u32 w2c_f277(M *, u64, u64, u64, u64, u64, u64);
 static u32 w2c_rtr_line_nonnull(M *, u64, u64, u64, u64, u64, u64);
-static u32 w2c_f252(M *, u64, u64, u64, u64, u64, u64);
+static u32 w2c_f279(M *, u64, u64, u64, u64, u64, u64);
 static u32 w2c_rtr_apply_in_order_nonnull(M *, u64, u64, u64, u64, u64, u64, u64, u64, u64);
-static u32 w2c_f254(M *, u64, u64, u64, u64, u64, u64, u64, u64, u64);
+static u32 w2c_f281(M *, u64, u64, u64, u64, u64, u64, u64, u64, u64);
 static u32 w2c_rtr_apply_nonnull(M *, u64, u64, u64, u64, u64, u64, u64);
-static u32 w2c_f256(M *, u64, u64, u64, u64, u64, u64, u64);
+static u32 w2c_f283(M *, u64, u64, u64, u64, u64, u64, u64);
 static u32 w2c_rtr_check_data_nonnull(M *, u64, u64, u64, u64);
-static u32 w2c_f258(M *, u64, u64, u64, u64);
+static u32 w2c_f285(M *, u64, u64, u64, u64);
 static u32 w2c_rtr_delta_nonnull(M *, u64, u64, u64, u64, u64, u64, u64);
-static u32 w2c_f260(M *, u64, u64, u64, u64, u64, u64, u64);
+static u32 w2c_f287(M *, u64, u64, u64, u64, u64, u64, u64);
 static u32 w2c_rtr_order_nonnull(M *, u64, u64, u64, u64, u64, u64, u64);
-static u32 w2c_f262(M *, u64, u64, u64, u64, u64, u64, u64);
+static u32 w2c_f289(M *, u64, u64, u64, u64, u64, u64, u64);
 static u32 w2c_rtr_history_since_nonnull(M *, u64, u64, u32, u32, u64, u64, u64, u64, u64, u64, u64, u64, u64);
-static u32 w2c_f264(M *, u64, u64, u32, u32, u64, u64, u64, u64, u64, u64, u64, u64, u64);
+static u32 w2c_f291(M *, u64, u64, u32, u32, u64, u64, u64, u64, u64, u64, u64, u64, u64);
 static u32 w2c_rtr_stores_start_nonnull(M *, u64, u64, u64, u64, u64, u64, u64, u64, u64);
-static u32 w2c_f266(M *, u64, u64, u64, u64, u64, u64, u64, u64, u64);
+static u32 w2c_f293(M *, u64, u64, u64, u64, u64, u64, u64, u64, u64);
 static u32 w2c_rtr_stores_take_nonnull(M *, u64, u64, u64, u64, u64, u64, u64, u64, u64, u64, u64, u64, u64, u64);
-static u32 w2c_f268(M *, u64, u64, u64, u64, u64, u64, u64, u64, u64, u64, u64, u64, u64, u64);
+static u32 w2c_f295(M *, u64, u64, u64, u64, u64, u64, u64, u64, u64, u64, u64, u64, u64, u64);
 
 
 static u32 w2c_f0(M *m) {
@@ -82515,13 +82542,14 @@ Bfunc:;
 
 static void w2c_f96(M *m, u64 p0, u64 p1, u64 p2, u64 p3, u64 p4, u64 p5, u64 p6, u64 p7,
 u64 p8, u64 p9, u64 p10, u64 p11, u64 p12, u64 p13) {
-u32 l20 = 0, l21 = 0, l22 = 0, l23 = 0, l24 = 0;
+u32 l20 = 0, l21 = 0, l22 = 0, l23 = 0, l24 = 0, l25 = 0, l26 = 0, l27 = 0,
+l28 = 0, l29 = 0, l30 = 0, l31 = 0;
 u64 l14 = 0, l15 = 0, l16 = 0, l17 = 0, l18 = 0, l19 = 0;
 u32 i0, i1, i2, i3, i4, i6, i8, i11;
 u64 j0, j1, j2, j3, j4, j5, j6, j7,
 j8, j9, j10, j11, j12;
 j0 = m->g0;
-j1 = 1536ull;
+j1 = 976ull;
 j0 -= j1;
 l14 = j0;
 m->g0 = j0;
@@ -82529,7 +82557,13 @@ j0 = l14;
 l14 = j0;
 j1 = m->lowest + 16;
 i0 = (u64)((s64)j0 < (s64)j1);
-if (i0) goto B18;
+if (i0) goto B17;
+j0 = l14;
+j1 = 120ull;
+j0 += j1;
+i1 = 0u;
+j2 = 120ull;
+memory_fill(j0, i1, j2);
 j0 = l14;
 j1 = 16ull;
 j0 += j1;
@@ -82537,50 +82571,59 @@ i1 = 0u;
 j2 = 104ull;
 memory_fill(j0, i1, j2);
 j0 = l14;
-j1 = 1184ull;
-j0 += j1;
-i1 = 0u;
-j2 = 120ull;
-memory_fill(j0, i1, j2);
-j0 = l14;
-j1 = 1184ull;
+j1 = 120ull;
 j0 += j1;
 j1 = p2;
 j2 = p3;
 w2c_f6(m, j0, j1, j2);
 j0 = l14;
-i0 = i32_load8_u(j0 + 1184u);
-if (i0) goto B20;
+i0 = i32_load8_u(j0 + 120u);
+if (i0) goto B19;
 j0 = l14;
-i0 = i32_load8_u(j0 + 1189u);
-l20 = i0;
+j1 = l14;
+j1 = i64_load(j1 + 122u);
+i64_store(j0 + 248, j1);
 j0 = l14;
-i0 = i32_load8_u(j0 + 1188u);
+j1 = l14;
+i1 = i32_load8_u(j1 + 121u);
+l20 = i1;
+i32_store8(j0 + 247, i1);
+j0 = l14;
+j1 = l14;
+j1 = i64_load(j1 + 130u);
+i64_store(j0 + 256, j1);
+j0 = l14;
+j1 = l14;
+j1 = i64_load(j1 + 138u);
+i64_store(j0 + 264, j1);
+j0 = l14;
+i0 = i32_load8_u(j0 + 251u);
 l21 = i0;
 j0 = l14;
-j1 = 120ull;
-j0 += j1;
-i1 = 0u;
-j2 = 104ull;
-memory_fill(j0, i1, j2);
+i0 = i32_load8_u(j0 + 250u);
+l22 = i0;
 j0 = p1;
 j1 = 34ull;
 j0 += j1;
 i0 = i32_load8_u(j0);
 i1 = 1u;
 i0 = i0 != i1;
-if (i0) goto B19;
-i0 = l21;
+if (i0) goto B18;
+i0 = l22;
 i1 = 8u;
 i0 <<= (i1 & 31);
-i1 = l20;
+i1 = l21;
+i2 = 255u;
+i1 &= i2;
 i0 |= i1;
+i1 = 65535u;
+i0 &= i1;
 j1 = p1;
 j2 = 36ull;
 j1 += j2;
 i1 = i32_load16_u(j1);
 i0 = i0 == i1;
-if (i0) goto B19;
+if (i0) goto B18;
 j0 = p0;
 j1 = 1ull;
 i64_store(j0, j1);
@@ -82596,24 +82639,15 @@ i1 = 0u;
 j2 = 120ull;
 memory_fill(j0, i1, j2);
 goto B0;
-B20:;
-j0 = l14;
-j0 = i64_load(j0 + 1192u);
-p3 = j0;
-j0 = l14;
-j1 = 120ull;
-j0 += j1;
-j1 = l14;
-j2 = 1184ull;
-j1 += j2;
-j2 = 16ull;
-j1 += j2;
-j2 = 104ull;
-memory_copy(j0, j1, j2);
+B19:;
+j0 = p0;
+j1 = 1ull;
+i64_store(j0, j1);
 j0 = p0;
 j1 = 24ull;
 j0 += j1;
-j1 = p3;
+j1 = l14;
+j1 = i64_load(j1 + 128u);
 i64_store(j0, j1);
 j0 = p0;
 j1 = 16ull;
@@ -82626,63 +82660,32 @@ j0 += j1;
 j1 = 3ull;
 i64_store(j0, j1);
 j0 = p0;
-j1 = 1ull;
-i64_store(j0, j1);
-j0 = p0;
 j1 = 32ull;
 j0 += j1;
 j1 = l14;
 j2 = 120ull;
 j1 += j2;
+j2 = 16ull;
+j1 += j2;
 j2 = 104ull;
 memory_copy(j0, j1, j2);
 goto B0;
-B19:;
+B18:;
 j0 = p1;
 i0 = i32_load8_u(j0);
 i1 = 1u;
 i0 = i0 != i1;
-if (i0) goto B21;
+if (i0) goto B20;
 j0 = p1;
 j1 = 8ull;
 j0 += j1;
 j0 = i64_load(j0);
 p1 = j0;
 j0 = l14;
-j1 = 224ull;
+j1 = 272ull;
 j0 += j1;
 i1 = 0u;
 j2 = 104ull;
-memory_fill(j0, i1, j2);
-j0 = l14;
-j1 = 1184ull;
-j0 += j1;
-i1 = 0u;
-j2 = 120ull;
-memory_fill(j0, i1, j2);
-j0 = l14;
-j1 = 1184ull;
-j0 += j1;
-j1 = p2;
-j2 = p3;
-w2c_f6(m, j0, j1, j2);
-j0 = l14;
-i0 = i32_load8_u(j0 + 1184u);
-if (i0) goto B17;
-j0 = l14;
-i0 = i32_load16_u(j0 + 1188u);
-l20 = i0;
-j0 = l14;
-j1 = 432ull;
-j0 += j1;
-i1 = 0u;
-j2 = 104ull;
-memory_fill(j0, i1, j2);
-j0 = l14;
-j1 = 1184ull;
-j0 += j1;
-i1 = 0u;
-j2 = 120ull;
 memory_fill(j0, i1, j2);
 j0 = p11;
 j1 = p1;
@@ -82693,7 +82696,7 @@ j0 = i2 ? j0 : j1;
 p1 = j0;
 j1 = 16ull;
 i0 = j0 < j1;
-if (i0) goto B14;
+if (i0) goto B23;
 j0 = p1;
 j1 = 18446744073709551600ull;
 j0 += j1;
@@ -82747,14 +82750,20 @@ j2 |= j3;
 j1 |= j2;
 p1 = j1;
 i0 = j0 < j1;
-if (i0) goto B14;
+if (i0) goto B23;
+j0 = l14;
+j1 = 848ull;
+j0 += j1;
+i1 = 0u;
+j2 = 120ull;
+memory_fill(j0, i1, j2);
 j0 = p11;
 j1 = p1;
 j0 -= j1;
 l15 = j0;
 j1 = 16ull;
 i0 = j0 < j1;
-if (i0) goto B14;
+if (i0) goto B24;
 j0 = l15;
 j1 = 18446744073709551600ull;
 j0 += j1;
@@ -82814,9 +82823,9 @@ j2 |= j3;
 j1 |= j2;
 p1 = j1;
 i0 = j0 < j1;
-if (i0) goto B14;
+if (i0) goto B24;
 j0 = l14;
-j1 = 1184ull;
+j1 = 848ull;
 j0 += j1;
 j1 = l18;
 j2 = 16ull;
@@ -82825,73 +82834,68 @@ l19 = j1;
 j2 = p1;
 w2c_f6(m, j0, j1, j2);
 j0 = l14;
-i0 = i32_load8_u(j0 + 1184u);
-if (i0) goto B14;
+i0 = i32_load8_u(j0 + 848u);
+i0 = !(i0);
+if (i0) goto B21;
+B24:;
 j0 = l14;
-i0 = i32_load16_u(j0 + 1188u);
-l21 = i0;
-j0 = l14;
-j1 = 1184ull;
-j0 += j1;
-i1 = 0u;
-j2 = 128ull;
-memory_fill(j0, i1, j2);
-j0 = l14;
-j1 = 1008ull;
-j0 += j1;
-i1 = 0u;
-j2 = 120ull;
-memory_fill(j0, i1, j2);
-j0 = l14;
-j1 = 888ull;
-j0 += j1;
-i1 = 0u;
-j2 = 120ull;
-memory_fill(j0, i1, j2);
-j0 = l14;
-j1 = 760ull;
-j0 += j1;
-i1 = 0u;
-j2 = 128ull;
-memory_fill(j0, i1, j2);
-j0 = l14;
-j1 = 640ull;
-j0 += j1;
-i1 = 0u;
-j2 = 120ull;
-memory_fill(j0, i1, j2);
-j0 = l14;
-j1 = 536ull;
+j1 = 16ull;
 j0 += j1;
 i1 = 0u;
 j2 = 104ull;
 memory_fill(j0, i1, j2);
+goto B22;
+B23:;
 j0 = l14;
-j1 = 1008ull;
+j1 = 16ull;
 j0 += j1;
-j1 = p2;
-j2 = p3;
-w2c_f6(m, j0, j1, j2);
-j0 = l14;
-i0 = i32_load8_u(j0 + 1008u);
-if (i0) goto B22;
-j0 = l14;
-j1 = l14;
-i1 = i32_load8_u(j1 + 1009u);
-l22 = i1;
-i32_store8(j0 + 1159, i1);
-j0 = l14;
-j1 = l14;
-j1 = i64_load(j1 + 1010u);
-i64_store(j0 + 1160, j1);
+i1 = 0u;
+j2 = 104ull;
+memory_fill(j0, i1, j2);
+B22:;
+j0 = 0ull;
+p3 = j0;
+j0 = 4ull;
+p2 = j0;
+j0 = 1ull;
+p1 = j0;
+goto B7;
+B21:;
 j0 = l14;
 j1 = l14;
-j1 = i64_load(j1 + 1018u);
-i64_store(j0 + 1168, j1);
+j1 = i64_load(j1 + 850u);
+i64_store(j0 + 488, j1);
 j0 = l14;
 j1 = l14;
-j1 = i64_load(j1 + 1026u);
-i64_store(j0 + 1176, j1);
+j1 = i64_load(j1 + 858u);
+i64_store(j0 + 496, j1);
+j0 = l14;
+j1 = l14;
+j1 = i64_load(j1 + 866u);
+i64_store(j0 + 504, j1);
+j0 = l14;
+j1 = l14;
+i1 = i32_load8_u(j1 + 849u);
+l23 = i1;
+i32_store8(j0 + 487, i1);
+j0 = l14;
+j1 = 848ull;
+j0 += j1;
+i1 = 0u;
+j2 = 128ull;
+memory_fill(j0, i1, j2);
+j0 = l14;
+j1 = 720ull;
+j0 += j1;
+i1 = 0u;
+j2 = 128ull;
+memory_fill(j0, i1, j2);
+j0 = l14;
+j1 = 512ull;
+j0 += j1;
+i1 = 0u;
+j2 = 104ull;
+memory_fill(j0, i1, j2);
 j0 = l16;
 j1 = l18;
 j2 = 8ull;
@@ -82942,103 +82946,46 @@ j2 |= j3;
 j1 |= j2;
 p1 = j1;
 i0 = j0 < j1;
-if (i0) goto B16;
+if (i0) goto B25;
 j0 = l14;
-j1 = 888ull;
-j0 += j1;
-j1 = l19;
-j2 = p1;
-w2c_f6(m, j0, j1, j2);
-j0 = l14;
-i0 = i32_load8_u(j0 + 888u);
-if (i0) goto B15;
-j0 = l14;
-j1 = l14;
-j1 = i64_load(j1 + 890u);
-i64_store(j0 + 1135, j1);
-j0 = l14;
-j1 = l14;
-i1 = i32_load8_u(j1 + 889u);
-l23 = i1;
-i32_store8(j0 + 1134, i1);
-j0 = l14;
-j1 = l14;
-j1 = i64_load(j1 + 898u);
-i64_store(j0 + 1143, j1);
-j0 = l14;
-j1 = l14;
-j1 = i64_load(j1 + 906u);
-i64_store(j0 + 1151, j1);
-j0 = l14;
-i0 = i32_load16_u(j0 + 1137u);
+i0 = i32_load8_u(j0 + 490u);
 l24 = i0;
 i1 = 8u;
 i0 <<= (i1 & 31);
-i1 = l24;
-i2 = 8u;
-i1 >>= (i2 & 31);
+j1 = l14;
+i1 = i32_load8_u(j1 + 491u);
+l25 = i1;
 i0 |= i1;
+l26 = i0;
 i1 = 65535u;
 i0 &= i1;
-j1 = l14;
-i1 = i32_load16_u(j1 + 1162u);
-l24 = i1;
+i1 = l22;
 i2 = 8u;
 i1 <<= (i2 & 31);
-i2 = l24;
-i3 = 8u;
-i2 >>= (i3 & 31);
+i2 = l21;
+i3 = 255u;
+i2 &= i3;
 i1 |= i2;
+l27 = i1;
 i2 = 65535u;
 i1 &= i2;
 i0 = i0 == i1;
-if (i0) goto B23;
-j0 = l14;
-j1 = 1416ull;
-j0 += j1;
-i1 = 0u;
-j2 = 120ull;
-memory_fill(j0, i1, j2);
-j0 = l14;
-j1 = 1312ull;
-j0 += j1;
-i1 = 0u;
-j2 = 104ull;
-memory_fill(j0, i1, j2);
-j0 = l14;
-j1 = 1416ull;
-j0 += j1;
-j1 = p2;
-j2 = p3;
-w2c_f6(m, j0, j1, j2);
-j0 = l14;
-i0 = i32_load8_u(j0 + 1416u);
-i0 = !(i0);
-if (i0) goto B25;
-j0 = l14;
-j0 = i64_load(j0 + 1424u);
-p7 = j0;
-j0 = l14;
-j1 = 1208ull;
-j0 += j1;
-j1 = l14;
-j2 = 1432ull;
-j1 += j2;
-j2 = 104ull;
-memory_copy(j0, j1, j2);
-i0 = 1u;
-l22 = i0;
-j0 = 0ull;
-p1 = j0;
-goto B24;
-B25:;
+if (i0) goto B26;
 j0 = p9;
 j1 = p3;
 j2 = 16ull;
 j1 += j2;
-p1 = j1;
-i0 = j0 < j1;
-if (i0) goto B27;
+p6 = j1;
+i0 = j0 >= j1;
+if (i0) goto B28;
+i0 = 1u;
+l22 = i0;
+j0 = p6;
+p7 = j0;
+j0 = 774ull;
+p6 = j0;
+goto B27;
+B28:;
 j0 = p8;
 j1 = p3;
 j2 = 56ull;
@@ -83132,47 +83079,47 @@ i64_store(j0, j1);
 j0 = p8;
 j1 = 16ull;
 j0 += j1;
-p4 = j0;
+p1 = j0;
 j1 = p2;
 j0 -= j1;
 j1 = p3;
 i0 = j0 >= j1;
-if (i0) goto B29;
+if (i0) goto B30;
 j0 = p3;
 j1 = 3ull;
 j0 &= j1;
-p6 = j0;
+p9 = j0;
 j0 = 0ull;
-p4 = j0;
+p1 = j0;
 j0 = p3;
 j1 = 18446744073709551615ull;
 j0 += j1;
 j1 = 3ull;
 i0 = j0 < j1;
-if (i0) goto B30;
+if (i0) goto B31;
 j0 = p3;
 j1 = 18446744073709551612ull;
 j0 &= j1;
 p7 = j0;
 j0 = 0ull;
-p4 = j0;
-L31:
+p1 = j0;
+L32:
 j0 = p8;
-j1 = p4;
+j1 = p1;
 j0 += j1;
 p3 = j0;
 j1 = 16ull;
 j0 += j1;
 j1 = p2;
-j2 = p4;
+j2 = p1;
 j1 += j2;
-p9 = j1;
+p4 = j1;
 i1 = i32_load8_u(j1);
 i32_store8(j0, i1);
 j0 = p3;
 j1 = 17ull;
 j0 += j1;
-j1 = p9;
+j1 = p4;
 j2 = 1ull;
 j1 += j2;
 i1 = i32_load8_u(j1);
@@ -83180,7 +83127,7 @@ i32_store8(j0, i1);
 j0 = p3;
 j1 = 18ull;
 j0 += j1;
-j1 = p9;
+j1 = p4;
 j2 = 2ull;
 j1 += j2;
 i1 = i32_load8_u(j1);
@@ -83188,33 +83135,33 @@ i32_store8(j0, i1);
 j0 = p3;
 j1 = 19ull;
 j0 += j1;
-j1 = p9;
+j1 = p4;
 j2 = 3ull;
 j1 += j2;
 i1 = i32_load8_u(j1);
 i32_store8(j0, i1);
 j0 = p7;
-j1 = p4;
+j1 = p1;
 j2 = 4ull;
 j1 += j2;
-p4 = j1;
+p1 = j1;
 i0 = j0 != j1;
-if (i0) goto L31;
-j0 = p6;
+if (i0) goto L32;
+j0 = p9;
 i0 = !(j0);
-if (i0) goto B28;
-B30:;
+if (i0) goto B29;
+B31:;
 j0 = p2;
-j1 = p4;
+j1 = p1;
 j0 += j1;
 p3 = j0;
-j0 = p4;
+j0 = p1;
 j1 = p8;
 j0 += j1;
 j1 = 16ull;
 j0 += j1;
 p2 = j0;
-L32:
+L33:
 j0 = p2;
 j1 = p3;
 i1 = i32_load8_u(j1);
@@ -83229,154 +83176,93 @@ j0 += j1;
 p3 = j0;
 j0 = 0ull;
 p7 = j0;
-j0 = p6;
+j0 = p9;
 j1 = 18446744073709551615ull;
 j0 += j1;
-p6 = j0;
+p9 = j0;
 j1 = 0ull;
 i0 = j0 != j1;
-if (i0) goto L32;
+if (i0) goto L33;
 i0 = 0u;
 l22 = i0;
-goto B26;
-B29:;
+goto B27;
+B30:;
 j0 = p3;
 i0 = !(j0);
-if (i0) goto B28;
-j0 = p4;
+if (i0) goto B29;
+j0 = p1;
 j1 = p2;
 j2 = p3;
 memory_copy(j0, j1, j2);
-B28:;
+B29:;
 i0 = 0u;
 l22 = i0;
 j0 = 0ull;
 p7 = j0;
-goto B26;
 B27:;
 j0 = l14;
-j1 = 1312ull;
+j1 = 376ull;
 j0 += j1;
 i1 = 0u;
 j2 = 104ull;
 memory_fill(j0, i1, j2);
-i0 = 1u;
-l22 = i0;
-j0 = p1;
-p7 = j0;
-j0 = 774ull;
-p1 = j0;
+goto B11;
 B26:;
-j0 = l14;
-j1 = 1208ull;
-j0 += j1;
-j1 = l14;
-j2 = 1312ull;
-j1 += j2;
-j2 = 104ull;
-memory_copy(j0, j1, j2);
-B24:;
-j0 = l14;
-j1 = 328ull;
-j0 += j1;
-j1 = l14;
-j2 = 1208ull;
-j1 += j2;
-j2 = 104ull;
-memory_copy(j0, j1, j2);
-goto B8;
-B23:;
 i0 = l23;
 i1 = 255u;
 i0 &= i1;
 i0 = !(i0);
-if (i0) goto B33;
+if (i0) goto B34;
 j0 = l14;
-i0 = i32_load8_u(j0 + 1135u);
-l24 = i0;
-i0 = l22;
+i0 = i32_load8_u(j0 + 488u);
+l28 = i0;
+i0 = l20;
 i1 = 255u;
 i0 &= i1;
-if (i0) goto B11;
+if (i0) goto B14;
 i0 = 0u;
-l22 = i0;
-i0 = l24;
+l29 = i0;
+i0 = l28;
 i1 = 255u;
 i0 &= i1;
-if (i0) goto B10;
-goto B9;
-B33:;
+if (i0) goto B13;
+goto B12;
+B34:;
 i0 = 0u;
-l24 = i0;
-i0 = l22;
+l28 = i0;
+i0 = l20;
 i1 = 255u;
 i0 &= i1;
-if (i0) goto B11;
-goto B9;
-B22:;
+if (i0) goto B14;
+goto B12;
+B25:;
 j0 = l14;
-i1 = 0u;
-i32_store16(j0 + 1192, i1);
+i1 = 5u;
+i32_store8(j0 + 856, i1);
 j0 = l14;
-j0 = i64_load(j0 + 1016u);
-p7 = j0;
+j0 = i64_load16_u(j0 + 856u);
+p6 = j0;
 j0 = l14;
-j0 = i64_load16_u(j0 + 1192u);
-p1 = j0;
-j0 = l14;
-j1 = 328ull;
-j0 += j1;
-j1 = l14;
-j2 = 1024ull;
-j1 += j2;
-j2 = 104ull;
-memory_copy(j0, j1, j2);
-goto B6;
-B21:;
-j0 = l14;
-j1 = 1416ull;
+j1 = 376ull;
 j0 += j1;
 i1 = 0u;
 j2 = 104ull;
 memory_fill(j0, i1, j2);
+goto B4;
+B20:;
 j0 = l14;
-j1 = 1184ull;
+j1 = 848ull;
 j0 += j1;
 i1 = 0u;
-j2 = 120ull;
-memory_fill(j0, i1, j2);
-j0 = l14;
-j1 = 1184ull;
-j0 += j1;
-j1 = p2;
-j2 = p3;
-w2c_f6(m, j0, j1, j2);
-j0 = l14;
-i0 = i32_load8_u(j0 + 1184u);
-i0 = !(i0);
-if (i0) goto B36;
-j0 = l14;
-j0 = i64_load(j0 + 1192u);
-p7 = j0;
-j0 = l14;
-j1 = 760ull;
-j0 += j1;
-j1 = l14;
-j2 = 1200ull;
-j1 += j2;
 j2 = 104ull;
-memory_copy(j0, j1, j2);
-j0 = 0ull;
-p3 = j0;
-goto B35;
-B36:;
+memory_fill(j0, i1, j2);
 j0 = p9;
 j1 = p3;
 j2 = 16ull;
 j1 += j2;
 p7 = j1;
 i0 = j0 < j1;
-if (i0) goto B37;
+if (i0) goto B36;
 j0 = p8;
 j1 = p3;
 j2 = 56ull;
@@ -83475,7 +83361,7 @@ j1 = p2;
 j0 -= j1;
 j1 = p3;
 i0 = j0 >= j1;
-if (i0) goto B39;
+if (i0) goto B38;
 j0 = p3;
 j1 = 3ull;
 j0 &= j1;
@@ -83485,14 +83371,14 @@ p1 = j0;
 j0 = p3;
 j1 = 4ull;
 i0 = j0 < j1;
-if (i0) goto B40;
+if (i0) goto B39;
 j0 = p3;
 j1 = 18446744073709551612ull;
 j0 &= j1;
 p10 = j0;
 j0 = 0ull;
 p1 = j0;
-L41:
+L40:
 j0 = p8;
 j1 = p1;
 j0 += j1;
@@ -83535,11 +83421,11 @@ j2 = 4ull;
 j1 += j2;
 p1 = j1;
 i0 = j0 != j1;
-if (i0) goto L41;
+if (i0) goto L40;
 j0 = p9;
 i0 = !(j0);
-if (i0) goto B38;
-B40:;
+if (i0) goto B37;
+B39:;
 j0 = p2;
 j1 = p1;
 j0 += j1;
@@ -83550,7 +83436,7 @@ j0 += j1;
 j1 = 16ull;
 j0 += j1;
 p1 = j0;
-L42:
+L41:
 j0 = p1;
 j1 = p2;
 i1 = i32_load8_u(j1);
@@ -83569,22 +83455,22 @@ j0 += j1;
 p9 = j0;
 j1 = 0ull;
 i0 = j0 != j1;
-if (i0) goto L42;
-goto B38;
+if (i0) goto L41;
+goto B37;
 abort();
-B39:;
+B38:;
 j0 = p3;
 i0 = !(j0);
-if (i0) goto B38;
+if (i0) goto B37;
 j0 = p1;
 j1 = p2;
 j2 = p3;
 memory_copy(j0, j1, j2);
-B38:;
+B37:;
 j0 = p13;
 j1 = 16ull;
 i0 = j0 < j1;
-if (i0) goto B34;
+if (i0) goto B35;
 j0 = p12;
 j1 = 0ull;
 i64_store(j0 + 8, j1);
@@ -83596,7 +83482,7 @@ j1 = 18446744073709551600ull;
 j0 += j1;
 j1 = p7;
 i0 = j0 < j1;
-if (i0) goto B34;
+if (i0) goto B35;
 j0 = p12;
 j1 = 16ull;
 j0 += j1;
@@ -83605,7 +83491,7 @@ j1 = p8;
 j0 -= j1;
 j1 = p7;
 i0 = j0 >= j1;
-if (i0) goto B43;
+if (i0) goto B42;
 j0 = p3;
 j1 = 3ull;
 j0 &= j1;
@@ -83617,14 +83503,14 @@ j1 = 15ull;
 j0 += j1;
 j1 = 3ull;
 i0 = j0 < j1;
-if (i0) goto B44;
+if (i0) goto B43;
 j0 = p7;
 j1 = 18446744073709551612ull;
 j0 &= j1;
 p9 = j0;
 j0 = 0ull;
 p1 = j0;
-L45:
+L44:
 j0 = p12;
 j1 = p1;
 j0 += j1;
@@ -83667,11 +83553,11 @@ j2 = 4ull;
 j1 += j2;
 p1 = j1;
 i0 = j0 != j1;
-if (i0) goto L45;
+if (i0) goto L44;
 j0 = p11;
 i0 = !(j0);
-if (i0) goto B13;
-B44:;
+if (i0) goto B16;
+B43:;
 j0 = p8;
 j1 = p1;
 j0 += j1;
@@ -83682,7 +83568,7 @@ j0 += j1;
 j1 = 16ull;
 j0 += j1;
 p1 = j0;
-L46:
+L45:
 j0 = p1;
 j1 = p2;
 i1 = i32_load8_u(j1);
@@ -83701,40 +83587,31 @@ j0 += j1;
 p11 = j0;
 j1 = 0ull;
 i0 = j0 != j1;
-if (i0) goto L46;
-goto B13;
+if (i0) goto L45;
+goto B16;
 abort();
-B43:;
+B42:;
 j0 = p7;
 i0 = !(j0);
-if (i0) goto B13;
+if (i0) goto B16;
 j0 = p2;
 j1 = p8;
 j2 = p7;
 memory_copy(j0, j1, j2);
-goto B13;
-B37:;
+goto B16;
+B36:;
 j0 = l14;
-j1 = 760ull;
+j1 = 16ull;
 j0 += j1;
 i1 = 0u;
 j2 = 104ull;
 memory_fill(j0, i1, j2);
 j0 = 774ull;
 p3 = j0;
+goto B2;
 B35:;
 j0 = l14;
-j1 = 16ull;
-j0 += j1;
-j1 = l14;
-j2 = 760ull;
-j1 += j2;
-j2 = 104ull;
-memory_copy(j0, j1, j2);
-goto B5;
-B34:;
-j0 = l14;
-j1 = 1416ull;
+j1 = 848ull;
 j0 += j1;
 i1 = 0u;
 j2 = 104ull;
@@ -83747,79 +83624,10 @@ j0 = 5ull;
 p2 = j0;
 j0 = 1ull;
 p1 = j0;
-goto B12;
-B18:;
-abort();
+goto B15;
 B17:;
-j0 = l14;
-j0 = i64_load(j0 + 1192u);
-p7 = j0;
-j0 = l14;
-j1 = 432ull;
-j0 += j1;
-j1 = l14;
-j2 = 1200ull;
-j1 += j2;
-j2 = 104ull;
-memory_copy(j0, j1, j2);
-j0 = l14;
-j1 = 16ull;
-j0 += j1;
-j1 = l14;
-j2 = 432ull;
-j1 += j2;
-j2 = 104ull;
-memory_copy(j0, j1, j2);
-j0 = 0ull;
-p3 = j0;
-goto B5;
+abort();
 B16:;
-j0 = l14;
-i1 = 5u;
-i32_store16(j0 + 1192, i1);
-j0 = l14;
-j0 = i64_load16_u(j0 + 1192u);
-p1 = j0;
-j0 = l14;
-j1 = 328ull;
-j0 += j1;
-i1 = 0u;
-j2 = 104ull;
-memory_fill(j0, i1, j2);
-j0 = 0ull;
-p7 = j0;
-goto B6;
-B15:;
-j0 = l14;
-i1 = 5u;
-i32_store16(j0 + 1192, i1);
-j0 = l14;
-j0 = i64_load16_u(j0 + 1192u);
-p1 = j0;
-j0 = l14;
-j1 = 328ull;
-j0 += j1;
-i1 = 0u;
-j2 = 104ull;
-memory_fill(j0, i1, j2);
-j0 = 0ull;
-p7 = j0;
-goto B6;
-B14:;
-j0 = l14;
-j1 = 16ull;
-j0 += j1;
-i1 = 0u;
-j2 = 104ull;
-memory_fill(j0, i1, j2);
-j0 = 0ull;
-p3 = j0;
-j0 = 4ull;
-p2 = j0;
-j0 = 1ull;
-p1 = j0;
-goto B2;
-B13:;
 j0 = p3;
 j1 = 32ull;
 j0 += j1;
@@ -83828,47 +83636,45 @@ j0 = 0ull;
 p1 = j0;
 j0 = 0ull;
 p3 = j0;
-B12:;
+B15:;
 j0 = l14;
 j1 = 16ull;
 j0 += j1;
 j1 = l14;
-j2 = 1416ull;
+j2 = 848ull;
 j1 += j2;
 j2 = 104ull;
 memory_copy(j0, j1, j2);
-goto B2;
-B11:;
-i0 = l24;
+goto B7;
+B14:;
+i0 = l28;
 i1 = 255u;
 i0 &= i1;
 j1 = l14;
-i1 = i32_load8_u(j1 + 1160u);
-l22 = i1;
+i1 = i32_load8_u(j1 + 248u);
+l29 = i1;
 i0 = i0 == i1;
-if (i0) goto B9;
-B10:;
+if (i0) goto B12;
+B13:;
 j0 = l14;
-i1 = l22;
-i32_store8(j0 + 1193, i1);
+i1 = l29;
+i32_store8(j0 + 857, i1);
 j0 = l14;
 i1 = 1u;
-i32_store8(j0 + 1192, i1);
+i32_store8(j0 + 856, i1);
 j0 = l14;
-j0 = i64_load16_u(j0 + 1192u);
-p1 = j0;
+j0 = i64_load16_u(j0 + 856u);
+p6 = j0;
 j0 = l14;
-j1 = 328ull;
+j1 = 376ull;
 j0 += j1;
 i1 = 0u;
 j2 = 104ull;
 memory_fill(j0, i1, j2);
-j0 = 0ull;
-p7 = j0;
-goto B6;
-B9:;
+goto B4;
+B12:;
 j0 = l14;
-j1 = 760ull;
+j1 = 720ull;
 j0 += j1;
 j1 = p2;
 j2 = p3;
@@ -83878,81 +83684,93 @@ j5 = p6;
 j6 = p7;
 w2c_f91(m, j0, j1, j2, j3, j4, j5, j6);
 j0 = l14;
-i0 = i32_load8_u(j0 + 760u);
-if (i0) goto B7;
+i0 = i32_load8_u(j0 + 720u);
+if (i0) goto B10;
 j0 = l14;
-j0 = i64_load(j0 + 768u);
+j0 = i64_load(j0 + 728u);
 l15 = j0;
 j0 = l14;
-i0 = i32_load(j0 + 1168u);
-l22 = i0;
+i0 = i32_load(j0 + 256u);
+l28 = i0;
 i1 = 16711935u;
 i0 &= i1;
 i1 = 8u;
 i0 = I32_ROTR(i0, i1);
-i1 = l22;
+i1 = l28;
 i2 = 24u;
 i1 = I32_ROTR(i1, i2);
 i2 = 16711935u;
 i1 &= i2;
 i0 |= i1;
-l24 = i0;
+l30 = i0;
 j1 = l14;
-i1 = i32_load(j1 + 1143u);
-l22 = i1;
+i1 = i32_load(j1 + 496u);
+l29 = i1;
 i2 = 16711935u;
 i1 &= i2;
 i2 = 8u;
 i1 = I32_ROTR(i1, i2);
-i2 = l22;
+i2 = l29;
 i3 = 24u;
 i2 = I32_ROTR(i2, i3);
 i3 = 16711935u;
 i2 &= i3;
 i1 |= i2;
 i0 -= i1;
-l22 = i0;
+l31 = i0;
 i1 = 2147483648u;
 i0 |= i1;
 i1 = 2147483648u;
 i0 = i0 == i1;
-if (i0) goto B48;
-i0 = l22;
+if (i0) goto B47;
+i0 = l31;
 i1 = 4294967295u;
 i0 = (u32)((s32)i0 > (s32)i1);
-if (i0) goto B47;
-B48:;
-j0 = l14;
-j1 = 640ull;
-j0 += j1;
-j1 = l14;
-j2 = 1134ull;
-j1 += j2;
-j2 = l14;
-j3 = 1159ull;
-j2 += j3;
-j3 = l15;
-w2c_f97(m, j0, j1, j2, j3);
-j0 = l14;
-j1 = l14;
-i1 = i32_load16_u(j1 + 640u);
-i32_store16(j0 + 1192, i1);
-j0 = l14;
-j0 = i64_load(j0 + 648u);
-p7 = j0;
-j0 = l14;
-j0 = i64_load16_u(j0 + 1192u);
-p1 = j0;
-j0 = l14;
-j1 = 328ull;
-j0 += j1;
-j1 = l14;
-j2 = 656ull;
-j1 += j2;
-j2 = 104ull;
-memory_copy(j0, j1, j2);
-goto B6;
+if (i0) goto B46;
 B47:;
+i0 = l29;
+i1 = l28;
+i0 = i0 == i1;
+if (i0) goto B48;
+j0 = l14;
+j1 = 616ull;
+j0 += j1;
+i1 = 0u;
+j2 = 104ull;
+memory_fill(j0, i1, j2);
+i0 = 4u;
+l22 = i0;
+goto B5;
+B48:;
+i0 = l23;
+i1 = 255u;
+i0 &= i1;
+if (i0) goto B50;
+j0 = 12ull;
+p3 = j0;
+j0 = l15;
+j1 = 12ull;
+i0 = j0 > j1;
+if (i0) goto B49;
+goto B6;
+B50:;
+j0 = 24ull;
+p3 = j0;
+j0 = l15;
+j1 = 25ull;
+i0 = j0 < j1;
+if (i0) goto B6;
+B49:;
+j0 = l14;
+j1 = 616ull;
+j0 += j1;
+i1 = 0u;
+j2 = 104ull;
+memory_fill(j0, i1, j2);
+i0 = 4u;
+l22 = i0;
+goto B5;
+B46:;
 j0 = p5;
 j1 = 8ull;
 j0 += j1;
@@ -83960,70 +83778,70 @@ j0 = i64_load(j0);
 p7 = j0;
 j1 = 15ull;
 i0 = j0 > j1;
-if (i0) goto B49;
+if (i0) goto B51;
 j0 = l14;
-j1 = 1184ull;
+j1 = 848ull;
 j0 += j1;
 j1 = p2;
 j2 = p3;
 j3 = p4;
 j4 = p8;
 j5 = p9;
-w2c_f98(m, j0, j1, j2, j3, j4, j5);
+w2c_f97(m, j0, j1, j2, j3, j4, j5);
 j0 = l14;
-j0 = i64_load(j0 + 1200u);
+j0 = i64_load(j0 + 864u);
 p7 = j0;
 j0 = l14;
-j0 = i64_load(j0 + 1192u);
-p1 = j0;
+j0 = i64_load(j0 + 856u);
+p6 = j0;
 j0 = l14;
-i0 = i32_load8_u(j0 + 1184u);
+i0 = i32_load8_u(j0 + 848u);
 l22 = i0;
 j0 = l14;
-j1 = 328ull;
+j1 = 376ull;
 j0 += j1;
 j1 = l14;
-j2 = 1208ull;
+j2 = 872ull;
 j1 += j2;
 j2 = 104ull;
 memory_copy(j0, j1, j2);
-goto B8;
-B49:;
+goto B11;
+B51:;
 j0 = p7;
 j1 = 18446744073709551600ull;
 j0 += j1;
 l18 = j0;
 j1 = l15;
 i0 = j0 >= j1;
-if (i0) goto B50;
+if (i0) goto B52;
 j0 = l14;
-j1 = 1184ull;
+j1 = 848ull;
 j0 += j1;
 j1 = p2;
 j2 = p3;
 j3 = p4;
 j4 = p8;
 j5 = p9;
-w2c_f98(m, j0, j1, j2, j3, j4, j5);
+w2c_f97(m, j0, j1, j2, j3, j4, j5);
 j0 = l14;
-j0 = i64_load(j0 + 1200u);
+j0 = i64_load(j0 + 864u);
 p7 = j0;
 j0 = l14;
-j0 = i64_load(j0 + 1192u);
-p1 = j0;
+j0 = i64_load(j0 + 856u);
+p6 = j0;
 j0 = l14;
-i0 = i32_load8_u(j0 + 1184u);
+i0 = i32_load8_u(j0 + 848u);
 l22 = i0;
 j0 = l14;
-j1 = 328ull;
+j1 = 376ull;
 j0 += j1;
 j1 = l14;
-j2 = 1208ull;
+j2 = 872ull;
 j1 += j2;
 j2 = 104ull;
 memory_copy(j0, j1, j2);
-goto B8;
-B50:;
+goto B11;
+B52:;
 j0 = l19;
 j1 = p1;
 j0 += j1;
@@ -84040,7 +83858,7 @@ j6 = l19;
 j7 = l16;
 j8 = p1;
 j7 -= j8;
-i8 = l24;
+i8 = l30;
 j9 = 0ull;
 j10 = p4;
 j11 = p5;
@@ -84054,28 +83872,28 @@ j9 = i11 ? j9 : j10;
 j10 = l18;
 j11 = l15;
 j10 -= j11;
-j6 = w2c_f99(m, j6, j7, i8, j9, j10);
+j6 = w2c_f98(m, j6, j7, i8, j9, j10);
 p1 = j6;
 j7 = p4;
 j8 = p8;
 j9 = p9;
-w2c_f100(m, j0, j1, j2, j3, j4, j5, j6, j7, j8, j9);
+w2c_f99(m, j0, j1, j2, j3, j4, j5, j6, j7, j8, j9);
 i0 = 1u;
 l22 = i0;
 j0 = l14;
 i0 = i32_load8_u(j0);
 i1 = 1u;
 i0 = i0 != i1;
-if (i0) goto B52;
+if (i0) goto B54;
 j0 = l14;
 j0 = i64_load(j0 + 8u);
-p1 = j0;
+p6 = j0;
 i0 = 0u;
 l22 = i0;
-goto B51;
-B52:;
+goto B53;
+B54:;
 j0 = l14;
-j1 = 536ull;
+j1 = 512ull;
 j0 += j1;
 i1 = 0u;
 j2 = 104ull;
@@ -84107,21 +83925,21 @@ i2 = j2 < j3;
 j0 = i2 ? j0 : j1;
 p7 = j0;
 j0 = 774ull;
-p1 = j0;
-B51:;
+p6 = j0;
+B53:;
 j0 = l14;
-j1 = 328ull;
+j1 = 376ull;
 j0 += j1;
 j1 = l14;
-j2 = 536ull;
+j2 = 512ull;
 j1 += j2;
 j2 = 104ull;
 memory_copy(j0, j1, j2);
-B8:;
+B11:;
 i0 = l22;
 i1 = 255u;
 i0 &= i1;
-if (i0) goto B6;
+if (i0) goto B3;
 j0 = 0ull;
 p3 = j0;
 j0 = p11;
@@ -84172,39 +83990,25 @@ j4 >>= (j5 & 63);
 j3 |= j4;
 j2 |= j3;
 j1 |= j2;
-p9 = j1;
+p4 = j1;
 i0 = j0 >= j1;
-if (i0) goto B54;
+if (i0) goto B56;
 j0 = 4ull;
 p2 = j0;
-goto B53;
-B54:;
-i0 = l21;
-i1 = 8u;
-i0 <<= (i1 & 31);
-i1 = l21;
-i2 = 8u;
-i1 >>= (i2 & 31);
-i0 |= i1;
-l22 = i0;
+goto B55;
+B56:;
+i0 = l26;
 i1 = 65535u;
 i0 &= i1;
-i1 = l20;
-i2 = 8u;
-i1 <<= (i2 & 31);
-i2 = l20;
-i3 = 8u;
-i2 >>= (i3 & 31);
-i1 |= i2;
-l21 = i1;
+i1 = l27;
 i2 = 65535u;
 i1 &= i2;
 i0 = i0 != i1;
-if (i0) goto B57;
+if (i0) goto B59;
 j0 = p13;
 j1 = 16ull;
 i0 = j0 < j1;
-if (i0) goto B56;
+if (i0) goto B58;
 j0 = p12;
 j1 = p2;
 i64_store(j0 + 8, j1);
@@ -84214,38 +84018,38 @@ i64_store(j0, j1);
 j0 = p13;
 j1 = 18446744073709551600ull;
 j0 += j1;
-j1 = p9;
-j2 = p1;
+j1 = p4;
+j2 = p6;
 j1 += j2;
-p6 = j1;
+p7 = j1;
 i0 = j0 < j1;
-if (i0) goto B56;
+if (i0) goto B58;
 j0 = p12;
 j1 = 16ull;
 j0 += j1;
-p7 = j0;
+p13 = j0;
 j1 = l17;
 j0 -= j1;
-j1 = p9;
+j1 = p4;
 i0 = j0 >= j1;
-if (i0) goto B59;
-j0 = p9;
+if (i0) goto B61;
+j0 = p4;
 j1 = 3ull;
 j0 &= j1;
 p11 = j0;
 j0 = 0ull;
 p3 = j0;
-j0 = p9;
+j0 = p4;
 j1 = 4ull;
 i0 = j0 < j1;
-if (i0) goto B60;
-j0 = p9;
+if (i0) goto B62;
+j0 = p4;
 j1 = 18446744073709551612ull;
 j0 &= j1;
-p13 = j0;
+p9 = j0;
 j0 = 0ull;
 p3 = j0;
-L61:
+L63:
 j0 = p12;
 j1 = p3;
 j0 += j1;
@@ -84255,7 +84059,7 @@ j0 += j1;
 j1 = p10;
 j2 = p3;
 j1 += j2;
-p4 = j1;
+p1 = j1;
 j2 = 16ull;
 j1 += j2;
 i1 = i32_load8_u(j1);
@@ -84263,7 +84067,7 @@ i32_store8(j0, i1);
 j0 = p2;
 j1 = 17ull;
 j0 += j1;
-j1 = p4;
+j1 = p1;
 j2 = 17ull;
 j1 += j2;
 i1 = i32_load8_u(j1);
@@ -84271,7 +84075,7 @@ i32_store8(j0, i1);
 j0 = p2;
 j1 = 18ull;
 j0 += j1;
-j1 = p4;
+j1 = p1;
 j2 = 18ull;
 j1 += j2;
 i1 = i32_load8_u(j1);
@@ -84279,22 +84083,22 @@ i32_store8(j0, i1);
 j0 = p2;
 j1 = 19ull;
 j0 += j1;
-j1 = p4;
+j1 = p1;
 j2 = 19ull;
 j1 += j2;
 i1 = i32_load8_u(j1);
 i32_store8(j0, i1);
-j0 = p13;
+j0 = p9;
 j1 = p3;
 j2 = 4ull;
 j1 += j2;
 p3 = j1;
 i0 = j0 != j1;
-if (i0) goto L61;
+if (i0) goto L63;
 j0 = p11;
 i0 = !(j0);
-if (i0) goto B58;
-B60:;
+if (i0) goto B60;
+B62:;
 j0 = p12;
 j1 = p3;
 j2 = 16ull;
@@ -84306,7 +84110,7 @@ j0 = p10;
 j1 = p2;
 j0 += j1;
 p2 = j0;
-L62:
+L64:
 j0 = p3;
 j1 = p2;
 i1 = i32_load8_u(j1);
@@ -84325,49 +84129,49 @@ j0 += j1;
 p11 = j0;
 j1 = 0ull;
 i0 = j0 != j1;
-if (i0) goto L62;
-goto B58;
+if (i0) goto L64;
+goto B60;
 abort();
-B59:;
-j0 = p9;
+B61:;
+j0 = p4;
 i0 = !(j0);
-if (i0) goto B58;
-j0 = p7;
+if (i0) goto B60;
+j0 = p13;
 j1 = l17;
-j2 = p9;
+j2 = p4;
 memory_copy(j0, j1, j2);
-B58:;
-j0 = p7;
-j1 = p9;
+B60:;
+j0 = p13;
+j1 = p4;
 j0 += j1;
 p3 = j0;
 j1 = p8;
 j0 -= j1;
-j1 = p1;
+j1 = p6;
 i0 = j0 >= j1;
-if (i0) goto B64;
-j0 = p1;
+if (i0) goto B66;
+j0 = p6;
 j1 = 3ull;
 j0 &= j1;
-p4 = j0;
+p11 = j0;
 j0 = 0ull;
 p2 = j0;
-j0 = p1;
+j0 = p6;
 j1 = 4ull;
 i0 = j0 < j1;
-if (i0) goto B65;
+if (i0) goto B67;
 j0 = p12;
-j1 = p9;
+j1 = p4;
 j0 += j1;
-p11 = j0;
-j0 = p1;
+p9 = j0;
+j0 = p6;
 j1 = 18446744073709551612ull;
 j0 &= j1;
 p13 = j0;
 j0 = 0ull;
 p2 = j0;
-L66:
-j0 = p11;
+L68:
+j0 = p9;
 j1 = p2;
 j0 += j1;
 p3 = j0;
@@ -84409,16 +84213,16 @@ j2 = 4ull;
 j1 += j2;
 p2 = j1;
 i0 = j0 != j1;
-if (i0) goto L66;
-j0 = p4;
+if (i0) goto L68;
+j0 = p11;
 i0 = !(j0);
-if (i0) goto B63;
-B65:;
+if (i0) goto B65;
+B67:;
 j0 = p8;
 j1 = p2;
 j0 += j1;
 p3 = j0;
-j0 = p9;
+j0 = p4;
 j1 = p2;
 j0 += j1;
 j1 = p12;
@@ -84426,7 +84230,7 @@ j0 += j1;
 j1 = 16ull;
 j0 += j1;
 p2 = j0;
-L67:
+L69:
 j0 = p2;
 j1 = p3;
 i1 = i32_load8_u(j1);
@@ -84439,85 +84243,85 @@ j0 = p3;
 j1 = 1ull;
 j0 += j1;
 p3 = j0;
-j0 = p4;
+j0 = p11;
 j1 = 18446744073709551615ull;
 j0 += j1;
-p4 = j0;
+p11 = j0;
 j1 = 0ull;
 i0 = j0 != j1;
-if (i0) goto L67;
-goto B63;
+if (i0) goto L69;
+goto B65;
 abort();
-B64:;
-j0 = p1;
+B66:;
+j0 = p6;
 i0 = !(j0);
-if (i0) goto B63;
+if (i0) goto B65;
 j0 = p3;
 j1 = p8;
-j2 = p1;
+j2 = p6;
 memory_copy(j0, j1, j2);
-B63:;
-j0 = p6;
+B65:;
+j0 = p7;
 j1 = 16ull;
 j0 += j1;
 p2 = j0;
-goto B4;
-B57:;
-j0 = p9;
+goto B9;
+B59:;
+j0 = p4;
 j1 = 2ull;
 i0 = j0 < j1;
-if (i0) goto B68;
+if (i0) goto B70;
 j0 = l17;
 p2 = j0;
-j0 = p9;
-p4 = j0;
-L69:
+j0 = p4;
+p1 = j0;
+L71:
 j0 = p2;
 i0 = i32_load16_u(j0);
-l20 = i0;
+l22 = i0;
 i1 = 8u;
 i0 <<= (i1 & 31);
-i1 = l20;
+i1 = l22;
 i2 = 8u;
 i1 >>= (i2 & 31);
 i0 |= i1;
 i1 = 65535u;
 i0 &= i1;
-i1 = l21;
+i1 = l27;
 i2 = 65535u;
 i1 &= i2;
 i0 = i0 != i1;
-if (i0) goto B70;
+if (i0) goto B72;
 j0 = 2ull;
 p2 = j0;
-goto B53;
-B70:;
+goto B55;
+B72:;
 j0 = p2;
 j1 = 2ull;
 j0 += j1;
 p2 = j0;
-j0 = p4;
+j0 = p1;
 j1 = 18446744073709551614ull;
 j0 += j1;
-p4 = j0;
+p1 = j0;
 j1 = 1ull;
 i0 = j0 > j1;
-if (i0) goto L69;
-B68:;
+if (i0) goto L71;
+B70:;
 j0 = p13;
 j1 = 18ull;
 i0 = j0 < j1;
-if (i0) goto B71;
+if (i0) goto B73;
 j0 = p12;
 j1 = 0ull;
 i64_store(j0, j1);
 j0 = p12;
 j1 = 16ull;
 j0 += j1;
-i1 = l22;
+i1 = l26;
 i2 = 8u;
 i1 <<= (i2 & 31);
-i2 = l22;
+i2 = l26;
 i3 = 65280u;
 i2 &= i3;
 i3 = 8u;
@@ -84525,7 +84329,7 @@ i2 >>= (i3 & 31);
 i1 |= i2;
 i32_store16(j0, i1);
 j0 = p12;
-j1 = p9;
+j1 = p4;
 j2 = 2ull;
 j1 += j2;
 p3 = j1;
@@ -84575,38 +84379,38 @@ i64_store(j0 + 8, j1);
 j0 = p13;
 j1 = 18446744073709551598ull;
 j0 += j1;
-j1 = p9;
-j2 = p1;
+j1 = p4;
+j2 = p6;
 j1 += j2;
-p6 = j1;
+p7 = j1;
 i0 = j0 < j1;
-if (i0) goto B71;
+if (i0) goto B73;
 j0 = p12;
 j1 = 18ull;
 j0 += j1;
-p7 = j0;
+p13 = j0;
 j1 = l17;
 j0 -= j1;
-j1 = p9;
+j1 = p4;
 i0 = j0 >= j1;
-if (i0) goto B73;
-j0 = p9;
+if (i0) goto B75;
+j0 = p4;
 j1 = 3ull;
 j0 &= j1;
 p11 = j0;
 j0 = 0ull;
 p2 = j0;
-j0 = p9;
+j0 = p4;
 j1 = 4ull;
 i0 = j0 < j1;
-if (i0) goto B74;
-j0 = p9;
+if (i0) goto B76;
+j0 = p4;
 j1 = 18446744073709551612ull;
 j0 &= j1;
-p13 = j0;
+p9 = j0;
 j0 = 0ull;
 p2 = j0;
-L75:
+L77:
 j0 = p12;
 j1 = p2;
 j0 += j1;
@@ -84616,7 +84420,7 @@ j0 += j1;
 j1 = p10;
 j2 = p2;
 j1 += j2;
-p4 = j1;
+p1 = j1;
 j2 = 16ull;
 j1 += j2;
 i1 = i32_load8_u(j1);
@@ -84624,7 +84428,7 @@ i32_store8(j0, i1);
 j0 = p3;
 j1 = 19ull;
 j0 += j1;
-j1 = p4;
+j1 = p1;
 j2 = 17ull;
 j1 += j2;
 i1 = i32_load8_u(j1);
@@ -84632,7 +84436,7 @@ i32_store8(j0, i1);
 j0 = p3;
 j1 = 20ull;
 j0 += j1;
-j1 = p4;
+j1 = p1;
 j2 = 18ull;
 j1 += j2;
 i1 = i32_load8_u(j1);
@@ -84640,22 +84444,22 @@ i32_store8(j0, i1);
 j0 = p3;
 j1 = 21ull;
 j0 += j1;
-j1 = p4;
+j1 = p1;
 j2 = 19ull;
 j1 += j2;
 i1 = i32_load8_u(j1);
 i32_store8(j0, i1);
-j0 = p13;
+j0 = p9;
 j1 = p2;
 j2 = 4ull;
 j1 += j2;
 p2 = j1;
 i0 = j0 != j1;
-if (i0) goto L75;
+if (i0) goto L77;
 j0 = p11;
 i0 = !(j0);
-if (i0) goto B72;
-B74:;
+if (i0) goto B74;
+B76:;
 j0 = p2;
 j1 = p12;
 j0 += j1;
@@ -84668,7 +84472,7 @@ j0 += j1;
 j1 = 16ull;
 j0 += j1;
 p2 = j0;
-L76:
+L78:
 j0 = p3;
 j1 = p2;
 i1 = i32_load8_u(j1);
@@ -84687,49 +84491,49 @@ j0 += j1;
 p11 = j0;
 j1 = 0ull;
 i0 = j0 != j1;
-if (i0) goto L76;
-goto B72;
+if (i0) goto L78;
+goto B74;
 abort();
-B73:;
-j0 = p9;
+B75:;
+j0 = p4;
 i0 = !(j0);
-if (i0) goto B72;
-j0 = p7;
+if (i0) goto B74;
+j0 = p13;
 j1 = l17;
-j2 = p9;
+j2 = p4;
 memory_copy(j0, j1, j2);
-B72:;
-j0 = p7;
-j1 = p9;
+B74:;
+j0 = p13;
+j1 = p4;
 j0 += j1;
 p3 = j0;
 j1 = p8;
 j0 -= j1;
-j1 = p1;
+j1 = p6;
 i0 = j0 >= j1;
-if (i0) goto B78;
-j0 = p1;
+if (i0) goto B80;
+j0 = p6;
 j1 = 3ull;
 j0 &= j1;
-p4 = j0;
+p11 = j0;
 j0 = 0ull;
 p2 = j0;
-j0 = p1;
+j0 = p6;
 j1 = 4ull;
 i0 = j0 < j1;
-if (i0) goto B79;
+if (i0) goto B81;
 j0 = p12;
-j1 = p9;
+j1 = p4;
 j0 += j1;
-p11 = j0;
-j0 = p1;
+p9 = j0;
+j0 = p6;
 j1 = 18446744073709551612ull;
 j0 &= j1;
 p13 = j0;
 j0 = 0ull;
 p2 = j0;
-L80:
-j0 = p11;
+L82:
+j0 = p9;
 j1 = p2;
 j0 += j1;
 p3 = j0;
@@ -84771,16 +84575,16 @@ j2 = 4ull;
 j1 += j2;
 p2 = j1;
 i0 = j0 != j1;
-if (i0) goto L80;
-j0 = p4;
+if (i0) goto L82;
+j0 = p11;
 i0 = !(j0);
-if (i0) goto B77;
-B79:;
+if (i0) goto B79;
+B81:;
 j0 = p8;
 j1 = p2;
 j0 += j1;
 p3 = j0;
-j0 = p9;
+j0 = p4;
 j1 = p2;
 j0 += j1;
 j1 = p12;
@@ -84788,7 +84592,7 @@ j0 += j1;
 j1 = 18ull;
 j0 += j1;
 p2 = j0;
-L81:
+L83:
 j0 = p2;
 j1 = p3;
 i1 = i32_load8_u(j1);
@@ -84801,84 +84605,84 @@ j0 = p3;
 j1 = 1ull;
 j0 += j1;
 p3 = j0;
-j0 = p4;
+j0 = p11;
 j1 = 18446744073709551615ull;
 j0 += j1;
-p4 = j0;
+p11 = j0;
 j1 = 0ull;
 i0 = j0 != j1;
-if (i0) goto L81;
-goto B77;
+if (i0) goto L83;
+goto B79;
 abort();
-B78:;
-j0 = p1;
+B80:;
+j0 = p6;
 i0 = !(j0);
-if (i0) goto B77;
+if (i0) goto B79;
 j0 = p3;
 j1 = p8;
-j2 = p1;
+j2 = p6;
 memory_copy(j0, j1, j2);
-B77:;
-j0 = p6;
+B79:;
+j0 = p7;
 j1 = 18ull;
 j0 += j1;
 p2 = j0;
-goto B4;
-B71:;
+goto B9;
+B73:;
 j0 = 18446744073709551615ull;
-j1 = p1;
+j1 = p6;
 j2 = 18446744073709551615ull;
-j3 = p9;
+j3 = p4;
 j4 = 18ull;
 j3 += j4;
 p3 = j3;
 j4 = p3;
-j5 = p9;
+j5 = p4;
 i4 = j4 < j5;
 j2 = i4 ? j2 : j3;
 j1 += j2;
 p3 = j1;
 j2 = p3;
-j3 = p1;
+j3 = p6;
 i2 = j2 < j3;
 j0 = i2 ? j0 : j1;
 p3 = j0;
-goto B55;
-B56:;
+goto B57;
+B58:;
 j0 = 18446744073709551615ull;
-j1 = p9;
-j2 = p1;
+j1 = p4;
+j2 = p6;
 j1 += j2;
 j2 = 16ull;
 j1 += j2;
 p3 = j1;
 j2 = p3;
-j3 = p1;
+j3 = p6;
 i2 = j2 < j3;
 j0 = i2 ? j0 : j1;
 p3 = j0;
-B55:;
+B57:;
 j0 = 5ull;
 p2 = j0;
-B53:;
+B55:;
 j0 = l14;
-j1 = 224ull;
+j1 = 272ull;
 j0 += j1;
 i1 = 0u;
 j2 = 104ull;
 memory_fill(j0, i1, j2);
 j0 = 1ull;
 p1 = j0;
-goto B3;
-B7:;
+goto B8;
+B10:;
 j0 = l14;
 i1 = 262u;
-i32_store16(j0 + 1192, i1);
+i32_store16(j0 + 856, i1);
 j0 = l14;
-j0 = i64_load16_u(j0 + 1192u);
-p1 = j0;
+j0 = i64_load16_u(j0 + 856u);
+p6 = j0;
 j0 = l14;
-j1 = 328ull;
+j1 = 376ull;
 j0 += j1;
 i1 = 0u;
 j2 = 104ull;
@@ -84887,42 +84691,132 @@ j0 = l15;
 j1 = p3;
 j0 += j1;
 p7 = j0;
-B6:;
+goto B3;
+B9:;
+j0 = 0ull;
+p1 = j0;
+j0 = 0ull;
+p3 = j0;
+B8:;
 j0 = l14;
 j1 = 16ull;
 j0 += j1;
 j1 = l14;
-j2 = 328ull;
+j2 = 272ull;
 j1 += j2;
 j2 = 104ull;
 memory_copy(j0, j1, j2);
-j0 = p1;
-j1 = 65535ull;
-j0 &= j1;
-p3 = j0;
-B5:;
-j0 = 3ull;
-p2 = j0;
-j0 = 1ull;
-p1 = j0;
+B7:;
+j0 = 0ull;
+p7 = j0;
 goto B1;
+B6:;
+j0 = p3;
+j1 = 24ull;
+j2 = 12ull;
+i3 = l20;
+i4 = 255u;
+i3 &= i4;
+j1 = i3 ? j1 : j2;
+i0 = j0 != j1;
+if (i0) goto B84;
+j0 = l14;
+i0 = i32_load8_u(j0 + 488u);
+j1 = l14;
+i1 = i32_load8_u(j1 + 248u);
+i0 = i0 != i1;
+if (i0) goto B84;
+j0 = l14;
+i0 = i32_load8_u(j0 + 489u);
+i1 = 255u;
+i0 &= i1;
+j1 = l14;
+i1 = i32_load8_u(j1 + 249u);
+i2 = 255u;
+i1 &= i2;
+i0 = i0 != i1;
+if (i0) goto B84;
+i0 = l24;
+i1 = 255u;
+i0 &= i1;
+i1 = l22;
+i2 = 255u;
+i1 &= i2;
+i0 = i0 != i1;
+if (i0) goto B84;
+i0 = l25;
+i1 = l21;
+i2 = 255u;
+i1 &= i2;
+i0 = i0 != i1;
+if (i0) goto B84;
+j0 = l14;
+j1 = 488ull;
+j0 += j1;
+j1 = p3;
+j2 = l14;
+j3 = 248ull;
+j2 += j3;
+i0 = w2c_f15(m, j0, j1, j2);
+i0 = !(i0);
+if (i0) goto B84;
+j0 = l14;
+j1 = 616ull;
+j0 += j1;
+i1 = 0u;
+j2 = 104ull;
+memory_fill(j0, i1, j2);
+i0 = 2u;
+l22 = i0;
+goto B5;
+B84:;
+j0 = l14;
+j1 = 616ull;
+j0 += j1;
+i1 = 0u;
+j2 = 104ull;
+memory_fill(j0, i1, j2);
+i0 = 3u;
+l22 = i0;
+B5:;
+j0 = l14;
+i1 = 0u;
+i32_store8(j0 + 857, i1);
+j0 = l14;
+i1 = l22;
+i32_store8(j0 + 856, i1);
+j0 = l14;
+j0 = i64_load16_u(j0 + 856u);
+p6 = j0;
+j0 = l14;
+j1 = 376ull;
+j0 += j1;
+j1 = l14;
+j2 = 616ull;
+j1 += j2;
+j2 = 104ull;
+memory_copy(j0, j1, j2);
 B4:;
 j0 = 0ull;
-p1 = j0;
-j0 = 0ull;
-p3 = j0;
+p7 = j0;
 B3:;
 j0 = l14;
 j1 = 16ull;
 j0 += j1;
 j1 = l14;
-j2 = 224ull;
+j2 = 376ull;
 j1 += j2;
 j2 = 104ull;
 memory_copy(j0, j1, j2);
+j0 = p6;
+j1 = 65535ull;
+j0 &= j1;
+p3 = j0;
 B2:;
-j0 = 0ull;
-p7 = j0;
+j0 = 3ull;
+p2 = j0;
+j0 = 1ull;
+p1 = j0;
 B1:;
 j0 = p0;
 j1 = p1;
@@ -84952,243 +84846,43 @@ j2 = 104ull;
 memory_copy(j0, j1, j2);
 B0:;
 j0 = l14;
-j1 = 1536ull;
+j1 = 976ull;
 j0 += j1;
 m->g0 = j0;
 }
 
-static void w2c_f97(M *m, u64 p0, u64 p1, u64 p2, u64 p3) {
-u32 l7 = 0;
-u64 l4 = 0, l5 = 0, l6 = 0;
-u32 i0, i1, i2, i3, i4;
-u64 j0, j1, j2;
-j0 = m->g0;
-l4 = j0;
-j1 = m->lowest + 16;
-i0 = (u64)((s64)j0 < (s64)j1);
-if (i0) goto B1;
-j0 = p1;
-j1 = 9ull;
-j0 += j1;
-i0 = i32_load(j0);
-j1 = p2;
-j2 = 9ull;
-j1 += j2;
-i1 = i32_load(j1);
-i0 = i0 == i1;
-if (i0) goto B2;
-j0 = p0;
-i1 = 4u;
-i32_store16(j0, i1);
-j0 = p0;
-j1 = 8ull;
-j0 += j1;
-i1 = 0u;
-j2 = 112ull;
-memory_fill(j0, i1, j2);
-j0 = l4;
-m->g0 = j0;
-goto Bfunc;
-B2:;
-j0 = p2;
-i0 = i32_load8_u(j0);
-l7 = i0;
-j0 = p1;
-i0 = i32_load8_u(j0);
-if (i0) goto B4;
-j0 = 12ull;
-l5 = j0;
-j0 = p3;
-j1 = 12ull;
-i0 = j0 > j1;
-if (i0) goto B3;
-goto B0;
-B4:;
-j0 = 24ull;
-l5 = j0;
-j0 = p3;
-j1 = 25ull;
-i0 = j0 < j1;
-if (i0) goto B0;
-B3:;
-j0 = p0;
-i1 = 4u;
-i32_store16(j0, i1);
-j0 = p0;
-j1 = 8ull;
-j0 += j1;
-i1 = 0u;
-j2 = 112ull;
-memory_fill(j0, i1, j2);
-j0 = l4;
-m->g0 = j0;
-goto Bfunc;
-B1:;
-abort();
-B0:;
-j0 = l5;
-j1 = 24ull;
-j2 = 12ull;
-i3 = l7;
-i4 = 255u;
-i3 &= i4;
-j1 = i3 ? j1 : j2;
-i0 = j0 != j1;
-if (i0) goto B5;
-j0 = p1;
-j1 = 1ull;
-j0 += j1;
-p3 = j0;
-i0 = i32_load8_u(j0);
-j1 = p2;
-j2 = 1ull;
-j1 += j2;
-l6 = j1;
-i1 = i32_load8_u(j1);
-i0 = i0 != i1;
-if (i0) goto B5;
-j0 = p1;
-j1 = 2ull;
-j0 += j1;
-i0 = i32_load8_u(j0);
-i1 = 255u;
-i0 &= i1;
-j1 = p2;
-j2 = 2ull;
-j1 += j2;
-i1 = i32_load8_u(j1);
-i2 = 255u;
-i1 &= i2;
-i0 = i0 != i1;
-if (i0) goto B5;
-j0 = p1;
-j1 = 3ull;
-j0 += j1;
-i0 = i32_load8_u(j0);
-i1 = 255u;
-i0 &= i1;
-j1 = p2;
-j2 = 3ull;
-j1 += j2;
-i1 = i32_load8_u(j1);
-i2 = 255u;
-i1 &= i2;
-i0 = i0 != i1;
-if (i0) goto B5;
-j0 = p1;
-j1 = 4ull;
-j0 += j1;
-i0 = i32_load8_u(j0);
-i1 = 255u;
-i0 &= i1;
-j1 = p2;
-j2 = 4ull;
-j1 += j2;
-i1 = i32_load8_u(j1);
-i2 = 255u;
-i1 &= i2;
-i0 = i0 != i1;
-if (i0) goto B5;
-j0 = p3;
-j1 = l5;
-j2 = l6;
-i0 = w2c_f15(m, j0, j1, j2);
-i0 = !(i0);
-if (i0) goto B5;
-j0 = p0;
-i1 = 2u;
-i32_store16(j0, i1);
-j0 = p0;
-j1 = 8ull;
-j0 += j1;
-i1 = 0u;
-j2 = 112ull;
-memory_fill(j0, i1, j2);
-j0 = l4;
-m->g0 = j0;
-goto Bfunc;
-B5:;
-j0 = p0;
-i1 = 3u;
-i32_store16(j0, i1);
-j0 = p0;
-j1 = 8ull;
-j0 += j1;
-i1 = 0u;
-j2 = 112ull;
-memory_fill(j0, i1, j2);
-j0 = l4;
-m->g0 = j0;
-Bfunc:;
-}
-
-static void w2c_f98(M *m, u64 p0, u64 p1, u64 p2, u64 p3, u64 p4, u64 p5) {
+static void w2c_f97(M *m, u64 p0, u64 p1, u64 p2, u64 p3, u64 p4, u64 p5) {
 u64 l6 = 0, l7 = 0, l8 = 0, l9 = 0;
 u32 i0, i1, i2;
 u64 j0, j1, j2, j3, j4, j5;
 j0 = m->g0;
-j1 = 224ull;
+j1 = 112ull;
 j0 -= j1;
-l6 = j0;
-m->g0 = j0;
-j0 = l6;
 l6 = j0;
 j1 = m->lowest + 16;
 i0 = (u64)((s64)j0 < (s64)j1);
-if (i0) goto B1;
+if (i0) goto B0;
 j0 = l6;
-j1 = 104ull;
-j0 += j1;
-i1 = 0u;
-j2 = 120ull;
-memory_fill(j0, i1, j2);
-j0 = l6;
-i1 = 0u;
-j2 = 104ull;
-memory_fill(j0, i1, j2);
-j0 = l6;
-j1 = 104ull;
-j0 += j1;
-j1 = p1;
-j2 = p2;
-w2c_f6(m, j0, j1, j2);
-j0 = l6;
-i0 = i32_load8_u(j0 + 104u);
-i0 = !(i0);
-if (i0) goto B2;
-j0 = p0;
-j1 = 1ull;
-i64_store(j0, j1);
-j0 = p0;
-j1 = 16ull;
-j0 += j1;
-j1 = l6;
-j1 = i64_load(j1 + 112u);
-i64_store(j0, j1);
-j0 = p0;
 j1 = 8ull;
 j0 += j1;
-j1 = 0ull;
-i64_store(j0, j1);
-j0 = p0;
-j1 = 24ull;
-j0 += j1;
-j1 = l6;
+i1 = 0u;
 j2 = 104ull;
-j1 += j2;
-j2 = 16ull;
-j1 += j2;
-j2 = 104ull;
-memory_copy(j0, j1, j2);
-goto B0;
-B2:;
+memory_fill(j0, i1, j2);
 j0 = p5;
 j1 = p2;
 j2 = 16ull;
 j1 += j2;
 l7 = j1;
-i0 = j0 < j1;
-if (i0) goto B4;
+i0 = j0 >= j1;
+if (i0) goto B2;
+j0 = 1ull;
+p2 = j0;
+j0 = l7;
+p5 = j0;
+j0 = 774ull;
+l7 = j0;
+goto B1;
+B2:;
 j0 = p4;
 j1 = p2;
 j2 = 56ull;
@@ -85287,7 +84981,7 @@ j1 = p1;
 j0 -= j1;
 j1 = p2;
 i0 = j0 >= j1;
-if (i0) goto B6;
+if (i0) goto B5;
 j0 = p2;
 j1 = 3ull;
 j0 &= j1;
@@ -85297,14 +84991,14 @@ p3 = j0;
 j0 = p2;
 j1 = 4ull;
 i0 = j0 < j1;
-if (i0) goto B7;
+if (i0) goto B6;
 j0 = p2;
 j1 = 18446744073709551612ull;
 j0 &= j1;
 l9 = j0;
 j0 = 0ull;
 p3 = j0;
-L8:
+L7:
 j0 = p4;
 j1 = p3;
 j0 += j1;
@@ -85347,11 +85041,11 @@ j2 = 4ull;
 j1 += j2;
 p3 = j1;
 i0 = j0 != j1;
-if (i0) goto L8;
+if (i0) goto L7;
 j0 = l8;
 i0 = !(j0);
-if (i0) goto B5;
-B7:;
+if (i0) goto B4;
+B6:;
 j0 = p1;
 j1 = p3;
 j0 += j1;
@@ -85362,7 +85056,7 @@ j0 += j1;
 j1 = 16ull;
 j0 += j1;
 p3 = j0;
-L9:
+L8:
 j0 = p3;
 j1 = p2;
 i1 = i32_load8_u(j1);
@@ -85383,36 +85077,24 @@ j0 += j1;
 l8 = j0;
 j1 = 0ull;
 i0 = j0 != j1;
-if (i0) goto L9;
-j0 = 0ull;
-p2 = j0;
+if (i0) goto L8;
 goto B3;
-B6:;
+abort();
+B5:;
 j0 = p2;
 i0 = !(j0);
-if (i0) goto B5;
+if (i0) goto B4;
 j0 = p3;
 j1 = p1;
 j2 = p2;
 memory_copy(j0, j1, j2);
-B5:;
-j0 = 0ull;
-p5 = j0;
-j0 = 0ull;
-p2 = j0;
-goto B3;
 B4:;
-j0 = l6;
-i1 = 0u;
-j2 = 104ull;
-memory_fill(j0, i1, j2);
-j0 = 1ull;
-p2 = j0;
-j0 = l7;
+j0 = 0ull;
 p5 = j0;
-j0 = 774ull;
-l7 = j0;
 B3:;
+j0 = 0ull;
+p2 = j0;
+B1:;
 j0 = p0;
 j1 = p2;
 i64_store(j0, j1);
@@ -85430,19 +85112,17 @@ j0 = p0;
 j1 = 24ull;
 j0 += j1;
 j1 = l6;
+j2 = 8ull;
+j1 += j2;
 j2 = 104ull;
 memory_copy(j0, j1, j2);
-goto B0;
-B1:;
-abort();
+goto Bfunc;
 B0:;
-j0 = l6;
-j1 = 224ull;
-j0 += j1;
-m->g0 = j0;
+abort();
+Bfunc:;
 }
 
-static u64 w2c_f99(M *m, u64 p0, u64 p1, u32 p2, u64 p3, u64 p4) {
+static u64 w2c_f98(M *m, u64 p0, u64 p1, u32 p2, u64 p3, u64 p4) {
 u32 l10 = 0;
 u64 l5 = 0, l6 = 0, l7 = 0, l8 = 0, l9 = 0;
 u32 i0, i1, i2, i3;
@@ -85650,7 +85330,7 @@ Bfunc:;
 return j0;
 }
 
-static void w2c_f100(M *m, u64 p0, u64 p1, u64 p2, u64 p3, u64 p4, u64 p5, u64 p6, u64 p7,
+static void w2c_f99(M *m, u64 p0, u64 p1, u64 p2, u64 p3, u64 p4, u64 p5, u64 p6, u64 p7,
 u64 p8, u64 p9) {
 u32 l19 = 0;
 u64 l10 = 0, l11 = 0, l12 = 0, l13 = 0, l14 = 0, l15 = 0, l16 = 0, l17 = 0,
@@ -86227,11 +85907,11 @@ B0:;
 j0 = p0;
 j1 = p1;
 j2 = p2;
-w2c_f102(m, j0, j1, j2);
+w2c_f101(m, j0, j1, j2);
 w2c_f1(m);
 }
 
-static void w2c_f102(M *m, u64 p0, u64 p1, u64 p2) {
+static void w2c_f101(M *m, u64 p0, u64 p1, u64 p2) {
 u32 l4 = 0, l5 = 0;
 u64 l3 = 0;
 u32 i0, i1, i2, i3;
@@ -86299,11 +85979,11 @@ w2c_f2(m);
 abort();
 B0:;
 j0 = p0;
-w2c_f104(m, j0);
+w2c_f103(m, j0);
 w2c_f1(m);
 }
 
-static void w2c_f104(M *m, u64 p0) {
+static void w2c_f103(M *m, u64 p0) {
 u32 i0;
 u64 j0, j1;
 j0 = m->g0;
@@ -86331,14 +86011,14 @@ abort();
 B0:;
 j0 = p0;
 j1 = p1;
-j0 = w2c_f106(m, j0, j1);
+j0 = w2c_f105(m, j0, j1);
 p1 = j0;
 w2c_f1(m);
 j0 = p1;
 return j0;
 }
 
-static u64 w2c_f106(M *m, u64 p0, u64 p1) {
+static u64 w2c_f105(M *m, u64 p0, u64 p1) {
 u32 l2 = 0, l3 = 0, l4 = 0, l5 = 0, l6 = 0, l7 = 0, l8 = 0, l9 = 0,
 l10 = 0;
 u64 l11 = 0, l12 = 0;
@@ -86476,6 +86156,240 @@ Bfunc:;
 return j0;
 }
 
+static u32 w2c_rtr_door_enter(M *m, u64 p0, u32 p1) {
+u32 i0, i1;
+u64 j0;
+i0 = w2c_f0(m);
+i0 = !(i0);
+if (i0) goto B0;
+w2c_f2(m);
+abort();
+B0:;
+j0 = p0;
+i1 = p1;
+i0 = w2c_f107(m, j0, i1);
+p1 = i0;
+w2c_f1(m);
+i0 = p1;
+return i0;
+}
+
+static u32 w2c_f107(M *m, u64 p0, u32 p1) {
+u32 l2 = 0, l3 = 0, l4 = 0;
+u32 i0, i1, i2, i3;
+u64 j0, j1, j3, j4;
+j0 = m->g0;
+j1 = m->lowest + 16;
+i0 = (u64)((s64)j0 < (s64)j1);
+if (i0) goto B2;
+j0 = p0;
+j1 = 12ull;
+j0 += j1;
+i0 = i32_load(j0);
+l2 = i0;
+j0 = p0;
+j1 = 8ull;
+j0 += j1;
+i0 = i32_load(j0);
+l3 = i0;
+i0 = p1;
+i1 = 1u;
+i0 &= i1;
+i0 = !(i0);
+if (i0) goto B3;
+i0 = l3;
+j1 = p0;
+i1 = i32_load(j1);
+i0 = i0 < i1;
+if (i0) goto B1;
+B3:;
+i0 = 1u;
+i1 = 2u;
+i2 = l2;
+j3 = p0;
+j4 = 4ull;
+j3 += j4;
+i3 = i32_load(j3);
+i2 = i2 < i3;
+l4 = i2;
+i0 = i2 ? i0 : i1;
+p1 = i0;
+i0 = l2;
+i1 = l4;
+i0 += i1;
+l2 = i0;
+goto B0;
+B2:;
+abort();
+B1:;
+i0 = l3;
+i1 = 1u;
+i0 += i1;
+l3 = i0;
+i0 = 0u;
+p1 = i0;
+B0:;
+j0 = p0;
+j1 = 12ull;
+j0 += j1;
+i1 = l2;
+i32_store(j0, i1);
+j0 = p0;
+j1 = 8ull;
+j0 += j1;
+i1 = l3;
+i32_store(j0, i1);
+i0 = p1;
+return i0;
+}
+
+static u32 w2c_rtr_door_leave(M *m, u64 p0, u32 p1) {
+u32 i0, i1;
+u64 j0;
+i0 = w2c_f0(m);
+i0 = !(i0);
+if (i0) goto B0;
+w2c_f2(m);
+abort();
+B0:;
+j0 = p0;
+i1 = p1;
+i0 = w2c_f109(m, j0, i1);
+p1 = i0;
+w2c_f1(m);
+i0 = p1;
+return i0;
+}
+
+static u32 w2c_f109(M *m, u64 p0, u32 p1) {
+u32 l2 = 0, l3 = 0, l4 = 0;
+u64 l5 = 0;
+u32 i0, i1, i2, i3;
+u64 j0, j1;
+j0 = m->g0;
+j1 = m->lowest + 16;
+i0 = (u64)((s64)j0 < (s64)j1);
+if (i0) goto B2;
+i0 = 0u;
+l2 = i0;
+j0 = p0;
+j1 = 12ull;
+j0 += j1;
+l5 = j0;
+i0 = i32_load(j0);
+l3 = i0;
+j0 = p0;
+j1 = 8ull;
+j0 += j1;
+p0 = j0;
+i0 = i32_load(j0);
+l4 = i0;
+i0 = 1u;
+i1 = 2u;
+i2 = p1;
+i3 = 255u;
+i2 &= i3;
+p1 = i2;
+i3 = 1u;
+i2 = i2 == i3;
+i0 = i2 ? i0 : i1;
+i1 = 0u;
+i2 = p1;
+i0 = i2 ? i0 : i1;
+switch (i0) {
+case 0: goto B1;
+case 1: goto B3;
+case 2: goto B0;
+default: goto B1;
+}
+B3:;
+i0 = l3;
+i1 = l3;
+i2 = 0u;
+i1 = i1 != i2;
+l2 = i1;
+i0 -= i1;
+l3 = i0;
+goto B0;
+B2:;
+abort();
+B1:;
+i0 = l4;
+i1 = l4;
+i2 = 0u;
+i1 = i1 != i2;
+l2 = i1;
+i0 -= i1;
+l4 = i0;
+B0:;
+j0 = l5;
+i1 = l3;
+i32_store(j0, i1);
+j0 = p0;
+i1 = l4;
+i32_store(j0, i1);
+i0 = l2;
+return i0;
+}
+
+static u32 w2c_rtr_door_next(M *m, u64 p0, u32 p1) {
+u32 i0, i1;
+u64 j0;
+i0 = w2c_f0(m);
+i0 = !(i0);
+if (i0) goto B0;
+w2c_f2(m);
+abort();
+B0:;
+j0 = p0;
+i1 = p1;
+i0 = w2c_f111(m, j0, i1);
+p1 = i0;
+w2c_f1(m);
+i0 = p1;
+return i0;
+}
+
+static u32 w2c_f111(M *m, u64 p0, u32 p1) {
+u32 l2 = 0;
+u32 i0, i1, i2, i3, i4;
+u64 j0, j1, j2, j3, j4, j5;
+j0 = m->g0;
+j1 = m->lowest + 15;
+i0 = (u64)((s64)j0 > (s64)j1);
+if (i0) goto B0;
+abort();
+B0:;
+i0 = 0u;
+i1 = 1u;
+i2 = 2u;
+j3 = p0;
+j4 = 12ull;
+j3 += j4;
+i3 = i32_load(j3);
+j4 = p0;
+j5 = 4ull;
+j4 += j5;
+i4 = i32_load(j4);
+i3 = i3 < i4;
+i1 = i3 ? i1 : i2;
+l2 = i1;
+j2 = p0;
+j3 = 8ull;
+j2 += j3;
+i2 = i32_load(j2);
+j3 = p0;
+i3 = i32_load(j3);
+i2 = i2 < i3;
+i0 = i2 ? i0 : i1;
+i1 = l2;
+i2 = p1;
+i3 = 1u;
+i2 &= i3;
+i0 = i2 ? i0 : i1;
+return i0;
+}
+
 static u32 w2c_rtr_error_code_nonnull(M *m, u32 p0, u64 p1, u64 p2, u64 p3) {
 u32 i0;
 u64 j1, j2, j3;
@@ -86489,14 +86403,14 @@ i0 = p0;
 j1 = p1;
 j2 = p2;
 j3 = p3;
-i0 = w2c_f108(m, i0, j1, j2, j3);
+i0 = w2c_f113(m, i0, j1, j2, j3);
 p0 = i0;
 w2c_f1(m);
 i0 = p0;
 return i0;
 }
 
-static u32 w2c_f108(M *m, u32 p0, u64 p1, u64 p2, u64 p3) {
+static u32 w2c_f113(M *m, u32 p0, u64 p1, u64 p2, u64 p3) {
 u32 l4 = 0, l5 = 0;
 u32 i0, i1, i3;
 u64 j0, j1, j2, j3;
@@ -86604,14 +86518,14 @@ abort();
 B0:;
 j0 = p0;
 j1 = p1;
-i0 = w2c_f110(m, j0, j1);
+i0 = w2c_f115(m, j0, j1);
 l2 = i0;
 w2c_f1(m);
 i0 = l2;
 return i0;
 }
 
-static u32 w2c_f110(M *m, u64 p0, u64 p1) {
+static u32 w2c_f115(M *m, u64 p0, u64 p1) {
 u32 l3 = 0;
 u64 l2 = 0;
 u32 i0, i1, i3, i4;
@@ -86728,14 +86642,14 @@ j0 = p0;
 j1 = p1;
 j2 = p2;
 j3 = p3;
-i0 = w2c_f112(m, j0, j1, j2, j3);
+i0 = w2c_f117(m, j0, j1, j2, j3);
 l4 = i0;
 w2c_f1(m);
 i0 = l4;
 return i0;
 }
 
-static u32 w2c_f112(M *m, u64 p0, u64 p1, u64 p2, u64 p3) {
+static u32 w2c_f117(M *m, u64 p0, u64 p1, u64 p2, u64 p3) {
 u32 l4 = 0, l5 = 0, l6 = 0;
 u64 l7 = 0;
 u32 i0, i1, i2, i4;
@@ -86858,11 +86772,11 @@ w2c_f2(m);
 abort();
 B0:;
 j0 = p0;
-w2c_f114(m, j0);
+w2c_f119(m, j0);
 w2c_f1(m);
 }
 
-static void w2c_f114(M *m, u64 p0) {
+static void w2c_f119(M *m, u64 p0) {
 u32 i0;
 u64 j0, j1;
 j0 = m->g0;
@@ -86886,14 +86800,14 @@ w2c_f2(m);
 abort();
 B0:;
 j0 = p0;
-j0 = w2c_f116(m, j0);
+j0 = w2c_f121(m, j0);
 p0 = j0;
 w2c_f1(m);
 j0 = p0;
 return j0;
 }
 
-static u64 w2c_f116(M *m, u64 p0) {
+static u64 w2c_f121(M *m, u64 p0) {
 u64 l1 = 0;
 u32 i0, i1, i2, i3, i4;
 u64 j0, j1, j2, j3, j4, j5;
@@ -86947,14 +86861,14 @@ j0 = p0;
 j1 = p1;
 j2 = p2;
 j3 = p3;
-i0 = w2c_f118(m, j0, j1, j2, j3);
+i0 = w2c_f123(m, j0, j1, j2, j3);
 l4 = i0;
 w2c_f1(m);
 i0 = l4;
 return i0;
 }
 
-static u32 w2c_f118(M *m, u64 p0, u64 p1, u64 p2, u64 p3) {
+static u32 w2c_f123(M *m, u64 p0, u64 p1, u64 p2, u64 p3) {
 u32 l6 = 0;
 u64 l4 = 0, l5 = 0;
 u32 i0, i1, i4;
@@ -87067,14 +86981,14 @@ B0:;
 j0 = p0;
 j1 = p1;
 i2 = p2;
-i0 = w2c_f120(m, j0, j1, i2);
+i0 = w2c_f125(m, j0, j1, i2);
 p2 = i0;
 w2c_f1(m);
 i0 = p2;
 return i0;
 }
 
-static u32 w2c_f120(M *m, u64 p0, u64 p1, u32 p2) {
+static u32 w2c_f125(M *m, u64 p0, u64 p1, u32 p2) {
 u32 l6 = 0, l7 = 0;
 u64 l3 = 0, l4 = 0, l5 = 0;
 u32 i0, i1, i2, i4;
@@ -87348,14 +87262,14 @@ j1 = p1;
 j2 = p2;
 j3 = p3;
 j4 = p4;
-i0 = w2c_f122(m, j0, j1, j2, j3, j4);
+i0 = w2c_f127(m, j0, j1, j2, j3, j4);
 l5 = i0;
 w2c_f1(m);
 i0 = l5;
 return i0;
 }
 
-static u32 w2c_f122(M *m, u64 p0, u64 p1, u64 p2, u64 p3, u64 p4) {
+static u32 w2c_f127(M *m, u64 p0, u64 p1, u64 p2, u64 p3, u64 p4) {
 u32 l5 = 0;
 u64 l6 = 0;
 u32 i0, i1, i2, i3, i4;
@@ -87450,14 +87364,14 @@ B0:;
 j0 = p0;
 j1 = p1;
 j2 = p2;
-j0 = w2c_f124(m, j0, j1, j2);
+j0 = w2c_f129(m, j0, j1, j2);
 p2 = j0;
 w2c_f1(m);
 j0 = p2;
 return j0;
 }
 
-static u64 w2c_f124(M *m, u64 p0, u64 p1, u64 p2) {
+static u64 w2c_f129(M *m, u64 p0, u64 p1, u64 p2) {
 u32 l3 = 0, l4 = 0, l5 = 0;
 u32 i0, i1, i2, i3;
 u64 j0, j1, j2, j3;
@@ -87571,14 +87485,14 @@ abort();
 B0:;
 i0 = p0;
 i1 = p1;
-i0 = w2c_f126(m, i0, i1);
+i0 = w2c_f131(m, i0, i1);
 p1 = i0;
 w2c_f1(m);
 i0 = p1;
 return i0;
 }
 
-static u32 w2c_f126(M *m, u32 p0, u32 p1) {
+static u32 w2c_f131(M *m, u32 p0, u32 p1) {
 u32 i0, i1, i2, i3;
 u64 j0, j1;
 j0 = m->g0;
@@ -87627,14 +87541,14 @@ abort();
 B0:;
 j0 = p0;
 j1 = p1;
-i0 = w2c_f128(m, j0, j1);
+i0 = w2c_f133(m, j0, j1);
 l2 = i0;
 w2c_f1(m);
 i0 = l2;
 return i0;
 }
 
-static u32 w2c_f128(M *m, u64 p0, u64 p1) {
+static u32 w2c_f133(M *m, u64 p0, u64 p1) {
 u32 l10 = 0;
 u64 l2 = 0, l3 = 0, l4 = 0, l5 = 0, l6 = 0, l7 = 0, l8 = 0, l9 = 0;
 u32 i0, i1, i3;
@@ -87939,11 +87853,11 @@ B0:;
 j0 = p0;
 j1 = p1;
 j2 = p2;
-w2c_f130(m, j0, j1, j2);
+w2c_f135(m, j0, j1, j2);
 w2c_f1(m);
 }
 
-static void w2c_f130(M *m, u64 p0, u64 p1, u64 p2) {
+static void w2c_f135(M *m, u64 p0, u64 p1, u64 p2) {
 u64 l3 = 0, l4 = 0, l5 = 0, l6 = 0, l7 = 0, l8 = 0, l9 = 0;
 u32 i0, i1, i2;
 u64 j0, j1, j2, j3, j4, j5;
@@ -88173,14 +88087,14 @@ B0:;
 i0 = p0;
 i1 = p1;
 i2 = p2;
-i0 = w2c_f132(m, i0, i1, i2);
+i0 = w2c_f137(m, i0, i1, i2);
 p2 = i0;
 w2c_f1(m);
 i0 = p2;
 return i0;
 }
 
-static u32 w2c_f132(M *m, u32 p0, u32 p1, u32 p2) {
+static u32 w2c_f137(M *m, u32 p0, u32 p1, u32 p2) {
 u32 i0, i1, i2, i3;
 u64 j0, j1;
 j0 = m->g0;
@@ -88252,14 +88166,14 @@ abort();
 B0:;
 i0 = p0;
 i1 = p1;
-i0 = w2c_f134(m, i0, i1);
+i0 = w2c_f139(m, i0, i1);
 p1 = i0;
 w2c_f1(m);
 i0 = p1;
 return i0;
 }
 
-static u32 w2c_f134(M *m, u32 p0, u32 p1) {
+static u32 w2c_f139(M *m, u32 p0, u32 p1) {
 u32 l2 = 0, l3 = 0;
 u32 i0, i1, i2, i3;
 u64 j0, j1;
@@ -88339,13 +88253,13 @@ if (i0) goto B0;
 w2c_f2(m);
 abort();
 B0:;
-w2c_f136(m);
+w2c_f141(m);
 w2c_f1(m);
 i0 = 300u;
 return i0;
 }
 
-static void w2c_f136(M *m) {
+static void w2c_f141(M *m) {
 u32 i0;
 u64 j0, j1;
 j0 = m->g0;
@@ -88372,14 +88286,14 @@ j2 = p2;
 j3 = p3;
 j4 = p4;
 j5 = p5;
-i0 = w2c_f138(m, j0, j1, j2, j3, j4, j5);
+i0 = w2c_f143(m, j0, j1, j2, j3, j4, j5);
 l6 = i0;
 w2c_f1(m);
 i0 = l6;
 return i0;
 }
 
-static u32 w2c_f138(M *m, u64 p0, u64 p1, u64 p2, u64 p3, u64 p4, u64 p5) {
+static u32 w2c_f143(M *m, u64 p0, u64 p1, u64 p2, u64 p3, u64 p4, u64 p5) {
 u32 l18 = 0, l19 = 0, l20 = 0, l21 = 0, l22 = 0, l23 = 0, l24 = 0, l25 = 0,
 l26 = 0;
 u64 l6 = 0, l7 = 0, l8 = 0, l9 = 0, l10 = 0, l11 = 0, l12 = 0, l13 = 0,
@@ -89892,14 +89806,14 @@ j2 = p2;
 j3 = p3;
 j4 = p4;
 j5 = p5;
-i0 = w2c_f140(m, j0, j1, j2, j3, j4, j5);
+i0 = w2c_f145(m, j0, j1, j2, j3, j4, j5);
 l6 = i0;
 w2c_f1(m);
 i0 = l6;
 return i0;
 }
 
-static u32 w2c_f140(M *m, u64 p0, u64 p1, u64 p2, u64 p3, u64 p4, u64 p5) {
+static u32 w2c_f145(M *m, u64 p0, u64 p1, u64 p2, u64 p3, u64 p4, u64 p5) {
 u32 l8 = 0, l9 = 0, l10 = 0, l11 = 0, l12 = 0, l13 = 0;
 u64 l6 = 0, l7 = 0;
 u32 i0, i1, i2, i3, i4, i7, i9;
@@ -90178,14 +90092,14 @@ j1 = p1;
 j2 = p2;
 j3 = p3;
 j4 = p4;
-i0 = w2c_f142(m, j0, j1, j2, j3, j4);
+i0 = w2c_f147(m, j0, j1, j2, j3, j4);
 l5 = i0;
 w2c_f1(m);
 i0 = l5;
 return i0;
 }
 
-static u32 w2c_f142(M *m, u64 p0, u64 p1, u64 p2, u64 p3, u64 p4) {
+static u32 w2c_f147(M *m, u64 p0, u64 p1, u64 p2, u64 p3, u64 p4) {
 u32 l15 = 0, l16 = 0, l17 = 0;
 u64 l5 = 0, l6 = 0, l7 = 0, l8 = 0, l9 = 0, l10 = 0, l11 = 0, l12 = 0,
 l13 = 0, l14 = 0;
@@ -91004,14 +90918,14 @@ j0 = p0;
 j1 = p1;
 j2 = p2;
 j3 = p3;
-i0 = w2c_f144(m, j0, j1, j2, j3);
+i0 = w2c_f149(m, j0, j1, j2, j3);
 l4 = i0;
 w2c_f1(m);
 i0 = l4;
 return i0;
 }
 
-static u32 w2c_f144(M *m, u64 p0, u64 p1, u64 p2, u64 p3) {
+static u32 w2c_f149(M *m, u64 p0, u64 p1, u64 p2, u64 p3) {
 u32 l5 = 0, l6 = 0, l7 = 0, l8 = 0, l9 = 0;
 u64 l4 = 0;
 u32 i0, i1, i2, i3, i4;
@@ -91274,6 +91188,92 @@ i0 &= i1;
 return i0;
 }
 
+static void w2c_rtr_door_init(M *m, u64 p0, u64 p1) {
+u32 i0;
+u64 j0, j1;
+i0 = w2c_f0(m);
+i0 = !(i0);
+if (i0) goto B0;
+w2c_f2(m);
+abort();
+B0:;
+j0 = p0;
+j1 = p1;
+w2c_f151(m, j0, j1);
+w2c_f1(m);
+}
+
+static void w2c_f151(M *m, u64 p0, u64 p1) {
+u32 i0;
+u64 j0, j1;
+j0 = m->g0;
+j1 = m->lowest + 15;
+i0 = (u64)((s64)j0 > (s64)j1);
+if (i0) goto B0;
+abort();
+B0:;
+j0 = p1;
+j1 = 48ull;
+j0 += j1;
+j0 = i64_load(j0);
+p1 = j0;
+j0 = p0;
+j1 = 0ull;
+i64_store(j0 + 8, j1);
+j0 = p0;
+j1 = p1;
+i64_store(j0, j1);
+}
+
+static void w2c_rtr_server_settings_usual(M *m, u64 p0) {
+u32 i0;
+u64 j0;
+i0 = w2c_f0(m);
+i0 = !(i0);
+if (i0) goto B0;
+w2c_f2(m);
+abort();
+B0:;
+j0 = p0;
+w2c_f153(m, j0);
+w2c_f1(m);
+}
+
+static void w2c_f153(M *m, u64 p0) {
+u32 i0;
+u64 j0, j1;
+j0 = m->g0;
+j1 = m->lowest + 15;
+i0 = (u64)((s64)j0 > (s64)j1);
+if (i0) goto B0;
+abort();
+B0:;
+j0 = p0;
+j1 = 2ull;
+i64_store(j0 + 56, j1);
+j0 = p0;
+j1 = 274877907968ull;
+i64_store(j0 + 48, j1);
+j0 = p0;
+j1 = 42949673560000ull;
+i64_store(j0 + 40, j1);
+j0 = p0;
+j1 = 128849018890000ull;
+i64_store(j0 + 32, j1);
+j0 = p0;
+j1 = 67108864ull;
+i64_store(j0 + 24, j1);
+j0 = p0;
+j1 = 7200000ull;
+i64_store(j0 + 16, j1);
+j0 = p0;
+j1 = 60000ull;
+i64_store(j0 + 8, j1);
+j0 = p0;
+j1 = 386547056640030000ull;
+i64_store(j0, j1);
+}
+
 static u32 w2c_rtr_router_has_data(M *m, u64 p0, u64 p1) {
 u32 l2 = 0;
 u32 i0;
@@ -91286,14 +91286,14 @@ abort();
 B0:;
 j0 = p0;
 j1 = p1;
-i0 = w2c_f146(m, j0, j1);
+i0 = w2c_f155(m, j0, j1);
 l2 = i0;
 w2c_f1(m);
 i0 = l2;
 return i0;
 }
 
-static u32 w2c_f146(M *m, u64 p0, u64 p1) {
+static u32 w2c_f155(M *m, u64 p0, u64 p1) {
 u32 i0, i1;
 u64 j0, j1, j2;
 j0 = m->g0;
@@ -91326,14 +91326,14 @@ w2c_f2(m);
 abort();
 B0:;
 j0 = p0;
-j0 = w2c_f148(m, j0);
+j0 = w2c_f157(m, j0);
 p0 = j0;
 w2c_f1(m);
 j0 = p0;
 return j0;
 }
 
-static u64 w2c_f148(M *m, u64 p0) {
+static u64 w2c_f157(M *m, u64 p0) {
 u32 l4 = 0;
 u64 l1 = 0, l2 = 0, l3 = 0;
 u32 i0, i1, i2, i3;
@@ -91417,11 +91417,11 @@ abort();
 B0:;
 j0 = p0;
 j1 = p1;
-w2c_f150(m, j0, j1);
+w2c_f159(m, j0, j1);
 w2c_f1(m);
 }
 
-static void w2c_f150(M *m, u64 p0, u64 p1) {
+static void w2c_f159(M *m, u64 p0, u64 p1) {
 u32 l2 = 0, l3 = 0;
 u64 l4 = 0, l5 = 0, l6 = 0, l7 = 0;
 u32 i0, i1, i2, i3, i4;
@@ -91525,11 +91525,11 @@ w2c_f2(m);
 abort();
 B0:;
 j0 = p0;
-w2c_f152(m, j0);
+w2c_f161(m, j0);
 w2c_f1(m);
 }
 
-static void w2c_f152(M *m, u64 p0) {
+static void w2c_f161(M *m, u64 p0) {
 u32 l2 = 0;
 u64 l1 = 0;
 u32 i0, i1, i2, i3, i4;
@@ -91592,11 +91592,11 @@ abort();
 B0:;
 j0 = p0;
 j1 = p1;
-w2c_f154(m, j0, j1);
+w2c_f163(m, j0, j1);
 w2c_f1(m);
 }
 
-static void w2c_f154(M *m, u64 p0, u64 p1) {
+static void w2c_f163(M *m, u64 p0, u64 p1) {
 u32 l2 = 0, l3 = 0;
 u64 l4 = 0, l5 = 0, l6 = 0, l7 = 0;
 u32 i0, i1, i2, i3, i4;
@@ -91698,11 +91698,11 @@ abort();
 B0:;
 j0 = p0;
 i1 = p1;
-w2c_f156(m, j0, i1);
+w2c_f165(m, j0, i1);
 w2c_f1(m);
 }
 
-static void w2c_f156(M *m, u64 p0, u32 p1) {
+static void w2c_f165(M *m, u64 p0, u32 p1) {
 u32 i0, i1, i2, i3, i4;
 u64 j0, j1;
 j0 = m->g0;
@@ -91761,14 +91761,14 @@ j2 = p2;
 j3 = p3;
 j4 = p4;
 j5 = p5;
-i0 = w2c_f158(m, j0, j1, j2, j3, j4, j5);
+i0 = w2c_f167(m, j0, j1, j2, j3, j4, j5);
 l6 = i0;
 w2c_f1(m);
 i0 = l6;
 return i0;
 }
 
-static u32 w2c_f158(M *m, u64 p0, u64 p1, u64 p2, u64 p3, u64 p4, u64 p5) {
+static u32 w2c_f167(M *m, u64 p0, u64 p1, u64 p2, u64 p3, u64 p4, u64 p5) {
 u32 l10 = 0, l11 = 0, l12 = 0, l13 = 0, l14 = 0, l15 = 0, l16 = 0;
 u64 l6 = 0, l7 = 0, l8 = 0, l9 = 0;
 u32 i0, i1, i2, i3, i5, i6, i7, i8,
@@ -92255,11 +92255,11 @@ B0:;
 j0 = p0;
 j1 = p1;
 j2 = p2;
-w2c_f160(m, j0, j1, j2);
+w2c_f169(m, j0, j1, j2);
 w2c_f1(m);
 }
 
-static void w2c_f160(M *m, u64 p0, u64 p1, u64 p2) {
+static void w2c_f169(M *m, u64 p0, u64 p1, u64 p2) {
 u32 l9 = 0, l10 = 0, l11 = 0;
 u64 l3 = 0, l4 = 0, l5 = 0, l6 = 0, l7 = 0, l8 = 0;
 u32 i0, i1, i2, i3, i4;
@@ -92566,11 +92566,11 @@ abort();
 B0:;
 j0 = p0;
 j1 = p1;
-w2c_f162(m, j0, j1);
+w2c_f171(m, j0, j1);
 w2c_f1(m);
 }
 
-static void w2c_f162(M *m, u64 p0, u64 p1) {
+static void w2c_f171(M *m, u64 p0, u64 p1) {
 u32 l2 = 0;
 u32 i0, i1, i2, i3, i4, i5;
 u64 j0, j1;
@@ -92623,14 +92623,14 @@ j1 = p1;
 j2 = p2;
 i3 = p3;
 j4 = p4;
-i0 = w2c_f164(m, j0, j1, j2, i3, j4);
+i0 = w2c_f173(m, j0, j1, j2, i3, j4);
 p3 = i0;
 w2c_f1(m);
 i0 = p3;
 return i0;
 }
 
-static u32 w2c_f164(M *m, u64 p0, u64 p1, u64 p2, u32 p3, u64 p4) {
+static u32 w2c_f173(M *m, u64 p0, u64 p1, u64 p2, u32 p3, u64 p4) {
 u32 l11 = 0, l12 = 0, l13 = 0, l14 = 0, l15 = 0, l16 = 0, l17 = 0, l18 = 0,
 l19 = 0, l20 = 0, l21 = 0, l22 = 0, l23 = 0, l24 = 0, l25 = 0, l26 = 0,
 l27 = 0, l28 = 0, l29 = 0, l30 = 0, l31 = 0, l32 = 0, l33 = 0, l34 = 0,
@@ -95236,6 +95236,269 @@ i0 &= i1;
 return i0;
 }
 
+static u64 w2c_rtr_connection_wakes(M *m, u64 p0, u64 p1, u64 p2) {
+u32 i0;
+u64 j0, j1, j2;
+i0 = w2c_f0(m);
+i0 = !(i0);
+if (i0) goto B0;
+w2c_f2(m);
+abort();
+B0:;
+j0 = p0;
+j1 = p1;
+j2 = p2;
+j0 = w2c_f175(m, j0, j1, j2);
+p2 = j0;
+w2c_f1(m);
+j0 = p2;
+return j0;
+}
+
+static u64 w2c_f175(M *m, u64 p0, u64 p1, u64 p2) {
+u32 l6 = 0, l7 = 0, l8 = 0, l9 = 0, l10 = 0, l11 = 0, l12 = 0, l13 = 0,
+l14 = 0;
+u64 l3 = 0, l4 = 0, l5 = 0;
+u32 i0, i1, i2, i3, i4;
+u64 j0, j1, j2, j3, j4;
+j0 = m->g0;
+j1 = m->lowest + 16;
+i0 = (u64)((s64)j0 < (s64)j1);
+if (i0) goto B2;
+j0 = p0;
+j1 = 80ull;
+j0 += j1;
+j0 = i64_load(j0);
+l3 = j0;
+j0 = 0ull;
+l4 = j0;
+i0 = 1u;
+i1 = 2u;
+j2 = p0;
+j3 = 112ull;
+j2 += j3;
+i2 = i32_load8_u(j2);
+l6 = i2;
+i3 = 1u;
+i2 = i2 == i3;
+i0 = i2 ? i0 : i1;
+i1 = 0u;
+i2 = l6;
+i0 = i2 ? i0 : i1;
+switch (i0) {
+case 0: goto B3;
+case 1: goto B1;
+case 2: goto B0;
+default: goto B3;
+}
+B3:;
+j0 = p0;
+j1 = 104ull;
+j0 += j1;
+j0 = i64_load(j0);
+i0 = !(j0);
+if (i0) goto B4;
+j0 = l3;
+j1 = 18446744073709551615ull;
+j2 = p0;
+j3 = 36ull;
+j2 += j3;
+j2 = i64_load32_u(j2);
+l4 = j2;
+j3 = p0;
+j4 = 72ull;
+j3 += j4;
+j3 = i64_load(j3);
+j2 += j3;
+p0 = j2;
+j3 = p0;
+j4 = l4;
+i3 = j3 < j4;
+j1 = i3 ? j1 : j2;
+p0 = j1;
+j2 = l3;
+j3 = p0;
+i2 = j2 < j3;
+j0 = i2 ? j0 : j1;
+goto Bfunc;
+B4:;
+j0 = p0;
+j1 = 114ull;
+j0 += j1;
+i0 = i32_load8_u(j0);
+j1 = p0;
+j2 = 113ull;
+j1 += j2;
+i1 = i32_load8_u(j1);
+i0 |= i1;
+i1 = 255u;
+i0 &= i1;
+if (i0) goto B0;
+j0 = 18446744073709551615ull;
+j1 = 18446744073709551615ull;
+j2 = p0;
+j3 = 32ull;
+j2 += j3;
+j2 = i64_load32_u(j2);
+l3 = j2;
+j3 = p0;
+j4 = 64ull;
+j3 += j4;
+j3 = i64_load(j3);
+j2 += j3;
+l5 = j2;
+j3 = l5;
+j4 = l3;
+i3 = j3 < j4;
+j1 = i3 ? j1 : j2;
+j2 = p0;
+j3 = 96ull;
+j2 += j3;
+j2 = i64_load(j2);
+i2 = !(j2);
+j0 = i2 ? j0 : j1;
+p0 = j0;
+j0 = p1;
+j1 = 39ull;
+j0 += j1;
+i0 = i32_load8_u(j0);
+i1 = 1u;
+i0 &= i1;
+if (i0) goto B5;
+j0 = p0;
+goto Bfunc;
+B5:;
+j0 = p2;
+j1 = 4ull;
+j0 += j1;
+i0 = i32_load16_u(j0);
+l7 = i0;
+j0 = p1;
+j1 = 24ull;
+j0 += j1;
+j0 = i64_load(j0);
+l3 = j0;
+j0 = p1;
+j1 = 16ull;
+j0 += j1;
+j0 = i64_load(j0);
+l5 = j0;
+j0 = p1;
+j1 = 32ull;
+j0 += j1;
+i0 = i32_load(j0);
+l8 = i0;
+j0 = p1;
+j1 = 36ull;
+j0 += j1;
+i0 = i32_load16_u(j0);
+l9 = i0;
+j0 = p1;
+j1 = 42ull;
+j0 += j1;
+i0 = i32_load8_u(j0);
+l10 = i0;
+j0 = p1;
+j1 = 41ull;
+j0 += j1;
+i0 = i32_load8_u(j0);
+l11 = i0;
+j0 = p1;
+j1 = 40ull;
+j0 += j1;
+i0 = i32_load8_u(j0);
+l12 = i0;
+j0 = p2;
+i0 = i32_load(j0);
+l13 = i0;
+j0 = p2;
+j1 = 6ull;
+j0 += j1;
+i0 = i32_load8_u(j0);
+l14 = i0;
+i1 = 1u;
+i0 &= i1;
+i0 = !(i0);
+if (i0) goto B8;
+i0 = 1u;
+l6 = i0;
+i0 = l11;
+i1 = 1u;
+i0 &= i1;
+i0 = !(i0);
+if (i0) goto B7;
+i0 = l9;
+i1 = 65535u;
+i0 &= i1;
+i1 = l7;
+i2 = 65535u;
+i1 &= i2;
+i0 = i0 == i1;
+if (i0) goto B6;
+goto B0;
+B8:;
+i0 = 1u;
+l6 = i0;
+i0 = l11;
+i1 = 1u;
+i0 &= i1;
+if (i0) goto B6;
+B7:;
+i0 = l10;
+l6 = i0;
+B6:;
+j0 = l3;
+j1 = l5;
+j2 = l3;
+j3 = l5;
+j4 = l3;
+i3 = j3 < j4;
+j1 = i3 ? j1 : j2;
+l4 = j1;
+i2 = l6;
+i3 = 1u;
+i2 &= i3;
+j0 = i2 ? j0 : j1;
+p1 = j0;
+j1 = p1;
+j2 = l4;
+i3 = l8;
+i4 = l13;
+i3 = i3 == i4;
+j1 = i3 ? j1 : j2;
+i2 = l9;
+i3 = 65535u;
+i2 &= i3;
+i3 = l7;
+i4 = 65535u;
+i3 &= i4;
+i2 = i2 != i3;
+j0 = i2 ? j0 : j1;
+j1 = l3;
+i2 = l14;
+i3 = l12;
+i2 &= i3;
+i3 = 255u;
+i2 &= i3;
+j0 = i2 ? j0 : j1;
+l4 = j0;
+j1 = p0;
+j2 = l4;
+j3 = p0;
+i2 = j2 < j3;
+j0 = i2 ? j0 : j1;
+goto Bfunc;
+B2:;
+abort();
+B1:;
+j0 = l3;
+l4 = j0;
+B0:;
+j0 = l4;
+Bfunc:;
+return j0;
+}
+
 static u64 w2c_rtr_cache_unit_nonnull(M *m, u64 p0, u64 p1, u64 p2) {
 u32 i0;
 u64 j0, j1, j2;
@@ -95248,14 +95511,14 @@ B0:;
 j0 = p0;
 j1 = p1;
 j2 = p2;
-j0 = w2c_f166(m, j0, j1, j2);
+j0 = w2c_f177(m, j0, j1, j2);
 p2 = j0;
 w2c_f1(m);
 j0 = p2;
 return j0;
 }
 
-static u64 w2c_f166(M *m, u64 p0, u64 p1, u64 p2) {
+static u64 w2c_f177(M *m, u64 p0, u64 p1, u64 p2) {
 u32 l4 = 0, l5 = 0, l6 = 0;
 u64 l3 = 0;
 u32 i0, i1, i2, i3;
@@ -95400,6 +95663,830 @@ Bfunc:;
 return j0;
 }
 
+static u32 w2c_rtr_connection_answers(M *m, u64 p0, u64 p1, u64 p2, u64 p3) {
+u32 l4 = 0;
+u32 i0;
+u64 j0, j1, j2, j3;
+i0 = w2c_f0(m);
+i0 = !(i0);
+if (i0) goto B0;
+w2c_f2(m);
+abort();
+B0:;
+j0 = p0;
+j1 = p1;
+j2 = p2;
+j3 = p3;
+i0 = w2c_f179(m, j0, j1, j2, j3);
+l4 = i0;
+w2c_f1(m);
+i0 = l4;
+return i0;
+}
+
+static u32 w2c_f179(M *m, u64 p0, u64 p1, u64 p2, u64 p3) {
+u32 l11 = 0, l12 = 0;
+u64 l4 = 0, l5 = 0, l6 = 0, l7 = 0, l8 = 0, l9 = 0, l10 = 0;
+u32 i0, i1, i2, i3, i4;
+u64 j0, j1, j2, j3;
+j0 = m->g0;
+j1 = m->lowest + 16;
+i0 = (u64)((s64)j0 < (s64)j1);
+if (i0) goto B2;
+j0 = p0;
+j1 = 88ull;
+j0 += j1;
+l4 = j0;
+j0 = p0;
+j1 = 80ull;
+j0 += j1;
+l5 = j0;
+j0 = p0;
+j1 = 72ull;
+j0 += j1;
+l6 = j0;
+j0 = p0;
+j1 = 112ull;
+j0 += j1;
+l7 = j0;
+i0 = i32_load8_u(j0);
+l11 = i0;
+i0 = !(i0);
+j1 = p0;
+j2 = 104ull;
+j1 += j2;
+l8 = j1;
+j1 = i64_load(j1);
+l9 = j1;
+i1 = !(j1);
+i0 &= i1;
+l12 = i0;
+i1 = 1u;
+i0 = i0 == i1;
+if (i0) goto B1;
+j0 = l4;
+j0 = i64_load(j0);
+p3 = j0;
+j0 = l5;
+j0 = i64_load(j0);
+l10 = j0;
+j0 = l6;
+j0 = i64_load(j0);
+p1 = j0;
+goto B0;
+B2:;
+abort();
+B1:;
+j0 = 18446744073709551615ull;
+j1 = p0;
+j2 = 40ull;
+j1 += j2;
+j1 = i64_load32_u(j1);
+l9 = j1;
+j2 = p1;
+j1 += j2;
+l10 = j1;
+j2 = l10;
+j3 = l9;
+i2 = j2 < j3;
+j0 = i2 ? j0 : j1;
+l10 = j0;
+j0 = p2;
+l9 = j0;
+B0:;
+j0 = p0;
+i1 = 0u;
+i32_store8(j0 + 15, i1);
+j0 = p0;
+i1 = 0u;
+i32_store16(j0 + 13, i1);
+j0 = p0;
+i1 = 0u;
+i32_store(j0 + 115, i1);
+j0 = p0;
+i1 = 0u;
+i32_store(j0 + 60, i1);
+j0 = p0;
+i1 = 0u;
+i32_store8(j0 + 119, i1);
+j0 = l8;
+j1 = l9;
+i64_store(j0, j1);
+j0 = l4;
+j1 = p3;
+i64_store(j0, j1);
+j0 = l5;
+j1 = l10;
+i64_store(j0, j1);
+j0 = l6;
+j1 = p1;
+i64_store(j0, j1);
+j0 = l7;
+i1 = 1u;
+i2 = 2u;
+i3 = l11;
+i4 = 1u;
+i3 = i3 == i4;
+i1 = i3 ? i1 : i2;
+i2 = 0u;
+i3 = l11;
+i1 = i3 ? i1 : i2;
+i32_store8(j0, i1);
+i0 = l12;
+return i0;
+}
+
+static void w2c_rtr_connection_closed(M *m, u64 p0) {
+u32 i0;
+u64 j0;
+i0 = w2c_f0(m);
+i0 = !(i0);
+if (i0) goto B0;
+w2c_f2(m);
+abort();
+B0:;
+j0 = p0;
+w2c_f181(m, j0);
+w2c_f1(m);
+}
+
+static void w2c_f181(M *m, u64 p0) {
+u32 l1 = 0;
+u32 i0, i1, i2, i3, i4;
+u64 j0, j1, j2, j3;
+j0 = m->g0;
+j1 = m->lowest + 15;
+i0 = (u64)((s64)j0 > (s64)j1);
+if (i0) goto B0;
+abort();
+B0:;
+j0 = p0;
+i1 = 0u;
+i32_store16(j0 + 13, i1);
+j0 = p0;
+i1 = 0u;
+i32_store8(j0 + 15, i1);
+j0 = p0;
+i1 = 0u;
+i32_store(j0 + 115, i1);
+j0 = p0;
+i1 = 0u;
+i32_store(j0 + 60, i1);
+j0 = p0;
+i1 = 0u;
+i32_store8(j0 + 119, i1);
+j0 = p0;
+j1 = 114ull;
+j0 += j1;
+i1 = 1u;
+i32_store8(j0, i1);
+j0 = p0;
+j1 = 113ull;
+j0 += j1;
+j1 = p0;
+j2 = 96ull;
+j1 += j2;
+j1 = i64_load(j1);
+j2 = 0ull;
+i1 = j1 != j2;
+i32_store8(j0, i1);
+j0 = p0;
+j1 = 112ull;
+j0 += j1;
+p0 = j0;
+i1 = 1u;
+i2 = 2u;
+j3 = p0;
+i3 = i32_load8_u(j3);
+l1 = i3;
+i4 = 1u;
+i3 = i3 == i4;
+i1 = i3 ? i1 : i2;
+i2 = 0u;
+i3 = l1;
+i1 = i3 ? i1 : i2;
+i32_store8(j0, i1);
+}
+
+static u32 w2c_rtr_connection_ends(M *m, u64 p0, u64 p1, u64 p2) {
+u32 l3 = 0;
+u32 i0;
+u64 j0, j1, j2;
+i0 = w2c_f0(m);
+i0 = !(i0);
+if (i0) goto B0;
+w2c_f2(m);
+abort();
+B0:;
+j0 = p0;
+j1 = p1;
+j2 = p2;
+i0 = w2c_f183(m, j0, j1, j2);
+l3 = i0;
+w2c_f1(m);
+i0 = l3;
+return i0;
+}
+
+static u32 w2c_f183(M *m, u64 p0, u64 p1, u64 p2) {
+u32 l10 = 0, l11 = 0;
+u64 l3 = 0, l4 = 0, l5 = 0, l6 = 0, l7 = 0, l8 = 0, l9 = 0;
+u32 i0, i1, i2, i3;
+u64 j0, j1, j2, j3;
+j0 = m->g0;
+j1 = m->lowest + 16;
+i0 = (u64)((s64)j0 < (s64)j1);
+if (i0) goto B0;
+j0 = p0;
+j1 = 80ull;
+j0 += j1;
+l3 = j0;
+j0 = i64_load(j0);
+l4 = j0;
+j0 = p0;
+j1 = 72ull;
+j0 += j1;
+l5 = j0;
+j0 = i64_load(j0);
+l6 = j0;
+j0 = p0;
+j1 = 104ull;
+j0 += j1;
+l7 = j0;
+j0 = i64_load(j0);
+l8 = j0;
+j0 = p0;
+j1 = 112ull;
+j0 += j1;
+l9 = j0;
+i0 = i32_load8_u(j0);
+l10 = i0;
+i0 = !(i0);
+if (i0) goto B2;
+i0 = 1u;
+i1 = 2u;
+i2 = l10;
+i3 = 1u;
+i2 = i2 == i3;
+i0 = i2 ? i0 : i1;
+l10 = i0;
+i0 = 0u;
+l11 = i0;
+goto B1;
+B2:;
+i0 = 0u;
+l10 = i0;
+i0 = 0u;
+l11 = i0;
+j0 = l8;
+j1 = 0ull;
+i0 = j0 != j1;
+if (i0) goto B1;
+i0 = 1u;
+l11 = i0;
+i0 = 2u;
+i1 = 1u;
+j2 = p2;
+i2 = !(j2);
+i0 = i2 ? i0 : i1;
+l10 = i0;
+j0 = 18446744073709551615ull;
+j1 = p0;
+j2 = 44ull;
+j1 += j2;
+j1 = i64_load32_u(j1);
+l8 = j1;
+j2 = p1;
+j1 += j2;
+l4 = j1;
+j2 = l4;
+j3 = l8;
+i2 = j2 < j3;
+j0 = i2 ? j0 : j1;
+l4 = j0;
+j0 = p2;
+l8 = j0;
+j0 = p1;
+l6 = j0;
+B1:;
+j0 = p0;
+i1 = 0u;
+i32_store8(j0 + 15, i1);
+j0 = p0;
+i1 = 0u;
+i32_store16(j0 + 13, i1);
+j0 = p0;
+i1 = 0u;
+i32_store(j0 + 115, i1);
+j0 = p0;
+i1 = 0u;
+i32_store(j0 + 60, i1);
+j0 = p0;
+i1 = 0u;
+i32_store8(j0 + 119, i1);
+j0 = l9;
+i1 = l10;
+i32_store8(j0, i1);
+j0 = l7;
+j1 = l8;
+i64_store(j0, j1);
+j0 = l3;
+j1 = l4;
+i64_store(j0, j1);
+j0 = l5;
+j1 = l6;
+i64_store(j0, j1);
+i0 = l11;
+goto Bfunc;
+B0:;
+abort();
+Bfunc:;
+return i0;
+}
+
+static void w2c_rtr_connection_heard(M *m, u64 p0, u64 p1, u64 p2) {
+u32 i0;
+u64 j0, j1, j2;
+i0 = w2c_f0(m);
+i0 = !(i0);
+if (i0) goto B0;
+w2c_f2(m);
+abort();
+B0:;
+j0 = p0;
+j1 = p1;
+j2 = p2;
+w2c_f185(m, j0, j1, j2);
+w2c_f1(m);
+}
+
+static void w2c_f185(M *m, u64 p0, u64 p1, u64 p2) {
+u32 l7 = 0, l8 = 0;
+u64 l3 = 0, l4 = 0, l5 = 0, l6 = 0;
+u32 i0, i1, i2, i3, i4;
+u64 j0, j1, j2, j3;
+j0 = m->g0;
+j1 = m->lowest + 16;
+i0 = (u64)((s64)j0 < (s64)j1);
+if (i0) goto B2;
+j0 = p0;
+j1 = 64ull;
+j0 += j1;
+l3 = j0;
+j0 = p0;
+j1 = 96ull;
+j0 += j1;
+l4 = j0;
+j0 = i64_load(j0);
+l5 = j0;
+j0 = p0;
+j1 = 112ull;
+j0 += j1;
+l6 = j0;
+i0 = i32_load8_u(j0);
+l7 = i0;
+j0 = p2;
+i0 = !(j0);
+i0 = !(i0);
+if (i0) goto B1;
+j0 = l3;
+j0 = i64_load(j0);
+p1 = j0;
+i0 = 0u;
+l8 = i0;
+goto B0;
+B2:;
+abort();
+B1:;
+j0 = l5;
+j1 = p2;
+i0 = j0 > j1;
+l8 = i0;
+j0 = 0ull;
+j1 = l5;
+j2 = p2;
+j1 -= j2;
+p2 = j1;
+j2 = p2;
+j3 = l5;
+i2 = j2 > j3;
+j0 = i2 ? j0 : j1;
+l5 = j0;
+B0:;
+j0 = p0;
+i1 = 0u;
+i32_store8(j0 + 15, i1);
+j0 = p0;
+i1 = 0u;
+i32_store16(j0 + 13, i1);
+j0 = p0;
+i1 = 0u;
+i32_store(j0 + 115, i1);
+j0 = p0;
+i1 = 0u;
+i32_store(j0 + 60, i1);
+j0 = p0;
+i1 = 0u;
+i32_store8(j0 + 119, i1);
+j0 = p0;
+j1 = 113ull;
+j0 += j1;
+i1 = l8;
+i32_store8(j0, i1);
+j0 = l4;
+j1 = l5;
+i64_store(j0, j1);
+j0 = l3;
+j1 = p1;
+i64_store(j0, j1);
+j0 = l6;
+i1 = 1u;
+i2 = 2u;
+i3 = l7;
+i4 = 255u;
+i3 &= i4;
+l7 = i3;
+i4 = 1u;
+i3 = i3 == i4;
+i1 = i3 ? i1 : i2;
+i2 = 0u;
+i3 = l7;
+i1 = i3 ? i1 : i2;
+i32_store8(j0, i1);
+}
+
+static void w2c_rtr_connection_init(M *m, u64 p0, u64 p1, u64 p2) {
+u32 i0;
+u64 j0, j1, j2;
+i0 = w2c_f0(m);
+i0 = !(i0);
+if (i0) goto B0;
+w2c_f2(m);
+abort();
+B0:;
+j0 = p0;
+j1 = p1;
+j2 = p2;
+w2c_f187(m, j0, j1, j2);
+w2c_f1(m);
+}
+
+static void w2c_f187(M *m, u64 p0, u64 p1, u64 p2) {
+u32 l8 = 0, l9 = 0, l10 = 0;
+u64 l3 = 0, l4 = 0, l5 = 0, l6 = 0, l7 = 0;
+u32 i0, i1;
+u64 j0, j1;
+j0 = m->g0;
+j1 = m->lowest + 15;
+i0 = (u64)((s64)j0 > (s64)j1);
+if (i0) goto B0;
+abort();
+B0:;
+j0 = p2;
+j1 = 32ull;
+j0 += j1;
+j0 = i64_load(j0);
+l3 = j0;
+j0 = p2;
+j1 = 40ull;
+j0 += j1;
+j0 = i64_load(j0);
+l4 = j0;
+j0 = p2;
+j1 = 48ull;
+j0 += j1;
+j0 = i64_load(j0);
+l5 = j0;
+j0 = p2;
+j1 = 56ull;
+j0 += j1;
+i0 = i32_load(j0);
+l8 = i0;
+j0 = p2;
+j1 = 24ull;
+j0 += j1;
+j0 = i64_load(j0);
+l6 = j0;
+j0 = p2;
+j1 = 16ull;
+j0 += j1;
+j0 = i64_load(j0);
+l7 = j0;
+j0 = p2;
+j1 = 8ull;
+j0 += j1;
+i0 = i32_load(j0);
+l9 = i0;
+j0 = p2;
+j1 = 12ull;
+j0 += j1;
+i0 = i32_load8_u(j0);
+l10 = i0;
+j0 = p2;
+j0 = i64_load(j0);
+p2 = j0;
+j0 = p0;
+i1 = 0u;
+i32_store16(j0 + 13, i1);
+j0 = p0;
+i1 = l10;
+i32_store8(j0 + 12, i1);
+j0 = p0;
+i1 = l9;
+i32_store(j0 + 8, i1);
+j0 = p0;
+j1 = p2;
+i64_store(j0, j1);
+j0 = p0;
+i1 = 0u;
+i32_store8(j0 + 15, i1);
+j0 = p0;
+j1 = l7;
+i64_store(j0 + 16, j1);
+j0 = p0;
+j1 = l6;
+i64_store(j0 + 24, j1);
+j0 = p0;
+j1 = p1;
+i64_store(j0 + 80, j1);
+j0 = p0;
+j1 = p1;
+i64_store(j0 + 72, j1);
+j0 = p0;
+j1 = p1;
+i64_store(j0 + 64, j1);
+j0 = p0;
+i1 = 0u;
+i32_store(j0 + 60, i1);
+j0 = p0;
+i1 = l8;
+i32_store(j0 + 56, i1);
+j0 = p0;
+j1 = l5;
+i64_store(j0 + 48, j1);
+j0 = p0;
+j1 = l4;
+i64_store(j0 + 40, j1);
+j0 = p0;
+j1 = l3;
+i64_store(j0 + 32, j1);
+j0 = p0;
+j1 = 0ull;
+i64_store(j0 + 88, j1);
+j0 = p0;
+j1 = 0ull;
+i64_store(j0 + 96, j1);
+j0 = p0;
+j1 = 0ull;
+i64_store(j0 + 104, j1);
+j0 = p0;
+j1 = 0ull;
+i64_store(j0 + 112, j1);
+}
+
+static void w2c_rtr_connection_received(M *m, u64 p0, u64 p1, u64 p2) {
+u32 i0;
+u64 j0, j1, j2;
+i0 = w2c_f0(m);
+i0 = !(i0);
+if (i0) goto B0;
+w2c_f2(m);
+abort();
+B0:;
+j0 = p0;
+j1 = p1;
+j2 = p2;
+w2c_f189(m, j0, j1, j2);
+w2c_f1(m);
+}
+
+static void w2c_f189(M *m, u64 p0, u64 p1, u64 p2) {
+u32 l9 = 0, l10 = 0;
+u64 l3 = 0, l4 = 0, l5 = 0, l6 = 0, l7 = 0, l8 = 0;
+u32 i0, i1, i2, i3, i4;
+u64 j0, j1, j2, j3;
+j0 = m->g0;
+j1 = m->lowest + 16;
+i0 = (u64)((s64)j0 < (s64)j1);
+if (i0) goto B0;
+j0 = p0;
+j1 = 113ull;
+j0 += j1;
+l3 = j0;
+i0 = i32_load8_u(j0);
+l9 = i0;
+j0 = p0;
+j1 = 64ull;
+j0 += j1;
+l4 = j0;
+j0 = i64_load(j0);
+l5 = j0;
+j0 = p0;
+j1 = 96ull;
+j0 += j1;
+l6 = j0;
+j0 = i64_load(j0);
+l7 = j0;
+j0 = p0;
+j1 = 112ull;
+j0 += j1;
+l8 = j0;
+i0 = i32_load8_u(j0);
+l10 = i0;
+j0 = p2;
+i0 = !(j0);
+if (i0) goto B1;
+i0 = l10;
+i1 = 255u;
+i0 &= i1;
+if (i0) goto B1;
+j0 = p1;
+j1 = l5;
+j2 = l7;
+i2 = !(j2);
+j0 = i2 ? j0 : j1;
+l5 = j0;
+j0 = 18446744073709551615ull;
+j1 = p2;
+j2 = l7;
+j1 += j2;
+l7 = j1;
+j2 = l7;
+j3 = p2;
+i2 = j2 < j3;
+j0 = i2 ? j0 : j1;
+l7 = j0;
+i0 = 1u;
+l9 = i0;
+B1:;
+j0 = p0;
+i1 = 0u;
+i32_store8(j0 + 15, i1);
+j0 = p0;
+i1 = 0u;
+i32_store16(j0 + 13, i1);
+j0 = p0;
+i1 = 0u;
+i32_store(j0 + 115, i1);
+j0 = p0;
+i1 = 0u;
+i32_store(j0 + 60, i1);
+j0 = p0;
+i1 = 0u;
+i32_store8(j0 + 119, i1);
+j0 = l3;
+i1 = l9;
+i32_store8(j0, i1);
+j0 = l6;
+j1 = l7;
+i64_store(j0, j1);
+j0 = l4;
+j1 = l5;
+i64_store(j0, j1);
+j0 = l8;
+i1 = 1u;
+i2 = 2u;
+i3 = l10;
+i4 = 255u;
+i3 &= i4;
+l10 = i3;
+i4 = 1u;
+i3 = i3 == i4;
+i1 = i3 ? i1 : i2;
+i2 = 0u;
+i3 = l10;
+i1 = i3 ? i1 : i2;
+i32_store8(j0, i1);
+goto Bfunc;
+B0:;
+abort();
+Bfunc:;
+}
+
+static u32 w2c_rtr_connection_sent(M *m, u64 p0, u64 p1, u64 p2) {
+u32 l3 = 0;
+u32 i0;
+u64 j0, j1, j2;
+i0 = w2c_f0(m);
+i0 = !(i0);
+if (i0) goto B0;
+w2c_f2(m);
+abort();
+B0:;
+j0 = p0;
+j1 = p1;
+j2 = p2;
+i0 = w2c_f191(m, j0, j1, j2);
+l3 = i0;
+w2c_f1(m);
+i0 = l3;
+return i0;
+}
+
+static u32 w2c_f191(M *m, u64 p0, u64 p1, u64 p2) {
+u32 l10 = 0;
+u64 l3 = 0, l4 = 0, l5 = 0, l6 = 0, l7 = 0, l8 = 0, l9 = 0;
+u32 i0, i1, i2, i3, i4;
+u64 j0, j1, j2, j3;
+j0 = m->g0;
+j1 = m->lowest + 16;
+i0 = (u64)((s64)j0 < (s64)j1);
+if (i0) goto B2;
+j0 = p0;
+j1 = 72ull;
+j0 += j1;
+l3 = j0;
+j0 = i64_load(j0);
+l4 = j0;
+j0 = p0;
+j1 = 64ull;
+j0 += j1;
+l5 = j0;
+j0 = i64_load(j0);
+l6 = j0;
+j0 = p0;
+j1 = 112ull;
+j0 += j1;
+l7 = j0;
+i0 = i32_load8_u(j0);
+l10 = i0;
+j0 = p0;
+j1 = 104ull;
+j0 += j1;
+l8 = j0;
+j0 = i64_load(j0);
+l9 = j0;
+j1 = p2;
+i0 = j0 >= j1;
+if (i0) goto B1;
+j0 = l9;
+p1 = j0;
+goto B0;
+B2:;
+abort();
+B1:;
+j0 = l4;
+j1 = p1;
+j2 = p2;
+i2 = !(j2);
+j0 = i2 ? j0 : j1;
+l4 = j0;
+j0 = p1;
+j1 = l6;
+j2 = l9;
+j3 = p2;
+i2 = j2 == j3;
+j0 = i2 ? j0 : j1;
+l6 = j0;
+j0 = l9;
+j1 = p2;
+j0 -= j1;
+p1 = j0;
+B0:;
+j0 = p0;
+i1 = 0u;
+i32_store8(j0 + 15, i1);
+j0 = p0;
+i1 = 0u;
+i32_store16(j0 + 13, i1);
+j0 = p0;
+i1 = 0u;
+i32_store(j0 + 115, i1);
+j0 = p0;
+i1 = 0u;
+i32_store(j0 + 60, i1);
+j0 = p0;
+i1 = 0u;
+i32_store8(j0 + 119, i1);
+j0 = l8;
+j1 = p1;
+i64_store(j0, j1);
+j0 = l3;
+j1 = l4;
+i64_store(j0, j1);
+j0 = l5;
+j1 = l6;
+i64_store(j0, j1);
+j0 = l7;
+i1 = 1u;
+i2 = 2u;
+i3 = l10;
+i4 = 255u;
+i3 &= i4;
+l10 = i3;
+i4 = 1u;
+i3 = i3 == i4;
+i1 = i3 ? i1 : i2;
+i2 = 0u;
+i3 = l10;
+i1 = i3 ? i1 : i2;
+i32_store8(j0, i1);
+j0 = l9;
+j1 = p2;
+i0 = j0 >= j1;
+return i0;
+}
+
 static void w2c_rtr_group_drops(M *m, u64 p0, u64 p1, u64 p2, u64 p3) {
 u32 i0;
 u64 j0, j1, j2, j3;
@@ -95413,11 +96500,11 @@ j0 = p0;
 j1 = p1;
 j2 = p2;
 j3 = p3;
-w2c_f168(m, j0, j1, j2, j3);
+w2c_f193(m, j0, j1, j2, j3);
 w2c_f1(m);
 }
 
-static void w2c_f168(M *m, u64 p0, u64 p1, u64 p2, u64 p3) {
+static void w2c_f193(M *m, u64 p0, u64 p1, u64 p2, u64 p3) {
 u64 l4 = 0;
 u32 i0, i1, i4;
 u64 j0, j1, j2, j3, j5;
@@ -95487,11 +96574,11 @@ j0 = p0;
 j1 = p1;
 j2 = p2;
 j3 = p3;
-w2c_f170(m, j0, j1, j2, j3);
+w2c_f195(m, j0, j1, j2, j3);
 w2c_f1(m);
 }
 
-static void w2c_f170(M *m, u64 p0, u64 p1, u64 p2, u64 p3) {
+static void w2c_f195(M *m, u64 p0, u64 p1, u64 p2, u64 p3) {
 u64 l4 = 0;
 u32 i0, i1, i4;
 u64 j0, j1, j2, j3, j5;
@@ -95562,11 +96649,11 @@ j1 = p1;
 j2 = p2;
 j3 = p3;
 j4 = p4;
-w2c_f172(m, j0, j1, j2, j3, j4);
+w2c_f197(m, j0, j1, j2, j3, j4);
 w2c_f1(m);
 }
 
-static void w2c_f172(M *m, u64 p0, u64 p1, u64 p2, u64 p3, u64 p4) {
+static void w2c_f197(M *m, u64 p0, u64 p1, u64 p2, u64 p3, u64 p4) {
 u64 l5 = 0;
 u32 i0, i1, i4;
 u64 j0, j1, j2, j3, j5;
@@ -95635,11 +96722,11 @@ B0:;
 j0 = p0;
 j1 = p1;
 j2 = p2;
-w2c_f174(m, j0, j1, j2);
+w2c_f199(m, j0, j1, j2);
 w2c_f1(m);
 }
 
-static void w2c_f174(M *m, u64 p0, u64 p1, u64 p2) {
+static void w2c_f199(M *m, u64 p0, u64 p1, u64 p2) {
 u64 l3 = 0;
 u32 i0, i1;
 u64 j0, j1, j2, j3, j4;
@@ -95732,11 +96819,11 @@ B0:;
 j0 = p0;
 j1 = p1;
 j2 = p2;
-w2c_f176(m, j0, j1, j2);
+w2c_f201(m, j0, j1, j2);
 w2c_f1(m);
 }
 
-static void w2c_f176(M *m, u64 p0, u64 p1, u64 p2) {
+static void w2c_f201(M *m, u64 p0, u64 p1, u64 p2) {
 u64 l3 = 0;
 u32 i0, i1;
 u64 j0, j1, j2, j3, j4;
@@ -95829,11 +96916,11 @@ B0:;
 j0 = p0;
 j1 = p1;
 j2 = p2;
-w2c_f178(m, j0, j1, j2);
+w2c_f203(m, j0, j1, j2);
 w2c_f1(m);
 }
 
-static void w2c_f178(M *m, u64 p0, u64 p1, u64 p2) {
+static void w2c_f203(M *m, u64 p0, u64 p1, u64 p2) {
 u64 l3 = 0;
 u32 i0, i1;
 u64 j0, j1, j2, j3, j4;
@@ -95926,11 +97013,11 @@ B0:;
 j0 = p0;
 j1 = p1;
 j2 = p2;
-w2c_f180(m, j0, j1, j2);
+w2c_f205(m, j0, j1, j2);
 w2c_f1(m);
 }
 
-static void w2c_f180(M *m, u64 p0, u64 p1, u64 p2) {
+static void w2c_f205(M *m, u64 p0, u64 p1, u64 p2) {
 u64 l3 = 0;
 u32 i0, i1;
 u64 j0, j1, j2, j3, j4;
@@ -96024,11 +97111,11 @@ j0 = p0;
 j1 = p1;
 i2 = p2;
 j3 = p3;
-w2c_f182(m, j0, j1, i2, j3);
+w2c_f207(m, j0, j1, i2, j3);
 w2c_f1(m);
 }
 
-static void w2c_f182(M *m, u64 p0, u64 p1, u32 p2, u64 p3) {
+static void w2c_f207(M *m, u64 p0, u64 p1, u32 p2, u64 p3) {
 u32 l6 = 0, l7 = 0;
 u64 l4 = 0, l5 = 0;
 u32 i0, i1, i2;
@@ -96178,11 +97265,11 @@ B0:;
 j0 = p0;
 j1 = p1;
 j2 = p2;
-w2c_f184(m, j0, j1, j2);
+w2c_f209(m, j0, j1, j2);
 w2c_f1(m);
 }
 
-static void w2c_f184(M *m, u64 p0, u64 p1, u64 p2) {
+static void w2c_f209(M *m, u64 p0, u64 p1, u64 p2) {
 u64 l3 = 0;
 u32 i0, i1;
 u64 j0, j1, j2, j3, j4;
@@ -96260,6 +97347,411 @@ j0 += j1;
 m->g0 = j0;
 }
 
+static u32 w2c_rtr_connection_next(M *m, u64 p0, u64 p1, u64 p2, u64 p3, u64 p4, u64 p5) {
+u32 l6 = 0;
+u32 i0;
+u64 j0, j1, j2, j3, j4, j5;
+i0 = w2c_f0(m);
+i0 = !(i0);
+if (i0) goto B0;
+w2c_f2(m);
+abort();
+B0:;
+j0 = p0;
+j1 = p1;
+j2 = p2;
+j3 = p3;
+j4 = p4;
+j5 = p5;
+i0 = w2c_f211(m, j0, j1, j2, j3, j4, j5);
+l6 = i0;
+w2c_f1(m);
+i0 = l6;
+return i0;
+}
+
+static u32 w2c_f211(M *m, u64 p0, u64 p1, u64 p2, u64 p3, u64 p4, u64 p5) {
+u32 l6 = 0, l7 = 0, l8 = 0, l9 = 0, l10 = 0, l11 = 0, l12 = 0, l13 = 0,
+l14 = 0, l15 = 0, l16 = 0, l17 = 0;
+u64 l18 = 0, l19 = 0;
+u32 i0, i1, i2, i3, i4;
+u64 j0, j1, j2, j3, j4, j5;
+j0 = m->g0;
+j1 = m->lowest + 16;
+i0 = (u64)((s64)j0 < (s64)j1);
+if (i0) goto B3;
+i0 = 1u;
+l6 = i0;
+j0 = p0;
+j1 = 80ull;
+j0 += j1;
+j0 = i64_load(j0);
+l18 = j0;
+j0 = p0;
+j1 = 104ull;
+j0 += j1;
+j0 = i64_load(j0);
+l19 = j0;
+j0 = p0;
+j1 = 114ull;
+j0 += j1;
+i0 = i32_load8_u(j0);
+l7 = i0;
+i0 = 6u;
+l8 = i0;
+i0 = 0u;
+l9 = i0;
+i0 = 1u;
+i1 = 2u;
+j2 = p0;
+j3 = 112ull;
+j2 += j3;
+i2 = i32_load8_u(j2);
+l10 = i2;
+i3 = 1u;
+i2 = i2 == i3;
+i0 = i2 ? i0 : i1;
+i1 = 0u;
+i2 = l10;
+i0 = i2 ? i0 : i1;
+switch (i0) {
+case 0: goto B4;
+case 1: goto B5;
+case 2: goto B0;
+default: goto B4;
+}
+B5:;
+j0 = l18;
+j1 = p1;
+i0 = j0 > j1;
+if (i0) goto B2;
+i0 = 6u;
+l8 = i0;
+goto B1;
+B4:;
+j0 = p3;
+j1 = 4ull;
+j0 += j1;
+i0 = i32_load16_u(j0);
+l10 = i0;
+j0 = p3;
+j1 = 6ull;
+j0 += j1;
+i0 = i32_load8_u(j0);
+l6 = i0;
+j0 = p2;
+j1 = 36ull;
+j0 += j1;
+i0 = i32_load16_u(j0);
+l11 = i0;
+j0 = p2;
+j1 = 41ull;
+j0 += j1;
+i0 = i32_load8_u(j0);
+l12 = i0;
+j0 = l19;
+i0 = !(j0);
+if (i0) goto B6;
+j0 = l18;
+j1 = 18446744073709551615ull;
+j2 = p0;
+j3 = 36ull;
+j2 += j3;
+j2 = i64_load32_u(j2);
+p2 = j2;
+j3 = p0;
+j4 = 72ull;
+j3 += j4;
+j3 = i64_load(j3);
+j2 += j3;
+p3 = j2;
+j3 = p3;
+j4 = p2;
+i3 = j3 < j4;
+j1 = i3 ? j1 : j2;
+p2 = j1;
+j2 = l18;
+j3 = p2;
+i2 = j2 < j3;
+j0 = i2 ? j0 : j1;
+p2 = j0;
+j1 = p1;
+i0 = j0 > j1;
+l7 = i0;
+j0 = p2;
+j1 = p1;
+i0 = j0 > j1;
+if (i0) goto B8;
+i0 = 1u;
+l9 = i0;
+goto B7;
+B8:;
+i0 = 1u;
+l9 = i0;
+i0 = l6;
+i1 = l12;
+i0 &= i1;
+i1 = 255u;
+i0 &= i1;
+i1 = 0u;
+i0 = i0 != i1;
+i1 = l11;
+i2 = 65535u;
+i1 &= i2;
+i2 = l10;
+i3 = 65535u;
+i2 &= i3;
+i1 = i1 != i2;
+i0 &= i1;
+if (i0) goto B7;
+i0 = 2u;
+i1 = 0u;
+j2 = 0ull;
+j3 = p4;
+j4 = p0;
+j5 = 88ull;
+j4 += j5;
+j4 = i64_load(j4);
+j3 -= j4;
+p2 = j3;
+j4 = p2;
+j5 = p4;
+i4 = j4 > j5;
+j2 = i4 ? j2 : j3;
+j3 = p0;
+j4 = 56ull;
+j3 += j4;
+j3 = i64_load32_u(j3);
+i2 = j2 > j3;
+l9 = i2;
+i0 = i2 ? i0 : i1;
+l7 = i0;
+B7:;
+i0 = 6u;
+i1 = 4u;
+i2 = l9;
+i0 = i2 ? i0 : i1;
+l8 = i0;
+i0 = l7;
+i1 = 1u;
+i0 += i1;
+i1 = 1u;
+i2 = l9;
+i0 = i2 ? i0 : i1;
+l6 = i0;
+goto B0;
+B6:;
+j0 = p0;
+j1 = 113ull;
+j0 += j1;
+i0 = i32_load8_u(j0);
+l13 = i0;
+i0 = 1u;
+l8 = i0;
+j0 = p2;
+j1 = 39ull;
+j0 += j1;
+i0 = i32_load8_u(j0);
+i1 = 1u;
+i0 &= i1;
+if (i0) goto B10;
+j0 = 18446744073709551615ull;
+p2 = j0;
+goto B9;
+B10:;
+j0 = p2;
+j1 = 24ull;
+j0 += j1;
+j0 = i64_load(j0);
+l18 = j0;
+j0 = p2;
+j1 = 16ull;
+j0 += j1;
+j0 = i64_load(j0);
+l19 = j0;
+j0 = p2;
+j1 = 32ull;
+j0 += j1;
+i0 = i32_load(j0);
+l14 = i0;
+j0 = p2;
+j1 = 42ull;
+j0 += j1;
+i0 = i32_load8_u(j0);
+l15 = i0;
+j0 = p2;
+j1 = 40ull;
+j0 += j1;
+i0 = i32_load8_u(j0);
+l16 = i0;
+j0 = p3;
+i0 = i32_load(j0);
+l17 = i0;
+i0 = 1u;
+l9 = i0;
+i0 = l6;
+i1 = 1u;
+i0 &= i1;
+i0 = !(i0);
+if (i0) goto B13;
+i0 = 1u;
+l9 = i0;
+i0 = l12;
+i1 = 1u;
+i0 &= i1;
+i0 = !(i0);
+if (i0) goto B12;
+i0 = l11;
+i1 = 65535u;
+i0 &= i1;
+i1 = l10;
+i2 = 65535u;
+i1 &= i2;
+i0 = i0 == i1;
+if (i0) goto B11;
+j0 = 0ull;
+p2 = j0;
+goto B9;
+B13:;
+i0 = l12;
+i1 = 1u;
+i0 &= i1;
+if (i0) goto B11;
+B12:;
+i0 = l15;
+l9 = i0;
+B11:;
+j0 = l18;
+j1 = l19;
+j2 = l18;
+j3 = l19;
+j4 = l18;
+i3 = j3 < j4;
+j1 = i3 ? j1 : j2;
+p2 = j1;
+i2 = l9;
+i3 = 1u;
+i2 &= i3;
+j0 = i2 ? j0 : j1;
+p3 = j0;
+j1 = p3;
+j2 = p2;
+i3 = l14;
+i4 = l17;
+i3 = i3 == i4;
+j1 = i3 ? j1 : j2;
+i2 = l11;
+i3 = 65535u;
+i2 &= i3;
+i3 = l10;
+i4 = 65535u;
+i3 &= i4;
+i2 = i2 != i3;
+j0 = i2 ? j0 : j1;
+j1 = l18;
+i2 = l6;
+i3 = l16;
+i2 &= i3;
+i3 = 255u;
+i2 &= i3;
+j0 = i2 ? j0 : j1;
+p2 = j0;
+B9:;
+i0 = 0u;
+l9 = i0;
+i0 = 1u;
+l6 = i0;
+i0 = l13;
+i1 = 1u;
+i0 &= i1;
+if (i0) goto B0;
+i0 = 1u;
+l6 = i0;
+i0 = l7;
+i1 = 1u;
+i0 &= i1;
+i0 = !(i0);
+if (i0) goto B14;
+i0 = 3u;
+l8 = i0;
+goto B1;
+B14:;
+j0 = p2;
+j1 = p1;
+i0 = j0 > j1;
+if (i0) goto B15;
+i0 = 2u;
+l8 = i0;
+goto B1;
+B15:;
+j0 = p0;
+j1 = 96ull;
+j0 += j1;
+j0 = i64_load(j0);
+i0 = !(j0);
+i0 = !(i0);
+if (i0) goto B16;
+i0 = 0u;
+l8 = i0;
+goto B1;
+B16:;
+i0 = 6u;
+i1 = 0u;
+j2 = 18446744073709551615ull;
+j3 = p0;
+j4 = 32ull;
+j3 += j4;
+j3 = i64_load32_u(j3);
+p2 = j3;
+j4 = p0;
+j5 = 64ull;
+j4 += j5;
+j4 = i64_load(j4);
+j3 += j4;
+p0 = j3;
+j4 = p0;
+j5 = p2;
+i4 = j4 < j5;
+j2 = i4 ? j2 : j3;
+j3 = p1;
+i2 = j2 <= j3;
+l9 = i2;
+i0 = i2 ? i0 : i1;
+l8 = i0;
+goto B0;
+B3:;
+abort();
+B2:;
+i0 = l7;
+i1 = 5u;
+i0 += i1;
+i1 = 4u;
+j2 = l19;
+i2 = !(j2);
+i0 = i2 ? i0 : i1;
+l8 = i0;
+B1:;
+i0 = 0u;
+l9 = i0;
+B0:;
+j0 = p5;
+i1 = l6;
+i2 = 0u;
+i3 = l9;
+i1 = i3 ? i1 : i2;
+i2 = 0u;
+i3 = l8;
+i4 = 255u;
+i3 &= i4;
+l9 = i3;
+i4 = 6u;
+i3 = i3 == i4;
+i1 = i3 ? i1 : i2;
+i32_store8(j0, i1);
+i0 = l9;
+return i0;
+}
+
 static u32 w2c_rtr_stores_give_up(M *m, u64 p0) {
 u32 l1 = 0;
 u32 i0;
@@ -96271,14 +97763,14 @@ w2c_f2(m);
 abort();
 B0:;
 j0 = p0;
-i0 = w2c_f186(m, j0);
+i0 = w2c_f213(m, j0);
 l1 = i0;
 w2c_f1(m);
 i0 = l1;
 return i0;
 }
 
-static u32 w2c_f186(M *m, u64 p0) {
+static u32 w2c_f213(M *m, u64 p0) {
 u32 l1 = 0, l2 = 0, l3 = 0, l4 = 0, l5 = 0, l6 = 0;
 u64 l7 = 0;
 u32 i0, i1, i2;
@@ -96437,11 +97929,11 @@ w2c_f2(m);
 abort();
 B0:;
 j0 = p0;
-w2c_f188(m, j0);
+w2c_f215(m, j0);
 w2c_f1(m);
 }
 
-static void w2c_f188(M *m, u64 p0) {
+static void w2c_f215(M *m, u64 p0) {
 u32 i0, i1;
 u64 j0, j1;
 j0 = m->g0;
@@ -96478,14 +97970,14 @@ w2c_f2(m);
 abort();
 B0:;
 j0 = p0;
-i0 = w2c_f190(m, j0);
+i0 = w2c_f217(m, j0);
 l1 = i0;
 w2c_f1(m);
 i0 = l1;
 return i0;
 }
 
-static u32 w2c_f190(M *m, u64 p0) {
+static u32 w2c_f217(M *m, u64 p0) {
 u32 l1 = 0, l2 = 0, l3 = 0, l4 = 0, l5 = 0, l6 = 0;
 u64 l7 = 0;
 u32 i0, i1, i2, i3;
@@ -96670,11 +98162,11 @@ abort();
 B0:;
 j0 = p0;
 i1 = p1;
-w2c_f192(m, j0, i1);
+w2c_f219(m, j0, i1);
 w2c_f1(m);
 }
 
-static void w2c_f192(M *m, u64 p0, u32 p1) {
+static void w2c_f219(M *m, u64 p0, u32 p1) {
 u32 i0, i1;
 u64 j0, j1;
 j0 = m->g0;
@@ -96719,14 +98211,14 @@ j2 = p2;
 j3 = p3;
 j4 = p4;
 j5 = p5;
-i0 = w2c_f194(m, j0, j1, j2, j3, j4, j5);
+i0 = w2c_f221(m, j0, j1, j2, j3, j4, j5);
 l6 = i0;
 w2c_f1(m);
 i0 = l6;
 return i0;
 }
 
-static u32 w2c_f194(M *m, u64 p0, u64 p1, u64 p2, u64 p3, u64 p4, u64 p5) {
+static u32 w2c_f221(M *m, u64 p0, u64 p1, u64 p2, u64 p3, u64 p4, u64 p5) {
 u32 l6 = 0, l7 = 0, l8 = 0, l9 = 0, l10 = 0, l11 = 0;
 u64 l12 = 0, l13 = 0, l14 = 0;
 u32 i0, i1, i2, i3, i4, i5;
@@ -97046,14 +98538,14 @@ w2c_f2(m);
 abort();
 B0:;
 j0 = p0;
-i0 = w2c_f196(m, j0);
+i0 = w2c_f223(m, j0);
 l1 = i0;
 w2c_f1(m);
 i0 = l1;
 return i0;
 }
 
-static u32 w2c_f196(M *m, u64 p0) {
+static u32 w2c_f223(M *m, u64 p0) {
 u32 l2 = 0, l3 = 0;
 u64 l1 = 0;
 u32 i0, i1, i2, i3, i4;
@@ -97195,14 +98687,14 @@ w2c_f2(m);
 abort();
 B0:;
 j0 = p0;
-i0 = w2c_f198(m, j0);
+i0 = w2c_f225(m, j0);
 l1 = i0;
 w2c_f1(m);
 i0 = l1;
 return i0;
 }
 
-static u32 w2c_f198(M *m, u64 p0) {
+static u32 w2c_f225(M *m, u64 p0) {
 u32 l2 = 0;
 u64 l1 = 0;
 u32 i0, i1;
@@ -97259,14 +98751,14 @@ w2c_f2(m);
 abort();
 B0:;
 j0 = p0;
-i0 = w2c_f200(m, j0);
+i0 = w2c_f227(m, j0);
 l1 = i0;
 w2c_f1(m);
 i0 = l1;
 return i0;
 }
 
-static u32 w2c_f200(M *m, u64 p0) {
+static u32 w2c_f227(M *m, u64 p0) {
 u32 l2 = 0;
 u64 l1 = 0;
 u32 i0, i1;
@@ -97332,14 +98824,14 @@ B0:;
 j0 = p0;
 j1 = p2;
 j2 = p3;
-i0 = w2c_f202(m, j0, j1, j2);
+i0 = w2c_f229(m, j0, j1, j2);
 l4 = i0;
 w2c_f1(m);
 i0 = l4;
 return i0;
 }
 
-static u32 w2c_f202(M *m, u64 p0, u64 p1, u64 p2) {
+static u32 w2c_f229(M *m, u64 p0, u64 p1, u64 p2) {
 u32 l5 = 0, l6 = 0;
 u64 l3 = 0, l4 = 0;
 u32 i0, i1, i2;
@@ -97460,14 +98952,14 @@ j0 = p0;
 j1 = p1;
 j2 = p2;
 j3 = p3;
-i0 = w2c_f204(m, j0, j1, j2, j3);
+i0 = w2c_f231(m, j0, j1, j2, j3);
 l4 = i0;
 w2c_f1(m);
 i0 = l4;
 return i0;
 }
 
-static u32 w2c_f204(M *m, u64 p0, u64 p1, u64 p2, u64 p3) {
+static u32 w2c_f231(M *m, u64 p0, u64 p1, u64 p2, u64 p3) {
 u32 l13 = 0;
 u64 l4 = 0, l5 = 0, l6 = 0, l7 = 0, l8 = 0, l9 = 0, l10 = 0, l11 = 0,
 l12 = 0;
@@ -97676,14 +99168,14 @@ j3 = p3;
 j4 = p4;
 j5 = p5;
 j6 = p6;
-i0 = w2c_f206(m, j0, j1, j2, j3, j4, j5, j6);
+i0 = w2c_f233(m, j0, j1, j2, j3, j4, j5, j6);
 l7 = i0;
 w2c_f1(m);
 i0 = l7;
 return i0;
 }
 
-static u32 w2c_f206(M *m, u64 p0, u64 p1, u64 p2, u64 p3, u64 p4, u64 p5, u64 p6) {
+static u32 w2c_f233(M *m, u64 p0, u64 p1, u64 p2, u64 p3, u64 p4, u64 p5, u64 p6) {
 u32 l10 = 0, l11 = 0, l12 = 0, l13 = 0, l14 = 0, l15 = 0;
 u64 l7 = 0, l8 = 0, l9 = 0;
 u32 i0, i1, i2, i3;
@@ -97975,14 +99467,14 @@ i1 = p1;
 j2 = p2;
 j3 = p3;
 j4 = p4;
-i0 = w2c_f208(m, i0, i1, j2, j3, j4);
+i0 = w2c_f235(m, i0, i1, j2, j3, j4);
 p1 = i0;
 w2c_f1(m);
 i0 = p1;
 return i0;
 }
 
-static u32 w2c_f208(M *m, u32 p0, u32 p1, u64 p2, u64 p3, u64 p4) {
+static u32 w2c_f235(M *m, u32 p0, u32 p1, u64 p2, u64 p3, u64 p4) {
 u32 l9 = 0, l10 = 0, l11 = 0, l12 = 0;
 u64 l5 = 0, l6 = 0, l7 = 0, l8 = 0;
 u32 i0, i1, i2, i3, i5;
@@ -98202,14 +99694,14 @@ i1 = p1;
 j2 = p2;
 j3 = p3;
 j4 = p4;
-i0 = w2c_f210(m, i0, i1, j2, j3, j4);
+i0 = w2c_f237(m, i0, i1, j2, j3, j4);
 p1 = i0;
 w2c_f1(m);
 i0 = p1;
 return i0;
 }
 
-static u32 w2c_f210(M *m, u32 p0, u32 p1, u64 p2, u64 p3, u64 p4) {
+static u32 w2c_f237(M *m, u32 p0, u32 p1, u64 p2, u64 p3, u64 p4) {
 u64 l5 = 0, l6 = 0, l7 = 0, l8 = 0;
 u32 i0, i1, i2, i3, i5;
 u64 j0, j1, j2, j3, j4;
@@ -98585,14 +100077,14 @@ j0 = p0;
 j1 = p1;
 j2 = p2;
 j3 = p3;
-j0 = w2c_f212(m, j0, j1, j2, j3);
+j0 = w2c_f239(m, j0, j1, j2, j3);
 p3 = j0;
 w2c_f1(m);
 j0 = p3;
 return j0;
 }
 
-static u64 w2c_f212(M *m, u64 p0, u64 p1, u64 p2, u64 p3) {
+static u64 w2c_f239(M *m, u64 p0, u64 p1, u64 p2, u64 p3) {
 u32 l11 = 0, l12 = 0, l13 = 0, l14 = 0, l15 = 0;
 u64 l4 = 0, l5 = 0, l6 = 0, l7 = 0, l8 = 0, l9 = 0, l10 = 0;
 u32 i0, i1, i2, i3, i5;
@@ -100394,14 +101886,14 @@ j3 = p3;
 j4 = p4;
 j5 = p5;
 j6 = p6;
-i0 = w2c_f214(m, j0, j1, j2, j3, j4, j5, j6);
+i0 = w2c_f241(m, j0, j1, j2, j3, j4, j5, j6);
 l7 = i0;
 w2c_f1(m);
 i0 = l7;
 return i0;
 }
 
-static u32 w2c_f214(M *m, u64 p0, u64 p1, u64 p2, u64 p3, u64 p4, u64 p5, u64 p6) {
+static u32 w2c_f241(M *m, u64 p0, u64 p1, u64 p2, u64 p3, u64 p4, u64 p5, u64 p6) {
 u32 l25 = 0, l26 = 0, l27 = 0, l28 = 0, l29 = 0, l30 = 0, l31 = 0, l32 = 0,
 l33 = 0, l34 = 0, l35 = 0, l36 = 0, l37 = 0, l38 = 0, l39 = 0, l40 = 0,
 l41 = 0, l42 = 0, l43 = 0, l44 = 0, l45 = 0, l46 = 0, l47 = 0, l48 = 0,
@@ -101314,14 +102806,14 @@ j3 = p3;
 j4 = p4;
 j5 = p5;
 j6 = p6;
-i0 = w2c_f216(m, j0, j1, j2, j3, j4, j5, j6);
+i0 = w2c_f243(m, j0, j1, j2, j3, j4, j5, j6);
 l7 = i0;
 w2c_f1(m);
 i0 = l7;
 return i0;
 }
 
-static u32 w2c_f216(M *m, u64 p0, u64 p1, u64 p2, u64 p3, u64 p4, u64 p5, u64 p6) {
+static u32 w2c_f243(M *m, u64 p0, u64 p1, u64 p2, u64 p3, u64 p4, u64 p5, u64 p6) {
 u32 l25 = 0, l26 = 0, l27 = 0, l28 = 0, l29 = 0, l30 = 0, l31 = 0, l32 = 0,
 l33 = 0, l34 = 0, l35 = 0, l36 = 0, l37 = 0, l38 = 0, l39 = 0, l40 = 0,
 l41 = 0, l42 = 0, l43 = 0, l44 = 0, l45 = 0, l46 = 0, l47 = 0, l48 = 0,
@@ -102293,14 +103785,14 @@ j9 = p9;
 j10 = p10;
 j11 = p11;
 j12 = p12;
-i0 = w2c_f218(m, j0, j1, j2, j3, j4, j5, j6, j7, j8, j9, j10, j11, j12);
+i0 = w2c_f245(m, j0, j1, j2, j3, j4, j5, j6, j7, j8, j9, j10, j11, j12);
 l13 = i0;
 w2c_f1(m);
 i0 = l13;
 return i0;
 }
 
-static u32 w2c_f218(M *m, u64 p0, u64 p1, u64 p2, u64 p3, u64 p4, u64 p5, u64 p6, u64 p7,
+static u32 w2c_f245(M *m, u64 p0, u64 p1, u64 p2, u64 p3, u64 p4, u64 p5, u64 p6, u64 p7,
 u64 p8, u64 p9, u64 p10, u64 p11, u64 p12) {
 u32 l26 = 0, l27 = 0, l28 = 0, l29 = 0, l30 = 0, l31 = 0, l32 = 0, l33 = 0,
 l34 = 0, l35 = 0, l36 = 0, l37 = 0, l38 = 0, l39 = 0, l40 = 0, l41 = 0,
@@ -105149,14 +106641,14 @@ j0 = p0;
 j1 = p1;
 j2 = p2;
 j3 = p3;
-i0 = w2c_f220(m, j0, j1, j2, j3);
+i0 = w2c_f247(m, j0, j1, j2, j3);
 l4 = i0;
 w2c_f1(m);
 i0 = l4;
 return i0;
 }
 
-static u32 w2c_f220(M *m, u64 p0, u64 p1, u64 p2, u64 p3) {
+static u32 w2c_f247(M *m, u64 p0, u64 p1, u64 p2, u64 p3) {
 u32 l12 = 0, l13 = 0, l14 = 0, l15 = 0, l16 = 0, l17 = 0, l18 = 0, l19 = 0;
 u64 l4 = 0, l5 = 0, l6 = 0, l7 = 0, l8 = 0, l9 = 0, l10 = 0, l11 = 0;
 u32 i0, i1, i2, i3, i4;
@@ -107244,11 +108736,11 @@ j0 = p0;
 j1 = p1;
 j2 = p2;
 j3 = p3;
-w2c_f222(m, j0, j1, j2, j3);
+w2c_f249(m, j0, j1, j2, j3);
 w2c_f1(m);
 }
 
-static void w2c_f222(M *m, u64 p0, u64 p1, u64 p2, u64 p3) {
+static void w2c_f249(M *m, u64 p0, u64 p1, u64 p2, u64 p3) {
 u64 l4 = 0;
 u32 i0, i1;
 u64 j0, j1, j2, j3, j4, j5;
@@ -107339,11 +108831,11 @@ j0 = p0;
 j1 = p1;
 j2 = p2;
 j3 = p3;
-w2c_f224(m, j0, j1, j2, j3);
+w2c_f251(m, j0, j1, j2, j3);
 w2c_f1(m);
 }
 
-static void w2c_f224(M *m, u64 p0, u64 p1, u64 p2, u64 p3) {
+static void w2c_f251(M *m, u64 p0, u64 p1, u64 p2, u64 p3) {
 u64 l4 = 0;
 u32 i0, i1;
 u64 j0, j1, j2, j3, j4, j5;
@@ -107434,11 +108926,11 @@ j0 = p0;
 j1 = p1;
 j2 = p2;
 j3 = p3;
-w2c_f226(m, j0, j1, j2, j3);
+w2c_f253(m, j0, j1, j2, j3);
 w2c_f1(m);
 }
 
-static void w2c_f226(M *m, u64 p0, u64 p1, u64 p2, u64 p3) {
+static void w2c_f253(M *m, u64 p0, u64 p1, u64 p2, u64 p3) {
 u64 l4 = 0;
 u32 i0, i1;
 u64 j0, j1, j2, j3, j4, j5;
@@ -107534,14 +109026,14 @@ j5 = p5;
 j6 = p6;
 j7 = p7;
 j8 = p8;
-i0 = w2c_f228(m, j0, j1, j2, j3, j4, j5, j6, j7, j8);
+i0 = w2c_f255(m, j0, j1, j2, j3, j4, j5, j6, j7, j8);
 l9 = i0;
 w2c_f1(m);
 i0 = l9;
 return i0;
 }
 
-static u32 w2c_f228(M *m, u64 p0, u64 p1, u64 p2, u64 p3, u64 p4, u64 p5, u64 p6, u64 p7,
+static u32 w2c_f255(M *m, u64 p0, u64 p1, u64 p2, u64 p3, u64 p4, u64 p5, u64 p6, u64 p7,
 u64 p8) {
 u32 l23 = 0, l24 = 0, l25 = 0, l26 = 0, l27 = 0, l28 = 0, l29 = 0, l30 = 0,
 l31 = 0, l32 = 0, l33 = 0, l34 = 0, l35 = 0, l36 = 0, l37 = 0, l38 = 0,
@@ -110080,14 +111572,14 @@ j2 = p2;
 j3 = p3;
 j4 = p4;
 j5 = p5;
-i0 = w2c_f230(m, j0, j1, j2, j3, j4, j5);
+i0 = w2c_f257(m, j0, j1, j2, j3, j4, j5);
 l6 = i0;
 w2c_f1(m);
 i0 = l6;
 return i0;
 }
 
-static u32 w2c_f230(M *m, u64 p0, u64 p1, u64 p2, u64 p3, u64 p4, u64 p5) {
+static u32 w2c_f257(M *m, u64 p0, u64 p1, u64 p2, u64 p3, u64 p4, u64 p5) {
 u32 l29 = 0, l30 = 0, l31 = 0, l32 = 0, l33 = 0, l34 = 0, l35 = 0, l36 = 0,
 l37 = 0, l38 = 0, l39 = 0, l40 = 0;
 u64 l6 = 0, l7 = 0, l8 = 0, l9 = 0, l10 = 0, l11 = 0, l12 = 0, l13 = 0,
@@ -112363,11 +113855,11 @@ j5 = p5;
 j6 = p6;
 i7 = p7;
 j8 = p8;
-w2c_f232(m, j0, j1, j2, j3, j4, j5, j6, i7, j8);
+w2c_f259(m, j0, j1, j2, j3, j4, j5, j6, i7, j8);
 w2c_f1(m);
 }
 
-static void w2c_f232(M *m, u64 p0, u64 p1, u64 p2, u64 p3, u64 p4, u64 p5, u64 p6, u32 p7,
+static void w2c_f259(M *m, u64 p0, u64 p1, u64 p2, u64 p3, u64 p4, u64 p5, u64 p6, u32 p7,
 u64 p8) {
 u32 l17 = 0, l18 = 0, l19 = 0, l20 = 0, l21 = 0, l22 = 0, l23 = 0, l24 = 0,
 l25 = 0, l26 = 0, l27 = 0, l28 = 0, l29 = 0, l30 = 0, l31 = 0, l32 = 0,
@@ -114148,14 +115640,14 @@ B0:;
 j0 = p0;
 j1 = p1;
 j2 = p2;
-i0 = w2c_f234(m, j0, j1, j2);
+i0 = w2c_f261(m, j0, j1, j2);
 l3 = i0;
 w2c_f1(m);
 i0 = l3;
 return i0;
 }
 
-static u32 w2c_f234(M *m, u64 p0, u64 p1, u64 p2) {
+static u32 w2c_f261(M *m, u64 p0, u64 p1, u64 p2) {
 u32 i0, i1, i3;
 u64 j0, j1, j2, j3;
 j0 = p0;
@@ -114189,14 +115681,14 @@ j2 = p2;
 j3 = p3;
 j4 = p4;
 j5 = p5;
-i0 = w2c_f236(m, j0, j1, j2, j3, j4, j5);
+i0 = w2c_f263(m, j0, j1, j2, j3, j4, j5);
 l6 = i0;
 w2c_f1(m);
 i0 = l6;
 return i0;
 }
 
-static u32 w2c_f236(M *m, u64 p0, u64 p1, u64 p2, u64 p3, u64 p4, u64 p5) {
+static u32 w2c_f263(M *m, u64 p0, u64 p1, u64 p2, u64 p3, u64 p4, u64 p5) {
 u32 l8 = 0;
 u64 l6 = 0, l7 = 0;
 u32 i0, i1, i2, i3;
@@ -114303,14 +115795,14 @@ j3 = p3;
 j4 = p4;
 i5 = p5;
 j6 = p6;
-i0 = w2c_f238(m, j0, j1, j2, j3, j4, i5, j6);
+i0 = w2c_f265(m, j0, j1, j2, j3, j4, i5, j6);
 p5 = i0;
 w2c_f1(m);
 i0 = p5;
 return i0;
 }
 
-static u32 w2c_f238(M *m, u64 p0, u64 p1, u64 p2, u64 p3, u64 p4, u32 p5, u64 p6) {
+static u32 w2c_f265(M *m, u64 p0, u64 p1, u64 p2, u64 p3, u64 p4, u32 p5, u64 p6) {
 u32 l10 = 0;
 u64 l7 = 0, l8 = 0, l9 = 0;
 u32 i0, i1, i2, i4, i6;
@@ -114518,14 +116010,14 @@ j2 = p2;
 j3 = p3;
 j4 = p4;
 j5 = p5;
-i0 = w2c_f240(m, j0, j1, j2, j3, j4, j5);
+i0 = w2c_f267(m, j0, j1, j2, j3, j4, j5);
 l6 = i0;
 w2c_f1(m);
 i0 = l6;
 return i0;
 }
 
-static u32 w2c_f240(M *m, u64 p0, u64 p1, u64 p2, u64 p3, u64 p4, u64 p5) {
+static u32 w2c_f267(M *m, u64 p0, u64 p1, u64 p2, u64 p3, u64 p4, u64 p5) {
 u32 l9 = 0, l10 = 0;
 u64 l6 = 0, l7 = 0, l8 = 0;
 u32 i0, i1, i2, i4, i6;
@@ -114731,11 +116223,11 @@ j2 = p2;
 j3 = p3;
 i4 = p4;
 j5 = p5;
-w2c_f242(m, j0, j1, j2, j3, i4, j5);
+w2c_f269(m, j0, j1, j2, j3, i4, j5);
 w2c_f1(m);
 }
 
-static void w2c_f242(M *m, u64 p0, u64 p1, u64 p2, u64 p3, u32 p4, u64 p5) {
+static void w2c_f269(M *m, u64 p0, u64 p1, u64 p2, u64 p3, u32 p4, u64 p5) {
 u32 l62 = 0, l63 = 0, l64 = 0, l65 = 0, l66 = 0, l67 = 0, l68 = 0, l69 = 0,
 l70 = 0, l71 = 0, l72 = 0, l73 = 0, l74 = 0, l75 = 0, l76 = 0, l77 = 0,
 l78 = 0, l79 = 0, l80 = 0, l81 = 0, l82 = 0, l83 = 0, l84 = 0, l85 = 0,
@@ -115978,14 +117470,14 @@ j2 = p2;
 j3 = p3;
 j4 = p4;
 j5 = p5;
-i0 = w2c_f244(m, j0, j1, j2, j3, j4, j5);
+i0 = w2c_f271(m, j0, j1, j2, j3, j4, j5);
 l6 = i0;
 w2c_f1(m);
 i0 = l6;
 return i0;
 }
 
-static u32 w2c_f244(M *m, u64 p0, u64 p1, u64 p2, u64 p3, u64 p4, u64 p5) {
+static u32 w2c_f271(M *m, u64 p0, u64 p1, u64 p2, u64 p3, u64 p4, u64 p5) {
 u32 l21 = 0, l22 = 0, l23 = 0, l24 = 0, l25 = 0, l26 = 0, l27 = 0, l28 = 0,
 l29 = 0, l30 = 0, l31 = 0, l32 = 0, l33 = 0, l34 = 0, l35 = 0, l36 = 0,
 l37 = 0;
@@ -118004,14 +119496,14 @@ j1 = p1;
 j2 = p2;
 j3 = p3;
 j4 = p4;
-i0 = w2c_f246(m, j0, j1, j2, j3, j4);
+i0 = w2c_f273(m, j0, j1, j2, j3, j4);
 l5 = i0;
 w2c_f1(m);
 i0 = l5;
 return i0;
 }
 
-static u32 w2c_f246(M *m, u64 p0, u64 p1, u64 p2, u64 p3, u64 p4) {
+static u32 w2c_f273(M *m, u64 p0, u64 p1, u64 p2, u64 p3, u64 p4) {
 u32 l12 = 0;
 u64 l5 = 0, l6 = 0, l7 = 0, l8 = 0, l9 = 0, l10 = 0, l11 = 0;
 u32 i0, i1, i2, i3, i4;
@@ -118533,14 +120025,14 @@ j1 = p1;
 j2 = p2;
 j3 = p3;
 j4 = p4;
-i0 = w2c_f248(m, j0, j1, j2, j3, j4);
+i0 = w2c_f275(m, j0, j1, j2, j3, j4);
 l5 = i0;
 w2c_f1(m);
 i0 = l5;
 return i0;
 }
 
-static u32 w2c_f248(M *m, u64 p0, u64 p1, u64 p2, u64 p3, u64 p4) {
+static u32 w2c_f275(M *m, u64 p0, u64 p1, u64 p2, u64 p3, u64 p4) {
 u32 l13 = 0;
 u64 l5 = 0, l6 = 0, l7 = 0, l8 = 0, l9 = 0, l10 = 0, l11 = 0, l12 = 0;
 u32 i0, i1, i2, i3, i4;
@@ -118990,14 +120482,14 @@ j2 = p2;
 j3 = p3;
 j4 = p4;
 j5 = p5;
-i0 = w2c_f250(m, j0, j1, j2, j3, j4, j5);
+i0 = w2c_f277(m, j0, j1, j2, j3, j4, j5);
 l6 = i0;
 w2c_f1(m);
 i0 = l6;
 return i0;
 }
 
-static u32 w2c_f250(M *m, u64 p0, u64 p1, u64 p2, u64 p3, u64 p4, u64 p5) {
+static u32 w2c_f277(M *m, u64 p0, u64 p1, u64 p2, u64 p3, u64 p4, u64 p5) {
 u32 l16 = 0, l17 = 0, l18 = 0, l19 = 0, l20 = 0, l21 = 0, l22 = 0;
 u64 l6 = 0, l7 = 0, l8 = 0, l9 = 0, l10 = 0, l11 = 0, l12 = 0, l13 = 0,
 l14 = 0, l15 = 0;
@@ -121280,14 +122772,14 @@ j2 = p2;
 j3 = p3;
 j4 = p4;
 j5 = p5;
-i0 = w2c_f252(m, j0, j1, j2, j3, j4, j5);
+i0 = w2c_f279(m, j0, j1, j2, j3, j4, j5);
 l6 = i0;
 w2c_f1(m);
 i0 = l6;
 return i0;
 }
 
-static u32 w2c_f252(M *m, u64 p0, u64 p1, u64 p2, u64 p3, u64 p4, u64 p5) {
+static u32 w2c_f279(M *m, u64 p0, u64 p1, u64 p2, u64 p3, u64 p4, u64 p5) {
 u32 l14 = 0, l15 = 0, l16 = 0, l17 = 0;
 u64 l6 = 0, l7 = 0, l8 = 0, l9 = 0, l10 = 0, l11 = 0, l12 = 0, l13 = 0;
 u32 i0, i1, i2, i3, i4, i5, i6, i7,
@@ -123411,14 +124903,14 @@ j5 = p5;
 j6 = p6;
 j7 = p7;
 j8 = p8;
-i0 = w2c_f254(m, j0, j1, j2, j3, j4, j5, j6, j7, j8);
+i0 = w2c_f281(m, j0, j1, j2, j3, j4, j5, j6, j7, j8);
 l9 = i0;
 w2c_f1(m);
 i0 = l9;
 return i0;
 }
 
-static u32 w2c_f254(M *m, u64 p0, u64 p1, u64 p2, u64 p3, u64 p4, u64 p5, u64 p6, u64 p7,
+static u32 w2c_f281(M *m, u64 p0, u64 p1, u64 p2, u64 p3, u64 p4, u64 p5, u64 p6, u64 p7,
 u64 p8) {
 u32 l11 = 0, l12 = 0, l13 = 0, l14 = 0, l15 = 0;
 u64 l9 = 0, l10 = 0;
@@ -123824,14 +125316,14 @@ j3 = p3;
 j4 = p4;
 j5 = p5;
 j6 = p6;
-i0 = w2c_f256(m, j0, j1, j2, j3, j4, j5, j6);
+i0 = w2c_f283(m, j0, j1, j2, j3, j4, j5, j6);
 l7 = i0;
 w2c_f1(m);
 i0 = l7;
 return i0;
 }
 
-static u32 w2c_f256(M *m, u64 p0, u64 p1, u64 p2, u64 p3, u64 p4, u64 p5, u64 p6) {
+static u32 w2c_f283(M *m, u64 p0, u64 p1, u64 p2, u64 p3, u64 p4, u64 p5, u64 p6) {
 u32 l10 = 0, l11 = 0, l12 = 0, l13 = 0, l14 = 0, l15 = 0;
 u64 l7 = 0, l8 = 0, l9 = 0;
 u32 i0, i1, i2, i3, i4, i5, i8;
@@ -124541,14 +126033,14 @@ j0 = p0;
 j1 = p1;
 j2 = p2;
 j3 = p3;
-i0 = w2c_f258(m, j0, j1, j2, j3);
+i0 = w2c_f285(m, j0, j1, j2, j3);
 l4 = i0;
 w2c_f1(m);
 i0 = l4;
 return i0;
 }
 
-static u32 w2c_f258(M *m, u64 p0, u64 p1, u64 p2, u64 p3) {
+static u32 w2c_f285(M *m, u64 p0, u64 p1, u64 p2, u64 p3) {
 u32 l14 = 0, l15 = 0, l16 = 0, l17 = 0;
 u64 l4 = 0, l5 = 0, l6 = 0, l7 = 0, l8 = 0, l9 = 0, l10 = 0, l11 = 0,
 l12 = 0, l13 = 0;
@@ -125072,14 +126564,14 @@ j3 = p3;
 j4 = p4;
 j5 = p5;
 j6 = p6;
-i0 = w2c_f260(m, j0, j1, j2, j3, j4, j5, j6);
+i0 = w2c_f287(m, j0, j1, j2, j3, j4, j5, j6);
 l7 = i0;
 w2c_f1(m);
 i0 = l7;
 return i0;
 }
 
-static u32 w2c_f260(M *m, u64 p0, u64 p1, u64 p2, u64 p3, u64 p4, u64 p5, u64 p6) {
+static u32 w2c_f287(M *m, u64 p0, u64 p1, u64 p2, u64 p3, u64 p4, u64 p5, u64 p6) {
 u32 l9 = 0, l10 = 0, l11 = 0, l12 = 0, l13 = 0;
 u64 l7 = 0, l8 = 0;
 u32 i0, i1, i2, i4, i6, i8;
@@ -125427,14 +126919,14 @@ j3 = p3;
 j4 = p4;
 j5 = p5;
 j6 = p6;
-i0 = w2c_f262(m, j0, j1, j2, j3, j4, j5, j6);
+i0 = w2c_f289(m, j0, j1, j2, j3, j4, j5, j6);
 l7 = i0;
 w2c_f1(m);
 i0 = l7;
 return i0;
 }
 
-static u32 w2c_f262(M *m, u64 p0, u64 p1, u64 p2, u64 p3, u64 p4, u64 p5, u64 p6) {
+static u32 w2c_f289(M *m, u64 p0, u64 p1, u64 p2, u64 p3, u64 p4, u64 p5, u64 p6) {
 u32 l23 = 0, l24 = 0, l25 = 0, l26 = 0, l27 = 0, l28 = 0, l29 = 0, l30 = 0,
 l31 = 0, l32 = 0, l33 = 0, l34 = 0, l35 = 0, l36 = 0;
 u64 l7 = 0, l8 = 0, l9 = 0, l10 = 0, l11 = 0, l12 = 0, l13 = 0, l14 = 0,
@@ -128013,14 +129505,14 @@ j9 = p9;
 j10 = p10;
 j11 = p11;
 j12 = p12;
-i0 = w2c_f264(m, j0, j1, i2, i3, j4, j5, j6, j7, j8, j9, j10, j11, j12);
+i0 = w2c_f291(m, j0, j1, i2, i3, j4, j5, j6, j7, j8, j9, j10, j11, j12);
 p3 = i0;
 w2c_f1(m);
 i0 = p3;
 return i0;
 }
 
-static u32 w2c_f264(M *m, u64 p0, u64 p1, u32 p2, u32 p3, u64 p4, u64 p5, u64 p6, u64 p7,
+static u32 w2c_f291(M *m, u64 p0, u64 p1, u32 p2, u32 p3, u64 p4, u64 p5, u64 p6, u64 p7,
 u64 p8, u64 p9, u64 p10, u64 p11, u64 p12) {
 u32 l22 = 0, l23 = 0;
 u64 l13 = 0, l14 = 0, l15 = 0, l16 = 0, l17 = 0, l18 = 0, l19 = 0, l20 = 0,
@@ -128613,14 +130105,14 @@ j5 = p5;
 j6 = p6;
 j7 = p7;
 j8 = p8;
-i0 = w2c_f266(m, j0, j1, j2, j3, j4, j5, j6, j7, j8);
+i0 = w2c_f293(m, j0, j1, j2, j3, j4, j5, j6, j7, j8);
 l9 = i0;
 w2c_f1(m);
 i0 = l9;
 return i0;
 }
 
-static u32 w2c_f266(M *m, u64 p0, u64 p1, u64 p2, u64 p3, u64 p4, u64 p5, u64 p6, u64 p7,
+static u32 w2c_f293(M *m, u64 p0, u64 p1, u64 p2, u64 p3, u64 p4, u64 p5, u64 p6, u64 p7,
 u64 p8) {
 u32 l15 = 0, l16 = 0, l17 = 0, l18 = 0, l19 = 0, l20 = 0, l21 = 0, l22 = 0;
 u64 l9 = 0, l10 = 0, l11 = 0, l12 = 0, l13 = 0, l14 = 0;
@@ -129229,14 +130721,14 @@ j10 = p10;
 j11 = p11;
 j12 = p12;
 j13 = p13;
-i0 = w2c_f268(m, j0, j1, j2, j3, j4, j5, j6, j7, j8, j9, j10, j11, j12, j13);
+i0 = w2c_f295(m, j0, j1, j2, j3, j4, j5, j6, j7, j8, j9, j10, j11, j12, j13);
 l14 = i0;
 w2c_f1(m);
 i0 = l14;
 return i0;
 }
 
-static u32 w2c_f268(M *m, u64 p0, u64 p1, u64 p2, u64 p3, u64 p4, u64 p5, u64 p6, u64 p7,
+static u32 w2c_f295(M *m, u64 p0, u64 p1, u64 p2, u64 p3, u64 p4, u64 p5, u64 p6, u64 p7,
 u64 p8, u64 p9, u64 p10, u64 p11, u64 p12, u64 p13) {
 u32 l20 = 0, l21 = 0, l22 = 0, l23 = 0, l24 = 0, l25 = 0, l26 = 0, l27 = 0,
 l28 = 0, l29 = 0, l30 = 0, l31 = 0;
@@ -130186,6 +131678,9 @@ SAME_SIZE(rtr_present, 8)
 SAME_SIZE(rtr_cache_settings, 16)
 SAME_SIZE(rtr_cache, 48)
 SAME_SIZE(rtr_serving, 32)
+SAME_SIZE(rtr_server_settings, 64)
+SAME_SIZE(rtr_door, 16)
+SAME_SIZE(rtr_connection, 120)
 SAME_SIZE(rtr_stores, 32)
 SAME_SIZE(rtr_history_limits, 16)
 SAME_SIZE(rtr_stores_answer, 32)
@@ -130288,6 +131783,31 @@ static const struct field rtr_comparison_fields[] = {
     {offsetof(struct rtr_comparison, same), sizeof ((struct rtr_comparison *)0)->same, 19, 1, 1},
 };
 LAYOUT(rtr_comparison, struct rtr_comparison, 24);
+static const struct field rtr_connection_fields[] = {
+    {offsetof(struct rtr_connection, settings.cache.first_limit), sizeof ((struct rtr_connection *)0)->settings.cache.first_limit, 0, 4, 1},
+    {offsetof(struct rtr_connection, settings.cache.idle_limit), sizeof ((struct rtr_connection *)0)->settings.cache.idle_limit, 4, 4, 1},
+    {offsetof(struct rtr_connection, settings.cache.pause), sizeof ((struct rtr_connection *)0)->settings.cache.pause, 8, 4, 1},
+    {offsetof(struct rtr_connection, settings.cache.refuses), sizeof ((struct rtr_connection *)0)->settings.cache.refuses, 12, 1, 1},
+    {offsetof(struct rtr_connection, settings.keep), sizeof ((struct rtr_connection *)0)->settings.keep, 16, 8, 1},
+    {offsetof(struct rtr_connection, settings.keep_bytes), sizeof ((struct rtr_connection *)0)->settings.keep_bytes, 24, 8, 1},
+    {offsetof(struct rtr_connection, settings.unit_limit), sizeof ((struct rtr_connection *)0)->settings.unit_limit, 32, 4, 1},
+    {offsetof(struct rtr_connection, settings.write_limit), sizeof ((struct rtr_connection *)0)->settings.write_limit, 36, 4, 1},
+    {offsetof(struct rtr_connection, settings.response_limit), sizeof ((struct rtr_connection *)0)->settings.response_limit, 40, 4, 1},
+    {offsetof(struct rtr_connection, settings.report_limit), sizeof ((struct rtr_connection *)0)->settings.report_limit, 44, 4, 1},
+    {offsetof(struct rtr_connection, settings.most_connections), sizeof ((struct rtr_connection *)0)->settings.most_connections, 48, 4, 1},
+    {offsetof(struct rtr_connection, settings.most_refused), sizeof ((struct rtr_connection *)0)->settings.most_refused, 52, 4, 1},
+    {offsetof(struct rtr_connection, settings.most_behind), sizeof ((struct rtr_connection *)0)->settings.most_behind, 56, 4, 1},
+    {offsetof(struct rtr_connection, begun), sizeof ((struct rtr_connection *)0)->begun, 64, 8, 1},
+    {offsetof(struct rtr_connection, taken), sizeof ((struct rtr_connection *)0)->taken, 72, 8, 1},
+    {offsetof(struct rtr_connection, until), sizeof ((struct rtr_connection *)0)->until, 80, 8, 1},
+    {offsetof(struct rtr_connection, number), sizeof ((struct rtr_connection *)0)->number, 88, 8, 1},
+    {offsetof(struct rtr_connection, filled), sizeof ((struct rtr_connection *)0)->filled, 96, 8, 1},
+    {offsetof(struct rtr_connection, unsent), sizeof ((struct rtr_connection *)0)->unsent, 104, 8, 1},
+    {offsetof(struct rtr_connection, state), sizeof ((struct rtr_connection *)0)->state, 112, 1, 1},
+    {offsetof(struct rtr_connection, fresh), sizeof ((struct rtr_connection *)0)->fresh, 113, 1, 1},
+    {offsetof(struct rtr_connection, closed), sizeof ((struct rtr_connection *)0)->closed, 114, 1, 1},
+};
+LAYOUT(rtr_connection, struct rtr_connection, 120);
 static const struct field rtr_covering_fields[] = {
     {offsetof(struct rtr_covering, place), sizeof ((struct rtr_covering *)0)->place, 0, 8, 1},
     {offsetof(struct rtr_covering, asn), sizeof ((struct rtr_covering *)0)->asn, 8, 4, 1},
@@ -130304,6 +131824,13 @@ static const struct field rtr_data_answer_fields[] = {
     {offsetof(struct rtr_data_answer, detail), sizeof ((struct rtr_data_answer *)0)->detail, 18, 1, 1},
 };
 LAYOUT(rtr_data_answer, struct rtr_data_answer, 24);
+static const struct field rtr_door_fields[] = {
+    {offsetof(struct rtr_door, most_connections), sizeof ((struct rtr_door *)0)->most_connections, 0, 4, 1},
+    {offsetof(struct rtr_door, most_refused), sizeof ((struct rtr_door *)0)->most_refused, 4, 4, 1},
+    {offsetof(struct rtr_door, served), sizeof ((struct rtr_door *)0)->served, 8, 4, 1},
+    {offsetof(struct rtr_door, refused), sizeof ((struct rtr_door *)0)->refused, 12, 4, 1},
+};
+LAYOUT(rtr_door, struct rtr_door, 16);
 static const struct field rtr_finding_fields[] = {
     {offsetof(struct rtr_finding, value), sizeof ((struct rtr_finding *)0)->value, 0, 2, 1},
     {offsetof(struct rtr_finding, begun), sizeof ((struct rtr_finding *)0)->begun, 2, 2, 1},
@@ -130517,6 +132044,22 @@ static const struct field rtr_router_fields[] = {
     {offsetof(struct rtr_router, has_data), sizeof ((struct rtr_router *)0)->has_data, 164, 1, 1},
 };
 LAYOUT(rtr_router, struct rtr_router, 168);
+static const struct field rtr_server_settings_fields[] = {
+    {offsetof(struct rtr_server_settings, cache.first_limit), sizeof ((struct rtr_server_settings *)0)->cache.first_limit, 0, 4, 1},
+    {offsetof(struct rtr_server_settings, cache.idle_limit), sizeof ((struct rtr_server_settings *)0)->cache.idle_limit, 4, 4, 1},
+    {offsetof(struct rtr_server_settings, cache.pause), sizeof ((struct rtr_server_settings *)0)->cache.pause, 8, 4, 1},
+    {offsetof(struct rtr_server_settings, cache.refuses), sizeof ((struct rtr_server_settings *)0)->cache.refuses, 12, 1, 1},
+    {offsetof(struct rtr_server_settings, keep), sizeof ((struct rtr_server_settings *)0)->keep, 16, 8, 1},
+    {offsetof(struct rtr_server_settings, keep_bytes), sizeof ((struct rtr_server_settings *)0)->keep_bytes, 24, 8, 1},
+    {offsetof(struct rtr_server_settings, unit_limit), sizeof ((struct rtr_server_settings *)0)->unit_limit, 32, 4, 1},
+    {offsetof(struct rtr_server_settings, write_limit), sizeof ((struct rtr_server_settings *)0)->write_limit, 36, 4, 1},
+    {offsetof(struct rtr_server_settings, response_limit), sizeof ((struct rtr_server_settings *)0)->response_limit, 40, 4, 1},
+    {offsetof(struct rtr_server_settings, report_limit), sizeof ((struct rtr_server_settings *)0)->report_limit, 44, 4, 1},
+    {offsetof(struct rtr_server_settings, most_connections), sizeof ((struct rtr_server_settings *)0)->most_connections, 48, 4, 1},
+    {offsetof(struct rtr_server_settings, most_refused), sizeof ((struct rtr_server_settings *)0)->most_refused, 52, 4, 1},
+    {offsetof(struct rtr_server_settings, most_behind), sizeof ((struct rtr_server_settings *)0)->most_behind, 56, 4, 1},
+};
+LAYOUT(rtr_server_settings, struct rtr_server_settings, 64);
 static const struct field rtr_serving_fields[] = {
     {offsetof(struct rtr_serving, taken), sizeof ((struct rtr_serving *)0)->taken, 0, 8, 1},
     {offsetof(struct rtr_serving, wanted), sizeof ((struct rtr_serving *)0)->wanted, 8, 8, 1},
@@ -130711,21 +132254,21 @@ uint8_t rtr_change_json_nonnull(const uint8_t *input, size_t input_length, uint8
     return result;
 }
 
-uint8_t rtr_text_nonnull(uint8_t status, uint8_t detail, uint8_t *output, size_t output_length, size_t *length)
+uint8_t rtr_text_nonnull(uint8_t status, uint8_t detail, uint8_t *output, size_t output_length, size_t *text_length)
 {
     START(80);
-    LEND(length, size_t);
-    uint8_t result = (uint8_t)w2c_rtr_text_nonnull(&m, status, detail, HERE(output), output_length, length_at);
-    TAKE(length, size_t);
+    LEND(text_length, size_t);
+    uint8_t result = (uint8_t)w2c_rtr_text_nonnull(&m, status, detail, HERE(output), output_length, text_length_at);
+    TAKE(text_length, size_t);
     return result;
 }
 
-uint8_t rtr_name_nonnull(uint8_t named, uint16_t number, uint8_t *output, size_t output_length, size_t *length)
+uint8_t rtr_name_nonnull(uint8_t named, uint16_t number, uint8_t *output, size_t output_length, size_t *text_length)
 {
     START(80);
-    LEND(length, size_t);
-    uint8_t result = (uint8_t)w2c_rtr_name_nonnull(&m, named, number, HERE(output), output_length, length_at);
-    TAKE(length, size_t);
+    LEND(text_length, size_t);
+    uint8_t result = (uint8_t)w2c_rtr_name_nonnull(&m, named, number, HERE(output), output_length, text_length_at);
+    TAKE(text_length, size_t);
     return result;
 }
 
@@ -130748,6 +132291,34 @@ bool rtr_error_code_nonnull(uint8_t status, const uint8_t *input, size_t input_l
     return result;
 }
 
+uint8_t rtr_serial_order(uint32_t left, uint32_t right)
+{
+    START(0);
+    uint8_t result = (uint8_t)w2c_rtr_serial_order(&m, left, right);
+    return result;
+}
+
+bool rtr_version_has(uint8_t version, uint8_t kind)
+{
+    START(0);
+    bool result = (bool)w2c_rtr_version_has(&m, version, kind);
+    return result;
+}
+
+uint8_t rtr_times_rule(uint32_t refresh, uint32_t retry, uint32_t expire)
+{
+    START(0);
+    uint8_t result = (uint8_t)w2c_rtr_times_rule(&m, refresh, retry, expire);
+    return result;
+}
+
+uint32_t rtr_wire_version(void)
+{
+    START(0);
+    uint32_t result = (uint32_t)w2c_rtr_wire_version(&m);
+    return result;
+}
+
 uint8_t rtr_write_unit_nonnull(const struct rtr_unit *unit, const uint8_t *input, size_t input_length, uint8_t *output, size_t output_length, size_t *written)
 {
     START(32);
@@ -130767,11 +132338,11 @@ uint8_t rtr_same_meaning_nonnull(const uint8_t *left, size_t left_length, const 
     return result;
 }
 
-uint8_t rtr_delta_nonnull(const uint8_t *old_data, size_t old_length, const uint8_t *new_data, size_t new_length, uint8_t *output, size_t output_length, struct rtr_data_answer *answer)
+uint8_t rtr_delta_nonnull(const uint8_t *old_data, size_t old_data_length, const uint8_t *new_data, size_t new_data_length, uint8_t *output, size_t output_length, struct rtr_data_answer *answer)
 {
     START(1232);
     LEND(answer, rtr_data_answer);
-    uint8_t result = (uint8_t)w2c_rtr_delta_nonnull(&m, HERE(old_data), old_length, HERE(new_data), new_length, HERE(output), output_length, answer_at);
+    uint8_t result = (uint8_t)w2c_rtr_delta_nonnull(&m, HERE(old_data), old_data_length, HERE(new_data), new_data_length, HERE(output), output_length, answer_at);
     TAKE(answer, rtr_data_answer);
     return result;
 }
@@ -130852,34 +132423,6 @@ uint8_t rtr_covering_nonnull(const uint8_t *data, size_t data_length, const stru
     return result;
 }
 
-uint8_t rtr_serial_order(uint32_t left, uint32_t right)
-{
-    START(0);
-    uint8_t result = (uint8_t)w2c_rtr_serial_order(&m, left, right);
-    return result;
-}
-
-bool rtr_version_has(uint8_t version, uint8_t kind)
-{
-    START(0);
-    bool result = (bool)w2c_rtr_version_has(&m, version, kind);
-    return result;
-}
-
-uint8_t rtr_times_rule(uint32_t refresh, uint32_t retry, uint32_t expire)
-{
-    START(0);
-    uint8_t result = (uint8_t)w2c_rtr_times_rule(&m, refresh, retry, expire);
-    return result;
-}
-
-uint32_t rtr_wire_version(void)
-{
-    START(0);
-    uint32_t result = (uint32_t)w2c_rtr_wire_version(&m);
-    return result;
-}
-
 uint8_t rtr_check_name_nonnull(const uint8_t *input, size_t input_length, uint8_t *output, size_t output_length, struct rtr_naming *answer)
 {
     START(224);
@@ -130900,14 +132443,6 @@ uint8_t rtr_check_unit_nonnull(struct rtr_check *check, const uint8_t *input, si
     return result;
 }
 
-size_t rtr_finding_line_nonnull(const struct rtr_finding *finding, uint64_t offset, uint8_t *output, size_t output_length)
-{
-    START(48);
-    LEND(finding, rtr_finding);
-    size_t result = (size_t)w2c_rtr_finding_line_nonnull(&m, finding_at, offset, HERE(output), output_length);
-    return result;
-}
-
 void rtr_check_end(const struct rtr_check *check, struct rtr_finding *finding)
 {
     START(0);
@@ -130915,6 +132450,14 @@ void rtr_check_end(const struct rtr_check *check, struct rtr_finding *finding)
     LEND(finding, rtr_finding);
     w2c_rtr_check_end(&m, check_at, finding_at);
     TAKE(finding, rtr_finding);
+}
+
+size_t rtr_finding_line_nonnull(const struct rtr_finding *finding, uint64_t offset, uint8_t *output, size_t output_length)
+{
+    START(48);
+    LEND(finding, rtr_finding);
+    size_t result = (size_t)w2c_rtr_finding_line_nonnull(&m, finding_at, offset, HERE(output), output_length);
+    return result;
 }
 
 void rtr_settings_usual(struct rtr_settings *settings, uint8_t highest)
@@ -131136,12 +132679,12 @@ uint8_t rtr_link_give_up_nonnull(struct rtr_link *link, uint64_t now, uint8_t *i
     return result;
 }
 
-uint8_t rtr_link_state_of(const struct rtr_link *link, uint64_t now, size_t input_length, size_t first_length, size_t second_length, size_t output_length, struct rtr_link_state *state)
+uint8_t rtr_link_state_of(const struct rtr_link *link, uint64_t now, size_t input, size_t first, size_t second, size_t output, struct rtr_link_state *state)
 {
     START(272);
     LEND(link, rtr_link);
     LEND(state, rtr_link_state);
-    uint8_t result = (uint8_t)w2c_rtr_link_state_of(&m, link_at, now, input_length, first_length, second_length, output_length, state_at);
+    uint8_t result = (uint8_t)w2c_rtr_link_state_of(&m, link_at, now, input, first, second, output, state_at);
     TAKE(state, rtr_link_state);
     return result;
 }
@@ -131281,12 +132824,12 @@ uint64_t rtr_cache_wakes(const struct rtr_cache *cache, const struct rtr_present
     return result;
 }
 
-void rtr_cache_read_nonnull(struct rtr_cache *cache, uint64_t now, const struct rtr_present *present, const uint32_t *kept, size_t kept_count, const uint8_t *input, size_t input_length, bool ended, struct rtr_serving *serving)
+void rtr_cache_read_nonnull(struct rtr_cache *cache, uint64_t now, const struct rtr_present *present, const uint32_t *kept, size_t kept_length, const uint8_t *input, size_t input_length, bool ended, struct rtr_serving *serving)
 {
     START(640);
     LEND(cache, rtr_cache);
     LEND(present, rtr_present);
-    LEND_MANY(kept, uint32_t, kept_count);
+    LEND_MANY(kept, uint32_t, kept_length);
     LEND(serving, rtr_serving);
     w2c_rtr_cache_read_nonnull(&m, cache_at, now, present_at, kept_at, kept_many, HERE(input), input_length, ended, serving_at);
     TAKE(cache, rtr_cache);
@@ -131309,6 +132852,129 @@ bool rtr_cache_report_nonnull(const struct rtr_serving *serving, const uint8_t *
     LEND(written, size_t);
     bool result = (bool)w2c_rtr_cache_report_nonnull(&m, serving_at, HERE(input), input_length, HERE(output), output_length, written_at);
     TAKE(written, size_t);
+    return result;
+}
+
+void rtr_server_settings_usual(struct rtr_server_settings *settings)
+{
+    START(0);
+    LEND(settings, rtr_server_settings);
+    w2c_rtr_server_settings_usual(&m, settings_at);
+    TAKE(settings, rtr_server_settings);
+}
+
+void rtr_door_init(struct rtr_door *door, const struct rtr_server_settings *settings)
+{
+    START(0);
+    LEND(door, rtr_door);
+    LEND(settings, rtr_server_settings);
+    w2c_rtr_door_init(&m, door_at, settings_at);
+    TAKE(door, rtr_door);
+}
+
+uint8_t rtr_door_next(const struct rtr_door *door, bool spare)
+{
+    START(0);
+    LEND(door, rtr_door);
+    uint8_t result = (uint8_t)w2c_rtr_door_next(&m, door_at, spare);
+    return result;
+}
+
+uint8_t rtr_door_enter(struct rtr_door *door, bool spare)
+{
+    START(0);
+    LEND(door, rtr_door);
+    uint8_t result = (uint8_t)w2c_rtr_door_enter(&m, door_at, spare);
+    TAKE(door, rtr_door);
+    return result;
+}
+
+bool rtr_door_leave(struct rtr_door *door, uint8_t entry)
+{
+    START(0);
+    LEND(door, rtr_door);
+    bool result = (bool)w2c_rtr_door_leave(&m, door_at, entry);
+    TAKE(door, rtr_door);
+    return result;
+}
+
+void rtr_connection_init(struct rtr_connection *connection, uint64_t now, const struct rtr_server_settings *settings)
+{
+    START(0);
+    LEND(connection, rtr_connection);
+    LEND(settings, rtr_server_settings);
+    w2c_rtr_connection_init(&m, connection_at, now, settings_at);
+    TAKE(connection, rtr_connection);
+}
+
+void rtr_connection_received(struct rtr_connection *connection, uint64_t now, size_t size)
+{
+    START(0);
+    LEND(connection, rtr_connection);
+    w2c_rtr_connection_received(&m, connection_at, now, size);
+    TAKE(connection, rtr_connection);
+}
+
+void rtr_connection_closed(struct rtr_connection *connection)
+{
+    START(0);
+    LEND(connection, rtr_connection);
+    w2c_rtr_connection_closed(&m, connection_at);
+    TAKE(connection, rtr_connection);
+}
+
+void rtr_connection_heard(struct rtr_connection *connection, uint64_t now, size_t size)
+{
+    START(0);
+    LEND(connection, rtr_connection);
+    w2c_rtr_connection_heard(&m, connection_at, now, size);
+    TAKE(connection, rtr_connection);
+}
+
+bool rtr_connection_answers(struct rtr_connection *connection, uint64_t now, size_t size, uint64_t number)
+{
+    START(0);
+    LEND(connection, rtr_connection);
+    bool result = (bool)w2c_rtr_connection_answers(&m, connection_at, now, size, number);
+    TAKE(connection, rtr_connection);
+    return result;
+}
+
+bool rtr_connection_ends(struct rtr_connection *connection, uint64_t now, size_t size)
+{
+    START(0);
+    LEND(connection, rtr_connection);
+    bool result = (bool)w2c_rtr_connection_ends(&m, connection_at, now, size);
+    TAKE(connection, rtr_connection);
+    return result;
+}
+
+bool rtr_connection_sent(struct rtr_connection *connection, uint64_t now, size_t size)
+{
+    START(0);
+    LEND(connection, rtr_connection);
+    bool result = (bool)w2c_rtr_connection_sent(&m, connection_at, now, size);
+    TAKE(connection, rtr_connection);
+    return result;
+}
+
+uint8_t rtr_connection_next(const struct rtr_connection *connection, uint64_t now, const struct rtr_cache *cache, const struct rtr_present *present, uint64_t number, uint8_t *cut)
+{
+    START(0);
+    LEND(connection, rtr_connection);
+    LEND(cache, rtr_cache);
+    LEND(present, rtr_present);
+    uint8_t result = (uint8_t)w2c_rtr_connection_next(&m, connection_at, now, cache_at, present_at, number, HERE(cut));
+    return result;
+}
+
+uint64_t rtr_connection_wakes(const struct rtr_connection *connection, const struct rtr_cache *cache, const struct rtr_present *present)
+{
+    START(0);
+    LEND(connection, rtr_connection);
+    LEND(cache, rtr_cache);
+    LEND(present, rtr_present);
+    uint64_t result = (uint64_t)w2c_rtr_connection_wakes(&m, connection_at, cache_at, present_at);
     return result;
 }
 
@@ -131342,15 +133008,33 @@ uint8_t rtr_stores_start_nonnull(struct rtr_stores *stores, size_t size, const u
     return result;
 }
 
-uint8_t rtr_stores_take_nonnull(struct rtr_stores *stores, const uint8_t *data, size_t data_length, uint64_t now, const struct rtr_history_limits *limits, uint8_t *buffer, size_t buffer_length, uint8_t *spare, size_t spare_length, uint8_t *first, size_t first_length, uint8_t *second, size_t second_length, struct rtr_stores_answer *answer)
+uint8_t rtr_stores_take_nonnull(struct rtr_stores *stores, const uint8_t *new, size_t new_length, uint64_t now, const struct rtr_history_limits *limits, uint8_t *buffer, size_t buffer_length, uint8_t *spare, size_t spare_length, uint8_t *first, size_t first_length, uint8_t *second, size_t second_length, struct rtr_stores_answer *answer)
 {
-    START(2960);
+    START(2400);
     LEND(stores, rtr_stores);
     LEND(limits, rtr_history_limits);
     LEND(answer, rtr_stores_answer);
-    uint8_t result = (uint8_t)w2c_rtr_stores_take_nonnull(&m, stores_at, HERE(data), data_length, now, limits_at, HERE(buffer), buffer_length, HERE(spare), spare_length, HERE(first), first_length, HERE(second), second_length, answer_at);
+    uint8_t result = (uint8_t)w2c_rtr_stores_take_nonnull(&m, stores_at, HERE(new), new_length, now, limits_at, HERE(buffer), buffer_length, HERE(spare), spare_length, HERE(first), first_length, HERE(second), second_length, answer_at);
     TAKE(stores, rtr_stores);
     TAKE(answer, rtr_stores_answer);
+    return result;
+}
+
+uint8_t rtr_stores_saved(struct rtr_stores *stores)
+{
+    START(0);
+    LEND(stores, rtr_stores);
+    uint8_t result = (uint8_t)w2c_rtr_stores_saved(&m, stores_at);
+    TAKE(stores, rtr_stores);
+    return result;
+}
+
+uint8_t rtr_stores_give_up(struct rtr_stores *stores)
+{
+    START(0);
+    LEND(stores, rtr_stores);
+    uint8_t result = (uint8_t)w2c_rtr_stores_give_up(&m, stores_at);
+    TAKE(stores, rtr_stores);
     return result;
 }
 
@@ -131406,23 +133090,5 @@ bool rtr_store_open_nonnull(const uint8_t *file, size_t file_length)
 {
     START(32);
     bool result = (bool)w2c_rtr_store_open_nonnull(&m, HERE(file), file_length);
-    return result;
-}
-
-uint8_t rtr_stores_saved(struct rtr_stores *stores)
-{
-    START(0);
-    LEND(stores, rtr_stores);
-    uint8_t result = (uint8_t)w2c_rtr_stores_saved(&m, stores_at);
-    TAKE(stores, rtr_stores);
-    return result;
-}
-
-uint8_t rtr_stores_give_up(struct rtr_stores *stores)
-{
-    START(0);
-    LEND(stores, rtr_stores);
-    uint8_t result = (uint8_t)w2c_rtr_stores_give_up(&m, stores_at);
-    TAKE(stores, rtr_stores);
     return result;
 }
