@@ -7,9 +7,9 @@
 //	                                                 reconnects as soon as that allows
 //	faulty FILE --listen ADDRESS
 //
-// At SIGUSR1 it writes the number of goroutines and the bytes of its memory to the file that
+// At SIGUSR1 it writes the number of goroutines and the bytes of its heap to the file that
 // FAULTS_STATE names, at SIGUSR2 after a garbage collection: that also closes what the package
-// forgot to close.
+// forgot to close. Stacks aren't counted, whose sizes vary: each goroutine is.
 package main
 
 import (
@@ -60,9 +60,10 @@ func states(path string) {
 			var memory runtime.MemStats
 			if which == syscall.SIGUSR2 {
 				debug.FreeOSMemory()
+				debug.FreeOSMemory() // what a finalizer or a pool let go of at the first
 			}
 			runtime.ReadMemStats(&memory)
-			fmt.Fprintln(file, runtime.NumGoroutine(), memory.HeapAlloc+memory.StackInuse)
+			fmt.Fprintln(file, runtime.NumGoroutine(), memory.HeapAlloc)
 		}
 	}()
 }
