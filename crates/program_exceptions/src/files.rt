@@ -2,8 +2,7 @@
 
 use data_slurm::{JoinError, Slurm, SlurmReason, SlurmRefusal, read_slurm};
 use json::Scratch;
-use program_files::Input;
-use program_frame::Escaped;
+use program_frame::{Escaped, Input};
 use std::io::{Read, Write};
 use std::{fmt, io};
 

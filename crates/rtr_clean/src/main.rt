@@ -7,8 +7,9 @@ mod flushing;
 mod run;
 mod wanted;
 
-use program_files::{Input, file_after};
-use program_frame::{Escaped, Front, Manual, Watched, hint, usage, words_after_name};
+use program_frame::{
+    Escaped, Front, Input, Manual, Watched, file_after, hint, usage, words_after_name,
+};
 use rtr_units::buffered::{BufferedSink, BufferedSource};
 use std::cell::Cell;
 use std::io::{BufReader, BufWriter, Stderr, Stdout, Write};

@@ -2,8 +2,9 @@
 #![tactic(auto)]
 
 use diff_work::{Form, Request, asked, run};
-use program_files::{Painted, wants_colours};
-use program_frame::{Escaped, Front, Manual, Watched, about, hint, usage, words_after_name};
+use program_frame::{
+    Escaped, Front, Manual, Painted, Watched, about, hint, usage, wants_colours, words_after_name,
+};
 use rtr_units::buffered::BufferedSource;
 use rtr_units::source::Counted;
 use std::cell::Cell;

@@ -3,8 +3,10 @@
 #![tactic(auto)]
 
 use list_work::{program, reads_input};
-use program_files::{Input, Painted, file_after, wants_colours};
-use program_frame::{Escaped, Front, Manual, Prompt, Shared, hint, usage, words_after_name};
+use program_frame::{
+    Escaped, Front, Input, Manual, Painted, Prompt, Shared, file_after, hint, usage, wants_colours,
+    words_after_name,
+};
 use rtr_units::buffered::BufferedSource;
 use rtr_units::source::Counted;
 use std::cell::{Cell, RefCell};

@@ -5,8 +5,7 @@
 use data_slurm::Slurm;
 use make_work::{asked, program};
 use program_exceptions::{Split, read_files, split_words};
-use program_files::{Input, file_after};
-use program_frame::{Escaped, words_after_name};
+use program_frame::{Escaped, Input, file_after, words_after_name};
 use rtr_units::source::Counted;
 use std::io::{BufWriter, Stderr, Stdout, Write};
 use std::process::ExitCode;

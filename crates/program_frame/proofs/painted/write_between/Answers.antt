@@ -1,6 +1,6 @@
 use Rattle.std.proofs.Common.{◌++◌, Ok, Err}
-use Rattle.program_files.proofs.Between.{first_not_written, then_written}
-use Rattle.program_files.proofs.painted.write_between.Goals as goal
+use Rattle.program_frame.proofs.Between.{first_not_written, then_written}
+use Rattle.program_frame.proofs.painted.write_between.Goals as goal
 
 pub returns-in-Err : goal.returns-in-Err
 returns-in-Err g c =

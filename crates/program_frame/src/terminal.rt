@@ -1,7 +1,7 @@
 //! Whether lines are shown in colours.
 
 ghost use Rattle.std.specs.Prelude.{◌≡◌};
-ghost use Rattle.program_files.specs.Terminals.{allows_colours, is_dumb, is_set};
+ghost use Rattle.program_frame.specs.Terminals.{allows_colours, is_dumb, is_set};
 
 use std::env;
 use std::env::VarError;

@@ -1,9 +1,9 @@
 //! The colours of lines.
 
 ghost use Rattle.std.specs.Prelude.{◌≡◌, ◌++◌, ◌∷◌, [], true, OnSome};
-ghost use Rattle.program_files.specs.Colours.{action_colour, after_space, begins_after, colour_of};
-ghost use Rattle.program_files.specs.Colours.{colour_sequence, is_line, line_text, listed_colour};
-ghost use Rattle.program_files.specs.Colours.{piece_colour};
+ghost use Rattle.program_frame.specs.Colours.{action_colour, after_space, begins_after, colour_of};
+ghost use Rattle.program_frame.specs.Colours.{colour_sequence, is_line, line_text, listed_colour};
+ghost use Rattle.program_frame.specs.Colours.{piece_colour};
 
 /// The colour of a line on a terminal.
 #[derive(Clone, Copy)]

@@ -6,7 +6,7 @@ ghost use Rattle.std.specs.Io.KnownBytes.{Keeps, WriteAppends};
 ghost use Rattle.rtr_units.specs.Calls.{WritesAll};
 ghost use Rattle.rtr_units.specs.Stream.{Flushes, count_after_write};
 ghost use Rattle.rtr_units.specs.StopCauses.{IsWriteError, count_after};
-ghost use Rattle.program_files.specs.Colours.{begins_after, painted, painted_state};
+ghost use Rattle.program_frame.specs.Colours.{begins_after, painted, painted_state};
 
 use crate::colours::{begins_after, line_text, piece_colour};
 use rtr_units::piece::write_all;

@@ -1,5 +1,5 @@
 use Rattle.std.proofs.Common.{rules}
-use Rattle.program_files.proofs.names.file_after.Goals as goal
+use Rattle.program_frame.proofs.names.file_after.Goals as goal
 
 pub returns-then-is_file_name : goal.returns-then-is_file_name
 returns-then-is_file_name c = (

@@ -1,6 +1,6 @@
 use Rattle.std.proofs.Common.{◌≡◌, drop}
-use Rattle.program_files.proofs.colours.after_space.Given as goal
-use Rattle.program_files.specs.Colours.{after_space}
+use Rattle.program_frame.proofs.colours.after_space.Given as goal
+use Rattle.program_frame.specs.Colours.{after_space}
 
 -- no byte before the place is a space
 abbrev pub invariant-loop-place : goal.invariant-loop-place

@@ -5,8 +5,8 @@ use Rattle.std.specs.Prelude.{Option, Some, None}
 use Rattle.std.specs.List.{list_any, starts_with}
 use Rattle.std.specs.Option.{option_or}
 use Rattle.rtr_units.specs.StopCauses.{WriterState}
-use Rattle.program_files.specs.declared.colours.Colour.{Colour}
-use Rattle.program_files.specs.declared.colours.Colour.TheVariants.{Green, Red}
+use Rattle.program_frame.specs.declared.colours.Colour.{Colour}
+use Rattle.program_frame.specs.declared.colours.Colour.TheVariants.{Green, Red}
 
 -- ---- the colour of a line
 

@@ -1,7 +1,7 @@
 //! Words that name files.
 
 ghost use Rattle.std.specs.Prelude.{◌≡◌};
-ghost use Rattle.program_files.specs.FileNames.{NamesFile, names_file};
+ghost use Rattle.program_frame.specs.FileNames.{NamesFile, names_file};
 
 /// What an option begins with, and alone the name of standard input.
 const HYPHEN: u8 = b'-';

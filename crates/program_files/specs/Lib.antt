@@ -1,3 +1,0 @@
-pub mod FileNames
-pub mod Colours
-pub mod Terminals
