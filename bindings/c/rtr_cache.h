@@ -72,7 +72,7 @@ enum rtr_update {
     RTR_UPDATE_SESSION, /* the server doesn't save, and began with another session */
     RTR_UPDATE_VERSION, /* they are of a higher protocol version than the saved data, which another
                            program wrote, or an earlier one of this cache */
-    RTR_UPDATE_TORN,    /* the saved bytes are damaged, or of no cache */
+    RTR_UPDATE_TORN,    /* the saved bytes are damaged, or no cache wrote them */
     RTR_UPDATE_MEMORY   /* there is no memory for them */
 };
 
@@ -85,7 +85,7 @@ struct rtr_part {
     int64_t place;
 };
 
-/* Bytes that several connections send, and changes for routers: private to rtr_cache.c. */
+/* Bytes that several connections share, and encoded changes: private to rtr_cache.c. */
 struct rtr_shared;
 struct rtr_made;
 
@@ -107,12 +107,12 @@ struct rtr_server {
     bool has_cut;               /* whether the input that was loaded last has an answer without an
                                    end of data, which is left out */
 
-    /* Whether the system has a descriptor beside that of the next connection: one without is
-     * refused. Default true; a program may change it at any time. */
+    /* Whether the system has another descriptor besides that of the next connection; if not, the
+     * connection is refused. Default true; a program may change it at any time. */
     bool spare;
 
-    /* Its own. */
-    uint64_t number;            /* how many data were served before the present ones */
+    /* Private. */
+    uint64_t number;            /* counts the data that were served */
     struct rtr_stores stores;
     struct rtr_shared *held[2]; /* the buffers of `stores` */
     /* The data in other versions, encoded when a router first asks in one. */
@@ -131,7 +131,7 @@ struct rtr_served {
     int64_t wakes;
     char text[200]; /* why the connection ends; empty if the router closed it between two units */
 
-    /* Its own. */
+    /* Private. */
     struct rtr_server *server;
     struct rtr_cache cache;
     struct rtr_connection connection;
@@ -186,8 +186,8 @@ void rtr_served_free(struct rtr_served *served);
 /* Returns what to do next; `now` is the time. */
 enum rtr_served_event rtr_served_next(struct rtr_served *served, int64_t now);
 
-/* The connection broke for this reason; null means that the router closed it, and may still read.
- * Queries that were read before are still answered. */
+/* Reports that the connection broke, for this reason; null means that the router closed it, and may
+ * still read. Queries that were read before are still answered. */
 void rtr_served_lost(struct rtr_served *served, const char *reason);
 
 /* Returns the buffer to read into, and sets `length` to its size: 0 while there are bytes to

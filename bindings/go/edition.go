@@ -100,7 +100,7 @@ func (e *edition) form(version uint8) (piece, error) {
 	return piece{bytes: e.forms[version].Bytes()}, err
 }
 
-// file returns the same in a file, if they are large; it stays until sent is called.
+// file returns the same as a file in memory, if they are large; it stays open until sent is called.
 func (e *edition) file(version uint8) (piece, error) {
 	e.lock.Lock()
 	defer e.lock.Unlock()
@@ -124,7 +124,7 @@ func (e *edition) sent() {
 	e.closeUnused()
 }
 
-// replaced notes that there is a newer edition.
+// replaced records that there is a newer edition.
 func (e *edition) replaced() {
 	e.lock.Lock()
 	defer e.lock.Unlock()

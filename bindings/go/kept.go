@@ -30,8 +30,8 @@ func (u unsynced) Unwrap() error { return u.error }
 // the folder. Without data it writes nothing. Servers of each language of this library read the
 // file.
 //
-// Errors: those of the file; no file stays beside it then, and it has what it had, unless the error
-// is ErrUnsynced too.
+// Errors: those of the file; then no new file is left, and the old one is unchanged, unless the
+// error is ErrUnsynced too.
 func (s *Server) Save(path string) error {
 	s.ready()
 	s.updating.Lock()

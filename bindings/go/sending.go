@@ -25,7 +25,7 @@ type reply struct {
 	parts   [2]piece
 	edition *edition
 	filed   bool // the data may be in a file of the edition, which stays until it is released
-	begun   bool // the first unsent part was tried
+	begun   bool // sending the first unsent part was tried
 }
 
 // part returns the first part that isn't sent.
@@ -60,7 +60,7 @@ func (c *served) begin(e *edition) (err error) {
 	return nil
 }
 
-// answers tells the pace that an answer begins, from the edition with this number.
+// answers reports to the pace that an answer begins, from the edition with this number.
 func (c *served) answers(number C.uint64_t) {
 	size := C.size_t(c.reply.parts[0].size() + c.reply.parts[1].size())
 	mustBegin(C.rtr_connection_answers(&c.pace, c.now(), size, number))

@@ -33,7 +33,7 @@ type served struct {
 	input   []byte               // received and not handled; in buffer, if it fits
 	buffer  [64]byte
 	offset  int64 // of the input in all received bytes
-	closed  error // why nothing more comes
+	closed  error // why no more bytes come
 
 	lock    sync.Mutex
 	woken   bool   // there may be a newer edition, or the server is closed
@@ -133,7 +133,7 @@ func (c *served) serve() error {
 	}
 }
 
-// take takes a step, an rtr_step.
+// take carries out a step, an rtr_step.
 func (c *served) take(step C.uint8_t) error {
 	switch step {
 	case C.RTR_STEP_WAIT:

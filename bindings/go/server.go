@@ -23,12 +23,12 @@ type ServerLimits struct {
 	First       time.Duration // from the connection to the first query
 	Unit        time.Duration // from the first byte of a unit to its last
 	Idle        time.Duration // from one query to the next
-	Write       time.Duration // for which a client may receive nothing of an answer
+	Write       time.Duration // how long a client may receive no byte of an answer
 	Response    time.Duration // for a whole response
 	Notify      time.Duration // between two notifies to a client, at least
-	// For which the changes from old data are kept after newer data came; the last ones always are.
+	// How long the changes from old data are kept after newer data came; the last are always kept.
 	Keep      time.Duration
-	KeepBytes int // kept for these, at most, with 16 for each; and as many for the computed deltas
+	KeepBytes int // the most bytes of these, with 16 for each; and as many of computed deltas
 	// Whether to answer a serial query that has no delta with a report of code 0 instead of a cache
 	// reset: for routers that wait after a reset, as BIRD 2.0 does.
 	Refuse bool
@@ -222,8 +222,8 @@ const (
 )
 
 // Serve accepts the clients of a listener until the server is closed, and closes the listener.
-// While as many clients as Limits.Connections are served, further ones get a report; once many of
-// these haven't left, the next ones wait in the queue of the system.
+// While Limits.Connections clients are served, further ones get a report; while 64 of these haven't
+// left, the next ones wait in the queue of the system.
 //
 // Errors: ErrServerClosed; that of the listener, after ten in a row. Errors don't count while the
 // system has no descriptor for another connection.
@@ -256,7 +256,7 @@ func (s *Server) Serve(listener net.Listener) error {
 	}
 }
 
-// enter notes a listener, and reports whether the server isn't closed.
+// enter registers a listener, and reports whether the server isn't closed.
 func (s *Server) enter(listener net.Listener) bool {
 	s.lock.Lock()
 	defer s.lock.Unlock()
@@ -269,7 +269,7 @@ func (s *Server) enter(listener net.Listener) bool {
 	return true
 }
 
-// leave drops a listener.
+// leave unregisters a listener.
 func (s *Server) leave(listener net.Listener) {
 	s.lock.Lock()
 	defer s.lock.Unlock()

@@ -25,7 +25,7 @@ type store struct {
 	buffers [2][]byte
 }
 
-// newStore returns that of a server that never had data.
+// newStore returns the store of a server that never had data.
 func newStore() (s store) {
 	C.rtr_stores_new(&s.stores)
 	return s
@@ -78,7 +78,7 @@ func (s *store) toSave() []byte {
 	return s.buffers[other][:state.taken]
 }
 
-// start begins with the store of a file, and reports whether it is one; if not, s is of no use.
+// start loads the store of a file, and reports whether it is one; if not, s must not be used.
 func (s *store) start(store []byte) bool {
 	s.buffers = [2][]byte{store, nil}
 	work := workIn(make([]C.size_t, len(store)/shortestPayload), make([]byte, len(store)), nil)

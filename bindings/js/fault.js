@@ -6,8 +6,7 @@ import { causeText, codeText, Cut, FAILURE_BEHIND, FAILURE_CLOSED, FAILURE_EMPTY
 /** A call was refused, because of a unit, its position in a sequence, or an input. */
 export class Fault extends Error {
     /** @param fields the result of the call: at least its `status`. `text` is by default the text
-     * of
-     *      the status without its detail */
+     *      of the status without its detail */
     constructor(fields) {
         const { status, text = statusText(status), offset = 0, side = 0 } = fields;
         const where = side === 0 ? "" : side === 1 ? " of the first input" : " of the second input";
@@ -77,7 +76,7 @@ export class ServerError extends Error {
     }
 }
 
-/** The router is sent an answer, and too many newer data came meanwhile. */
+/** Too many newer data came while the router was sent an answer. */
 export class Behind extends Error {
     constructor() {
         super(FAILURE_BEHIND);

@@ -91,7 +91,7 @@ export class Link {
     #buffers;
     #now = 0; // the latest time that was passed
     #received = 0; // bytes received on the connection
-    #filled = 0; // bytes in the input before the last todo, whose offset counts in them
+    #filled = 0; // bytes in the input before the last todo, to which its offset refers
     #data = null;
     #lost = null; // why the connection broke, or an OutOfMemory
 

@@ -18,7 +18,7 @@ const besideOf = (path) => `${path}.new`;
 /** Replaces a file by one of these pieces of bytes: writes and syncs a file beside it, renames
  * that, and syncs the folder.
  *
- * Throws an error of the system; then no file stays beside it, and it has what it had, unless the
+ * Throws an error of the system; then no new file is left, and the old one is unchanged, unless the
  * error is Unsynced. */
 export async function replace(path, pieces) {
     const beside = besideOf(path);
@@ -42,8 +42,8 @@ export async function replace(path, pieces) {
     });
 }
 
-/** Returns the bytes of a file that `replace` wrote. The process that wrote it may have ended
- * before it synced the folder, or removed the file beside it: this does. */
+/** Returns the bytes of a file that `replace` wrote. It syncs the folder and removes the new file
+ * beside it, since the process that wrote may have ended before it did. */
 export async function restored(path) {
     const bytes = await readFile(path);
     await syncFolder(path);

@@ -23,14 +23,14 @@ function joined(first, second) {
     return all;
 }
 
-/** The proved machines of a connection, the bytes that came, and the answer that is sent. All times
- * are in milliseconds by one monotonic clock. */
+/** The proved machines of a connection, its input, and the answer that it sends. Times are in
+ * milliseconds, by a monotonic clock. */
 export class Served {
     #session;
     #kept; // its `edition` is the newest one, or null
-    #cache; // the machine that answers
-    #connection; // the one that says what is next
-    #input = NOTHING; // received, and not taken by the machine
+    #cache; // the machine that decides the answers
+    #connection; // the machine that decides when to send, wait and end
+    #input = NOTHING; // received bytes that the machine hasn't processed
     #offset = 0; // of the input in all received bytes
     #answer = { opening: NOTHING, body: NOTHING }; // its bytes that `takes` hasn't returned
     #isClosed = false; // whether the router has closed
@@ -50,12 +50,12 @@ export class Served {
         this.#connection.call("rtr_connection_init", now, at);
     }
 
-    /** Ends the connection with a report, since there are too many. */
+    /** Ends the connection with a report: the limit of connections is reached. */
     refuse(now) {
         this.#tell("rtr_cache_full", now);
     }
 
-    /** These bytes were read. */
+    /** Reports that these bytes were read. */
     received(bytes, now) {
         if (!this.#hasEnded) {
             this.#input = this.#input.length > 0 ? joined(this.#input, bytes) : bytes;
@@ -63,18 +63,18 @@ export class Served {
         }
     }
 
-    /** The router closed: no more bytes come. */
+    /** Reports that the router closed: no more bytes come. */
     closed() {
         this.#isClosed = true;
         this.#connection.call("rtr_connection_closed");
     }
 
-    /** So many bytes that `takes` returned were sent. */
+    /** Reports that this many of the bytes that `takes` returned were sent. */
     sent(count, now) {
         this.#connection.call("rtr_connection_sent", now, count);
     }
 
-    /** Takes the next bytes of the answer, for a socket. */
+    /** Returns the next bytes of the answer, and removes them from it. */
     takes() {
         const { opening, body } = this.#answer;
         const part = body.subarray(0, CHUNK);
@@ -130,13 +130,13 @@ export class Served {
         return at;
     }
 
-    /** Tells the machine an event without input. */
+    /** Passes an event without input to the machine. */
     #tell(name, now) {
         this.#cache.call(name, now, this.#present(), this.#session.frame("serving"));
         this.#does(this.#session.answer("serving"), now);
     }
 
-    /** Gives the machine the input. */
+    /** Passes the input to the machine. */
     #hear(now) {
         const { length } = this.#input;
         const serving = this.#session.within([WORD, this.#input], (known, at) => {
@@ -166,7 +166,7 @@ export class Served {
         return 1;
     }
 
-    /** Begins the answer of the machine, or the end. */
+    /** Begins the machine's answer, or ends the connection. */
     #does(serving, now) {
         if (serving.kind === ServingKind.WAIT) {
             return;
@@ -201,7 +201,7 @@ export class Served {
         });
     }
 
-    /** Returns what comes behind the first unit. */
+    /** Returns the bytes of the answer after its first unit. */
     #body({ kind, version, serial }) {
         switch (kind) {
             case ServingKind.ALL:

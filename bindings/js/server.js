@@ -28,7 +28,7 @@ export { Behind, Closed, ServerError } from "./fault.js";
 export { Unsynced } from "./saving.js";
 export { UpdateError } from "./store.js";
 
-/** The fields of both structs of settings, as those of one. */
+/** The fields of both structs of settings. */
 const SETTINGS = [...STRUCTS.cacheSettings.fields,
     ...STRUCTS.serverSettings.fields.filter(([name]) => name !== "cache")];
 
@@ -191,7 +191,7 @@ export class Server extends EventEmitter {
         stream.on("error", () => {}); // one that comes before the module is there
         await this.#ready();
         this.#checkOpen();
-        if (!stream.destroyed) { // else it may have closed already, and would count for ever
+        if (!stream.destroyed) { // its close may be over, and it would stay counted
             this.#enters(stream)?.opens(stream);
         }
     }
@@ -276,7 +276,7 @@ export class Server extends EventEmitter {
         this.#sockets.forEach((socket) => socket.turn());
     }
 
-    /** Lets a connection in at the door; returns null if it was closed there. */
+    /** Serves or refuses a connection, as the door decides; returns null if it was closed. */
     #enters(socket) {
         const entry = this.#door.call("rtr_door_enter", true);
         if (this.#isClosed || entry === Entry.WAIT) {
@@ -302,8 +302,8 @@ export class Server extends EventEmitter {
         return router;
     }
 
-    /** Returns a listener by TLS. It looks at certificates itself, where Node would close without
-     * saying whose connection it was, and why. */
+    /** Returns a listener over TLS. It checks certificates itself, since Node would close the
+     * connection without reporting its address and the reason. */
     #tlsListener(tls) {
         const shaking = new Map();
         const listener = createTlsServer({ ...tls, ...LISTENER, rejectUnauthorized: false });

@@ -11,7 +11,7 @@ export class RouterSocket {
     #socket; // as the system accepted it
     #stream = null; // the same, or what TLS makes of it; null in a handshake
     #timer = null;
-    #due = Infinity; // when the timer rings
+    #due = Infinity; // when the timer expires
     #isWriting = false;
     #isFinished = false; // whether it is shut down for writing
     #isOver = false;
@@ -44,7 +44,7 @@ export class RouterSocket {
         this.turn();
     }
 
-    /** Does what is to do at this time. */
+    /** Carries out the steps that are due now. */
     turn() {
         try {
             while (!this.#isOver && this.#does(this.#served.next(now()))) { /* continue */ }
@@ -121,7 +121,7 @@ export class RouterSocket {
         }
     }
 
-    /** Has `turn` be called at this time, or before. */
+    /** Sets the timer to call `turn` at this time, or earlier. */
     #wait(until) {
         if (this.#due <= until) {
             return;

@@ -13,7 +13,7 @@ const ENTRY = 8;
 // The number of versions, each of which has an end of data of its own among the kept changes.
 const VERSIONS = HIGHEST_VERSION + 1;
 
-/** The memory that each room of an answer names. */
+/** The memory that was too short, by the `room` of an answer. */
 const ROOMS = {
     [Room.INDEX]: "index",
     [Room.BUFFER]: "buffer",
@@ -162,7 +162,7 @@ export class Store {
         return formOf(this.#session, data, isAlike ? present.version : HIGHEST_VERSION);
     }
 
-    /** Returns what suffices for few changes. */
+    /** Returns sizes of memory that suffice for few changes. */
     #firstRoom(size) {
         const { length: store } = this.#buffers[this.#served] ?? { length: 0 };
         const buffer = (store + size) >> 3;
@@ -251,15 +251,14 @@ export class Store {
     }
 }
 
-/** The data that are served at one serial number. Answers that were made once are kept outside of
- * the session's memory, for all routers: they stay when that memory grows, and when there are newer
- * data. */
+/** The data that are served at one serial number. Encoded answers are kept for all routers, outside
+ * of the session's memory, so that they stay valid when that grows, and after newer data. */
 class Edition {
     #session;
     #history; // its address and length, as long as the edition is the newest
     #forms = new Map(); // the bytes of the data, by version
     #changes = new Map(); // those of changes, by version and serial number
-    #room; // for more changes, in bytes
+    #room; // bytes left for more changes
 
     constructor(session, number, history, room) {
         this.#session = session;

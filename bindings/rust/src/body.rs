@@ -51,7 +51,7 @@ impl Deref for Memory {
     }
 }
 
-/// A part of bytes that are shared.
+/// A part of shared bytes.
 #[derive(Clone, Debug, Default)]
 pub(crate) struct Body {
     memory: Arc<Memory>,
@@ -66,7 +66,7 @@ impl Body {
         Body::part(Arc::new(memory), 0, length)
     }
 
-    /// `length` bytes from an offset on, which are there.
+    /// `length` of these bytes, from an offset on; there are as many.
     pub(crate) fn part(memory: Arc<Memory>, offset: usize, length: usize) -> Body {
         Body {
             memory,
@@ -75,12 +75,12 @@ impl Body {
         }
     }
 
-    /// The same, of this body.
+    /// `length` bytes of this part, from an offset on.
     pub(crate) fn within(&self, offset: usize, length: usize) -> Body {
         Body::part(Arc::clone(&self.memory), self.offset + offset, length)
     }
 
-    /// Where this part of a body ends in it.
+    /// The offset in the whole body at which this part ends.
     pub(crate) fn end_in(&self, whole: &Body) -> usize {
         self.offset + self.length - whole.offset
     }

@@ -198,7 +198,7 @@ impl ClientError {
     }
 }
 
-/// The unit that the input begins with, as far as its header is to be believed.
+/// The unit at the start of the input, as far as it came; only the header if that is refused.
 fn whole(input: &[u8]) -> &[u8] {
     let size = unit_size(input).ok().flatten().unwrap_or(HEADER_SIZE);
     &input[..size.min(input.len())]

@@ -165,7 +165,7 @@ impl Router {
         self.disconnected(now);
     }
 
-    /// The same without a reason.
+    /// As [`Router::lost`], without a reason.
     pub fn disconnected(&mut self, now: u64) {
         self.end_of_input();
         self.go_on(now);
@@ -201,7 +201,7 @@ impl Router {
         }
     }
 
-    /// The cache has closed.
+    /// Records that no more bytes come.
     fn end_of_input(&mut self) {
         if matches!(self.connection, Connection::Wanted | Connection::Open) {
             self.connection = Connection::Lost;
@@ -209,13 +209,13 @@ impl Router {
         }
     }
 
-    /// What is to be sent.
+    /// The bytes to send.
     #[must_use]
     pub fn output(&self) -> &[u8] {
         self.link.output()
     }
 
-    /// So many bytes of it were sent.
+    /// Reports that `count` bytes of [`Router::output`] were sent.
     ///
     /// # Panics
     ///
@@ -224,13 +224,13 @@ impl Router {
         self.link.sent(count);
     }
 
-    /// What is to be done now. After anything but [`Step::Wait`] call it again.
+    /// Returns what to do now. After anything but [`Step::Wait`] call it again.
     pub fn next(&mut self, now: u64) -> Step {
         self.go_on(now);
         self.steps.pop_front().unwrap_or(Step::Wait)
     }
 
-    /// Has the client go on until there is a step for the caller.
+    /// Carries out requests of the link until there is a step for the caller, or it waits.
     fn go_on(&mut self, now: u64) {
         while self.steps.is_empty() && self.does(now) {}
     }

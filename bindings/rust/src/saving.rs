@@ -20,13 +20,13 @@ fn new_beside(path: &Path) -> PathBuf {
     new.into()
 }
 
-/// Removes what a save left that was killed.
+/// Removes the new file of a save that was killed.
 pub(crate) fn forget_new(path: &Path) {
     let _ = remove_file(new_beside(path));
 }
 
 /// Replaces a file: writes and syncs another one beside it, renames that, and syncs the folder. If
-/// it fails, nothing is left beside the file.
+/// it fails, no new file is left.
 pub(crate) fn replace(path: &Path, parts: &[&[u8]]) -> io::Result<()> {
     let new = new_beside(path);
     let written = write(&new, parts).and_then(|()| rename(&new, path));
@@ -111,7 +111,7 @@ impl Retries {
     }
 }
 
-/// Waits for a time; returns whether the thread of this number may go on.
+/// Waits for a time; returns whether the thread of this number may continue.
 fn has_waited((turn, changed): &(Mutex<Turn>, Condvar), number: u64, pause: Duration) -> bool {
     let until = Instant::now() + pause;
     let mut turn = locked(turn);

@@ -149,7 +149,8 @@ impl Served {
         }
     }
 
-    /// The connection broke. Its unsent bytes are lost, so no proved call decides what follows.
+    /// Reports that the connection broke. Its unsent bytes are lost, so no proved call decides what
+    /// follows.
     pub fn lost(&mut self, error: io::Error) {
         self.end(ServerError::Io(error));
     }

@@ -325,7 +325,7 @@ const LISTENERS: u64 = 1 << 63;
 /// A client, and what it waits for.
 struct Client {
     connection: Connection,
-    /// As what the door counts it.
+    /// How the door counts it.
     entry: Entry,
     /// Whether it waits to write.
     wants_room: bool,

@@ -322,7 +322,7 @@ fn former(file: &[u8]) -> Option<Vec<u8>> {
     (hash == hashed.to_be_bytes()).then(|| [&[0; PART_HEAD], history].concat())
 }
 
-/// What the file holds isn't what was written.
+/// The error for a file that was changed or damaged.
 fn damaged() -> io::Error {
     io::Error::new(ErrorKind::InvalidData, failure::DAMAGED)
 }
@@ -347,8 +347,8 @@ impl History {
         end_of(&self.data())
     }
 
-    /// The changes since the present data, of which there are none, as encoded for a version: what
-    /// `since` returns, without going over the data.
+    /// The empty changes since the present data, as encoded for a version: as `since` returns them,
+    /// but without reading the data.
     pub(crate) fn nothing(&self, version: u8) -> Vec<u8> {
         let (data, end) = (self.data(), self.end());
         let unit: UnitRef = Unit::EndOfData(end);

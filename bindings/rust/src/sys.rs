@@ -117,7 +117,7 @@ pub(crate) fn milliseconds(span: Duration) -> u32 {
     whole.max(u32::from(!span.is_zero()))
 }
 
-/// The name of a number; `named` selects of what.
+/// The name of a number; `named` selects the table of names.
 pub(crate) fn name(named: u8, number: u16) -> Text {
     Text::by(|output| calls::name(named, number, output))
 }

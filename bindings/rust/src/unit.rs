@@ -27,7 +27,7 @@ pub struct SerialNotify {
     pub serial: u32,
 }
 
-/// A serial query: a router asks for what is new since a state (RFC 8210 section 5.3).
+/// A serial query: a router asks for the changes since a serial number (RFC 8210 section 5.3).
 #[derive(Clone, Copy, Debug, PartialEq, Eq, Hash)]
 pub struct SerialQuery {
     /// The version of the protocol.
@@ -61,11 +61,11 @@ pub struct Ipv4Prefix {
     pub version: u8,
     /// Whether it is announced; else it is withdrawn.
     pub announce: bool,
-    /// The address, as it is read with the bits after the prefix length zero.
+    /// The address; when read, its bits after the prefix length are zero.
     pub address: Ipv4Addr,
     /// The length of the prefix.
     pub length: u8,
-    /// The longest prefix length that is meant.
+    /// The longest prefix length that the AS may announce.
     pub max_length: u8,
     /// The autonomous system that may announce the prefix.
     pub asn: u32,
@@ -78,11 +78,11 @@ pub struct Ipv6Prefix {
     pub version: u8,
     /// Whether it is announced; else it is withdrawn.
     pub announce: bool,
-    /// The address, as it is read with the bits after the prefix length zero.
+    /// The address; when read, its bits after the prefix length are zero.
     pub address: Ipv6Addr,
     /// The length of the prefix.
     pub length: u8,
-    /// The longest prefix length that is meant.
+    /// The longest prefix length that the AS may announce.
     pub max_length: u8,
     /// The autonomous system that may announce the prefix.
     pub asn: u32,
@@ -121,7 +121,7 @@ impl Timing {
     };
 }
 
-/// A cache reset: the cache has nothing for the router's state (RFC 8210 section 5.9).
+/// A cache reset: the cache can't send the changes since the router's data (RFC 8210 section 5.9).
 #[derive(Clone, Copy, Debug, PartialEq, Eq, Hash)]
 pub struct CacheReset {
     /// The version of the protocol.

@@ -82,10 +82,10 @@ impl fmt::Display for RoaPayload {
     }
 }
 
-/// Why no data are made of VRPs.
+/// Why VRPs are refused.
 #[derive(Clone, Copy, Debug, PartialEq, Eq, Hash)]
 pub struct RoaPayloadError {
-    /// The first one that no unit has, from 0; none where it isn't theirs.
+    /// The index of the first VRP that can't be encoded, from 0; none if no VRP is at fault.
     pub place: Option<usize>,
     /// What is wrong.
     pub fault: Fault,
@@ -103,9 +103,9 @@ impl fmt::Display for RoaPayloadError {
 impl Error for RoaPayloadError {}
 
 impl Data {
-    /// Data of VRPs, which are in any order. One that is there twice counts once, since validators
-    /// print one for each ROA. In versions 1 and 2 the intervals that RFC 8210 section 6 recommends
-    /// stand for none.
+    /// Returns the data of VRPs in any order. Duplicates are ignored, since validators print one
+    /// VRP for each ROA. In versions 1 and 2 the default timing is that which RFC 8210 section 6
+    /// recommends.
     ///
     /// ```
     /// use rtr_wire::{Data, RoaPayload};
@@ -124,7 +124,7 @@ impl Data {
     ///
     /// # Errors
     ///
-    /// `Prefix` for the first VRP whose lengths break a rule, with its place; `UnitVersion` for a
+    /// `Prefix` for the first VRP whose lengths break a rule, with its index; `UnitVersion` for a
     /// version above 2.
     pub fn of_vrps(
         vrps: impl IntoIterator<Item = RoaPayload>,

@@ -24,7 +24,7 @@ from .units import EndOfData
 # A function that is called with the address of a router, and why its connection ended.
 OnEnd = Callable[[Any, Exception], Any]
 
-# The size of a connection's send buffer: the system keeps no more of what a slow router leaves.
+# The size of a connection's send buffer: the system buffers no more for a slow router.
 _SEND_BUFFER = 1 << 17
 
 # How many errors of a listener in a row are tolerated, and the pause after one in seconds.
@@ -80,7 +80,7 @@ class Server:
     8210 section 9).
 
     Args:
-        limits: what routers may cost
+        limits: on what routers may cost, and on what is kept for them
         ended: is called with the address of a router and the reason when its connection ends,
             unless the router closed it between two units: a `ServerError`, a `Fault` of a unit, an
             OSError of the connection, a MemoryError, or `ServerClosed`
@@ -138,8 +138,8 @@ class Server:
         renames that, and syncs the folder. Without data it writes nothing. Servers of each language
         of this library read the file.
 
-        Raises the OSError of the file; no file stays beside it then, and it has what it had, unless
-        the error is an `UnsyncedError`.
+        Raises the OSError of the file; then no new file is left, and the old one is unchanged,
+        unless the error is an `UnsyncedError`.
         """
         with self._updating:
             store = self._store.served()
@@ -258,7 +258,7 @@ class Server:
         return bool(CALLS.rtr_door_next(self._door, True) != Entry.WAIT)
 
     def _leave(self, entry: Entry) -> None:
-        """A connection was closed, so that another one may be accepted."""
+        """Records that a connection was closed, so that another one may be accepted."""
         CALLS.rtr_door_leave(self._door, entry)
         for run in list(self._runs):
             run.listen()
@@ -334,12 +334,12 @@ class _Run:
                 listener.listen()
 
     def fail(self, error: OSError) -> None:
-        """Ends the call by this error."""
+        """Ends the call with this error."""
         if not self.over.done():
             self.over.set_exception(error)
 
     def wake(self) -> None:
-        """Shows connections that there is a new edition. Any thread may call it."""
+        """Notifies connections of a new edition. Any thread may call it."""
         with contextlib.suppress(RuntimeError):  # the loop is closed
             self.loop.call_soon_threadsafe(self._wake_all)
 
@@ -365,7 +365,7 @@ class _Run:
         connection.go_on()
 
     def left(self, connection: _Connection, entry: Entry) -> None:
-        """A connection was closed."""
+        """Records that a connection was closed."""
         self._connections.discard(connection)
         self.server._leave(entry)
 
@@ -478,13 +478,13 @@ class _Connection:
         if entry == Entry.REFUSE:
             self._served.refuse(now, server._edition)
         self._step = Step.WAIT
-        self._blocked = 0  # what TLS waits for, instead of what is to be done
-        self._watched = 0  # what the loop waits for
+        self._blocked = 0  # the event that TLS waits for, if it isn't that of the step
+        self._watched = 0  # the event that the loop waits for
         self._timer: Optional[asyncio.TimerHandle] = None
         self._has_finished = self._is_closed = False
 
     def go_on(self) -> None:
-        """Does what is next, until it has to wait."""
+        """Carries out steps until it has to wait."""
         if self._is_closed:
             return
         try:
@@ -510,7 +510,7 @@ class _Connection:
         self._wake_at(served.wakes(edition))
 
     def _ready(self) -> None:
-        """The socket can be read or written."""
+        """Handles a socket that can be read or written."""
         try:
             if self._step != Step.SEND:
                 self._receive()
@@ -519,7 +519,7 @@ class _Connection:
         self.go_on()
 
     def _receive(self) -> None:
-        # A record of TLS fits, so that none of it stays in memory of its own.
+        # A record of TLS fits, so that TLS buffers no part of it.
         received = self._attempt(lambda: self._socket.recv(CHUNK))
         if received is not None:
             self._served.received(self._run.server._clock.now(), received)

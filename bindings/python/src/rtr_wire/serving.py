@@ -15,7 +15,7 @@ from .router import bounded, milliseconds, report_text
 from .store import History, form_of
 from .units import ErrorReport
 
-# The most bytes of a send; those of a large answer are sent in place.
+# The most bytes of a send; a large answer is sent without a copy.
 CHUNK = 1 << 16
 
 # The limits that are times, and those that are numbers, with their bits.

@@ -58,11 +58,11 @@ class Span(NamedTuple):
 
     @property
     def address(self) -> int:
-        """Where they are. Keep the span alive while the address is used."""
+        """Their address. Keep the span alive while the address is used."""
         return _library.address_of(self.memory) + self.offset
 
     def after(self, length: int) -> Span:
-        """Returns the bytes behind the first ones."""
+        """Returns the bytes after the first `length`."""
         return Span(self.memory, self.offset + length, self.length - length)
 
     def view(self) -> memoryview:
@@ -110,7 +110,7 @@ class History:
             rest = rest.after(taken)
 
     def nothing(self, version: int) -> bytes:
-        """Returns the changes from the present data, of which there are none, for a version."""
+        """Returns the empty changes from the present data, as encoded for a version."""
         end = bytes(self.end)
         return _library.front(*form_of(Span(end, 0, len(end)), version))
 
@@ -161,7 +161,8 @@ class Store:
 
     @classmethod
     def start(cls, store: bytes) -> Optional[Store]:
-        """Returns the store of a cache at a start, which saved this one; None if it isn't one."""
+        """Returns the store with which a cache starts that saved these bytes; None if they aren't
+        a store."""
         made, answer, size = cls(), _rtr.rtr_stores_answer(), len(store)
         entries = size // _rtr.SHORTEST_PAYLOAD
         status = CALLS.rtr_stores_start_nonnull(
@@ -242,7 +243,7 @@ class Store:
 
 def save(store: Span, path: Path) -> None:
     """Replaces a file by one with this store: writes and syncs another one beside it, renames that,
-    and syncs the folder. After an error nothing stays beside it."""
+    and syncs the folder. After an error no new file is left."""
     head = _rtr.rtr_store_head()
     CALLS.rtr_store_seal_nonnull(store.address, store.length, head)
     beside = _beside(path)
@@ -260,8 +261,8 @@ def save(store: Span, path: Path) -> None:
 
 
 def load(path: Path) -> Tuple[Store, History]:
-    """Returns what `save` wrote. It removes what a save left that was killed, and syncs the folder,
-    since that save may have ended before it did."""
+    """Returns what `save` wrote. It removes the new file of a save that was killed, and syncs the
+    folder, since that save may have ended before it did."""
     with contextlib.suppress(FileNotFoundError):
         os.unlink(_beside(path))
     with open(path, "rb") as file:
