@@ -101,19 +101,6 @@ static const struct row empty_rows[] = {
     {SINCE("0", "0"), RTR_SERVE_NO_DATA, 0, 0, REPORTS(1, 2, 12, "the cache has no data yet")},
 };
 
-/* Decodes hexadecimal digits, and returns the number of bytes. */
-static size_t bytes_of(const char *digits, uint8_t *bytes)
-{
-    size_t length = strlen(digits) / 2;
-    CHECK(length <= LONGEST);
-    for (size_t i = 0; i < length; i++) {
-        unsigned byte;
-        CHECK(sscanf(digits + 2 * i, "%2x", &byte) == 1);
-        bytes[i] = (uint8_t)byte;
-    }
-    return length;
-}
-
 /* Returns a cache whose connection began at time 0 and, if `asked`, got a query of version 1. */
 static struct rtr_cache new_cache(bool refuses, bool asked, const struct rtr_present *present)
 {
@@ -126,7 +113,7 @@ static struct rtr_cache new_cache(bool refuses, bool asked, const struct rtr_pre
     settings.refuses = refuses;
     rtr_cache_init(&cache, 0, &settings);
     if (asked) {
-        size_t length = bytes_of(RESET_QUERY, query);
+        size_t length = decoded(RESET_QUERY, query);
         rtr_cache_read(&cache, 1, present, NULL, 0, query, length, false, &serving);
         CHECK(serving.kind == (present->has ? RTR_SERVE_ALL : RTR_SERVE_NO_DATA));
     }
@@ -151,7 +138,7 @@ static void check_unit(const struct arena *arena, const struct rtr_serving *serv
                        const char *digits)
 {
     uint8_t unit[LONGEST];
-    size_t length = digits ? bytes_of(digits, unit) : 0;
+    size_t length = digits ? decoded(digits, unit) : 0;
     for (size_t capacity = 0; capacity <= length + 1; capacity++) {
         uint8_t *output = memset(lie(arena, arena->output, capacity), 0xa5, capacity);
         size_t written = rtr_cache_unit(serving, output, capacity);
@@ -222,8 +209,8 @@ static void check_rows(const struct arena *arena, const struct row *row, size_t 
 {
     for (const struct row *end = row + count; row < end; row++) {
         uint8_t input[2 * LONGEST];
-        size_t length = bytes_of(row->input, input);
-        size_t all = length + bytes_of(PREFIX, input + length);
+        size_t length = decoded(row->input, input);
+        size_t all = length + decoded(PREFIX, input + length);
         const struct rtr_cache cache = new_cache(refuses, asked, present);
         for (int more = 0; more < 2; more++) {
             struct rtr_cache changed = cache;

@@ -190,19 +190,21 @@ def test_other_cache():
     assert run.log == ['0: the cache reports an error: Internal Error, "no"'], run.log
 
 
+def refused(run):
+    """The script of a client that refuses the best cache, and asks the other."""
+    try:
+        with run.accept() as best:
+            assert received(best) == b""
+    except ssl.SSLError:
+        pass
+    other = run.asked(reset_query(1), 1)
+    other.sendall(answer([ONE], 7))
+    is_taken(other, 7)
+
+
 def test_refused():
     """Certificates for another host or of an unknown CA, and a cache without TLS."""
-    def script(run):
-        try:
-            with run.accept() as best:
-                assert received(best) == b""
-        except ssl.SSLError:
-            pass
-        other = run.asked(reset_query(1), 1)
-        other.sendall(answer([ONE], 7))
-        is_taken(other, 7)
-
-    run = Run(script, 2, ("other", "cache"))
+    run = Run(refused, 2, ("other", "cache"))
     assert run.lines == ["+ " + ONE_LINE], (run.lines, run.log)
     assert run.log == ["0: IP address mismatch"], run.log
 
@@ -222,18 +224,8 @@ def test_refused():
 def test_common_name():
     """A name counts among the certificate's alternative names, and not as its subject's common
     name (RFC 8210 section 9.2)."""
-    def script(run):
-        try:
-            with run.accept() as best:
-                assert received(best) == b""
-        except ssl.SSLError:
-            pass
-        other = run.asked(reset_query(1), 1)
-        other.sendall(answer([ONE], 7))
-        is_taken(other, 7)
-
     CERTIFICATES.hosts.clear()
-    run = Run(script, 2, ("localhost", "named"), "localhost")
+    run = Run(refused, 2, ("localhost", "named"), "localhost")
     assert run.lines == ["+ " + ONE_LINE], (run.lines, run.log)
     assert run.log == ["0: hostname mismatch"], run.log
     assert CERTIFICATES.hosts == ["localhost"] * 2, CERTIFICATES.hosts

@@ -33,30 +33,6 @@ struct end {
     uint64_t now;
 };
 
-/* Decodes hexadecimal digits, and returns the number of bytes. */
-static size_t bytes_of(const char *digits, uint8_t *bytes)
-{
-    size_t length = strlen(digits) / 2;
-    for (size_t i = 0; i < length; i++) {
-        unsigned byte;
-        CHECK(sscanf(digits + 2 * i, "%2x", &byte) == 1);
-        bytes[i] = (uint8_t)byte;
-    }
-    return length;
-}
-
-/* Resizes a buffer to `size` bytes, and keeps its content. */
-static void *resized(const struct arena *arena, struct fenced fenced, const void *bytes,
-                    size_t length, size_t size)
-{
-    static uint8_t held[MOST];
-    size_t same = length < size ? length : size;
-    if (same)
-        memcpy(held, bytes, same);
-    uint8_t *buffer = memset(lie(arena, fenced, size), 0xa5, size);
-    return memcpy(buffer, held, same);
-}
-
 static void input_room(struct end *e, size_t size)
 {
     e->buffers.input =
@@ -149,7 +125,7 @@ static void next_is(struct end *e, uint8_t kind)
 static void comes(struct end *e, const char *digits)
 {
     uint8_t bytes[256];
-    size_t length = bytes_of(digits, bytes), size;
+    size_t length = decoded(digits, bytes), size;
     for (size_t i = 0; i < length; i++) {
         next_is(e, RTR_TODO_WAIT);
         uint8_t *to = rtr_link_room(&e->buffers, &e->state, &size);
@@ -163,7 +139,7 @@ static void comes(struct end *e, const char *digits)
 static void sends(struct end *e, const char *digits)
 {
     uint8_t bytes[256];
-    size_t length = bytes_of(digits, bytes), unsent;
+    size_t length = decoded(digits, bytes), unsent;
     for (size_t i = 0; i < length; i++) {
         look(e);
         const uint8_t *output = rtr_link_output(&e->buffers, &e->state, &unsent);
@@ -179,7 +155,7 @@ static void sends(struct end *e, const char *digits)
 static void shows(struct end *e, const char *digits)
 {
     uint8_t bytes[256];
-    size_t length = digits ? bytes_of(digits, bytes) : 0, shown;
+    size_t length = digits ? decoded(digits, bytes) : 0, shown;
     look(e);
     const uint8_t *data = rtr_link_data(&e->buffers, &e->state, &shown);
     CHECK((data != NULL) == (digits != NULL) && shown == length && e->state.has_data == !!digits);
@@ -191,7 +167,7 @@ static void shows(struct end *e, const char *digits)
 static void sends_report(struct end *e, uint16_t code, const char *unit, const char *text)
 {
     uint8_t bytes[256];
-    size_t length = bytes_of(unit, bytes), text_length = strlen(text), unsent;
+    size_t length = decoded(unit, bytes), text_length = strlen(text), unsent;
     size_t size = 16 + length + text_length;
     const uint8_t head[] = {1, RTR_ERROR_REPORT, 0, (uint8_t)code, 0, 0, 0, (uint8_t)size,
                             0, 0, 0, (uint8_t)length};

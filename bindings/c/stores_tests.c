@@ -40,12 +40,7 @@ struct cache {
 static const uint8_t *bytes_of(const struct cache *k, const char *digits, size_t *length)
 {
     uint8_t bytes[1024];
-    *length = strlen(digits) / 2;
-    for (size_t i = 0; i < *length; i++) {
-        unsigned byte;
-        CHECK(sscanf(digits + 2 * i, "%2x", &byte) == 1);
-        bytes[i] = (uint8_t)byte;
-    }
+    *length = decoded(digits, bytes);
     return copied(&k->arena, k->arena.input, bytes, *length);
 }
 
@@ -55,29 +50,17 @@ static void *filled(const struct cache *k, size_t size)
     return memset(lie(&k->arena, k->arena.unit, size), 0xa5, size);
 }
 
-/* Makes a buffer this long, with the bytes that it holds. */
-static uint8_t *longer(const struct arena *arena, struct fenced fenced, const uint8_t *bytes,
-                       size_t length, size_t room)
-{
-    static uint8_t held[MOST];
-    size_t same = length < room ? length : room;
-    if (same)
-        memcpy(held, bytes, same);
-    uint8_t *lies = memset(lie(arena, fenced, room), 0xa5, room);
-    return memcpy(lies, held, same);
-}
-
 static void first_room(struct cache *k, size_t room)
 {
     k->buffers.first =
-        longer(&k->arena, k->arena.other, k->buffers.first, k->buffers.first_length, room);
+        resized(&k->arena, k->arena.other, k->buffers.first, k->buffers.first_length, room);
     k->buffers.first_length = room;
 }
 
 static void second_room(struct cache *k, size_t room)
 {
     k->buffers.second =
-        longer(&k->arena, k->arena.answer, k->buffers.second, k->buffers.second_length, room);
+        resized(&k->arena, k->arena.answer, k->buffers.second, k->buffers.second_length, room);
     k->buffers.second_length = room;
 }
 

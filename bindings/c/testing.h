@@ -76,6 +76,29 @@ static inline uint8_t *copied(const struct arena *arena, struct fenced fenced,
     return copy;
 }
 
+/* Returns a buffer of `size` bytes that begins with those of another one, as many as fit. */
+static inline void *resized(const struct arena *arena, struct fenced fenced, const void *bytes,
+                            size_t length, size_t size)
+{
+    static uint8_t held[MOST];
+    size_t same = length < size ? length : size;
+    if (same)
+        memcpy(held, bytes, same);
+    return memcpy(memset(lie(arena, fenced, size), 0xa5, size), held, same);
+}
+
+/* Decodes hexadecimal digits, and returns the number of bytes. */
+static inline size_t decoded(const char *digits, uint8_t *bytes)
+{
+    size_t length = strlen(digits) / 2;
+    for (size_t i = 0; i < length; i++) {
+        unsigned byte;
+        CHECK(sscanf(digits + 2 * i, "%2x", &byte) == 1);
+        bytes[i] = (uint8_t)byte;
+    }
+    return length;
+}
+
 /* Memory for a result, filled with bytes that no call returns. */
 #define FILLED(fenced, type) ((type *)memset(lie(arena, fenced, sizeof(type)), 0xa5, sizeof(type)))
 

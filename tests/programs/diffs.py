@@ -21,6 +21,7 @@ import built  # noqa: E402  (it lies in another folder)
 import redirected  # noqa: E402
 import samples  # noqa: E402
 from places import places  # noqa: E402
+from samples import withdrawn  # noqa: E402
 
 KEY_ID = "0102030405060708090a0b0c0d0e0f1011121314"
 
@@ -54,14 +55,6 @@ REPORT = bytes.fromhex("01 0a 00 02 00 00 00 10 00 00 00 00 00 00 00 00")
 UNKNOWN_TYPE = samples.unit("type 173")
 LONG_PREFIX = samples.unit("prefix length above that of an address")
 NO_PROVIDERS = bytes.fromhex("02 0b 01 00 00 00 00 0c 00 01 00 0f")
-
-
-def withdrawn(unit):
-    """The unit that withdraws what the unit announces: for an ASPA only its customer."""
-    if unit[1] == 11:
-        return unit[:2] + bytes.fromhex("00 00 00 00 00 0c") + unit[8:12]
-    place = 2 if unit[1] == 9 else 8
-    return unit[:place] + b"\0" + unit[place + 1:]
 
 
 def in_version(version, unit):

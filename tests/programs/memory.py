@@ -30,6 +30,7 @@ sys.path.insert(0, os.path.join(TOP, ".ci"))
 
 import built  # noqa: E402  (it lies in another folder)
 import samples  # noqa: E402
+from samples import withdrawn  # noqa: E402
 
 # The address space of a run, in KiB: that of the program and its libraries, and some more.
 ROOM = 24 * 1024
@@ -67,12 +68,6 @@ LONG_REPORT = bytes.fromhex("01 0a 00 03 00 00 ff ff 00 00 80 00") + bytes(32768
 # Lines of `rtr_validate`, short ones and one of many spaces.
 ROUTE = b"2001:db8::/32 AS65551\n"
 LONG_ROUTE = b" " * 65536 + ROUTE
-
-
-def withdrawn(unit):
-    """The unit with flags 0."""
-    place = 8 if unit[1] in (4, 6) else 2
-    return unit[:place] + b"\x00" + unit[place + 1 :]
 
 
 # Payload units, each followed by its withdrawal, so that none stays announced.
