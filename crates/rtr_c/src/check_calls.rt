@@ -98,8 +98,8 @@ pub extern "C" fn rtr_check_end(check: &RtrCheck, finding: &mut RtrFinding)
     *finding = finding_to(check_from(check).missing());
 }
 
-/// Writes the line that `rtr_list --check` prints of a finding about a unit at `offset`, without its
-/// newline, to the front of the output as far as that has room, and returns its length; 0 for no
+/// Writes the line that `rtr_list --check` prints of a finding about a unit at `offset`, without
+/// its newline, to the front of the output, as much of it as fits, and returns its length; 0 for no
 /// finding.
 #[unsafe(no_mangle)]
 pub extern "C" fn rtr_finding_line_nonnull(

@@ -5,8 +5,8 @@ ghost use Rattle.session_server.specs.Paces.{answered, closed_by, connection_wak
 ghost use Rattle.session_server.specs.Paces.{is_free, new_connection, next_at, once_received};
 ghost use Rattle.session_server.specs.Paces.{report_begun, sent};
 ghost use Rattle.rtr_c.specs.Caches.{cache_of, present_of};
-ghost use Rattle.rtr_c.specs.ServerConnections.{connection_of, cut_number, cut_told, numbered_state};
-ghost use Rattle.rtr_c.specs.ServerConnections.{state_number, step_number};
+ghost use Rattle.rtr_c.specs.ServerConnections.{connection_of, cut_number, cut_told};
+ghost use Rattle.rtr_c.specs.ServerConnections.{numbered_state, state_number, step_number};
 ghost use Rattle.rtr_c.specs.Servers.{server_settings_of};
 
 use crate::cache::{RtrCache, RtrPresent, cache_from, present_from};
