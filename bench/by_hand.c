@@ -84,26 +84,6 @@ static inline void put_prefix(uint8_t *to, const uint8_t *at, size_t size)
     memcpy(to + size - 4, at + size - 4, 4);
 }
 
-/* Writes the end of data in its own version or in the one asked for, and returns its length. */
-static size_t put_end(uint8_t *to, const uint8_t *at, size_t size, int version)
-{
-    if (version < 0) {
-        memcpy(to, at, size);
-        return size;
-    }
-    memcpy(to, at, 12);
-    to[0] = (uint8_t)version;
-    put32(to + 4, version ? 24 : 12);
-    if (version && at[0]) {
-        memcpy(to + 12, at + 12, 12);
-    } else if (version) {
-        put32(to + 12, 3600);
-        put32(to + 16, 600);
-        put32(to + 20, 7200);
-    }
-    return version ? 24 : 12;
-}
-
 static void answer_with(struct rtr_answer *answer, uint8_t status, uint8_t detail, size_t wanted)
 {
     memset(answer, 0, sizeof *answer);
@@ -112,13 +92,12 @@ static void answer_with(struct rtr_answer *answer, uint8_t status, uint8_t detai
     answer->wanted = wanted;
 }
 
-/* Normalises to a version, or with -1 to each unit's own. */
-static inline uint8_t normalise(const uint8_t *in, size_t length, uint8_t *out, size_t room,
-                                uint64_t limit, int version, struct rtr_answer *answer)
+uint8_t normalise_by_hand(const uint8_t *in, size_t length, uint8_t *out, size_t room,
+                          uint64_t limit, struct rtr_answer *answer)
 {
     const uint8_t *at = in;
     uint8_t *to = out, status = RTR_TOO_MANY, detail = 0;
-    uint64_t units = 0, forms = 0;
+    uint64_t units = 0;
     size_t left = length, size = 0, made;
     for (; units < limit; units++, at += size, left -= size) {
         status = RTR_SHORT;
@@ -142,10 +121,11 @@ static inline uint8_t normalise(const uint8_t *in, size_t length, uint8_t *out, 
             break;
         case RTR_END_OF_DATA:
             status = end_status(at, left, size, &detail);
-            made = version < 0 ? size : version ? 24 : 12;
+            made = size;
             if (status != RTR_OK || room < made)
                 goto stopped;
-            to += put_end(to, at, size, version);
+            memcpy(to, at, size);
+            to += size;
             at += size;
             made = 0;
             goto stopped;
@@ -157,8 +137,6 @@ static inline uint8_t normalise(const uint8_t *in, size_t length, uint8_t *out, 
             status = aspa_status(at, left, size);
             made = at[2] & 1 ? size : 12;
         long_unit:
-            if (status == RTR_OK && (version == 0 || (version == 1 && at[1] == RTR_ASPA)))
-                continue;
             if (status != RTR_OK || room < made)
                 goto stopped;
             memcpy(to + 8, at + 8, made - 8);
@@ -170,11 +148,8 @@ static inline uint8_t normalise(const uint8_t *in, size_t length, uint8_t *out, 
             status = RTR_UNIT_TYPE;
             goto stopped;
         }
-        if (version >= 0)
-            to[0] = (uint8_t)version;
         to += made;
         room -= made;
-        forms++;
     }
     if (units == limit)
         status = RTR_TOO_MANY;
@@ -183,27 +158,10 @@ stopped:
     if (status == RTR_OK && room < made)
         status = RTR_NO_ROOM;
     answer_with(answer, status, detail, status != RTR_SHORT ? 0 : left < 8 ? 8 : size);
-    answer->units = units;
-    answer->forms = forms;
+    answer->units = answer->forms = units;
     answer->taken = (size_t)(at - in);
     answer->written = (size_t)(to - out);
     return status;
-}
-
-uint8_t normalise_by_hand(const uint8_t *in, size_t left, uint8_t *out, size_t room,
-                          uint64_t limit, struct rtr_answer *answer)
-{
-    return normalise(in, left, out, room, limit, -1, answer);
-}
-
-uint8_t normalise_for_by_hand(const uint8_t *in, size_t left, uint8_t *out, size_t room,
-                              uint64_t limit, uint8_t version, struct rtr_answer *answer)
-{
-    if (version > 2) {
-        answer_with(answer, RTR_UNIT_VERSION, version, 0);
-        return RTR_UNIT_VERSION;
-    }
-    return normalise(in, left, out, room, limit, version, answer);
 }
 
 /* The status of a unit, with a whole header, of a kind that no sequence has. */
@@ -448,88 +406,4 @@ uint8_t write_by_hand(const struct rtr_unit *unit, const uint8_t *in, size_t len
     }
     *written = size;
     return RTR_OK;
-}
-
-/* Whether two addresses have the same first bits. */
-static inline bool same_address(const uint8_t *left, const uint8_t *right, unsigned size,
-                                unsigned bits)
-{
-    uint8_t cleared[2][16];
-    put_cleared(cleared[0], left, size, bits);
-    put_cleared(cleared[1], right, size, bits);
-    return memcmp(cleared[0], cleared[1], size) == 0;
-}
-
-/* Whether two checked units mean the same. */
-static inline bool same_unit(const uint8_t *left, size_t left_size,
-                             const uint8_t *right, size_t right_size)
-{
-    if (left[0] != right[0] || left[1] != right[1])
-        return false;
-    switch (left[1]) {
-    case RTR_IPV4_PREFIX:
-    case RTR_IPV6_PREFIX:
-        return (left[8] & 1) == (right[8] & 1) && left[9] == right[9] && left[10] == right[10]
-            && memcmp(left + left_size - 4, right + left_size - 4, 4) == 0
-            && same_address(left + 12, right + 12, left[1] == RTR_IPV4_PREFIX ? 4 : 16, left[9]);
-    case RTR_END_OF_DATA:
-        return memcmp(left, right, left_size) == 0;
-    case RTR_ASPA:
-        if (!((left[2] | right[2]) & 1))
-            return memcmp(left + 8, right + 8, 4) == 0;
-        break;
-    }
-    return (left[2] & 1) == (right[2] & 1) && left_size == right_size
-        && memcmp(left + 8, right + 8, left_size - 8) == 0;
-}
-
-/* Reads the rest of a sequence, from this offset and with this limit of units. Returns its status,
- * and sets its fault. */
-static uint8_t rest(const uint8_t *in, size_t left, size_t offset, uint64_t limit, uint8_t side,
-                    struct rtr_comparison *answer)
-{
-    uint8_t status = RTR_OK, detail = 0;
-    size_t size = 0;
-    for (; limit > 0; limit--, in += size, left -= size, offset += size) {
-        status = checked(in, left, &size, &detail);
-        if (status != RTR_OK || in[1] == RTR_END_OF_DATA)
-            break;
-    }
-    if (limit == 0)
-        status = RTR_TOO_MANY;
-    if (status != RTR_OK) {
-        answer->offset = offset;
-        answer->wanted = status != RTR_SHORT ? 0 : left < 8 ? 8 : size;
-        answer->status = status;
-        answer->side = side;
-        answer->detail = detail;
-    }
-    return status;
-}
-
-uint8_t same_meaning_by_hand(const uint8_t *left, size_t left_length,
-                             const uint8_t *right, size_t right_length,
-                             uint64_t limit, struct rtr_comparison *answer)
-{
-    size_t in_left = left_length, in_right = right_length, left_size, right_size;
-    uint8_t detail;
-    memset(answer, 0, sizeof *answer);
-    for (; limit > 0; limit--) {
-        if (checked(left, in_left, &left_size, &detail) != RTR_OK
-            || checked(right, in_right, &right_size, &detail) != RTR_OK
-            || !same_unit(left, left_size, right, right_size))
-            break;
-        if (left[1] == RTR_END_OF_DATA) {
-            answer->same = true;
-            return RTR_OK;
-        }
-        left += left_size;
-        in_left -= left_size;
-        right += right_size;
-        in_right -= right_size;
-    }
-    uint8_t status = rest(left, in_left, left_length - in_left, limit, RTR_LEFT, answer);
-    if (status == RTR_OK)
-        status = rest(right, in_right, right_length - in_right, limit, RTR_RIGHT, answer);
-    return status;
 }

@@ -1,4 +1,4 @@
-/* Compares the calls from C with the same jobs written by hand, in by_hand.c.
+/* Compares calls from C with the same jobs written by hand, in by_hand.c.
  *
  * usage: calls < SEQUENCE          times each job
  *        calls --count FILE..      does each job once over each file, to be counted by callgrind
@@ -25,11 +25,12 @@
 /* The version of the protocol for jobs that write a given version. */
 #define VERSION 1
 
-enum job { NORMALISE, NORMALISE_FOR, SAME_MEANING, NEXT, WRITE_UNIT, JOBS };
+/* The jobs that are also written by hand, and those that only the calls do. */
+enum job { NORMALISE, NEXT, WRITE_UNIT, COMPARED, NORMALISE_FOR = COMPARED, SAME_MEANING, JOBS };
 
 static const char *const names[JOBS] = {
-    "rtr_normalise_slice", "rtr_normalise_for_slice", "rtr_same_meaning", "rtr_next",
-    "rtr_write_unit",
+    "rtr_normalise_slice", "rtr_next", "rtr_write_unit", "rtr_normalise_for_slice",
+    "rtr_same_meaning",
 };
 
 /* A sequence, its canonical form, and how many units it has with the end of data. */
@@ -104,18 +105,10 @@ static __attribute__((noinline)) size_t by_hand(enum job job, const struct sampl
                                                 uint8_t *out, size_t room)
 {
     struct rtr_answer answer;
-    struct rtr_comparison both;
     switch (job) {
     case NORMALISE:
         return normalise_by_hand(sample->input, sample->length, out, room, UINT32_MAX,
                                  &answer) == RTR_OK ? answer.written : 0;
-    case NORMALISE_FOR:
-        return normalise_for_by_hand(sample->input, sample->length, out, room, UINT32_MAX,
-                                     VERSION, &answer) == RTR_OK ? answer.written : 0;
-    case SAME_MEANING:
-        same_meaning_by_hand(sample->input, sample->length, sample->form, sample->form_length,
-                             UINT32_MAX, &both);
-        return both.same;
     case NEXT:
         return read_units(next_by_hand, sample);
     default:
@@ -166,47 +159,23 @@ static int agree_on_fields(const uint8_t *in, size_t left)
     return 1;
 }
 
-/* Whether both ways normalise the same, to a version or with -1 to none, with this limit and
- * room. */
-static int agree_on_run(const uint8_t *in, size_t length, int version, uint64_t limit, size_t room)
+/* Whether both ways normalise the same with this limit and room. */
+static int agree_on_run(const uint8_t *in, size_t length, uint64_t limit, size_t room)
 {
     struct rtr_answer answer[2];
-    if (version < 0) {
-        rtr_normalise_slice(in, length, written[0], room, limit, &answer[0]);
-        normalise_by_hand(in, length, written[1], room, limit, &answer[1]);
-    } else {
-        rtr_normalise_for_slice(in, length, written[0], room, limit, (uint8_t)version, &answer[0]);
-        normalise_for_by_hand(in, length, written[1], room, limit, (uint8_t)version, &answer[1]);
-    }
+    rtr_normalise_slice(in, length, written[0], room, limit, &answer[0]);
+    normalise_by_hand(in, length, written[1], room, limit, &answer[1]);
     return memcmp(&answer[0], &answer[1], offsetof(struct rtr_answer, detail) + 1) == 0
         && memcmp(written[0], written[1], answer[0].written) == 0;
 }
 
-/* Whether both ways normalise the same to each version, with enough and with too little room. */
+/* Whether both ways normalise the same, with enough and with too little room. */
 static int agree_on_form(const uint8_t *in, size_t length)
 {
-    for (int version = -1; version < 4; version++)
-        if (!agree_on_run(in, length, version, UINT32_MAX, LONGEST)
-            || !agree_on_run(in, length, version, UINT32_MAX, length / 2)
-            || !agree_on_run(in, length, version, 1, 23)
-            || !agree_on_run(in, length, version, 0, 0))
-            return 0;
-    return 1;
-}
-
-/* Whether both ways compare two inputs the same, also with a low limit. */
-static int agree_on_meaning(const uint8_t *left, size_t left_length, const uint8_t *right,
-                            size_t right_length)
-{
-    for (int i = 0; i < 2; i++) {
-        struct rtr_comparison both[2];
-        uint64_t limit = i ? UINT32_MAX : 20;
-        if (rtr_same_meaning(left, left_length, right, right_length, limit, &both[0])
-                != same_meaning_by_hand(left, left_length, right, right_length, limit, &both[1])
-            || memcmp(&both[0], &both[1], offsetof(struct rtr_comparison, same) + 1) != 0)
-            return 0;
-    }
-    return 1;
+    return agree_on_run(in, length, UINT32_MAX, LONGEST)
+        && agree_on_run(in, length, UINT32_MAX, length / 2)
+        && agree_on_run(in, length, 1, 23)
+        && agree_on_run(in, length, 0, 0);
 }
 
 /* Whether both ways agree with any bit of the front of the input flipped. */
@@ -224,9 +193,7 @@ static int agree_on_damaged(const struct sample *sample)
             end += unit.size;
         }
         in[bit / 8] ^= (uint8_t)(1 << bit % 8);
-        if (!agree_on_form(in, most) || !agree_on_unit(in + begin, most - begin)
-            || !agree_on_meaning(in, left, sample->form, sample->form_length)
-            || !agree_on_meaning(sample->form, sample->form_length, in, left))
+        if (!agree_on_form(in, most) || !agree_on_unit(in + begin, most - begin))
             return 0;
         in[bit / 8] ^= (uint8_t)(1 << bit % 8);
     }
@@ -251,8 +218,7 @@ static int agree_on_header(uint8_t *in, uint8_t version, uint8_t kind, uint8_t f
     in[2] = flags;
     put32(in + 4, length);
     for (size_t i = 0; i < sizeof lefts / sizeof lefts[0]; i++)
-        if (!agree_on_unit(in, lefts[i]) || !agree_on_form(in, lefts[i])
-            || !agree_on_meaning(in, lefts[i], in, LONGEST))
+        if (!agree_on_unit(in, lefts[i]) || !agree_on_form(in, lefts[i]))
             return 0;
     return 1;
 }
@@ -330,10 +296,10 @@ static void drop_sample(struct sample *sample)
     free(sample->units);
 }
 
-/* Whether each job makes the same bytes in both ways. */
+/* Whether each compared job makes the same bytes in both ways. */
 static int agree(const struct sample *sample, uint8_t *out[2], size_t room)
 {
-    for (enum job job = 0; job < JOBS; job++) {
+    for (enum job job = 0; job < COMPARED; job++) {
         memset(out[0], 1, room);
         memset(out[1], 1, room);
         size_t made = with_calls(job, sample, out[0], room);
@@ -344,7 +310,7 @@ static int agree(const struct sample *sample, uint8_t *out[2], size_t room)
     return 1;
 }
 
-/* Does each job in each way, and has callgrind dump its cost. */
+/* Does each job in each of its ways, and has callgrind dump its cost. */
 static void count(const char *file, const struct sample *sample, uint8_t *out, size_t room)
 {
     char said[4096];
@@ -353,6 +319,8 @@ static void count(const char *file, const struct sample *sample, uint8_t *out, s
         CALLGRIND_ZERO_STATS;
         with_calls(job, sample, out, room);
         CALLGRIND_DUMP_STATS_AT(said);
+        if (job >= COMPARED)
+            continue;
         snprintf(said, sizeof said, "%s by-hand %s", names[job], file);
         CALLGRIND_ZERO_STATS;
         by_hand(job, sample, out, room);
@@ -376,7 +344,7 @@ static void best(double *least, double begun)
 
 static void print_times(const struct sample *sample, uint8_t *out, size_t room)
 {
-    for (enum job job = 0; job < JOBS; job++) {
+    for (enum job job = 0; job < COMPARED; job++) {
         double ours = 0, hand = 0, units = (double)sample->count;
         for (int i = 0; i < RUNS; i++) {
             double begun = now();

@@ -1,6 +1,6 @@
-/* Data of origins as sorted arrays of plain structs, by hand in C, which the calls and `Data` are
- * measured against. Nothing here is proved; bench/data_calls.c tests that it writes the same bytes
- * as the calls. */
+/* Data of origins as sorted arrays of plain structs, by hand in C, which the calls are measured
+ * against. Nothing here is proved; bench/data_calls.c tests that it writes the same bytes as the
+ * calls. */
 #ifndef FISHREEF_DATA_BY_HAND_H
 #define FISHREEF_DATA_BY_HAND_H
 

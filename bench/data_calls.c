@@ -1,18 +1,10 @@
-/* Compares the calls on data from C with sorted arrays of plain structs, in data_by_hand.c; and
- * does to such an array what bench_data does to a `Data`.
+/* Compares the calls on data from C with sorted arrays of plain structs, in data_by_hand.c.
  *
- * usage: data_calls --count FILE..          does each job once over each file, to be counted by
- *                                           callgrind
- *        data_calls units < SEQUENCES       reads the units of the first sequence to structs
- *        data_calls announce < SEQUENCES    also appends each to an array, and sorts that
- *        data_calls both < SEQUENCES        does so with the second sequence, too
- *        data_calls delta < SEQUENCES       also writes the delta to standard output
- *        data_calls deltas < SEQUENCES      the same 20 times
+ * usage: data_calls FILE..          does each job once over each file, to be counted by callgrind
  *
- * Each file has an old and a new data, one after the other, as generate_data.py writes them. With
- * --count callgrind dumps the cost of each job, labelled `JOB FILE`: bench/data.py reads that. If
- * the calls and the code by hand write different bytes, the exit status is 1. Without --count each job
- * prints how many origins it read. */
+ * Each file has an old and a new data, one after the other, as generate_data.py writes them.
+ * Callgrind dumps the cost of each job, labelled `JOB FILE`: bench/data.py reads that. If the calls
+ * and the code by hand write different bytes, the exit status is 1. */
 #include <stdio.h>
 #include <stdlib.h>
 #include "counting.h"
@@ -303,101 +295,13 @@ static bool measure(FILE *from, const char *file)
     return good;
 }
 
-static int by_order(const void *left, const void *right)
-{
-    return compare_origins(left, right);
-}
-
-/* Reads the units of a sequence, and appends the origins to the array if it isn't NULL. Returns the
- * sequence's length, or 0. */
-static size_t take_units(const uint8_t *in, size_t left, struct origins *origins, size_t *units)
-{
-    struct origin origin;
-    bool announces;
-    size_t at = 0, size;
-    for (; (size = take_origin(in + at, left - at, 2, &origin, &announces)) > 0; at += size) {
-        if (!announces)
-            return 0;
-        ++*units;
-        __asm__ volatile("" : : "m"(origin));
-        if (!origins)
-            continue;
-        if (origins->count == origins->room) {
-            origins->room = origins->room ? 2 * origins->room : 64;
-            origins->at = realloc(origins->at, origins->room * sizeof *origins->at);
-            if (!origins->at)
-                return 0;
-        }
-        origins->at[origins->count++] = origin;
-    }
-    return left - at < END_SIZE || in[at + 1] != RTR_END_OF_DATA ? 0 : at + END_SIZE;
-}
-
-/* Does the same and sorts the array; refuses an origin that is there twice. */
-static size_t take_array(const uint8_t *in, size_t left, struct origins *origins, size_t *units)
-{
-    size_t taken = take_units(in, left, origins, units);
-    if (taken && origins->count)
-        qsort(origins->at, origins->count, sizeof *origins->at, by_order);
-    for (size_t i = 1; i < origins->count; i++)
-        if (compare_origins(&origins->at[i - 1], &origins->at[i]) == 0)
-            return 0;
-    return taken;
-}
-
-/* Writes the delta between two arrays to standard output, so many times. */
-static bool print_deltas(struct sample *sample, int times)
-{
-    static const uint8_t end[END_SIZE];
-    size_t most = sample->in_old.count + sample->in_new.count;
-    uint8_t *out = malloc(32 * most + END_SIZE);
-    bool good = out && make_room(&sample->announced, 20 * most)
-        && make_room(&sample->withdrawn, 20 * most);
-    for (int i = 0; good && i < times; i++) {
-        merge_delta(&sample->in_old, &sample->in_new, &sample->announced, &sample->withdrawn);
-        size_t length = put_changes(sample, end, out) - END_SIZE;
-        good = fwrite(out, 1, length, stdout) == length;
-    }
-    return good;
-}
-
-/* The steps over standard input; each includes those before it. */
-enum word { UNITS, ANNOUNCE, BOTH, ONE_DELTA, DELTAS, WORDS };
-
-static const char *const words_said[WORDS] = {"units", "announce", "both", "delta", "deltas"};
-
-static int run(const char *said)
-{
-    struct sample sample = {0};
-    uint8_t *input;
-    size_t length, units = 0, taken;
-    enum word word = 0;
-    while (word < WORDS && strcmp(said, words_said[word]) != 0)
-        word++;
-    if (word == WORDS)
-        return 2;
-    if (!read_all(stdin, &input, &length))
-        return 3;
-    taken = word == UNITS ? take_units(input, length, NULL, &units)
-        : take_array(input, length, &sample.in_old, &units);
-    if (!taken || (word >= BOTH && !take_array(input + taken, length - taken, &sample.in_new,
-                                               &units)))
-        return 1;
-    if (word >= ONE_DELTA)
-        return print_deltas(&sample, word == DELTAS ? 20 : 1) ? 0 : 3;
-    printf("%zu\n", units);
-    return 0;
-}
-
 int main(int words, char **word)
 {
-    if (words == 2)
-        return run(word[1]);
-    if (words < 3 || strcmp(word[1], "--count") != 0) {
-        fprintf(stderr, "usage: data_calls --count FILE.., or data_calls WORD < SEQUENCES\n");
+    if (words == 1) {
+        fprintf(stderr, "usage: data_calls FILE..\n");
         return 2;
     }
-    for (int i = 2; i < words; i++) {
+    for (int i = 1; i < words; i++) {
         FILE *from = fopen(word[i], "rb");
         if (!measure(from, word[i])) {
             fprintf(stderr, "%s: refused, or the calls and those by hand differ\n", word[i]);

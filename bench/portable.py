@@ -21,6 +21,7 @@ sys.dont_write_bytecode = True
 import built  # noqa: E402  (it lies in another folder)
 import count
 
+CALLS = count.CALLS + count.ONLY_COUNTED
 
 # The calls that may take this many times the archive's instructions, at most.
 CHECKED = ("rtr_normalise_slice", "rtr_normalise_for_slice")
@@ -33,7 +34,7 @@ def counted(folder, name, linked):
     os.mkdir(place)
     found = count.parts(folder, count.compiled(place, "gcc", "calls", linked))
     return {(call, kind): count.of_parts(found, f"{call} ours", kind)
-            for call in count.CALLS for kind in count.KINDS}
+            for call in CALLS for kind in count.KINDS}
 
 
 def table():
@@ -61,7 +62,7 @@ def main():
     found = table()
     print("| Call |", " | ".join(count.KINDS), "|")
     print("|---" * (len(count.KINDS) + 1) + "|")
-    for call in count.CALLS:
+    for call in CALLS:
         print(f"| `{call}` |", " | ".join(count.cell(found[call, kind]) for kind in count.KINDS), "|")
     slow = [f"{call} of {kind}" for (call, kind), (portable, archive) in found.items()
             if call in CHECKED and portable > MOST * archive]

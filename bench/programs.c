@@ -1,14 +1,14 @@
 /* The programs by hand in C: what rtr_normalise and rtr_list are measured against.
  *
- * usage: programs normalise|version1|list|json|check < SEQUENCE
+ * usage: programs normalise|list|json|check < SEQUENCE
  *        programs --count FILE..      does each job over each file, to be counted by callgrind
  *
  *     cc -O3 -march=x86-64-v2 -Ibindings/c -o programs bench/programs.c bench/by_hand.c
  *
- * They write the output of `rtr_normalise`, `rtr_normalise --version 1`, `rtr_list`, `rtr_list
- * --json` and `rtr_list --check` for sequences of payload units, through buffers of 64 KiB; they
- * don't know units of other types. With --count callgrind dumps the cost of each job, labelled `JOB
- * FILE`. Nothing here is proved: bench/count.py compares what both write, and counts both. */
+ * They write the output of `rtr_normalise`, `rtr_list`, `rtr_list --json` and `rtr_list --check`
+ * for sequences of payload units, through buffers of 64 KiB; they don't know units of other types.
+ * With --count callgrind dumps the cost of each job, labelled `JOB FILE`. Nothing here is proved:
+ * bench/count.py compares what both write, and counts both. */
 #include <fcntl.h>
 #include "hand_text.h"
 #include "counting.h"
@@ -18,16 +18,14 @@ static bool found_any;
 
 /* ---- rtr_normalise */
 
-static int normalise_all(int version)
+static int normalise_all(void)
 {
     struct rtr_answer answer;
     for (;;) {
         const uint8_t *from = input + input_at;
         size_t left = input_end - input_at, room = sizeof output - output_end;
         uint8_t *to = (uint8_t *)output + output_end;
-        uint8_t status = version < 0
-            ? normalise_by_hand(from, left, to, room, UINT32_MAX, &answer)
-            : normalise_for_by_hand(from, left, to, room, UINT32_MAX, (uint8_t)version, &answer);
+        uint8_t status = normalise_by_hand(from, left, to, room, UINT32_MAX, &answer);
         input_at += answer.taken;
         output_end += answer.written;
         if (output_end >= BUFFER || status != RTR_SHORT)
@@ -385,7 +383,7 @@ static int list_all(void (*put_unit)(const uint8_t *, size_t))
     }
 }
 
-static const char *const jobs[] = {"normalise", "version1", "list", "json", "check"};
+static const char *const jobs[] = {"normalise", "list", "json", "check"};
 
 enum { JOBS = sizeof jobs / sizeof jobs[0] };
 
@@ -393,12 +391,10 @@ static int run(int job)
 {
     switch (job) {
     case 0:
-        return normalise_all(-1);
+        return normalise_all();
     case 1:
-        return normalise_all(1);
-    case 2:
         return list_all(list_unit);
-    case 3:
+    case 2:
         return list_all(object_of);
     default:
         return list_all(check_unit);
@@ -434,6 +430,6 @@ int main(int words, char **word)
     for (int job = 0; words == 2 && job < JOBS; job++)
         if (strcmp(word[1], jobs[job]) == 0)
             return run(job);
-    fprintf(stderr, "usage: programs normalise|version1|list|json|check, or --count FILE..\n");
+    fprintf(stderr, "usage: programs normalise|list|json|check, or --count FILE..\n");
     return 2;
 }

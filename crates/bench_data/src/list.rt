@@ -15,7 +15,7 @@ pub enum Depth {
     Data,
 }
 
-/// The origin that the row is.
+/// The origin of a row.
 fn origin(row: &StringRecord) -> Option<Payload> {
     let asn = row.get(0)?.parse::<Asn>().ok()?;
     let prefix = row.get(1)?.parse::<Prefix>().ok()?;
@@ -24,7 +24,7 @@ fn origin(row: &StringRecord) -> Option<Payload> {
     Some(Payload::origin(prefix, asn))
 }
 
-/// Whether the row could be read so far.
+/// Reads the row as far as this; reports whether that was possible.
 fn take(depth: Depth, row: &StringRecord, data: &mut Data) -> bool {
     match depth {
         Depth::Rows => true,
@@ -36,7 +36,7 @@ fn take(depth: Depth, row: &StringRecord, data: &mut Data) -> bool {
     }
 }
 
-/// Reads the rows after the first, which names the columns. Answers how many there are, or for
+/// Reads the rows after the first, which names the columns. Returns how many there are, or for
 /// data how many origins.
 pub fn read(alloc: Global, depth: Depth, text: &[u8]) -> Option<u64> {
     let mut reader = ReaderBuilder::new()
