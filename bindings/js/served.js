@@ -9,8 +9,9 @@ import { unitOf } from "./units.js";
 
 const NOTHING = new Uint8Array(0);
 
-// The most bytes of an answer that are handed to a socket at a time.
-const CHUNK = 1 << 16;
+// The most bytes of an answer that are handed to a socket at a time: a record of TLS. A stream says
+// only of a whole chunk that it is sent, and a router that takes none within a limit is cut off.
+const CHUNK = 1 << 14;
 
 // The size of a serial number.
 const WORD = 4;

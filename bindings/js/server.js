@@ -7,7 +7,9 @@
 // The proved module decides each step; docs/SESSIONS.md has the rules.
 
 import { EventEmitter, once } from "node:events";
+import { closeSync, openSync } from "node:fs";
 import { createServer } from "node:net";
+import { devNull } from "node:os";
 import { createServer as createTlsServer } from "node:tls";
 import { Entry, STRUCTS } from "./rtr_table.js";
 import { Data } from "./data.js";
@@ -80,6 +82,16 @@ async function listening(listener) {
 /** Identifies a connection to a listener, from its accept to its close. */
 function nameOf({ remoteAddress, remotePort, localAddress }) {
     return `${remoteAddress} ${remotePort} ${localAddress}`;
+}
+
+/** Reports whether the system has another descriptor, as for a file. */
+function hasSpare() {
+    try {
+        closeSync(openSync(devNull));
+        return true;
+    } catch {
+        return false;
+    }
 }
 
 /** Returns the error of a router that had to prove who it is, and didn't; else null. */
@@ -278,7 +290,7 @@ export class Server extends EventEmitter {
 
     /** Serves or refuses a connection, as the door decides; returns null if it was closed. */
     #enters(socket) {
-        const entry = this.#door.call("rtr_door_enter", true);
+        const entry = this.#door.call("rtr_door_enter", hasSpare());
         if (this.#isClosed || entry === Entry.WAIT) {
             this.#door.call("rtr_door_leave", entry);
             socket.on("error", () => {}).destroy();
@@ -289,10 +301,10 @@ export class Server extends EventEmitter {
         const router = new RouterSocket(served, socket, (error) => {
             this.#sockets.delete(router);
             this.#door.call("rtr_door_leave", entry);
+            this.emit(LEFT); // first: a listener of `ended` may throw
             if (error !== null) {
                 this.emit("ended", error, client);
             }
-            this.emit(LEFT);
         });
         this.#sockets.add(router);
         if (entry === Entry.REFUSE) {
@@ -309,10 +321,10 @@ export class Server extends EventEmitter {
         const listener = createTlsServer({ ...tls, ...LISTENER, rejectUnauthorized: false });
         listener.on("connection", (socket) => {
             const name = nameOf(socket);
+            socket.on("close", () => shaking.delete(name));
             const router = this.#enters(socket);
             if (router !== null) {
                 shaking.set(name, router);
-                socket.on("close", () => shaking.delete(name));
             }
         });
         listener.on("secureConnection", (stream) => {

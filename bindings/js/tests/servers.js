@@ -3,7 +3,8 @@
 import assert from "node:assert/strict";
 import { spawn } from "node:child_process";
 import { once } from "node:events";
-import { existsSync, mkdtempSync, readFileSync, rmSync, writeFileSync } from "node:fs";
+import fs, { existsSync, mkdtempSync, readFileSync, rmSync, writeFileSync } from "node:fs";
+import { syncBuiltinESMExports } from "node:module";
 import { connect, createServer } from "node:net";
 import { tmpdir } from "node:os";
 import { join } from "node:path";
@@ -138,6 +139,27 @@ async function sizeOfAll(peer) {
         }
     }
     return [size, last.readUInt32BE(8)];
+}
+
+/** A stream to a router that takes bytes only by `takes`. */
+class Slow extends Duplex {
+    #left = 0;
+    #done = null;
+
+    _read() {}
+
+    _write(bytes, encoding, done) {
+        [this.#left, this.#done] = [bytes.length, done];
+    }
+
+    /** Takes so many bytes of a write, and then calls the server. */
+    takes(count) {
+        this.#left -= count;
+        if (this.#left <= 0) {
+            this.#done();
+        }
+        this.emit("readable");
+    }
 }
 
 /** A router leaves in one of four ways: by a close, a reset, in a query, or in an answer. */
@@ -305,6 +327,78 @@ export const TESTS = {
             }
             stalled.socket.destroy();
         });
+    },
+
+    /** A router that takes 16 KiB each 20 seconds isn't cut off; once it has taken nothing for the
+     * limit of 30 seconds it is. */
+    async measuresProgress(rtr, _, t) {
+        const server = new Server({ rtr: rtr.another() });
+        const ended = [];
+        server.on("ended", (error) => ended.push(error));
+        await server.update(manyOf(rtr, 1, 20_000));
+        let time = 1_000_000;
+        const clock = t.mock.method(performance, "now", () => time);
+        const stream = new Slow();
+        await server.serve(stream);
+        stream.push(RESET_QUERY);
+        await until(() => stream.writableLength > 0);
+        for (let count = 0; count < 8; count += 1) {
+            time += 20_000;
+            stream.takes(1 << 14);
+            await sleep(0);
+            assert.ok(!stream.destroyed, `cut off after ${count} takes`);
+        }
+        time += 29_999;
+        stream.emit("readable");
+        assert.ok(!stream.destroyed);
+        time += 1;
+        stream.emit("readable");
+        assert.ok(stream.destroyed);
+        await until(() => ended.length === 1);
+        assert.equal(ended[0].reason, Reason.SLOW);
+        clock.mock.restore();
+        await server.close();
+    },
+
+    /** Without a spare descriptor a router isn't served, but gets a report. */
+    async keepsDescriptor(rtr, _, t) {
+        await withServer(rtr, {}, async (server, port) => {
+            await server.update(dataOf(rtr, 1, 1));
+            const open = t.mock.method(fs, "openSync", () => {
+                throw Object.assign(new Error("too many open files"), { code: "EMFILE" });
+            });
+            syncBuiltinESMExports();
+            const refused = await router(port);
+            await getsReport(rtr, refused, 1, [], 2);
+            open.mock.restore();
+            syncBuiltinESMExports();
+            const served = await router(port);
+            await getsAll(served, 1, 1);
+            served.close();
+        });
+    },
+
+    /** A listener of `ended` that throws doesn't keep `close` from returning. */
+    async survivesListeners(rtr) {
+        const thrown = [];
+        process.setUncaughtExceptionCaptureCallback(({ message }) => thrown.push(message));
+        try {
+            const server = new Server({ rtr: rtr.another() });
+            server.on("ended", () => {
+                throw new Error("of a listener");
+            });
+            await server.update(dataOf(rtr, 1, 1));
+            const { port } = await server.listen({ port: 0, host: HOST });
+            const peers = [await router(port), await router(port)];
+            for (const peer of peers) {
+                await getsAll(peer, 1, 1);
+            }
+            await server.close();
+            assert.deepEqual(thrown, ["of a listener", "of a listener"]);
+            peers.forEach(({ socket }) => socket.destroy());
+        } finally {
+            process.setUncaughtExceptionCaptureCallback(null);
+        }
     },
 
     /** Data of another session end the connections of routers that have data (section 5.1), and a
