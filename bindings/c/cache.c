@@ -308,7 +308,8 @@ struct watched {
     const char *path;
     char kept[4096], beside[4096]; /* the file of saved data, and the temporary file for it */
     struct stamp seen;
-    char failed[200]; /* why it couldn't be read */
+    char failed[200]; /* why it couldn't be read, or its data couldn't be taken */
+    int64_t again;    /* after a failure, when it is read again */
     int64_t retry;    /* when data that wait are saved, `pause` after a failure */
     int pause, spare;
 };
@@ -488,7 +489,8 @@ static bool restore(const struct watched *w)
     return update == RTR_UPDATE_TAKEN;
 }
 
-/* Logs that the file can't be read, once for each reason. */
+/* Logs that the file can't be read, or its data can't be taken, once for each reason; reads it
+ * again, though it stays as it is. */
 static void fail(struct watched *w, const char *reason)
 {
     if (strcmp(w->failed, reason))
@@ -496,29 +498,42 @@ static void fail(struct watched *w, const char *reason)
     snprintf(w->failed, sizeof w->failed, "%s", reason);
 }
 
-/* Loads the file if it changed, or couldn't be read before. */
+/* Gives the server the bytes of the file, and frees them. Without memory it waits a moment, since
+ * reading and parsing it takes time that routers lack. */
+static void update(struct watched *w, uint8_t *bytes, size_t length)
+{
+    enum rtr_update update = rtr_server_update(&server, time_of(CLOCK_REALTIME), bytes, length);
+    free(bytes);
+    if (update == RTR_UPDATE_MEMORY) {
+        w->again = now() + FIRST_PAUSE;
+        fail(w, rtr_update_text(&server, update));
+        return;
+    }
+    w->failed[0] = 0;
+    say_update(w->path, update);
+    w->retry = update == RTR_UPDATE_TAKEN ? 0 : w->retry;
+}
+
+/* Loads the file if it changed, or couldn't be loaded before. */
 static void look(struct watched *w)
 {
     size_t length;
     struct stamp stamp = stamp_of(w->path);
-    if (!w->failed[0] && !memcmp(&stamp, &w->seen, sizeof stamp))
+    bool changed = memcmp(&stamp, &w->seen, sizeof stamp);
+    if (!changed && (!w->failed[0] || now() < w->again))
         return;
     give_spare(w);
     uint8_t *bytes = read_file(w->path, most_bytes, &length);
     int error = errno;
     take_spare(w);
     w->seen = stamp;
-    if (!bytes && error == EFBIG) {
+    if (bytes) {
+        update(w, bytes, length);
+    } else if (error == EFBIG) {
         w->failed[0] = 0;
         say("%s: more than %lld bytes", w->path, (long long)most_bytes);
-    } else if (!bytes) {
-        fail(w, strerror(error));
     } else {
-        w->failed[0] = 0;
-        enum rtr_update update = rtr_server_update(&server, time_of(CLOCK_REALTIME), bytes, length);
-        free(bytes);
-        say_update(w->path, update);
-        w->retry = update == RTR_UPDATE_TAKEN ? 0 : w->retry;
+        fail(w, strerror(error));
     }
 }
 

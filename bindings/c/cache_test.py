@@ -120,10 +120,10 @@ class Cache:
             fields = file.read().rpartition(")")[2].split()
         return (int(fields[11]) + int(fields[12])) / os.sysconf("SC_CLK_TCK")
 
-    def memory(self):
-        """Returns its memory in bytes."""
+    def memory(self, field=1):
+        """Returns its memory in bytes; by field 0 all that it may use without asking for more."""
         with open(f"/proc/{self.process.pid}/statm", encoding="ascii") as file:
-            return int(file.read().split()[1]) * resource.getpagesize()
+            return int(file.read().split()[field]) * resource.getpagesize()
 
 
 @contextlib.contextmanager
@@ -568,6 +568,21 @@ def test_descriptors():
         routers[59].asks(RESET_QUERY, response(data(2, [1, 2])))
         for router in routers[40:]:
             router.socket.close()
+
+
+def test_refused_memory():
+    """Data that there is no memory for are served once there is some, though their file stays."""
+    new = data(2, range(200_000))
+    with started(data(1, [1])) as cache:
+        cache.takes(1, 1)
+        usual = resource.prlimit(cache.process.pid, resource.RLIMIT_AS)
+        # The file can be read, but not parsed.
+        most = cache.memory(0) + len(new) * 3 // 2
+        resource.prlimit(cache.process.pid, resource.RLIMIT_AS, (most, usual[1]))
+        put(cache.path, new)
+        cache.says(f"{re.escape(cache.path)}: no memory")
+        resource.prlimit(cache.process.pid, resource.RLIMIT_AS, usual)
+        cache.takes(2, 200_000)
 
 
 def test_memory():
