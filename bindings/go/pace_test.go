@@ -33,6 +33,7 @@ type simulated struct {
 	toWrite      time.Time
 	closesWrites int
 	during       func() // called during a write
+	waiting      func() // called before a read
 }
 
 // simulate returns a connection to a server with a simulated clock, and its client.
@@ -66,6 +67,9 @@ func (s *simulated) passes(deadline time.Time) error {
 }
 
 func (s *simulated) Read(buffer []byte) (int, error) {
+	if s.waiting != nil {
+		s.waiting()
+	}
 	if len(s.coming) == 0 || s.server.clock.at(s.coming[0].time).After(s.toRead) {
 		return 0, s.passes(s.toRead)
 	}

@@ -277,7 +277,8 @@ func (s *Server) leave(listener net.Listener) {
 	s.running.Done()
 }
 
-// awaitDoor waits until another client would be served or refused, or the server is closed.
+// awaitDoor waits until another client would be served or refused, or the server is closed. Whether
+// the system has a descriptor beside that of the client is known once it is accepted.
 func (s *Server) awaitDoor() {
 	s.lock.Lock()
 	defer s.lock.Unlock()
@@ -293,6 +294,16 @@ func isFull(err error) bool {
 		why == syscall.ENOBUFS || why == syscall.ENOMEM)
 }
 
+// hasSpare reports whether the system has another descriptor, as for a file.
+func hasSpare() bool {
+	descriptor, err := syscall.EpollCreate1(syscall.EPOLL_CLOEXEC)
+	if err != nil {
+		return false
+	}
+	syscall.Close(descriptor)
+	return true
+}
+
 // The size of a connection's send buffer: with a smaller one a goroutine waits more often.
 const writeBuffer = 1 << 17
 
@@ -301,14 +312,14 @@ func (s *Server) take(connection net.Conn) {
 	if tcp, ok := connection.(*net.TCPConn); ok {
 		tcp.SetWriteBuffer(writeBuffer)
 	}
-	client := newServed(s, connection)
+	client, spare := newServed(s, connection), hasSpare()
 	s.lock.Lock()
 	defer s.lock.Unlock()
 	if s.closed.Load() {
 		connection.Close()
 		return
 	}
-	entry := C.rtr_door_enter(&s.door, true)
+	entry := C.rtr_door_enter(&s.door, C.bool(spare))
 	if entry == C.RTR_ENTRY_WAIT { // another listener's client was faster
 		connection.Close()
 		return
