@@ -269,15 +269,26 @@ impl Server {
 
     /// Closes all connections and ends the threads. Dropping a server stops it. Data that couldn't
     /// be saved are lost; they were never served.
+    ///
+    /// A callback of the server may call it, too: its thread ends once the callback has returned,
+    /// for which a later call waits.
     pub fn stop(&self) {
         self.shared.stop.set();
         self.shared.wake();
         self.shared.cache.stop_saving();
-        let thread = locked(&self.thread).take();
-        if let Some(thread) = thread {
+        if let Some(thread) = self.other_thread() {
             let _ = thread.join();
+            *locked(&self.shared.waker) = None;
         }
-        *locked(&self.shared.waker) = None;
+    }
+
+    /// Takes the thread to wait for; none if it is the present one.
+    fn other_thread(&self) -> Option<JoinHandle<()>> {
+        let mut thread = locked(&self.thread);
+        match &*thread {
+            Some(own) if own.thread().id() == thread::current().id() => None,
+            _ => thread.take(),
+        }
     }
 }
 

@@ -162,6 +162,33 @@ fn few_descriptors() {
     assert_eq!(cache.end("TERM"), Some(0));
 }
 
+/// A client that takes the last descriptor isn't served, but gets a report at once.
+#[test]
+fn the_last_descriptor() {
+    let file = std::env::temp_dir().join(format!("rtr-cache-7-{}", std::process::id()));
+    std::fs::write(&file, data(1).as_bytes()).unwrap();
+    let mut limited = Command::new("sh");
+    limited.args(["-c", "ulimit -n 40; exec \"$0\" \"$@\""]);
+    limited.arg(program("cache").get_program());
+    let cache = Cache::run(limited, file);
+    let listening = cache.line();
+    let address = listening.strip_prefix("listening on ").unwrap();
+    let address = address.parse().unwrap();
+    cache.line();
+    let mut clients = Vec::new();
+    loop {
+        let mut client = Peer::connect(address);
+        client.send(&reset_query(2));
+        match client.unit() {
+            Some(Unit::CacheResponse(_)) => clients.push((client.sequence(), client)),
+            Some(Unit::ErrorReport(report)) => break assert_eq!(report.code.0, 1),
+            other => panic!("{} are served, and then {other:?}", clients.len()),
+        }
+    }
+    assert!(!clients.is_empty());
+    assert_eq!(cache.end("TERM"), Some(0));
+}
+
 /// A restarted cache answers clients that have earlier data with changes. It doesn't start if its
 /// saved state was altered.
 #[test]

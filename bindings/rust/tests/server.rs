@@ -11,7 +11,7 @@ use std::io::{self, ErrorKind, Read};
 use std::net::SocketAddr;
 use std::path::{Path, PathBuf};
 use std::sync::mpsc::{channel, Receiver};
-use std::sync::Mutex;
+use std::sync::{Arc, Mutex};
 use std::time::{Instant, SystemTime};
 
 /// A server on the loopback interface, whose threads have to end with it.
@@ -1026,6 +1026,48 @@ fn stops() {
     }
     std::thread::sleep(milliseconds(100));
     drop(cache);
+}
+
+/// A server that its callback reaches, and calls this with; and a receiver of its returns.
+fn reached(
+    then: impl Fn(&mut Option<Server>) + Send + Sync + 'static,
+) -> (Arc<Mutex<Option<Server>>>, Receiver<()>) {
+    let (sender, told) = channel();
+    let sender = Mutex::new(sender);
+    let place = Arc::new(Mutex::new(None));
+    let reached = Arc::clone(&place);
+    let server = Server::telling(options(), move |_, _| {
+        then(&mut reached.lock().unwrap());
+        sender.lock().unwrap().send(()).unwrap();
+    });
+    *place.lock().unwrap() = Some(server);
+    (place, told)
+}
+
+/// A callback may stop its server, or drop it: the thread ends once it has returned, and other
+/// clients are disconnected.
+#[test]
+fn stops_in_a_callback() {
+    let _alone = alone();
+    let ways: [fn(&mut Option<Server>); 2] = [
+        |server| server.as_ref().unwrap().stop(),
+        |server| drop(server.take()),
+    ];
+    for way in ways {
+        let (place, told) = reached(way);
+        let listen = |server: &Server| server.listen("127.0.0.1:0").unwrap();
+        let address = listen(place.lock().unwrap().as_ref().unwrap());
+        let (mut other, mut faulty) = (Peer::connect(address), Peer::connect(address));
+        faulty.send(&prefix(1, 7));
+        assert_eq!(told.recv_timeout(PATIENCE), Ok(()));
+        assert!(other.is_closed());
+        let server = place.lock().unwrap().take();
+        if let Some(server) = server {
+            server.stop();
+            assert_eq!(threads("rtr "), 0);
+        }
+        assert!(holds(|| threads("rtr ") == 0), "threads are left");
+    }
 }
 
 /// A server, and the texts of why it ended connections.
