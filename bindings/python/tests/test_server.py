@@ -4,6 +4,7 @@ import contextlib
 import errno
 import ipaddress
 import os
+import selectors
 import socket
 import ssl
 import struct
@@ -583,8 +584,8 @@ class OverTls(Servers):
         await super().asyncSetUp()
         folder = tempfile.TemporaryDirectory()
         self.addCleanup(folder.cleanup)
-        context, certificate = certified(folder.name)
-        self.server = self.serves(ssl=context)
+        self.context, certificate = certified(folder.name)
+        self.server = self.serves(ssl=self.context)
         self.trusted = ssl.create_default_context(cafile=str(certificate))
 
     async def test_a_client(self):
@@ -613,6 +614,21 @@ class OverTls(Servers):
         router = await self.router()
         router.asks_all()
         self.assertIsInstance(await self.reason(), ssl.SSLError)
+
+    async def test_a_refused_router_that_stays_in_the_handshake(self):
+        """The report waits for bytes of the handshake, not for space to write, which there is: the
+        server would try to send without a pause."""
+        server = self.serves(ServerLimits(most_connections=0), ssl=self.context)
+        silent = await self.router()
+        await self.has(lambda: server._door.refused == 1)
+        (run,) = server._runs
+        (connection,) = run._connections
+        self.assertEqual(connection._watched, selectors.EVENT_READ)
+        streams = await asyncio.open_connection("127.0.0.1", self.port, ssl=self.trusted)
+        self.routers.append(Router(*streams))
+        self.assertEqual((await self.routers[-1].reads()).code, 1)
+        await silent.leaves()
+        await self.has(lambda: server._door.refused == 1)
 
     async def test_a_router_that_stays_in_the_handshake(self):
         router = await self.router()
