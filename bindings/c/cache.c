@@ -414,13 +414,14 @@ static bool closes(int file, bool done)
     return done && closed;
 }
 
-/* Syncs the folder of a file; returns false, with the reason in errno, if that fails. */
+/* Syncs the folder of a file, if its file system can sync folders; returns false, with the reason in
+ * errno, if that fails. */
 static bool sync_folder(const char *path)
 {
     char copy[4096];
     snprintf(copy, sizeof copy, "%s", path);
     int folder = open(dirname(copy), O_RDONLY | O_DIRECTORY | O_CLOEXEC);
-    return folder >= 0 && closes(folder, fsync(folder) == 0);
+    return folder >= 0 && closes(folder, fsync(folder) == 0 || errno == EINVAL);
 }
 
 /* Replaces the file of saved data: syncs a new one, renames it, and syncs the folder. If that fails

@@ -7,6 +7,7 @@ import (
 	"fmt"
 	"os"
 	"path/filepath"
+	"syscall"
 )
 
 // ErrTorn: a file isn't as Save wrote it.
@@ -77,14 +78,17 @@ func writeStore(file *os.File, store []byte) error {
 	return file.Sync()
 }
 
-// syncFolder fsyncs a directory.
+// syncFolder fsyncs a directory, if its file system can do that.
 func syncFolder(path string) error {
 	folder, err := os.Open(path)
 	if err != nil {
 		return err
 	}
 	defer folder.Close()
-	return folder.Sync()
+	if err := folder.Sync(); !errors.Is(err, syscall.EINVAL) {
+		return err
+	}
+	return nil
 }
 
 // Restore loads what Save wrote, if the server has no data yet, and returns the data. With the

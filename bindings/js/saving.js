@@ -55,11 +55,15 @@ async function forgetNew(path) {
     await rm(besideOf(path), { force: true });
 }
 
-/** Syncs the folder of a file. */
+/** Syncs the folder of a file, if its file system can sync folders. */
 async function syncFolder(path) {
     const folder = await open(dirname(path), "r");
     try {
         await folder.sync();
+    } catch (error) {
+        if (error.code !== "EINVAL") {
+            throw error;
+        }
     } finally {
         await folder.close();
     }

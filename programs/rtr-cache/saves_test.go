@@ -129,6 +129,20 @@ func TestStartNeedsSync(t *testing.T) {
 	}
 }
 
+// A cache saves in a folder of a file system that can't sync folders, and a restart has the data.
+func TestFolderCannotBeSynced(t *testing.T) {
+	withStrace(t)
+	folder, first := withState(t)
+	process := injected(t, folder, "", "fsync:error=EINVAL")
+	process.Says("serial 1: 200 payloads", 1)
+	process.Says("serial 2: 201 payloads", 1)
+	if process.Lines("aren't saved") > 0 {
+		t.Error(process.Stderr())
+	}
+	process.Kill()
+	continues(t, folder, first, 2)
+}
+
 // If a system call of saving fails in each thread once, the new data are served, and no file stays
 // beside the old one. Saving is retried, and then a restart has the data.
 func TestEachCallFails(t *testing.T) {

@@ -42,6 +42,7 @@ static const struct {
               {"EACCES", EACCES},
               {"EIO", EIO},
               {"ENOSPC", ENOSPC},
+              {"EINVAL", EINVAL},
               {"KILL", KILLED}};
 
 static pthread_mutex_t mutex = PTHREAD_MUTEX_INITIALIZER;

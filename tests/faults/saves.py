@@ -28,6 +28,8 @@ FAULTS = {
     "a saving with a failing rename": ("rename:1:1:EIO", errno.EIO),
     "a saving without space for the name": ("rename:1:1:ENOSPC", errno.ENOSPC),
     "a saving with a failing sync of the folder": ("sync:3:3:EIO", errno.EIO),
+    # As file systems say that can't sync folders.
+    "a saving without syncs of the folder": ("sync:1:0:EINVAL:2", None),
     # Once a file is synced its close has nothing left to report.
     CLOSE: ("close:1:1:EIO", None),
 }

@@ -116,7 +116,8 @@ func (f *Folder) Update(server *rtr.Server, data rtr.Data) error {
 	return &Unsaved{err}
 }
 
-// remove removes the file, and syncs the folder, so that no restart finds it.
+// remove removes the file, and syncs the folder, if its file system can do that, so that no restart
+// finds it.
 func (f *Folder) remove() error {
 	err := os.Remove(f.editions())
 	if err != nil && !errors.Is(err, os.ErrNotExist) {
@@ -127,7 +128,10 @@ func (f *Folder) remove() error {
 		return err
 	}
 	defer folder.Close()
-	return folder.Sync()
+	if err := folder.Sync(); !errors.Is(err, syscall.EINVAL) {
+		return err
+	}
+	return nil
 }
 
 // Save saves the data of a server that couldn't be saved before.
