@@ -1,0 +1,5 @@
+mod Example
+mod Keeping
+mod Steps
+mod Talking
+mod Telling
