@@ -240,7 +240,8 @@ class Ours(Cache):
 
     def words_of(self, path):
         """Returns the command that starts it on a port with a file."""
-        return lambda port: [self.example.built(), path, "--listen", f"127.0.0.1:{port}"]
+        words = self.example.words()
+        return lambda port: [*words, path, "--listen", f"127.0.0.1:{port}"]
 
     def change(self, listed):
         """Changes the list that it serves."""
@@ -299,11 +300,20 @@ def of_programs(folder, base=RtrCache, **fields):
         yield type(base.__name__, (base,), {"example": here, **fields})
 
 
+def maker_of(example):
+    """Returns the maker of one of our caches."""
+    name = f"our cache in {example.name}"
+    return type(f"Our{example.name}", (Ours,), {"name": name, "example": example})
+
+
 def ours(folder):
     """Yields a maker of each of our caches that can be built here."""
-    for example in examples.caches(folder):
-        name = f"our cache in {example.name}"
-        yield type(f"Our{example.name}", (Ours,), {"name": name, "example": example})
+    yield from map(maker_of, examples.caches(folder))
+
+
+def in_scripts(folder):
+    """Yields a maker of each of our caches in Python and JavaScript that can be run here."""
+    yield from (maker_of(script) for script in examples.scripts(folder) if not script.lacks())
 
 
 CACHES = (StayRTR, GoRTR, Fort)

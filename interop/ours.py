@@ -1,4 +1,4 @@
-"""Our clients and caches: the examples in C, Go and Rust."""
+"""Our clients and caches: the examples in each language."""
 import collections
 import contextlib
 import glob
@@ -157,9 +157,11 @@ class InPython:
     name = "Python"
     lock = threading.Lock()
     FOLLOWS = os.path.join(TOP, "interop", "follow.py")
+    CACHE = os.path.join(TOP, "bindings", "python", "examples", "cache.py")
 
-    def __init__(self, folder):
+    def __init__(self, folder, script=FOLLOWS):
         self.library = os.path.join(folder, "librtr_wire.so")
+        self.script = script
 
     def lacks(self):
         """Returns why it can't be used here, or None."""
@@ -180,10 +182,27 @@ class InPython:
         return self.library
 
     def words(self):
-        """Returns the command of the client that follows a cache."""
+        """Returns the command of the script: the client that follows a cache, or the cache."""
         package = os.path.join(TOP, "bindings", "python", "src")
         return ["env", f"RTR_WIRE_LIBRARY={self.built()}", f"PYTHONPATH={package}",
-                "PYTHONDONTWRITEBYTECODE=yes", sys.executable, self.FOLLOWS]
+                "PYTHONDONTWRITEBYTECODE=yes", sys.executable, self.script]
+
+
+class InNode:
+    """The cache in JavaScript of this tree, over its prebuilt module."""
+
+    name = "JavaScript"
+    CACHE = os.path.join(TOP, "bindings", "js", "examples", "cache.js")
+
+    def lacks(self):
+        """Returns why it can't be used here, or None."""
+        return None if shutil.which("node") else "node isn't installed"
+
+    def words(self):
+        """Returns its command."""
+        if self.lacks():
+            raise Missing(self.lacks())
+        return ["node", self.CACHE]
 
 
 class TokioTLS:
@@ -256,6 +275,11 @@ def caches(folder):
     return [example for example in examples if not example.lacks()]
 
 
+def scripts(folder):
+    """Returns our caches in languages that aren't compiled, whether they can be run here or not."""
+    return [InPython(folder, InPython.CACHE), InNode()]
+
+
 def build_all(folder):
     """Starts to build all of them; one that can't be built fails when it is used."""
     def build(example):
@@ -274,6 +298,9 @@ def say_absent(results, folder):
             lacks = Example(language, name, folder).lacks()
             if lacks:
                 pair.skip(f"{name} in {language}", lacks)
+        for script in scripts(folder):
+            if lacks := script.lacks():
+                pair.skip(f"cache in {script.name}", lacks)
     with Pair(results, "our side", "our", "programs") as pair:
         for name in Program.NEEDS:
             if lacks := Program(name, folder).lacks():

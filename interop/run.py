@@ -54,10 +54,14 @@ LONG_SECONDS = 4800
 AT_ONCE = 14
 
 
+def all_of_ours(folder):
+    """Returns the makers of all of our caches."""
+    return [*caches.ours(folder), *caches.in_scripts(folder), *caches.of_programs(folder)]
+
+
 def jobs_of_caches(found, folder):
     """Returns the jobs of the part `caches`, long ones first."""
-    of_ours = (*caches.ours(folder), *caches.of_programs(folder))
-    makers = sorted((*caches.CACHES, *of_ours), key=lambda each: -each.change_seconds)
+    makers = sorted((*caches.CACHES, *all_of_ours(folder)), key=lambda each: -each.change_seconds)
     for maker in makers:
         for version in maker.versions:
             yield theirs.compare, (found, maker, version, folder)
@@ -66,7 +70,7 @@ def jobs_of_caches(found, folder):
 def jobs_of_routers(found, folder):
     """Returns the jobs of the part `routers`: our clients with each cache, and other routers with
     the caches whose times can be set, ours and stayrtr."""
-    of_ours = [*caches.ours(folder), *caches.of_programs(folder)]
+    of_ours = all_of_ours(folder)
     for maker in sorted((*of_ours, *caches.CACHES), key=lambda each: -each.change_seconds):
         yield routing.compare_ours, (found, maker, folder)
     for maker in (*of_ours, caches.StayRTR):
@@ -133,7 +137,7 @@ def jobs_of_recovery(found, folder):
     """Returns the jobs of the part `recovery`, which mostly wait."""
     yield recovering.compare, (found, folder)
     yield recovering.compare_preferences, (found, folder)
-    for maker in (*caches.ours(folder), *caches.of_programs(folder)):
+    for maker in all_of_ours(folder):
         yield recovering.compare_times, (found, maker, apart(folder, "recovery"))
     for maker in caches.ours(folder):
         yield recovering.compare_first_cut, (found, maker, apart(folder, "recovery"))

@@ -52,8 +52,13 @@ function say(line) {
     console.error(`${new Date().toISOString().replace(/\.\d+/, "")} ${line}`);
 }
 
+/** Says which data are served, and warns of serial number 0. */
 function sayData(path, { end: { session, serial }, count }) {
     say(`${path}: session ${session} serial ${serial}: ${count} payload${count === 1 ? "" : "s"}`);
+    if (serial === 0) {
+        say(`${path}: serial number 0: a router that lost its first answer may ask with it, and `
+            + "keep a part of the data");
+    }
 }
 
 /** Serves the data from before a restart, unless there are none. */

@@ -1,7 +1,7 @@
 """Serves the data of a file to routers: cache.py FILE [--listen HOST:PORT]
 
-The file has a list or a recording, as rtr_make writes it. It is read again when another file has
-its name, as after `mv`. Data are saved to FILE.kept before they are served, and a restart serves
+The file has a list or a recording, as rtr_make writes it. It is read again when it changes:
+replace it by `mv`. Data are saved to FILE.kept before they are served, and a restart serves
 what that file has; if it is damaged, remove it, and give the next data another session.
 """
 import argparse
@@ -10,6 +10,7 @@ import os
 import pathlib
 import socket
 import sys
+from typing import Optional, Tuple
 
 from rtr_wire import DamagedError, Data, Fault, FormerFileError, Server, UpdateError, load_data
 
@@ -23,8 +24,11 @@ def say(text: str) -> None:
 
 
 def say_served(name: str, data: Data) -> None:
-    """Says which data are served."""
+    """Says which data are served, and warns of serial number 0."""
     say(f"{name}: session {data.session} serial {data.serial}: {len(data)} payloads")
+    if data.serial == 0:
+        say(f"{name}: serial number 0: a router that lost its first answer may ask with it, and "
+            "keep a part of the data")
 
 
 def take(server: Server, path: str) -> bool:
@@ -49,12 +53,22 @@ def take(server: Server, path: str) -> bool:
     return True
 
 
+def mark_of(path: str) -> Optional[Tuple[int, ...]]:
+    """Returns what differs in another file of this name, which may have the inode of an earlier
+    one; None without a file."""
+    try:
+        found = os.stat(path)
+    except OSError:
+        return None
+    return found.st_dev, found.st_ino, found.st_size, found.st_mtime_ns, found.st_ctime_ns
+
+
 async def follow(server: Server, path: str) -> None:
     """Serves the data of a file whenever another file has its name."""
-    seen, pause = 0, LOOK
+    seen, pause = None, LOOK
     while True:
-        found = os.stat(path).st_ino if os.path.exists(path) else 0
-        if found == seen and found != 0 or take(server, path):
+        found = mark_of(path)
+        if found == seen and found is not None or take(server, path):
             seen, pause = found, LOOK
         else:
             pause = min(2 * pause, LONGEST)
