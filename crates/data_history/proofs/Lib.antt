@@ -8,6 +8,7 @@ pub mod Checked
 pub mod Joining
 pub mod Advancing
 pub mod Storing
+pub mod Listing
 pub mod Rooms
 pub mod Returning
 pub mod Checking

@@ -1,7 +1,7 @@
 -- Sessions that were left, as bytes.
 use Rattle.std.proofs.Common.{◌≡◌, ◌≢◌, ◌≤◌, ◌<◌, ◌+◌, ◌*◌, ◌^◌, ℕ, List, [], ◌∷◌, ◌++◌, inl, inr}
 use Rattle.std.proofs.Common.{Some, drop, length, take, refl, sym, ap, subst, ◌∙◌, arith}
-use Rattle.std.proofs.Common.{append_assoc}
+use Rattle.std.proofs.Common.{append-nil, append_assoc}
 use Rattle.std.proofs.Common.{slice_index}
 use Rattle.std.proofs.lemmas.List.{length-append, take_at}
 use Rattle.rtr_base.specs.Bytes.{be}
@@ -51,6 +51,24 @@ placed n last left history before after lt (size, within, out) =
     ap (λ l. l ++ history) (append_assoc head last left)
     ∙ ap (λ m. (head_bytes 0 m ++ (last ++ left)) ++ history) sizes in
     let p = formed 0 (last ++ left) history (omega arith) (omega (arith, lt, sizes)) in
+    let is = front ∙ joined in
+    record {
+      first = subst HasPart (sym is) p.has;
+      left = ap (λ b. sessions_of (part_bytes b)) is ∙ ap sessions_of p.bytes;
+      rest = ap part_rest is ∙ p.rest;
+    }
+
+-- the store of a history whose cache left no session
+pub placed_none : (n : ℕ) (history before after : List ℕ) →
+    PlacesFront (Some n) (head_bytes 0 0 ++ history) before after →
+    IsStoreOf (take n after) [] history
+unfolding left_sessions
+placed_none n history before after (size, within, out) =
+    let form = head_bytes 0 0 ++ history in
+    let front : take n after ≡ form = ap (take n) out ∙ take_at form (drop n before) n (sym size) in
+    let joined : form ≡ part_form 0 [] ++ history =
+    ap (λ l. l ++ history) (sym (append-nil (head_bytes 0 0))) in
+    let p = formed 0 [] history (omega arith) (omega arith) in
     let is = front ∙ joined in
     record {
       first = subst HasPart (sym is) p.has;

@@ -12,3 +12,5 @@ pub mod Life
 pub mod PrivateNewer
 pub mod Stores
 pub mod Seal
+pub mod Serials
+pub mod Old

@@ -1,15 +1,18 @@
 //! What a cache saves: the sessions that it left, and the history of the present one.
 
 ghost use Rattle.std.specs.Prelude.{◌≡◌, ◌<◌, ◌≤◌, ◌+◌, ◌^◌, ◌++◌, ◌↔◌, IfOk, IfSome, IsSome};
-ghost use Rattle.std.specs.Prelude.{IsTrue, List, Some, length, take};
+ghost use Rattle.std.specs.Prelude.{IsTrue, List, [], Some, drop, length, take};
 ghost use Rattle.data_slices.specs.Canonical.{PlacesFront};
 ghost use Rattle.data_history.specs.Parts.{head_bytes, part_rest};
 ghost use Rattle.data_history.specs.Snapshots.{HoldsHistory, Snapshot};
 ghost use Rattle.data_history.specs.Store.{BeginsStore, IsAmong, WantsOutput, WritesStore};
-ghost use Rattle.data_history.specs.Store.{sessions_of};
+ghost use Rattle.data_history.specs.Store.{HoldsStore, left_sessions, sessions_of};
+ghost use Rattle.data_history.specs.Old.{OpensOld};
 
+use crate::check::CheckFault;
 use crate::part::{HEAD, first_part, head};
-use crate::room::wanted_of;
+use crate::room::{Room, wanted_of};
+use crate::seal::open_old;
 use unit_views::placing::place;
 
 /// Why no store was written.
@@ -35,6 +38,28 @@ pub fn first_store_into(history: &[u8], output: &mut [u8]) -> Result<usize, Take
         Some(size) => Ok(size),
         None => Err(TakeFault::NoRoom {
             wanted: HEAD + history.len(),
+        }),
+    }
+}
+
+/// Writes the store of a file of the form `rtrkept1`, whose cache left no session, and returns its
+/// length, which is that of the file. If the output has no room for it, or the file isn't whole, it
+/// writes nothing.
+pub fn old_store_into(file: &[u8], output: &mut [u8]) -> Result<usize, CheckFault>
+    ensures opens { OpensOld result file.now output.old output.new }
+    ensures store { IfOk result (λ n. (z : Snapshot) (ys : List Snapshot) →
+        HoldsHistory (drop 16 file.now) z ys → HoldsStore (take n output.new) z ys) }
+    ensures left { IfOk result (λ n. left_sessions (take n output.new) ≡ []) }
+{
+    let history = match open_old(file) {
+        Some(history) => history,
+        None => return Err(CheckFault::Malformed),
+    };
+    match place(&head(0, 0), history, output) {
+        Some(size) => Ok(size),
+        None => Err(CheckFault::NoRoom {
+            room: Room::Output,
+            wanted: file.len(),
         }),
     }
 }

@@ -2,8 +2,8 @@
 
 use crate::{
     CheckFault, Limits, Refused, Room, SinceFault, Stores, TakeFault, Untaken, check_history,
-    first_into, first_store_into, knows, next_into, open_old, open_saved, seal_head, since_into,
-    take_into,
+    first_into, first_store_into, knows, next_into, old_store_into, open_old, open_saved,
+    seal_head, serials_into, since_into, take_into,
 };
 use rtr_base::state::Serial;
 use std::process::Abort;
@@ -361,6 +361,65 @@ fn changed_files_are_refused(rt: HostRuntime) -> Result<(), Fail> {
             *byte ^= 4;
         }
         assert!(rt; open_saved(&changed).is_none(), "at {at}");
+    }
+    Ok(())
+}
+
+/// A file of the form before has the head `rtrkept1` and a history, whose store begins with a part
+/// of no sessions.
+#[test]
+fn files_of_the_form_before_are_opened(rt: HostRuntime) -> Result<(), Fail> {
+    let saved = history(&rt)?;
+    let checksum = seal_head(&saved);
+    let file = joined(
+        &rt,
+        &[b"rtrkept1", checksum.get(16..).unwrap_or(&[]), &saved],
+    )?;
+    let mut output = [1; 512];
+    assert_eq!(rt; old_store_into(&file, &mut output), Ok(file.len()));
+    let store = joined(&rt, &[&part(0, 0), &saved])?;
+    assert_eq!(rt; output.get(..file.len()), Some(&store[..]));
+    assert!(rt; output[file.len()..].iter().all(|byte| *byte == 1));
+    let mut short = [1; 512];
+    let wanted = CheckFault::NoRoom {
+        room: Room::Output,
+        wanted: file.len(),
+    };
+    let got = old_store_into(&file, &mut short[..file.len() - 1]);
+    assert_eq!(rt; got, Err(wanted));
+    assert!(rt; short.iter().all(|byte| *byte == 1));
+    for at in 0..file.len() {
+        let mut changed = joined(&rt, &[&file])?;
+        if let Some(byte) = changed.get_mut(at) {
+            *byte ^= 4;
+        }
+        let got = old_store_into(&changed, &mut output);
+        assert_eq!(rt; got, Err(CheckFault::Malformed), "at {at}");
+    }
+    let present = joined(&rt, &[&seal_head(&saved), &saved])?;
+    let got = old_store_into(&present, &mut output);
+    assert_eq!(rt; got, Err(CheckFault::Malformed));
+    Ok(())
+}
+
+#[test]
+fn earlier_serial_numbers_are_listed(rt: HostRuntime) -> Result<(), Fail> {
+    let saved = history(&rt)?;
+    let mut serials = [9; 3];
+    assert_eq!(rt; serials_into(&saved, &mut serials), Ok(2));
+    assert_eq!(rt; serials, [2, 1, 9]);
+    let mut short = [9; 1];
+    let wanted = CheckFault::NoRoom {
+        room: Room::Output,
+        wanted: 2,
+    };
+    assert_eq!(rt; serials_into(&saved, &mut short), Err(wanted));
+    assert_eq!(rt; short, [9]);
+    let first = joined(&rt, &[&part(0, 64), &data(&rt, 1)?])?;
+    assert_eq!(rt; serials_into(&first, &mut []), Ok(0));
+    for bytes in [&saved[..0], &saved[..15]] {
+        let got = serials_into(bytes, &mut serials);
+        assert_eq!(rt; got, Err(CheckFault::Malformed));
     }
     Ok(())
 }
