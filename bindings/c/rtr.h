@@ -1798,15 +1798,16 @@ uint64_t rtr_connection_wakes(const struct rtr_connection *connection,
  *
  *   at a start  rtr_stores_new, if the cache never served data. If it did, its file is read,
  *               checked by rtr_store_open, and the store behind its head copied to the front of the
- *               first buffer, for rtr_stores_start. A cache that doesn't save calls
- *               rtr_stores_unsaved, with a session that it never used before
+ *               first buffer, for rtr_stores_start; rtr_store_open_old writes the store of a file
+ *               of the form before to it. A cache that doesn't save calls rtr_stores_unsaved, with
+ *               a session that it never used before
  *   for data    rtr_stores_take, with new data in canonical form. If it returns RTR_STORES_OK and
  *               the cache saves, the program writes the head of rtr_store_seal, and behind it the
  *               store at rtr_stores_to_save, to a file that replaces the one before, and calls
  *               rtr_stores_saved once the file is on the disk. The new data are served from then
  *               on. If the file can't be written, it calls rtr_stores_give_up
- *   for a       rtr_history_data, rtr_history_knows and rtr_history_since, with the history at
- *   query       rtr_stores_served. It stays there until new data are served
+ *   for a       rtr_history_data, rtr_history_knows, rtr_history_serials and rtr_history_since,
+ *   query       with the history at rtr_stores_served. It stays there until new data are served
  *
  * Then a cache never serves two data under one session and serial number, over any number of starts
  * and power cuts. These calls take any bytes as their struct: a wrong call has an
@@ -1858,10 +1859,11 @@ struct rtr_history_limits {
 
 /* How a call ended. Fields that an answer doesn't have are 0. */
 struct rtr_stores_answer {
-    size_t length;  /* the length of the store or the changes that were written */
+    size_t length;  /* the length of the store or the changes that were written, or the number of
+                       serial numbers */
     size_t offset;  /* after RTR_STORES_FLAW, the offset of the unit at fault in the data */
     size_t wanted;  /* after RTR_STORES_NO_ROOM, the length that suffices for this call; of the
-                       index in entries */
+                       index and of serial numbers in entries */
     uint8_t status; /* the result of the call, an rtr_stores_status */
     uint8_t room;   /* after RTR_STORES_NO_ROOM, the buffer that is too short, an rtr_room */
     uint8_t flaw;   /* after RTR_STORES_FLAW, why the unit is refused, an rtr_status */
@@ -2026,6 +2028,20 @@ static inline bool rtr_history_knows(const uint8_t *history, size_t history_leng
     return rtr_history_knows_nonnull(rtr_readable(history), history_length, serial);
 }
 
+/* Writes the serial numbers of the earlier data of a history, the latest first: as many as
+ * `answer->length`. One entry for each 16 bytes of the history always suffices.
+ *
+ * RTR_STORES_OK; or, with nothing written, RTR_STORES_NO_ROOM for the output, which has to have
+ * `answer->wanted` entries; RTR_STORES_MALFORMED. */
+static inline uint8_t rtr_history_serials(const uint8_t *history, size_t history_length,
+                                          uint32_t *serials, size_t serials_length,
+                                          struct rtr_stores_answer *answer)
+{
+    static uint32_t nowhere;
+    return rtr_history_serials_nonnull(rtr_readable(history), history_length,
+                                       serials ? serials : &nowhere, serials_length, answer);
+}
+
 /* Writes the head of a file that has this store behind it: the form of the file, the length of the
  * store, and its checksum. */
 static inline void rtr_store_seal(const uint8_t *store, size_t store_length,
@@ -2039,6 +2055,20 @@ static inline void rtr_store_seal(const uint8_t *store, size_t store_length,
 static inline bool rtr_store_open(const uint8_t *file, size_t file_length)
 {
     return rtr_store_open_nonnull(rtr_readable(file), file_length);
+}
+
+/* Writes the store of a file that a version before 0.3.0 saved, which begins with "rtrkept1" in the
+ * place of the head: no sessions that were left, and the history of the file. The store is as long
+ * as the file, and rtr_stores_start still has to check it.
+ *
+ * RTR_STORES_OK; or, with nothing written, RTR_STORES_MALFORMED for a file that isn't whole or has
+ * another form, and RTR_STORES_NO_ROOM for the output. */
+static inline uint8_t rtr_store_open_old(const uint8_t *file, size_t file_length,
+                                         uint8_t *output, size_t output_length,
+                                         struct rtr_stores_answer *answer)
+{
+    return rtr_store_open_old_nonnull(rtr_readable(file), file_length,
+                                      rtr_writable(output), output_length, answer);
 }
 
 /* Returns the text of a rule on times, never null; any number may be passed. */

@@ -169,8 +169,14 @@ uint8_t rtr_history_since_nonnull(const uint8_t *history, size_t history_length,
 bool rtr_history_data_nonnull(const uint8_t *history, size_t history_length, size_t *offset,
                               size_t *length);
 bool rtr_history_knows_nonnull(const uint8_t *history, size_t history_length, uint32_t serial);
+uint8_t rtr_history_serials_nonnull(const uint8_t *history, size_t history_length,
+                                    uint32_t *serials, size_t serials_length,
+                                    struct rtr_stores_answer *answer);
 void rtr_store_seal_nonnull(const uint8_t *store, size_t store_length, struct rtr_store_head *head);
 bool rtr_store_open_nonnull(const uint8_t *file, size_t file_length);
+uint8_t rtr_store_open_old_nonnull(const uint8_t *file, size_t file_length,
+                                   uint8_t *output, size_t output_length,
+                                   struct rtr_stores_answer *answer);
 
 #ifdef __cplusplus
 }

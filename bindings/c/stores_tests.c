@@ -252,6 +252,45 @@ static void take_and_save(struct cache *k, const char *digits)
     CHECK(!state_of(k).waits && serves(k, digits));
 }
 
+/* Whether the earlier data of the history that is served have just these serial numbers. */
+static bool lists(struct cache *k, const uint32_t *serials, size_t count)
+{
+    size_t length;
+    const uint8_t *history = served(k, &length);
+    for (size_t room = 0; room < count; room++) {
+        uint32_t *few = (uint32_t *)(void *)lie(&k->arena, k->arena.output, room * sizeof *few);
+        memset(few, 0xa5, room * sizeof *few);
+        memset(&k->answer, 0xa5, sizeof k->answer);
+        CHECK(rtr_history_serials(history, length, few, room, &k->answer) == RTR_STORES_NO_ROOM);
+        CHECK(k->answer.status == RTR_STORES_NO_ROOM && k->answer.room == RTR_ROOM_OUTPUT);
+        CHECK(k->answer.wanted == count);
+        for (size_t i = 0; i < room; i++)
+            CHECK(few[i] == 0xa5a5a5a5);
+    }
+    uint32_t *all = (uint32_t *)(void *)lie(&k->arena, k->arena.output, count * sizeof *all);
+    CHECK(rtr_history_serials(history, length, all, count, &k->answer) == RTR_STORES_OK);
+    return k->answer.length == count && memcmp(all, serials, count * sizeof *all) == 0;
+}
+
+/* Copies the store of the file to the first buffer; returns its length, or 0 if the file isn't
+ * whole. */
+static size_t open_file(struct cache *k)
+{
+    size_t head = sizeof(struct rtr_store_head), length = k->file_length;
+    const uint8_t *file = copied(&k->arena, k->arena.input, k->file, length);
+    if (rtr_store_open(file, length)) {
+        first_room(k, length - head);
+        memcpy(k->buffers.first, file + head, length - head);
+        return length - head;
+    }
+    first_room(k, length);
+    memset(&k->answer, 0xa5, sizeof k->answer);
+    uint8_t status = rtr_store_open_old(file, length, k->buffers.first, length, &k->answer);
+    CHECK(status == k->answer.status);
+    CHECK(status == RTR_STORES_MALFORMED || (!status && k->answer.length == length));
+    return status ? 0 : length;
+}
+
 /* Starts from the file, as after a power cut: buffers and struct are lost. */
 static uint8_t restart(struct cache *k)
 {
@@ -260,12 +299,9 @@ static uint8_t restart(struct cache *k)
     memcpy(k->file, was.file, was.file_length);
     k->file_length = was.file_length;
     k->now = was.now + 60000;
-    const uint8_t *file = copied(&k->arena, k->arena.input, k->file, k->file_length);
-    if (!rtr_store_open(file, k->file_length))
+    size_t length = open_file(k);
+    if (!length)
         return RTR_STORES_MALFORMED;
-    size_t length = k->file_length - sizeof(struct rtr_store_head);
-    first_room(k, length);
-    memcpy(k->buffers.first, file + sizeof(struct rtr_store_head), length);
     for (int turn = 0; turn < 8; turn++) {
         memset(&k->answer, 0xa5, sizeof k->answer);
         uint8_t status =
@@ -312,6 +348,7 @@ static void check_answers(struct cache *k)
         size_t length;
         const uint8_t *history = served(k, &length);
         CHECK(!rtr_history_knows(history, length, 0) && !rtr_history_knows(history, length, 4));
+        CHECK(lists(k, (const uint32_t[]){2, 1}, 2));
         CHECK(changes(k, 3, 1, END("3")));
         CHECK(changes(k, 2, 1, THIRD END("3")));
         CHECK(changes(k, 1, 1, THIRD NOT_FIRST END("3")));
@@ -323,6 +360,43 @@ static void check_answers(struct cache *k)
     take_and_save(k, FIRST THIRD END("4"));
     CHECK(changes(k, 1, 1, THIRD NOT_SECOND END("4")));
     CHECK(changes(k, 3, 0, FIRST_0 "0004000000000014" "00181800" "c6336400" "0000fbf0" END_0("4")));
+}
+
+/* Makes the file of the form before, which has no length and no sessions that were left. */
+static void write_old_file(struct cache *k)
+{
+    size_t length;
+    const uint8_t *history = served(k, &length);
+    uint64_t sum = hash(history, length);
+    memcpy(k->file, "rtrkept1", 8);
+    for (int i = 0; i < 8; i++)
+        k->file[8 + i] = (uint8_t)(sum >> (56 - 8 * i));
+    memcpy(k->file + 16, history, length);
+    k->file_length = 16 + length;
+}
+
+/* A file of the form before is opened, unless a byte of it is another one. */
+static void check_old_file(struct cache *k)
+{
+    check_life(k);
+    write_old_file(k);
+    CHECK(restart(k) == RTR_STORES_OK && serves(k, SECOND THIRD END("3")));
+    CHECK(lists(k, (const uint32_t[]){2, 1}, 2));
+    CHECK(changes(k, 1, 1, THIRD NOT_FIRST END("3")));
+    const uint8_t *file = copied(&k->arena, k->arena.input, k->file, k->file_length);
+    uint8_t *output = lie(&k->arena, k->arena.output, k->file_length - 1);
+    CHECK(rtr_store_open_old(file, k->file_length, output, k->file_length - 1, &k->answer)
+          == RTR_STORES_NO_ROOM);
+    CHECK(k->answer.room == RTR_ROOM_OUTPUT && k->answer.wanted == k->file_length);
+    take_and_save(k, FIRST THIRD END("4"));
+    CHECK(lists(k, (const uint32_t[]){3, 2, 1}, 3) && !memcmp(k->file, "rtrkept2", 8));
+    write_old_file(k);
+    for (size_t at = 0; at < k->file_length; at++) {
+        k->file[at] ^= 1;
+        CHECK(restart(k) == RTR_STORES_MALFORMED);
+        k->file[at] ^= 1;
+    }
+    CHECK(restart(k) == RTR_STORES_OK && serves(k, FIRST THIRD END("4")));
 }
 
 /* A restart before and after a store replaced the file. */
@@ -504,8 +578,8 @@ static void check_random(struct cache *k, long count)
 int main(int count, char **words)
 {
     static void (*const checks[])(struct cache *) = {
-        check_life,     check_answers, check_power_cuts, check_files,  check_refused,
-        check_sessions, check_unsaved, check_limits,     check_structs};
+        check_life,     check_answers,  check_power_cuts, check_files,  check_old_file,
+        check_refused,  check_sessions, check_unsaved,    check_limits, check_structs};
     static struct cache k;
     long random = count > 1 ? strtol(words[1], NULL, 10) : 100000;
     for (size_t i = 0; i < 2 * (sizeof checks / sizeof checks[0]); i++) {

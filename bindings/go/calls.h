@@ -672,10 +672,26 @@ static inline struct history_data_result history_data(
 	return all;
 }
 
+static inline struct rtr_stores_answer history_serials(
+	const uint8_t *history, size_t history_length, uint32_t *serials, size_t serials_length)
+{
+	struct rtr_stores_answer answer;
+	rtr_history_serials(history, history_length, serials, serials_length, &answer);
+	return answer;
+}
+
 static inline struct rtr_store_head store_seal(
 	const uint8_t *store, size_t store_length)
 {
 	struct rtr_store_head head;
 	rtr_store_seal(store, store_length, &head);
 	return head;
+}
+
+static inline struct rtr_stores_answer store_open_old(
+	const uint8_t *file, size_t file_length, uint8_t *output, size_t output_length)
+{
+	struct rtr_stores_answer answer;
+	rtr_store_open_old(file, file_length, output, output_length, &answer);
+	return answer;
 }

@@ -795,8 +795,10 @@ export const FUNCTIONS = Object.freeze({
     rtr_history_since_nonnull: ["uint8", "*", "size", "uint32", "uint8", "*", "size", "*", "size", "*", "size", "*", "size", "*"],
     rtr_history_data_nonnull: ["bool", "*", "size", "*", "*"],
     rtr_history_knows_nonnull: ["bool", "*", "size", "uint32"],
+    rtr_history_serials_nonnull: ["uint8", "*", "size", "*", "size", "*"],
     rtr_store_seal_nonnull: ["void", "*", "size", "*"],
     rtr_store_open_nonnull: ["bool", "*", "size"],
+    rtr_store_open_old_nonnull: ["uint8", "*", "size", "*", "size", "*"],
 });
 
 const statusTexts = [

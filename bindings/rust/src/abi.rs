@@ -1231,11 +1231,12 @@ pub(crate) struct HistoryLimits {
 #[repr(C)]
 #[derive(Clone, Copy, Debug, Default, PartialEq, Eq, Hash)]
 pub(crate) struct StoresAnswer {
-    /// The length of the store or the changes that were written.
+    /// The length of the store or the changes that were written, or the number of serial numbers.
     pub(crate) length: usize,
     /// After RTR_STORES_FLAW, the offset of the unit at fault in the data.
     pub(crate) offset: usize,
-    /// After RTR_STORES_NO_ROOM, the length that suffices for this call; of the index in entries.
+    /// After RTR_STORES_NO_ROOM, the length that suffices for this call; of the index and of
+    /// serial numbers in entries.
     pub(crate) wanted: usize,
     /// The result of the call, an rtr_stores_status.
     pub(crate) status: u8,
@@ -1861,6 +1862,13 @@ extern "C" {
         history_length: usize,
         serial: u32,
     ) -> bool;
+    pub(crate) fn rtr_history_serials_nonnull(
+        history: *const u8,
+        history_length: usize,
+        serials: *mut u32,
+        serials_length: usize,
+        answer: *mut StoresAnswer,
+    ) -> u8;
     pub(crate) fn rtr_store_seal_nonnull(
         store: *const u8,
         store_length: usize,
@@ -1870,6 +1878,13 @@ extern "C" {
         file: *const u8,
         file_length: usize,
     ) -> bool;
+    pub(crate) fn rtr_store_open_old_nonnull(
+        file: *const u8,
+        file_length: usize,
+        output: *mut u8,
+        output_length: usize,
+        answer: *mut StoresAnswer,
+    ) -> u8;
 }
 
 #[cfg(all(test, target_pointer_width = "64"))]

@@ -1019,6 +1019,18 @@ pub(crate) fn history_knows(history: &[u8], serial: u32) -> bool {
 }
 
 #[inline]
+pub(crate) fn history_serials(history: &[u8], serials: &mut [u32]) -> abi::StoresAnswer {
+    let mut answer = abi::StoresAnswer::default();
+    // SAFETY: as at the head of this file.
+    unsafe { abi::rtr_history_serials_nonnull(
+        history.as_ptr(), history.len(),
+        serials.as_mut_ptr(), serials.len(),
+        &mut answer,
+    ) };
+    answer
+}
+
+#[inline]
 pub(crate) fn store_seal(store: &[u8]) -> abi::StoreHead {
     let mut head = abi::StoreHead::default();
     // SAFETY: as at the head of this file.
@@ -1030,4 +1042,16 @@ pub(crate) fn store_seal(store: &[u8]) -> abi::StoreHead {
 pub(crate) fn store_open(file: &[u8]) -> bool {
     // SAFETY: as at the head of this file.
     unsafe { abi::rtr_store_open_nonnull(file.as_ptr(), file.len()) }
+}
+
+#[inline]
+pub(crate) fn store_open_old(file: &[u8], output: &mut [u8]) -> abi::StoresAnswer {
+    let mut answer = abi::StoresAnswer::default();
+    // SAFETY: as at the head of this file.
+    unsafe { abi::rtr_store_open_old_nonnull(
+        file.as_ptr(), file.len(),
+        output.as_mut_ptr(), output.len(),
+        &mut answer,
+    ) };
+    answer
 }

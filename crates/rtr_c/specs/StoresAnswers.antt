@@ -119,3 +119,8 @@ since_told (Err (since.NoRoom room wanted)) = no_room_answer (room_number room) 
 abbrev pub check_told : CheckFault → RtrStoresAnswer
 check_told checks.Malformed = refused_answer stores_malformed
 check_told (checks.NoRoom room wanted) = no_room_answer (room_number room) wanted
+
+-- so much was written, or why nothing was
+abbrev pub written_told : Result ℕ CheckFault → RtrStoresAnswer
+written_told (Ok n) = wrote_answer n
+written_told (Err fault) = check_told fault

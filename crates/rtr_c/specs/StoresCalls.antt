@@ -1,14 +1,16 @@
 -- What the calls on the stores of a cache promise (this library's own).
-use Rattle.std.specs.Prelude.{◌≡◌, ◌+◌, ◌∷◌, ℕ, true, false, List, length, take}
+use Rattle.std.specs.Prelude.{◌≡◌, ◌+◌, ◌∷◌, ℕ, true, false, List, [], length, take}
 use Rattle.std.specs.Prelude.{drop, Option, Some, None, IsSome, Result, Ok, Err, IsOk, IfOk, IfErr}
 use Rattle.std.specs.Prelude.{if◌then◌else◌}
 use Rattle.data_slices.specs.Canonical.{HoldsData}
 use Rattle.data_history.specs.Checks.{IsShortForCheck}
 use Rattle.data_history.specs.Life.{IsLife, IsUnsavedLife, MayTake}
+use Rattle.data_history.specs.Old.{OpensOld}
 use Rattle.data_history.specs.Parts.{part_rest}
+use Rattle.data_history.specs.Serials.{IsShortForSerials, ListsSerials}
 use Rattle.data_history.specs.Since.{IsShortForAnswer, WritesChangesSince}
 use Rattle.data_history.specs.Snapshots.{HoldsHistory, Snapshot, snapshot_at}
-use Rattle.data_history.specs.Store.{HoldsStore}
+use Rattle.data_history.specs.Store.{HoldsStore, left_sessions}
 use Rattle.data_history.specs.Stores.{IsFlawOfNew, IsShortForTaking, TakesData, after_call}
 use Rattle.data_history.specs.Stores.{after_giving_up, after_saved, fresh_stores, held_of}
 use Rattle.data_history.specs.Stores.{numbers_of, other_of, served_store, size_of, taken_store}
@@ -122,3 +124,20 @@ pub record TellsSince (history : List ℕ) (serial version index buffer spare : 
       WritesChangesSince version r (snapshot_at serial x ys) x before after
   pub rooms : (x : Snapshot) (ys : List Snapshot) → HoldsHistory history x ys →
       IsShortForAnswer r (length history) index buffer spare (length before)
+
+-- ---- earlier serial numbers
+
+-- what `serials_into` promises
+pub record TellsSerials (history before after : List ℕ) (r : Result ℕ CheckFault) : Type 0 where
+  pub lists : (x : Snapshot) (ys : List Snapshot) → HoldsHistory history x ys →
+      ListsSerials r ys before after
+  pub rooms : IsShortForSerials r (length history) (length before)
+
+-- ---- files of the form before
+
+-- what `old_store_into` promises
+pub record TellsOld (file before after : List ℕ) (r : Result ℕ CheckFault) : Type 0 where
+  pub opens : OpensOld r file before after
+  pub store : IfOk r (λ n. (x : Snapshot) (ys : List Snapshot) → HoldsHistory (drop 16 file) x ys →
+      HoldsStore (take n after) x ys)
+  pub left : IfOk r (λ n. left_sessions (take n after) ≡ [])

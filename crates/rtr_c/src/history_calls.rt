@@ -1,4 +1,4 @@
-//! The answers to serial queries, and the head of a saved file.
+//! The answers to serial queries, and the heads of saved files.
 
 ghost use Rattle.std.specs.Prelude.{◌≡◌, ◌++◌, ◌↔◌, ℕ, IsSome, IsTrue, List, Result, drop, length};
 ghost use Rattle.std.specs.Prelude.{take};
@@ -6,11 +6,14 @@ ghost use Rattle.data_slices.specs.Canonical.{HoldsData};
 ghost use Rattle.data_history.specs.Seal.{seal};
 ghost use Rattle.data_history.specs.Snapshots.{HoldsHistory, Snapshot, snapshot_at};
 ghost use Rattle.data_history.specs.declared.since.SinceFault.{SinceFault};
-ghost use Rattle.rtr_c.specs.StoresAnswers.{since_told};
-ghost use Rattle.rtr_c.specs.StoresCalls.{TellsSince};
+ghost use Rattle.data_history.specs.declared.check.CheckFault.{CheckFault};
+ghost use Rattle.rtr_c.specs.StoresAnswers.{since_told, written_told};
+ghost use Rattle.rtr_c.specs.StoresCalls.{TellsOld, TellsSerials, TellsSince};
 
 use crate::stores_answer::RtrStoresAnswer;
-use data_history::{data_at, knows, open_saved, seal_head, since_into};
+use data_history::{
+    data_at, knows, old_store_into, open_saved, seal_head, serials_into, since_into,
+};
 use rtr_base::state::Serial;
 
 /// The head of a file that has a store behind it.
@@ -83,6 +86,23 @@ pub extern "C" fn rtr_history_knows_nonnull(history: &[u8], serial: u32) -> bool
     knows(history, Serial(serial))
 }
 
+/// Writes the serial numbers of the earlier data of a history, the latest first, as
+/// `data_history::serials_into`.
+#[unsafe(no_mangle)]
+pub extern "C" fn rtr_history_serials_nonnull(
+    history: &[u8],
+    serials: &mut [u32],
+    answer: &mut RtrStoresAnswer,
+) -> u8
+    ensures status { result ≡ answer.new.status }
+    ensures answers { (r : Result ℕ CheckFault) × (answer.new ≡ written_told r)
+        × TellsSerials history.now serials.old serials.new r }
+{
+    let listed = serials_into(history, serials);
+    *answer = RtrStoresAnswer::of_written(&listed);
+    answer.status
+}
+
 /// Writes the head of a file that has a store behind it, as `data_history::seal_head`.
 #[unsafe(no_mangle)]
 pub extern "C" fn rtr_store_seal_nonnull(store: &[u8], head: &mut RtrStoreHead)
@@ -103,4 +123,20 @@ pub extern "C" fn rtr_store_open_nonnull(file: &[u8]) -> bool
         Some(_) => true,
         None => false,
     }
+}
+
+/// Writes the store of a file of the form `rtrkept1`, as `data_history::old_store_into`.
+#[unsafe(no_mangle)]
+pub extern "C" fn rtr_store_open_old_nonnull(
+    file: &[u8],
+    output: &mut [u8],
+    answer: &mut RtrStoresAnswer,
+) -> u8
+    ensures status { result ≡ answer.new.status }
+    ensures answers { (r : Result ℕ CheckFault) × (answer.new ≡ written_told r)
+        × TellsOld file.now output.old output.new r }
+{
+    let opened = old_store_into(file, output);
+    *answer = RtrStoresAnswer::of_written(&opened);
+    answer.status
 }

@@ -3,7 +3,7 @@
 ghost use Rattle.std.specs.Prelude.{◌≡◌, Err};
 ghost use Rattle.rtr_c.specs.StoresAnswers.{check_told, flaw_answer, no_room_answer};
 ghost use Rattle.rtr_c.specs.StoresAnswers.{refused_answer, room_number, since_told, taking_told};
-ghost use Rattle.rtr_c.specs.StoresAnswers.{untaken_answer, wrote_answer};
+ghost use Rattle.rtr_c.specs.StoresAnswers.{untaken_answer, written_told, wrote_answer};
 
 use crate::data_answer::{reason_detail, reason_status};
 use crate::stores::OK;
@@ -52,11 +52,12 @@ const SECOND: u8 = 6;
 #[repr(C)]
 #[derive(Drop)]
 pub struct RtrStoresAnswer {
-    /// The length of the store or the changes that were written.
+    /// The length of the store or the changes that were written, or the number of serial numbers.
     pub length: usize,
     /// After RTR_STORES_FLAW, the offset of the unit at fault in the data.
     pub offset: usize,
-    /// After RTR_STORES_NO_ROOM, the length that suffices for this call; of the index in entries.
+    /// After RTR_STORES_NO_ROOM, the length that suffices for this call; of the index and of serial
+    /// numbers in entries.
     pub wanted: usize,
     /// The result of the call, an rtr_stores_status.
     pub status: u8,
@@ -187,6 +188,16 @@ impl RtrStoresAnswer {
             Err(SinceFault::NoRoom { room, wanted }) => {
                 RtrStoresAnswer::no_room(room_number(*room), *wanted)
             }
+        }
+    }
+
+    /// So much was written, or why nothing was.
+    pub(crate) fn of_written(written: &Result<usize, CheckFault>) -> Self
+        ensures { result ≡ written_told written.now }
+    {
+        match written {
+            Ok(length) => RtrStoresAnswer::wrote(*length),
+            Err(fault) => RtrStoresAnswer::of_check(fault),
         }
     }
 

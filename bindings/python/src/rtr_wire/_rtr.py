@@ -1540,12 +1540,13 @@ class rtr_history_limits(Structure):
 
 
 class rtr_stores_answer(Structure):
-    # The length of the store or the changes that were written.
+    # The length of the store or the changes that were written, or the number of serial
+    # numbers.
     length: int
     # After RTR_STORES_FLAW, the offset of the unit at fault in the data.
     offset: int
-    # After RTR_STORES_NO_ROOM, the length that suffices for this call; of the index in
-    # entries.
+    # After RTR_STORES_NO_ROOM, the length that suffices for this call; of the index and of
+    # serial numbers in entries.
     wanted: int
     # The result of the call, an rtr_stores_status.
     status: int
@@ -1744,6 +1745,10 @@ PROTOTYPES: dict[str, tuple[Any, list[Any]]] = {
         POINTER(rtr_stores_answer)]),
     "rtr_history_data_nonnull": (c_bool, [c_void_p, c_size_t, c_void_p, c_void_p]),
     "rtr_history_knows_nonnull": (c_bool, [c_void_p, c_size_t, c_uint32]),
+    "rtr_history_serials_nonnull": (c_uint8, [c_void_p, c_size_t, c_void_p, c_size_t,
+        POINTER(rtr_stores_answer)]),
     "rtr_store_seal_nonnull": (None, [c_void_p, c_size_t, POINTER(rtr_store_head)]),
     "rtr_store_open_nonnull": (c_bool, [c_void_p, c_size_t]),
+    "rtr_store_open_old_nonnull": (c_uint8, [c_void_p, c_size_t, c_void_p, c_size_t,
+        POINTER(rtr_stores_answer)]),
 }
