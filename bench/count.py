@@ -406,6 +406,16 @@ def same_tools(used):
     return bool(said) and all(re.search(rf"\b{re.escape(name)}[,.]", said[0]) for name in used)
 
 
+def can_count(warns, *needed):
+    """Whether these tools are here, and the processor is that of the pages; if not, warns by this
+    function."""
+    missing = [name for name in needed if not shutil.which(name)]
+    if missing or platform.machine() != "x86_64":
+        warns(f"no {' and no '.join(missing) or 'x86-64'} here: nothing is counted")
+        return False
+    return True
+
+
 def options(number, default):
     """The options of a script that counts: --check, --write, and one that takes a number."""
     parser = argparse.ArgumentParser()
@@ -417,9 +427,7 @@ def options(number, default):
 
 def main():
     asked = options("--jobs", os.cpu_count())
-    missing = [name for name in ("valgrind", "gcc") if not shutil.which(name)]
-    if missing or platform.machine() != "x86_64":
-        warn(f"no {' and no '.join(missing) or 'x86-64'} here: nothing is counted")
+    if not can_count(warn, "valgrind", "gcc"):
         return 0 if asked.check else 1
     compilers = [name for name in ("gcc", "clang") if shutil.which(name)]
     if len(compilers) == 1:

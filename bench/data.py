@@ -19,9 +19,7 @@ new data.
 3 in a hundred.
 """
 import os
-import platform
 import re
-import shutil
 import subprocess
 import sys
 import tempfile
@@ -184,9 +182,7 @@ def check(calls):
 
 def main():
     asked = count.options("--jobs", os.cpu_count())
-    missing = [name for name in ("valgrind", "gcc") if not shutil.which(name)]
-    if missing or platform.machine() != "x86_64":
-        warn(f"no {' and no '.join(missing) or 'x86-64'} here: nothing is counted")
+    if not count.can_count(warn, "valgrind", "gcc"):
         return 0 if asked.check else 1
     used = count.tools(["gcc"])
     if asked.check and not count.same_tools(used):

@@ -13,7 +13,6 @@ With --check the table of docs/SPEED.md is compared: a number may differ by 3 in
 renews it. The programs are those of .ci/built.py; tables.c has the code by hand.
 """
 import os
-import platform
 import shutil
 import struct
 import subprocess
@@ -144,9 +143,7 @@ def wrong_cells(rows):
 
 def main():
     asked = count.options("--jobs", os.cpu_count())
-    missing = [name for name in ("valgrind", "gcc") if not shutil.which(name)]
-    if missing or platform.machine() != "x86_64":
-        warn(f"no {' and no '.join(missing) or 'x86-64'} here: nothing is counted")
+    if not count.can_count(warn, "valgrind", "gcc"):
         return 0 if asked.check else 1
     compilers = [name for name in ("gcc", "clang") if shutil.which(name)]
     if asked.check and not count.same_tools(count.tools(compilers)):

@@ -17,10 +17,8 @@ compared: a number may differ by 3 in a hundred. The exit status is 1 if a numbe
 if rtr_make takes more than 1.6 times the instructions of `data`.
 """
 import os
-import platform
 import re
 import resource
-import shutil
 import statistics
 import subprocess
 import sys
@@ -154,11 +152,7 @@ def check(instructions):
 
 def main():
     asked = count.options("--runs", 5)
-    if platform.machine() != "x86_64":
-        warn("no x86-64 here: nothing is counted")
-        return 0 if asked.check else 1
-    if not shutil.which("valgrind"):
-        warn("no valgrind here: nothing is counted")
+    if not count.can_count(warn, "valgrind"):
         return 0 if asked.check else 1
     if not count.built.fresh(BENCH):
         warn(f"{BENCH} isn't built: nothing is counted")
