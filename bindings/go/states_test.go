@@ -152,7 +152,7 @@ func isAtDoor() bool {
 }
 
 // A listener that waits for a client to leave ends with the server, before any client has left. The
-// server's clock stands, so that none has to leave.
+// server's clock is stopped, so that no limit makes one leave.
 func TestListenerEndsAtTheDoor(t *testing.T) {
 	noLeaks(t)
 	server := NewServer()

@@ -9,8 +9,8 @@ import { unitOf } from "./units.js";
 
 const NOTHING = new Uint8Array(0);
 
-// The most bytes of an answer that are handed to a socket at a time: a record of TLS. A stream says
-// only of a whole chunk that it is sent, and a router that takes none within a limit is cut off.
+// The most bytes of an answer that are handed to a socket at a time: a record of TLS. A stream
+// reports only that a whole chunk was sent, and the connection ends if none was within the limit.
 const CHUNK = 1 << 14;
 
 // The size of a serial number.
