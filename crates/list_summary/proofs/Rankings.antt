@@ -1,7 +1,7 @@
 -- Entries of a map that are ranked one after the other.
 use Rattle.std.proofs.Common.{◌≡◌, ◌≢◌, ℕ, ◌+◌, ◌^◌, ◌<◌, ◌≤◌, List, [], ◌∷◌, ◌++◌, suc, zero}
 use Rattle.std.proofs.Common.{Bool, true, false, take, nat_lt, refl, ap, sym, ◌∙◌, arith}
-use Rattle.std.proofs.Common.{None, Some, ⊎_elim}
+use Rattle.std.proofs.Common.{None, Some, ⊎_elim, drop, length, not}
 use Rattle.std.proofs.Common.{subst, map, append_assoc, append-nil}
 use Rattle.std.specs.Prelude.{◌==◌, if◌then◌else◌}
 use Rattle.std.specs.BTreeMap.{is_at}
@@ -14,7 +14,8 @@ use Rattle.std.specs.declared.cmp.Ordering.TheVariants.{Less}
 use Rattle.std.proofs.lemmas.Bool.{cases_lt}
 use Rattle.std.proofs.lemmas.Bool.Decides.{nat_tests}
 use Rattle.std.proofs.lemmas.Cmp.{ranked as by_cmp}
-use Rattle.std.proofs.lemmas.List.{map-append}
+use Rattle.std.proofs.lemmas.List.{length-take-le, map-append, take-append-le, take-take}
+use Rattle.std.proofs.lemmas.List.Sums.{prefix_len-le-length}
 use Rattle.list_summary.specs.Summaries.{largest, ranked, ranking}
 
 -- one entry ranked, unless it counts none
@@ -47,6 +48,19 @@ pub placed : (row : ℕ × ℕ) (rows : List (ℕ × ℕ)) →
     insert rows (position_or_len (λ r. nat_lt r.1 row.1) rows) row ≡ ranked row rows
 placed row [] = refl
 placed row (first ∷ rest) = placed_by row first rest _ refl (placed row rest)
+
+-- a row that is put behind the first ones leaves these as they are
+pub put_after : (n : ℕ) (row : ℕ × ℕ) (rows : List (ℕ × ℕ)) →
+    n ≤ position_or_len (λ r. nat_lt r.1 row.1) rows → take n rows ≡ take n (ranked row rows)
+put_after n row rows far =
+    let place = position_or_len (λ (r : ℕ × ℕ). nat_lt r.1 row.1) rows in
+    let within : place ≤ length rows =
+    prefix_len-le-length (λ (r : ℕ × ℕ). not (nat_lt r.1 row.1)) rows in
+    let long : n ≤ length (take place rows) =
+    omega (arith, far, length-take-le place rows within) in
+    sym (take-take n place rows far)
+    ∙ sym (take-append-le n (take place rows) (row ∷ drop place rows) long)
+    ∙ ap (λ (l : List (ℕ × ℕ)). take n l) (placed row rows)
 
 -- ---- the first of a ranking
 

@@ -1,8 +1,11 @@
 -- Counters of units, after one more.
 use Rattle.std.proofs.Common.{◌≡◌, ℕ, ◌+◌, ◌-◌, ◌^◌, ◌<◌, ◌≤◌, min, cond, List, ◌∷◌, ◌++◌, length}
 use Rattle.std.proofs.Common.{get_or, set, Option, Some, None, sym, ap, ◌∙◌, arith}
-use Rattle.std.proofs.Common.{length-set, append_assoc, add-one}
+use Rattle.std.proofs.Common.{length-set, append_assoc, add-one, Bool, true, false, refl}
 use Rattle.std.specs.Prelude.{◌==◌, if◌then◌else◌}
+use Rattle.std.specs.BTreeMap.{is_at}
+use Rattle.std.specs.Option.{unwrap_or}
+use Rattle.std.specs.Ordering.{nat_cmp}
 use Rattle.std.proofs.lemmas.Bool.Decides.{nat_tests}
 use Rattle.std.proofs.lemmas.Grind.{common_steps, get_or-set_at}
 use Rattle.std.proofs.lemmas.List.Sums.{count_by-le-length, sum_by-cons}
@@ -68,6 +71,26 @@ counted_more units unit (Some n) old new is more room h whole k =
     (h (more.whole whole) k) (count_by-le-length (λ u. is_number (announced_as u) k) units) room
     ∙ ap (λ (o : Option ℕ). cond (is_number o k) 1 0 + tally announced_as units k) (sym is)
     ∙ sym (tally_cons announced_as unit units k)
+
+-- one more of an AS in a map of counters
+same_test : (n k : ℕ) → is_at (nat_cmp n) k ≡ (n == k)
+same_test n k = grind (arith, nat_tests)
+
+by_test : (b : Bool) (n : ℕ) (o : Option ℕ) →
+    unwrap_or (cond b (Some n) o) 0 ≡ (if b then n else unwrap_or o 0)
+by_test true n o = refl
+by_test false n o = refl
+
+pub counted_once : (asn k before after : ℕ) (found was now : Option ℕ) →
+    now ≡ cond (is_at (nat_cmp asn) k) (Some after) was → before ≡ unwrap_or found 0 →
+    after ≡ min (before + 1) (2 ^ 64 - 1) → unwrap_or now 0 ≡
+    (if asn == k then min (unwrap_or found 0 + 1) (2 ^ 64 - 1) else unwrap_or was 0)
+counted_once asn k before after found was now is had more =
+    ap (λ o. unwrap_or o 0) is
+    ∙ ap (λ b. unwrap_or (cond b (Some after) was) 0) (same_test asn k)
+    ∙ by_test (asn == k) after was
+    ∙ ap (λ n. if asn == k then n else unwrap_or was 0)
+    (more ∙ ap (λ n. min (n + 1) (2 ^ 64 - 1)) had)
 
 -- lines of lengths, and one more
 pub lengths_more : (name : List ℕ) (lengths : ℕ → ℕ) (n : ℕ) (start before after : List ℕ) →

@@ -1,9 +1,7 @@
 //! Counters, one for each AS.
 
-ghost use Rattle.std.specs.Prelude.{◌≡◌, ℕ, IfOk, None, OnOk, Some, length, nat_lt, take, true};
-ghost use Rattle.std.specs.BTreeMap.{get};
+ghost use Rattle.std.specs.Prelude.{◌≡◌, ℕ, IfOk, OnOk, Some, length, nat_lt, take, true};
 ghost use Rattle.std.specs.List.{position_or_len};
-ghost use Rattle.std.specs.Ordering.{nat_cmp};
 ghost use Rattle.list_summary.specs.PrivateTallies.{CountsAs, as_count, one_more};
 ghost use Rattle.list_summary.specs.Summaries.{largest, ranked};
 
@@ -61,22 +59,14 @@ fn raise(counts: &mut BTreeMap<Asn, u64>, asn: Asn) -> bool
     ensures { result ≡ true → (k : ℕ) →
         as_count counts.new k ≡ one_more (Some asn) (as_count counts.old) k }
 {
-    match counts.get_mut(&asn) {
-        Some(count) => {
+    match counts.entry(asn) {
+        Ok(entry) => {
+            let count = entry.or_insert(0);
             *count = count.saturating_add(1);
             true
         }
-        None => begin(counts, asn),
+        Err(_) => false,
     }
-}
-
-/// Counts an AS that wasn't counted before, and reports whether there was memory for it.
-fn begin(counts: &mut BTreeMap<Asn, u64>, asn: Asn) -> bool
-    requires { get nat_cmp counts.old asn ≡ None }
-    ensures { result ≡ true → (k : ℕ) →
-        as_count counts.new k ≡ one_more (Some asn) (as_count counts.old) k }
-{
-    counts.insert(asn, 1).is_ok()
 }
 
 /// The largest ASes of these.
@@ -93,12 +83,15 @@ fn largest(alloc: Global, counts: &BTreeMap<Asn, u64>) -> Result<Vec<(u32, u64)>
     Ok(rows)
 }
 
-/// Inserts the row behind those with as high a count or a higher one, and keeps the first ten.
+/// Inserts the row behind those with as high a count or a higher one, unless ten of them are there,
+/// and keeps the first ten.
 fn rank(rows: &mut Vec<(u32, u64)>, row: (u32, u64)) -> Result<(), AllocError>
     ensures { OnOk result (rows.new.items ≡ take 10 (ranked row rows.old.items)) }
 {
     let place = place_of(rows.as_slice(), row.1);
-    rows.insert(place, row)?;
+    if place < MOST {
+        rows.insert(place, row)?;
+    }
     rows.truncate(MOST);
     Ok(())
 }

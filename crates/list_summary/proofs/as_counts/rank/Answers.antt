@@ -1,11 +1,13 @@
 use Rattle.std.proofs.Common.{◌≡◌, ℕ, ◌≤◌, List, sym, ap, ◌∙◌, subst, nat_lt, take}
-use Rattle.std.proofs.Common.{not}
+use Rattle.std.proofs.Common.{arith, not}
 use Rattle.std.proofs.lemmas.List.Sums.{prefix_len-le-length}
 use Rattle.std.specs.List.{insert, position_or_len}
 use Rattle.std.specs.Vec.{vec_len}
 use Rattle.list_summary.specs.Summaries.{ranked}
-use Rattle.list_summary.proofs.Rankings.{placed}
+use Rattle.list_summary.proofs.Rankings.{placed, put_after}
 use Rattle.list_summary.proofs.as_counts.rank.Goals as goal
+use Rattle.list_summary.proofs.as_counts.rank.Goals.{then-place-lt-MOST+in_ok-insert}
+use Rattle.list_summary.proofs.as_counts.rank.Goals.{else-place-lt-MOST}
 
 pub insert-requires : goal.insert-requires
 insert-requires c =
@@ -22,8 +24,16 @@ returns c =
     let place =
     c.place_of-place.ensures
     ∙ ap (λ (l : List (ℕ × ℕ)). position_or_len behind l) c.as_slice.ensures.value in
-    let put : c.insert.new.self.items ≡ ranked c.args.row c.args.rows.now.items =
-    c.in_ok-insert.ensures.items
-    ∙ ap (λ k. insert c.args.rows.now.items k c.args.row) place
-    ∙ placed c.args.row c.args.rows.now.items in
-    c.truncate.ensures.items ∙ ap (λ l. take 10 l) put
+    elim c.if-place-lt-MOST.branch [
+      | then-place-lt-MOST+in_ok-insert w ↦
+          let put : w.insert.new.self.items ≡ ranked c.args.row c.args.rows.now.items =
+          w.in_ok-insert.ensures.items
+          ∙ ap (λ k. insert c.args.rows.now.items k c.args.row) place
+          ∙ placed c.args.row c.args.rows.now.items in
+          c.truncate.ensures.items ∙ ap (λ v. take 10 v.items) w.rows-is ∙ ap (λ l. take 10 l) put
+      | else-place-lt-MOST w ↦
+          let far : 10 ≤ position_or_len behind c.args.rows.now.items =
+          omega (arith, w.if-place-lt-MOST.false, place) in
+          c.truncate.ensures.items ∙ ap (λ v. take 10 v.items) w.rows-is
+          ∙ put_after 10 c.args.row c.args.rows.now.items far
+    ]
