@@ -60,8 +60,13 @@ one_broken what text e a b ((part, missing, wrote, is, stops), counts) =
 -- ---- the lines of broken rules
 
 -- out of memory, nothing of a line is written
-pub puts_none : (text : List ℕ) (a : Option (List ℕ)) → PutsLineBytes text (Err Memory) a a
-puts_none text a = ([], written_line text, Appends-nil a, refl, refl)
+no_memory_puts_none : (text : List ℕ) (a : Option (List ℕ)) → PutsLineBytes text (Err Memory) a a
+no_memory_puts_none text a = ([], written_line text, Appends-nil a, refl, refl)
+
+pub puts_none : (e : Fault) (text : List ℕ) (a : Option (List ℕ)) → e ≡ Memory →
+    PutsLineBytes text (Err e) a a
+puts_none e text a is =
+    subst (λ f. PutsLineBytes text (Err f) a a) (sym is) (no_memory_puts_none text a)
 
 -- the first lines and one more
 pub lines_on : (offset : ℕ) (broken : List Finding) (i : ℕ) (d : Finding) → i < length broken →

@@ -11,8 +11,14 @@ use Rattle.unit_any.specs.AnyFields.{AnyFields}
 use Rattle.list_lines.specs.PrivateFollowing.{HasSeen}
 use Rattle.list_lines.specs.Listing.{BreaksOff, UnitLines, tells_broken}
 use Rattle.list_lines.specs.declared.check.Checker.{Checker}
+use Rattle.list_lines.specs.declared.line.Failed.{Failed}
 use Rattle.list_lines.specs.declared.run.Wanted.{Wanted}
 use Rattle.list_lines.specs.declared.run.Wanted.TheVariants.{Text, Json, Findings}
+
+-- the answer of a call that keeps its fault apart
+abbrev pub answered : {T : Type 0} → Result T Failed → Fault → Result T Fault
+answered (Ok x) failure = Ok x
+answered (Err failed) failure = Err failure
 
 -- these lines of one unit were printed, with whether they report a broken rule, or printing
 -- stopped

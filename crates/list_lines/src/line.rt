@@ -7,6 +7,7 @@ ghost use Rattle.rtr_base.specs.PlainTexts.{prefix_text};
 ghost use Rattle.rtr_units.specs.StopCauses.{by_cause, by_reader};
 ghost use Rattle.text_lines.specs.Laying.{text_end};
 ghost use Rattle.list_lines.specs.Lines.{PutsLine, written_line};
+ghost use Rattle.list_lines.specs.PrivateLines.{answered};
 
 use crate::laid::{Bytes, Labelled, Laid, PrefixText};
 use itoa::Buffer;
@@ -27,6 +28,20 @@ const BLOCK: usize = 32;
 
 /// The room that is made beyond what is needed.
 const MORE_ROOM: usize = 512;
+
+/// Says that a call failed, and has kept its fault where it was asked to. A `Fault` is large: an
+/// answer without it isn't copied through memory.
+#[derive(Clone, Copy)]
+pub(crate) struct Failed;
+
+/// Keeps the fault of a call that fails.
+#[inline(always)]
+pub(crate) fn keep(fault: Fault, failure: &mut Fault) -> Failed
+    ensures { failure.new ≡ fault }
+{
+    *failure = fault;
+    Failed
+}
 
 /// A line that is made of pieces, in memory that it uses again.
 #[derive(Drop)]
@@ -157,15 +172,19 @@ impl Line {
         self.byte(b'\n')
     }
 
-    /// Ends the line and writes it. `Memory` says that nothing was written, `Writer` that a part
-    /// was.
-    pub fn put<W: Sink>(&mut self, writer: &mut W) -> Result<(), Fault>
-        ensures bytes { PutsLine self.old result (W.state writer.old) (W.state writer.new) }
-        ensures no_reader { by_cause result ≢ Err by_reader }
+    /// Ends the line and writes it, or keeps why it fails: `Memory` says that nothing was written,
+    /// `Writer` that a part was.
+    pub(crate) fn put<W: Sink>(&mut self, writer: &mut W, failure: &mut Fault) -> Result<(), Failed>
+        ensures bytes { PutsLine self.old (answered result failure.new)
+            (W.state writer.old) (W.state writer.new) }
+        ensures no_reader { by_cause (answered result failure.new) ≢ Err by_reader }
     {
-        match self.end() {
-            Ok(()) => put(writer, self.as_bytes()),
-            Err(_) => Err(Fault::Memory),
+        if self.end().is_err() {
+            return Err(keep(Fault::Memory, failure));
+        }
+        match put(writer, self.as_bytes()) {
+            Ok(()) => Ok(()),
+            Err(fault) => Err(keep(fault, failure)),
         }
     }
 }

@@ -3,6 +3,7 @@
 ghost use Rattle.std.specs.Prelude.{◌≡◌, ◌≢◌, ℕ, List, [], ◌∷◌, ◌++◌, Err, OnOk, OnErr};
 ghost use Rattle.rtr_units.specs.StopCauses.{by_cause, by_reader};
 ghost use Rattle.rtr_units.specs.StopCauses.{WriterState};
+ghost use Rattle.rtr_units.specs.declared.fault.Fault.{Fault};
 ghost use Rattle.unit_any.specs.AnyFields.{AnyFields, HasAnyFields};
 ghost use Rattle.unit_any.specs.AnyUnits.{any_bytes, any_fields};
 ghost use Rattle.text_findings.specs.FindingTexts.{finding_of};
@@ -11,13 +12,13 @@ ghost use Rattle.text_lines.specs.JsonLines.{unit_json};
 ghost use Rattle.list_lines.specs.Lines.{PutsLine, written_line};
 ghost use Rattle.list_lines.specs.Listing.{end_lines, finding_lines, offset_of};
 ghost use Rattle.list_lines.specs.PrivateLines.{HasChecked, Prints, PrintsUnit};
-ghost use Rattle.list_lines.specs.PrivateLines.{offset_after};
+ghost use Rattle.list_lines.specs.PrivateLines.{answered, offset_after};
 ghost use Rattle.text_lines.specs.TextLines.{unit_text};
 ghost use Rattle.list_lines.specs.declared.run.Wanted.TheVariants.{Text, Json, Findings};
 
 use crate::check::Checker;
 use crate::laid::{UnitJson, UnitText};
-use crate::line::Line;
+use crate::line::{Failed, Line, keep};
 use crate::listed::listed;
 use crate::run::Wanted;
 use rtr_units::fault::Fault;
@@ -58,28 +59,29 @@ impl Printer {
         self.offset
     }
 
-    /// Prints the wanted lines of the next unit, and reports whether it breaks a rule. Faults:
-    /// `Memory` and `Writer`.
+    /// Prints the wanted lines of the next unit, and reports whether it breaks a rule, or keeps why
+    /// it fails: `Memory` and `Writer`.
     pub fn print<W: Sink>(
         &mut self,
         wanted: Wanted,
         unit: &AnyUnit,
         output: &mut W,
-    ) -> Result<bool, Fault>
+        failure: &mut Fault,
+    ) -> Result<bool, Failed>
         // As of each unit that is read.
         requires { HasAnyFields (any_bytes unit.now) (any_fields unit.now) }
         // Where these units were before, their lines are those of the unit after them.
         ensures lines { (before : List AnyFields) → HasChecked wanted self.old.checker before →
-            PrintsUnit wanted self.old.offset before (any_fields unit.now) result
-            (W.state output.old) (W.state output.new) }
+            PrintsUnit wanted self.old.offset before (any_fields unit.now)
+            (answered result failure.new) (W.state output.old) (W.state output.new) }
         ensures checks { (before : List AnyFields) → HasChecked wanted self.old.checker before →
             OnOk result (HasChecked wanted self.new.checker (any_fields unit.now ∷ before)) }
-        ensures no_reader { by_cause result ≢ Err by_reader }
+        ensures no_reader { by_cause (answered result failure.new) ≢ Err by_reader }
         ensures moves { OnOk result (
             self.new.offset ≡ offset_after self.old.offset (any_bytes unit.now)) }
         ensures stays { OnErr result (self.new.offset ≡ self.old.offset) }
     {
-        let answer = self.print_lines(wanted, unit, output);
+        let answer = self.print_lines(wanted, unit, output, failure);
         if answer.is_ok() {
             self.offset = self.offset.saturating_add(u64::from(unit.size()));
         }
@@ -92,56 +94,71 @@ impl Printer {
         wanted: Wanted,
         unit: &AnyUnit,
         output: &mut W,
-    ) -> Result<bool, Fault>
+        failure: &mut Fault,
+    ) -> Result<bool, Failed>
         requires { HasAnyFields (any_bytes unit.now) (any_fields unit.now) }
         ensures lines { (before : List AnyFields) → HasChecked wanted self.old.checker before →
-            PrintsUnit wanted self.old.offset before (any_fields unit.now) result
-            (W.state output.old) (W.state output.new) }
+            PrintsUnit wanted self.old.offset before (any_fields unit.now)
+            (answered result failure.new) (W.state output.old) (W.state output.new) }
         ensures checks { (before : List AnyFields) → HasChecked wanted self.old.checker before →
             OnOk result (HasChecked wanted self.new.checker (any_fields unit.now ∷ before)) }
-        ensures no_reader { by_cause result ≢ Err by_reader }
+        ensures no_reader { by_cause (answered result failure.new) ≢ Err by_reader }
         ensures offset { self.new.offset ≡ self.old.offset }
     {
         match wanted {
-            Wanted::Text => unbroken(self.print_text(unit, output)),
-            Wanted::Json => unbroken(self.print_json(unit, output)),
-            Wanted::Findings => self.print_findings(unit, output),
+            Wanted::Text => unbroken(self.print_text(unit, output, failure)),
+            Wanted::Json => unbroken(self.print_json(unit, output, failure)),
+            Wanted::Findings => self.print_findings(unit, output, failure),
         }
     }
 
-    /// Prints the wanted lines at the end of the input, and reports whether a rule is broken.
-    /// Faults are those of `print`.
-    pub fn finish<W: Sink>(&mut self, wanted: Wanted, output: &mut W) -> Result<bool, Fault>
+    /// Prints the wanted lines at the end of the input, and reports whether a rule is broken, or
+    /// keeps why it fails, as `print`.
+    pub fn finish<W: Sink>(
+        &mut self,
+        wanted: Wanted,
+        output: &mut W,
+        failure: &mut Fault,
+    ) -> Result<bool, Failed>
         ensures lines { (before : List AnyFields) → HasChecked wanted self.old.checker before →
-            self.old.offset ≡ offset_of before → Prints wanted (end_lines wanted before) result
-            (W.state output.old) (W.state output.new) }
-        ensures no_reader { by_cause result ≢ Err by_reader }
+            self.old.offset ≡ offset_of before → Prints wanted (end_lines wanted before)
+            (answered result failure.new) (W.state output.old) (W.state output.new) }
+        ensures no_reader { by_cause (answered result failure.new) ≢ Err by_reader }
         ensures offset { self.new.offset ≡ self.old.offset }
     {
         match wanted {
             Wanted::Text | Wanted::Json => Ok(false),
-            Wanted::Findings => self.finish_findings(output),
+            Wanted::Findings => self.finish_findings(output, failure),
         }
     }
 
-    fn finish_findings<W: Sink>(&mut self, output: &mut W) -> Result<bool, Fault>
+    fn finish_findings<W: Sink>(
+        &mut self,
+        output: &mut W,
+        failure: &mut Fault,
+    ) -> Result<bool, Failed>
         ensures lines { (before : List AnyFields) → HasSeen self.old.checker before →
-            self.old.offset ≡ offset_of before → Prints Findings (end_lines Findings before) result
-            (W.state output.old) (W.state output.new) }
-        ensures no_reader { by_cause result ≢ Err by_reader }
+            self.old.offset ≡ offset_of before → Prints Findings (end_lines Findings before)
+            (answered result failure.new) (W.state output.old) (W.state output.new) }
+        ensures no_reader { by_cause (answered result failure.new) ≢ Err by_reader }
         ensures offset { self.new.offset ≡ self.old.offset }
     {
         let offset = self.offset;
         match self.checker.finish(&mut self.findings) {
-            Ok(()) => put_findings(&self.findings, offset, &mut self.line, output),
-            Err(_) => Err(Fault::Memory),
+            Ok(()) => put_findings(&self.findings, offset, &mut self.line, output, failure),
+            Err(_) => Err(keep(Fault::Memory, failure)),
         }
     }
 
-    fn print_text<W: Sink>(&mut self, unit: &AnyUnit, output: &mut W) -> Result<(), Fault>
-        ensures line { PutsLine (unit_text self.old.offset (any_fields unit.now)) result
-            (W.state output.old) (W.state output.new) }
-        ensures no_reader { by_cause result ≢ Err by_reader }
+    fn print_text<W: Sink>(
+        &mut self,
+        unit: &AnyUnit,
+        output: &mut W,
+        failure: &mut Fault,
+    ) -> Result<(), Failed>
+        ensures line { PutsLine (unit_text self.old.offset (any_fields unit.now))
+            (answered result failure.new) (W.state output.old) (W.state output.new) }
+        ensures no_reader { by_cause (answered result failure.new) ≢ Err by_reader }
         ensures offset { self.new.offset ≡ self.old.offset }
     {
         self.line.clear();
@@ -150,15 +167,20 @@ impl Printer {
             unit: listed(unit),
         };
         match self.line.lay(&text) {
-            Ok(()) => self.line.put(output),
-            Err(_) => Err(Fault::Memory),
+            Ok(()) => self.line.put(output, failure),
+            Err(_) => Err(keep(Fault::Memory, failure)),
         }
     }
 
-    fn print_json<W: Sink>(&mut self, unit: &AnyUnit, output: &mut W) -> Result<(), Fault>
-        ensures line { PutsLine (unit_json self.old.offset (any_fields unit.now)) result
-            (W.state output.old) (W.state output.new) }
-        ensures no_reader { by_cause result ≢ Err by_reader }
+    fn print_json<W: Sink>(
+        &mut self,
+        unit: &AnyUnit,
+        output: &mut W,
+        failure: &mut Fault,
+    ) -> Result<(), Failed>
+        ensures line { PutsLine (unit_json self.old.offset (any_fields unit.now))
+            (answered result failure.new) (W.state output.old) (W.state output.new) }
+        ensures no_reader { by_cause (answered result failure.new) ≢ Err by_reader }
         ensures offset { self.new.offset ≡ self.old.offset }
     {
         self.line.clear();
@@ -167,61 +189,70 @@ impl Printer {
             unit: listed(unit),
         };
         match self.line.lay(&text) {
-            Ok(()) => self.line.put(output),
-            Err(_) => Err(Fault::Memory),
+            Ok(()) => self.line.put(output, failure),
+            Err(_) => Err(keep(Fault::Memory, failure)),
         }
     }
 
-    fn print_findings<W: Sink>(&mut self, unit: &AnyUnit, output: &mut W) -> Result<bool, Fault>
+    fn print_findings<W: Sink>(
+        &mut self,
+        unit: &AnyUnit,
+        output: &mut W,
+        failure: &mut Fault,
+    ) -> Result<bool, Failed>
         requires { HasAnyFields (any_bytes unit.now) (any_fields unit.now) }
         ensures lines { (before : List AnyFields) → HasSeen self.old.checker before →
-            PrintsUnit Findings self.old.offset before (any_fields unit.now) result
-            (W.state output.old) (W.state output.new) }
+            PrintsUnit Findings self.old.offset before (any_fields unit.now)
+            (answered result failure.new) (W.state output.old) (W.state output.new) }
         ensures checks { (before : List AnyFields) → HasSeen self.old.checker before →
             OnOk result (HasSeen self.new.checker (any_fields unit.now ∷ before)) }
-        ensures no_reader { by_cause result ≢ Err by_reader }
+        ensures no_reader { by_cause (answered result failure.new) ≢ Err by_reader }
         ensures offset { self.new.offset ≡ self.old.offset }
     {
         match self.checker.check(unit, &mut self.findings) {
-            Ok(()) => put_findings(&self.findings, self.offset, &mut self.line, output),
-            Err(_) => Err(Fault::Memory),
+            Ok(()) => put_findings(&self.findings, self.offset, &mut self.line, output, failure),
+            Err(_) => Err(keep(Fault::Memory, failure)),
         }
     }
 }
 
 /// A listed unit breaks no rule that is looked for.
-fn unbroken(line: Result<(), Fault>) -> Result<bool, Fault>
-    ensures text { (text : List ℕ) → (old new : WriterState) → PutsLine text line old new →
-        Prints Text (written_line text ∷ []) result old new }
-    ensures json { (text : List ℕ) → (old new : WriterState) → PutsLine text line old new →
-        Prints Json (written_line text ∷ []) result old new }
-    ensures reader { by_cause line ≢ Err by_reader → by_cause result ≢ Err by_reader }
+fn unbroken(line: Result<(), Failed>) -> Result<bool, Failed>
+    ensures text { (failure : Fault) → (text : List ℕ) → (old new : WriterState) →
+        PutsLine text (answered line failure) old new →
+        Prints Text (written_line text ∷ []) (answered result failure) old new }
+    ensures json { (failure : Fault) → (text : List ℕ) → (old new : WriterState) →
+        PutsLine text (answered line failure) old new →
+        Prints Json (written_line text ∷ []) (answered result failure) old new }
+    ensures reader { (failure : Fault) → by_cause (answered line failure) ≢ Err by_reader →
+        by_cause (answered result failure) ≢ Err by_reader }
 {
     match line {
         Ok(()) => Ok(false),
-        Err(fault) => Err(fault),
+        Err(failed) => Err(failed),
     }
 }
 
-/// Writes a line of each finding, and reports whether there is one.
+/// Writes a line of each finding, and reports whether there is one, or keeps why it fails.
 fn put_findings<W: Sink>(
     findings: &[Finding],
     offset: u64,
     line: &mut Line,
     output: &mut W,
-) -> Result<bool, Fault>
-    ensures lines { Prints Findings (finding_lines offset findings.now) result
-        (W.state output.old) (W.state output.new) }
-    ensures no_reader { by_cause result ≢ Err by_reader }
+    failure: &mut Fault,
+) -> Result<bool, Failed>
+    ensures lines { Prints Findings (finding_lines offset findings.now)
+        (answered result failure.new) (W.state output.old) (W.state output.new) }
+    ensures no_reader { by_cause (answered result failure.new) ≢ Err by_reader }
 {
     for finding in findings {
         line.clear();
         if describe_finding(line, offset, *finding).is_err() {
-            return Err(Fault::Memory);
+            return Err(keep(Fault::Memory, failure));
         }
-        match line.put(output) {
+        match line.put(output, failure) {
             Ok(()) => {}
-            Err(fault) => return Err(fault),
+            Err(failed) => return Err(failed),
         }
     }
     Ok(!findings.is_empty())

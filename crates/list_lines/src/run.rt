@@ -196,19 +196,21 @@ fn list<R: Source, W: Sink>(
         (R.state input.old) (R.state input.new) (W.state output.old) (W.state output.new) }
 {
     let mut found = false;
+    // Why printing fails, where it does.
+    let mut failure = Fault::Memory;
     for count in 0..u64::MAX {
         match AnyUnit::read(alloc, input) {
-            Ok(Some(unit)) => match printer.print(wanted, &unit, output) {
+            Ok(Some(unit)) => match printer.print(wanted, &unit, output, &mut failure) {
                 Ok(more) => {
                     found |= more;
                     counts.add(&unit);
                 }
-                Err(fault) => return Err(fault),
+                Err(_) => return Err(failure),
             },
             Ok(None) => {
-                return match printer.finish(wanted, output) {
+                return match printer.finish(wanted, output, &mut failure) {
                     Ok(more) => Ok(found | more),
-                    Err(fault) => Err(fault),
+                    Err(_) => Err(failure),
                 };
             }
             Err(fault) => return Err(fault),

@@ -28,7 +28,7 @@ loop-count-preserved g c =
 pub returns-in-Err-print : goal.returns-in-Err-print
 returns-in-Err-print g c =
     let unit = rw c.in-Ok-Some.field-0-is at c.in-Ok-Some.ensures.bytes in
-    stops_printing c.args.wanted c.loop-count.found c.loop-count.count _ _ c.in-Err-print.fault
+    stops_printing c.args.wanted c.loop-count.found c.loop-count.count _ _ c.print.new.failure
     (any_fields c.in-Ok-Some.unit) _ _ _ _ _ _ _ c.loop-count.invariant.so_far
     unit.0.0 unit.0.1
     (λ before h. let k = c.in-Err-print.ensures.lines before h in (k.0, k.1, k.2.0))
@@ -54,10 +54,10 @@ returns-in-Err-finish g c =
     let read = rw c.in-Ok-None.field-0-is at c.in-Ok-None.ensures.bytes in
     let so_far = c.loop-count.invariant.so_far in
     let last = c.in-Err-finish.ensures.lines so_far.units so_far.checked so_far.place in
-    stops_at_end c.args.wanted c.loop-count.found c.loop-count.count _ _ c.in-Err-finish.fault
+    stops_at_end c.args.wanted c.loop-count.found c.loop-count.count _ _ c.finish.new.failure
     _ _ _ _ _ _ so_far read.0
     (λ before seen place.
     let k = c.in-Err-finish.ensures.lines before seen place in (k.0.0, k.0.1, k.0.2)) (
       search rules,
-      count_kept (Err c.in-Err-finish.fault) _ _ _ last.1 c.loop-count.invariant.writes,
+      count_kept (Err c.finish.new.failure) _ _ _ last.1 c.loop-count.invariant.writes,
     )
