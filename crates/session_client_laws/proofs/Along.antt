@@ -43,7 +43,7 @@ use Rattle.session_laws.specs.Pipes.IsRunInBytes.{pipes_begin, pipes_go_on}
 use Rattle.session_laws.specs.Pipes.NextBytes.{asked_in_bytes, data_renewed, heard_bytes}
 use Rattle.session_laws.specs.Pipes.NextBytes.{joined_anew, told_cache, told_router}
 use Rattle.session_laws.specs.Written.{FitsAction, router_bytes}
-use Rattle.session_client_laws.specs.Runs.{FitsTaken, Goes, IsOpening}
+use Rattle.session_client_laws.specs.Runs.{Calls, FitsTaken, Goes, IsOpening}
 use Rattle.session_client_laws.specs.Runs.{IsRunOfClient, Pair, RunsInBytes, ShowsHad, sent_by}
 use Rattle.session_client_laws.specs.Runs.Goes.{asks, calls, moves, opens, takes_bytes, renews}
 use Rattle.session_client_laws.specs.Runs.Goes.{says}
@@ -83,7 +83,7 @@ record Follows (p : Pair) : Type 0 where
 
 -- ---- lists
 
-left_none : (a : Action) (before after : Octets) → before ≡ [] → LeavesInput a 0 before after →
+pub left_none : (a : Action) (before after : Octets) → before ≡ [] → LeavesInput a 0 before after →
     after ≡ []
 left_none (actions.End x) before after none left = left
 left_none actions.Connect before after none left = left
@@ -96,12 +96,12 @@ left_none actions.Show before after none left = left ∙ none
 left_none actions.NoData before after none left = left ∙ none
 left_none actions.Drop before after none left = left ∙ none
 
-some_there : (n : ℕ) (b : Octets) → 0 < n → n ≤ length b → b ≡ [] → ⊥
+pub some_there : (n : ℕ) (b : Octets) → 0 < n → n ≤ length b → b ≡ [] → ⊥
 some_there n b some within none =
     let e : length b ≡ 0 = ap length none in absurd (omega (arith, some, within, e))
 
 -- what was received stands behind what was there
-received : (a filled size : ℕ) (input input' : Octets) → a ≤ filled →
+pub received : (a filled size : ℕ) (input input' : Octets) → a ≤ filled →
     filled + size ≤ length input' → take filled input ≡ take filled input' →
     drop a (take (filled + size) input')
     ≡ drop a (take filled input) ++ take size (drop filled input')
@@ -115,7 +115,7 @@ received a filled size input input' order within same =
 
 -- ---- phases
 
-same_talk : (r r' : Router) → r'.phase ≡ r.phase → IsTalking r → IsTalking r'
+pub same_talk : (r r' : Router) → r'.phase ≡ r.phase → IsTalking r → IsTalking r'
 same_talk r r' same talks = (λ is. talks.0 (sym same ∙ is), λ is. talks.1 (sym same ∙ is))
 
 talks_asked : (r : Router) → r.phase ≡ phases.Asked → IsTalking r
@@ -130,7 +130,7 @@ talks_applying r at = (λ is. let e = sym at ∙ is in cc, λ is. let e = sym at
 talks_waiting : (r : Router) → r.phase ≡ phases.Waiting → IsTalking r
 talks_waiting r at = (λ is. let e = sym at ∙ is in cc, λ is. let e = sym at ∙ is in cc)
 
-talks_or_not : (r : Router) → IsTalking r ⊎ (IsTalking r → ⊥)
+pub talks_or_not : (r : Router) → IsTalking r ⊎ (IsTalking r → ⊥)
 talks_or_not r = go r.phase refl
   where
     go : (p : Phase) → r.phase ≡ p → IsTalking r ⊎ (IsTalking r → ⊥)
@@ -163,7 +163,8 @@ no_keep r r' n (events.Faulty f) none rule = absurd none
 no_keep r r' n events.Applied none rule = rule
 no_keep r r' n (events.NotApplied code) none rule = rule
 
-no_apply : (r r' : Router) (n : ℕ) (on : Bool) (e : Event) → IsNoUnit e → Rule r n e (actions.Apply on) r' → ⊥
+no_apply : (r r' : Router) (n : ℕ) (on : Bool) (e : Event) → IsNoUnit e →
+    Rule r n e (actions.Apply on) r' → ⊥
 no_apply r r' n on events.Tick none rule = rule
 no_apply r r' n on events.Asked none rule = rule
 no_apply r r' n on events.Connected none rule = rule
@@ -206,12 +207,12 @@ shows_from r r' n events.Applied rule = (rule.from, rule.phase)
 shows_from r r' n (events.NotApplied code) rule = absurd rule
 
 -- where it talks after a step it talked before, and where it doesn't nothing is left
-record Left (r r' : Router) (before after : Octets) : Type 0 where
+pub record Left (r r' : Router) (before after : Octets) : Type 0 where
   pub talks : IsTalking r' → IsTalking r × (after ≡ before)
   pub rests : (IsTalking r' → ⊥) → ((IsTalking r → ⊥) → before ≡ []) → after ≡ []
 
-left_by : (r r' : Router) (n : ℕ) (e : Event) (a : Action) (before after : Octets) → IsNoUnit e →
-    (e ≡ events.Connected → ⊥) → Rule r n e a r' → LeavesInput a 0 before after →
+pub left_by : (r r' : Router) (n : ℕ) (e : Event) (a : Action) (before after : Octets) → IsNoUnit e
+    → (e ≡ events.Connected → ⊥) → Rule r n e a r' → LeavesInput a 0 before after →
     Left r r' before after
 left_by r r' n e actions.Wait before after none other rule left = record {
   talks = λ t. (same_talk r' r (sym rule.talk.phase) t, left);
@@ -250,11 +251,11 @@ left_by r r' n e (actions.End x) before after none other rule left = record {
 
 -- ---- bytes
 
-record LeftOf (r' : Router) (rest after : Octets) : Type 0 where
+pub record LeftOf (r' : Router) (rest after : Octets) : Type 0 where
   pub talks : IsTalking r' → after ≡ rest
   pub rests : (IsTalking r' → ⊥) → after ≡ []
 
-left_acted : (r before r' : Router) (n size : ℕ) (u : Head) (a : Action) (rest after : Octets) →
+pub left_acted : (r before r' : Router) (n size : ℕ) (u : Head) (a : Action) (rest after : Octets) →
     IsTalking before → a ≢ actions.Keep → Rule before n (events.Came u) a r' →
     LeavesInput a size rest after → LeftOf r' (drop size rest) after
 left_acted r before r' n size u actions.Wait rest after t other rule left =
@@ -275,7 +276,7 @@ left_acted r before r' n size u actions.Drop rest after t other rule left =
 left_acted r before r' n size u (actions.End x) rest after t other rule left =
     record { talks = λ t'. absurd (t'.0 rule.phase); rests = λ no. left }
 
-left_ended : (r r' : Router) (n : ℕ) (e : Event) (a : Action) (rest after : Octets) →
+pub left_ended : (r r' : Router) (n : ℕ) (e : Event) (a : Action) (rest after : Octets) →
     EndsConnection a → Rule r n e a r' → LeavesInput a 0 rest after → LeftOf r' rest after
 left_ended r r' n e (actions.End x) rest after ends rule left =
     record { talks = λ t. absurd (t.0 rule.phase); rests = λ no. left }
@@ -693,6 +694,50 @@ along_run p (pair_begins k input held new e is fits) = record {
   };
 }
 along_run p (pair_goes_on before _ run step) = next before p step (along_run before run)
+
+-- a caller that makes all that was made, and where the run is beside it
+record Standing (p : Pair) : Type 0 where
+  pub caller : Caller Octets Octets
+  pub along : Along caller p
+
+standing : (p : Pair) → IsRunOfClient p → Standing p
+standing p run =
+    let f = along_run p run in
+    let s = p.client.router.settings in
+    let c = caller_of s f.made in
+    record { caller = c; along = f.along c (caller_makes s f.made f.were) }
+
+-- without a connection nothing is left that the machine wasn't told of
+pub nothing_untold : (p : Pair) → IsRunOfClient p → (IsTalking p.client.router → ⊥) →
+    untold p.client p.input ≡ []
+nothing_untold p run silent = (standing p run).along.rests silent
+
+-- a connection is there only where it was to be made
+pub opens_connecting : (p : Pair) (k : Client) (input held : Octets) (a : Option Action)
+    (x : Calls p k input held a) → IsRunOfClient p → IsOpening x.takes.word →
+    p.client.router.phase ≡ phases.Connecting
+opens_connecting p k input held a x run opening =
+    let f = along_run p run in
+    let s = p.client.router.settings in
+    let made = x.takes.made ++ f.made in
+    let c = caller_of s made in
+    let both = makes_both c x.takes.made f.made
+    (caller_makes s made (were_both x.takes.made f.made x.takes.were f.were)) in
+    let y = f.along c both.1 in
+    go x.takes.word y.host (x.takes.says c y.host both.0 y.has) opening
+  where
+    go : (w : Word) (h : Made) → MaySayThis p.client.router h w → IsOpening w
+        → p.client.router.phase ≡ phases.Connecting
+    go of_nothing h may opening = absurd opening
+    go (of_bytes ended t) h may opening = absurd opening
+    go (of_itself events.Connected x) h may opening = may
+    go (of_itself events.Tick x) h may opening = absurd opening
+    go (of_itself events.Asked x) h may opening = absurd opening
+    go (of_itself events.Lost x) h may opening = absurd opening
+    go (of_itself (events.Came u) x) h may opening = absurd opening
+    go (of_itself (events.Faulty f) x) h may opening = absurd opening
+    go (of_itself events.Applied x) h may opening = absurd opening
+    go (of_itself (events.NotApplied code) x) h may opening = absurd opening
 
 -- ---- what is shown
 

@@ -1,7 +1,7 @@
 -- A run of a client and a cache that the prover computes, so that the premises of the laws are seen
 -- to be met: a reset query, a cache response, a prefix and an end of data.
 use native.Mathlib.Omega.{arith}
-use Rattle.std.proofs.Common.{◌≡◌, ◌<◌, ◌+◌, false, Some, None, List, [], ◌∷◌, ◌++◌, refl, sym}
+use Rattle.std.proofs.Common.{◌≡◌, false, Some, None, List, [], ◌∷◌, ◌++◌, refl, sym}
 use Rattle.std.proofs.Common.{ap, ◌∙◌, append-nil, inl, inr, lit<, lit≤, subst, true}
 use Rattle.std.specs.List.Sorted.{IsStrictlySortedBy}
 use Rattle.rtr_base.specs.Bytes.{IsBytes}
@@ -43,10 +43,13 @@ use Rattle.session_client.proofs.Runs.{made_is}
 use Rattle.session_client.proofs.Takes.{has_apply, has_kept, has_made}
 use Rattle.session_laws.specs.Editions.{PayloadEdition, editions_of}
 use Rattle.session_laws.specs.Written.{FitsEdition, router_bytes}
-use Rattle.session_client_laws.specs.Runs.{Calls, IsRunOfClient, Pair}
+use Rattle.session_client_laws.specs.Again.{IsServedAgain}
+use Rattle.session_client_laws.specs.Again.IsServedAgain.{again_calls, again_from}
+use Rattle.session_client_laws.specs.Again.IsServedAgain.{again_meanwhile, again_opens}
+use Rattle.session_client_laws.specs.Runs.{Calls, Goes, IsRunOfClient, Pair}
 use Rattle.session_client_laws.specs.Runs.Goes.{asks, calls, opens, takes_bytes, says}
 use Rattle.session_client_laws.specs.Runs.IsRunOfClient.{pair_begins, pair_goes_on}
-use Rattle.session_client_laws.specs.Served.{IsServedFrom}
+use Rattle.session_client_laws.specs.Served.{IsServedFrom, WellServed}
 use Rattle.session_client_laws.specs.Served.IsServedFrom.{says_between, serves_from, serves_on}
 use Rattle.session_client_laws.specs.Served.WellServed.{served_more, served_none}
 
@@ -148,10 +151,10 @@ client₅ = record client₄ { router = keeping; kept = 20 }
 abbrev pub client₆ : Client
 client₆ = record client₅ { router = applying; holding = holdings.Answer 24 false }
 
-abbrev client₇ : Client
+abbrev pub client₇ : Client
 client₇ = record client₀ { router = waiting; shown = Some 44; second = true }
 
-abbrev pair₀ : Pair
+abbrev pub pair₀ : Pair
 pair₀ = record {
   client = client₀;
   input = [];
@@ -184,7 +187,7 @@ pair₄ = record came₃ { client = client₄; input = data_bytes }
 abbrev pair₅ : Pair
 pair₅ = record pair₄ { client = client₅ }
 
-abbrev pair₆ : Pair
+abbrev pub pair₆ : Pair
 pair₆ = record pair₄ { client = client₆ }
 
 abbrev pub pair₇ : Pair
@@ -376,7 +379,7 @@ ends_answer = record {
   fits = tt;
 }
 
-shows_answer : Calls pair₆ client₇ data_bytes data_bytes (Some actions.Show)
+pub shows_answer : Calls pair₆ client₇ data_bytes data_bytes (Some actions.Show)
 shows_answer = record {
   now = 33;
   todo = todos.Data;
@@ -427,26 +430,25 @@ query_has = record {
   head = refl;
 }
 
+pub begins : IsRunOfClient pair₀
+begins = pair_begins client₀ [] [] cache₀ edition (record {
+  phase = refl;
+  has_data = refl;
+  holding = refl;
+  kept = refl;
+  filled = refl;
+  shown = refl;
+}) fits
+
 asks_then : IsRunOfClient pair₂
 unfolding connects asks_all
 asks_then = pair_goes_on pair₁ pair₂
-    (pair_goes_on pair₀ pair₁
-    (pair_begins client₀ [] [] cache₀ edition (record {
-      phase = refl;
-      has_data = refl;
-      holding = refl;
-      kept = refl;
-      filled = refl;
-      shown = refl;
-    }) fits)
+    (pair_goes_on pair₀ pair₁ begins
     (calls pair₀ client₁ [] [] (Some actions.Connect) connects (λ opening. opening)))
     (opens pair₁ client₂ [] [] (Some (actions.Ask (query asked))) cache₀ asks_all tt refl)
 
-comes_then : IsRunOfClient came₃
-comes_then = pair_goes_on sent₃ came₃
-    (pair_goes_on pair₃ sent₃
-    (pair_goes_on pair₂ pair₃ asks_then
-    (asks pair₂ 20 [] query_list [] false 8 answers.All cache₁ sent_bytes edition refl
+hears_query : Goes pair₂ pair₃
+hears_query = asks pair₂ 20 [] query_list [] false 8 answers.All cache₁ sent_bytes edition refl
     (record {
       head = query_head (query asked);
       unit = query_has;
@@ -454,10 +456,18 @@ comes_then = pair_goes_on sent₃ came₃
       within = lit≤ tt;
       step = gives_all_so;
     })
-    (lit< tt) tt refl))
-    (says pair₃ false false 0))
-    (takes_bytes sent₃ 52 sent_bytes sent_bytes [] ((λ is. cc), (λ is. cc))
-    (record { kept = lit≤ tt; due = lit≤ tt; filled = lit≤ tt }) (lit≤ tt) refl refl refl)
+    (lit< tt) tt refl
+
+says_sent : Goes pair₃ sent₃
+says_sent = says pair₃ false false 0
+
+receives : Goes sent₃ came₃
+receives = takes_bytes sent₃ 52 sent_bytes sent_bytes [] ((λ is. cc), (λ is. cc))
+    (record { kept = lit≤ tt; due = lit≤ tt; filled = lit≤ tt }) (lit≤ tt) refl refl refl
+
+comes_then : IsRunOfClient came₃
+comes_then = pair_goes_on sent₃ came₃
+    (pair_goes_on pair₃ sent₃ (pair_goes_on pair₂ pair₃ asks_then hears_query) says_sent) receives
 
 pub run : IsRunOfClient pair₇
 unfolding begins_answer keeps_prefix ends_answer shows_answer
@@ -495,29 +505,51 @@ untimed : ComesInTime none_yet 0
 untimed (inl limited) = absurd limited
 untimed (inr is) = absurd (let e = is in cc)
 
+connects_well : WellServed 2 0 router₀ none_yet (at 0 events.Tick [] actions.Connect ∷ [])
+    connecting exchange₁
+connects_well = served_more router₀ none_yet [] router₀ none_yet events.Tick [] actions.Connect
+    connecting (served_none router₀ none_yet) connects_so untimed (inl refl) ((λ is. cc), tt)
+
+asks_well : WellServed 2 10 connecting exchange₁
+    (at 10 events.Connected [] (actions.Ask (query asked)) ∷ []) asked exchange₂
+asks_well = served_more connecting exchange₁ [] connecting exchange₁ events.Connected []
+    (actions.Ask (query asked)) asked (served_none connecting exchange₁) asks_so (λ l. lit< tt)
+    (inr (inr refl)) ((λ is. cc), tt)
+
+begins_well : WellServed 2 30 asked exchange₂
+    (at 30 (events.Came response_head) response_bytes actions.Begin ∷ []) reading exchange₃
+begins_well = served_more asked exchange₂ [] asked exchange₂ (events.Came response_head)
+    response_bytes actions.Begin reading (served_none asked exchange₂) begins_so (λ l. lit< tt)
+    (inr (inr (responds response_head refl refl))) ((λ is. cc), tt)
+
+keeps_well : WellServed 2 31 reading exchange₃
+    (at 31 (events.Came payload_head) prefix_bytes actions.Keep ∷ []) keeping exchange₄
+keeps_well = served_more reading exchange₃ [] reading exchange₃ (events.Came payload_head)
+    prefix_bytes actions.Keep keeping (served_none reading exchange₃) keeps_so (λ l. lit< tt)
+    (inr (inr (sends_payload payload_head tt refl (lit≤ tt) (lit≤ tt)))) ((λ is. cc), tt)
+
+ends_well : WellServed 2 32 keeping exchange₄
+    (at 32 (events.Came end_head) end_bytes (actions.Apply false) ∷ []) applying exchange₅
+ends_well = served_more keeping exchange₄ [] keeping exchange₄ (events.Came end_head) end_bytes
+    (actions.Apply false) applying (served_none keeping exchange₄) completes_so (λ l. lit< tt)
+    (inr (inr (ends_data end_head (record { kind = refl; version = refl; session = refl })
+    (λ is. cc) (λ is. cc)))) ((λ is. cc), tt)
+
 asks_served : IsServedFrom 2 client₀ none_yet 0 client₂ exchange₂ 10
 unfolding connects asks_all
-asks_served = serves_on client₁ exchange₁ 0 10 (Some (actions.Ask (query asked))) [] [] client₂ [] []
-    (at 10 events.Connected [] (actions.Ask (query asked))) [] exchange₂
+asks_served = serves_on client₁ exchange₁ 0 10 (Some (actions.Ask (query asked))) [] [] client₂ []
+    [] (at 10 events.Connected [] (actions.Ask (query asked))) [] exchange₂
     (serves_on client₀ none_yet 0 0 (Some actions.Connect) [] [] client₁ [] []
     (at 0 events.Tick [] actions.Connect) [] exchange₁ serves_from (lit≤ tt) (lit≤ tt)
-    connects.takes (0, refl)
-    (served_more router₀ none_yet [] router₀ none_yet events.Tick [] actions.Connect connecting
-    (served_none router₀ none_yet) connects_so untimed (inl refl) ((λ is. cc), tt)))
-    (lit≤ tt) (lit≤ tt) asks_all.takes (10, refl)
-    (served_more connecting exchange₁ [] connecting exchange₁ events.Connected []
-    (actions.Ask (query asked)) asked (served_none connecting exchange₁) asks_so (λ l. lit< tt)
-    (inr (inr refl)) ((λ is. cc), tt))
+    connects.takes (0, refl) connects_well)
+    (lit≤ tt) (lit≤ tt) asks_all.takes (10, refl) asks_well
 
 begins_served : IsServedFrom 2 client₀ none_yet 0 client₄ exchange₃ 30
 unfolding begins_answer
 begins_served = serves_on client₃ exchange₂ 10 30 (Some actions.Begin) sent_bytes [] client₄
     data_bytes [] (at 30 (events.Came response_head) response_bytes actions.Begin) [] exchange₃
     (says_between client₂ exchange₂ 10 client₃ asks_served refl) (lit≤ tt) (lit≤ tt)
-    begins_answer.takes (((response_head, refl, response_has), tt), refl)
-    (served_more asked exchange₂ [] asked exchange₂ (events.Came response_head) response_bytes
-    actions.Begin reading (served_none asked exchange₂) begins_so (λ l. lit< tt)
-    (inr (inr (responds response_head refl refl))) ((λ is. cc), tt))
+    begins_answer.takes (((response_head, refl, response_has), tt), refl) begins_well
 
 pub is_served : IsServedFrom 2 client₀ none_yet 0 client₆ exchange₅ 32
 unfolding keeps_prefix ends_answer
@@ -526,11 +558,81 @@ is_served = serves_on client₅ exchange₄ 31 32 (Some (actions.Apply false)) d
     (serves_on client₄ exchange₃ 30 31 None data_bytes [] client₅ data_bytes []
     (at 31 (events.Came payload_head) prefix_bytes actions.Keep) [] exchange₄ begins_served
     (lit≤ tt) (lit≤ tt) keeps_prefix.takes (((payload_head, refl, prefix_has), tt), refl)
-    (served_more reading exchange₃ [] reading exchange₃ (events.Came payload_head) prefix_bytes
-    actions.Keep keeping (served_none reading exchange₃) keeps_so (λ l. lit< tt)
-    (inr (inr (sends_payload payload_head tt refl (lit≤ tt) (lit≤ tt)))) ((λ is. cc), tt)))
-    (lit≤ tt) (lit≤ tt) ends_answer.takes (((end_head, refl, end_has_head), tt), refl)
-    (served_more keeping exchange₄ [] keeping exchange₄ (events.Came end_head) end_bytes
-    (actions.Apply false) applying (served_none keeping exchange₄) completes_so (λ l. lit< tt)
-    (inr (inr (ends_data end_head (record { kind = refl; version = refl; session = refl })
-    (λ is. cc) (λ is. cc)))) ((λ is. cc), tt))
+    keeps_well)
+    (lit≤ tt) (lit≤ tt) ends_answer.takes (((end_head, refl, end_has_head), tt), refl) ends_well
+
+-- ---- the same in bytes and in time
+
+asks_again : IsServedAgain 2 pair₀ none_yet 0 pair₂ exchange₂ 10
+unfolding connects asks_all
+asks_again = again_opens pair₁ exchange₁ 0 client₂ [] [] (Some (actions.Ask (query asked))) cache₀
+    asks_all exchange₂
+    (again_calls pair₀ none_yet 0 client₁ [] [] (Some actions.Connect) connects exchange₁
+    again_from
+    (record {
+      later = lit≤ tt;
+      awake = lit≤ tt;
+      first = at 0 events.Tick [] actions.Connect;
+      others = [];
+      of_word = (0, refl);
+      well = connects_well;
+    })
+    (λ opening. opening))
+    (record {
+      later = lit≤ tt;
+      awake = lit≤ tt;
+      first = at 10 events.Connected [] (actions.Ask (query asked));
+      others = [];
+      of_word = (10, refl);
+      well = asks_well;
+    })
+    tt refl
+
+comes_again : IsServedAgain 2 pair₀ none_yet 0 came₃ exchange₂ 10
+comes_again = again_meanwhile sent₃ came₃ exchange₂ 10
+    (again_meanwhile pair₃ sent₃ exchange₂ 10
+    (again_meanwhile pair₂ pair₃ exchange₂ 10 asks_again hears_query refl refl) says_sent refl
+    refl)
+    receives refl refl
+
+begins_again : IsServedAgain 2 pair₀ none_yet 0 pair₄ exchange₃ 30
+unfolding begins_answer
+begins_again = again_calls came₃ exchange₂ 10 client₄ data_bytes [] (Some actions.Begin)
+    begins_answer exchange₃ comes_again
+    (record {
+      later = lit≤ tt;
+      awake = lit≤ tt;
+      first = at 30 (events.Came response_head) response_bytes actions.Begin;
+      others = [];
+      of_word = (((response_head, refl, response_has), tt), refl);
+      well = begins_well;
+    })
+    (λ opening. opening)
+
+keeps_again : IsServedAgain 2 pair₀ none_yet 0 pair₅ exchange₄ 31
+unfolding keeps_prefix
+keeps_again = again_calls pair₄ exchange₃ 30 client₅ data_bytes [] None keeps_prefix exchange₄
+    begins_again
+    (record {
+      later = lit≤ tt;
+      awake = lit≤ tt;
+      first = at 31 (events.Came payload_head) prefix_bytes actions.Keep;
+      others = [];
+      of_word = (((payload_head, refl, prefix_has), tt), refl);
+      well = keeps_well;
+    })
+    (λ opening. opening)
+
+pub is_again : IsServedAgain 2 pair₀ none_yet 0 pair₆ exchange₅ 32
+unfolding ends_answer
+is_again = again_calls pair₅ exchange₄ 31 client₆ data_bytes [] (Some (actions.Apply false))
+    ends_answer exchange₅ keeps_again
+    (record {
+      later = lit≤ tt;
+      awake = lit≤ tt;
+      first = at 32 (events.Came end_head) end_bytes (actions.Apply false);
+      others = [];
+      of_word = (((end_head, refl, end_has_head), tt), refl);
+      well = ends_well;
+    })
+    (λ opening. opening)

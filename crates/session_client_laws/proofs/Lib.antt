@@ -1,4 +1,7 @@
+mod Again
 mod Along
 mod Called
+mod Current
 mod Example
+mod Naming
 mod Served

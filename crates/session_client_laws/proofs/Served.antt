@@ -83,15 +83,16 @@ takes_steps now k input k' after a (of_bytes ended (told.Acted start end act)) i
         ((acts.head, refl, acts.unit), x.are),
         ap (λ l. l ++ unit) x.bytes ∙ take_parts start end before order,
       );
-      steps = one_step_more k.router x.moments acts.before (events.Came acts.head) unit act k'.router
-          x.steps acts.step;
+      steps = one_step_more k.router x.moments acts.before (events.Came acts.head) unit act
+          k'.router x.steps acts.step;
     }
 takes_steps now k input k' after a (of_bytes ended (told.Refused e act)) is_told =
     let f = events.Faulty (fault_of (untold k input) e) in
     record {
       moments = at now f [] act ∷ [];
       of_word = (now, f, refl);
-      steps = one_step_more k.router [] k.router f [] act k'.router (no_step k.router) is_told.1.step;
+      steps = one_step_more k.router [] k.router f [] act k'.router (no_step k.router)
+          is_told.1.step;
     }
 
 -- ---- the machine beside a cache

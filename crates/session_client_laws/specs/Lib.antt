@@ -1,3 +1,4 @@
+pub mod Again
 pub mod Called
 pub mod Runs
 pub mod Served

@@ -36,7 +36,8 @@ abbrev pub AreOfWord : Word → (before : Octets) → List (Moment Octets) → T
 AreOfWord of_nothing before ms = ms ≡ []
 AreOfWord (of_itself e a) before ms = (n : ℕ) × (ms ≡ at n e [] a ∷ [])
 AreOfWord (of_bytes ended told.Awaits) before ms = ms ≡ []
-AreOfWord (of_bytes ended (told.Kept k)) before ms = AreToldUnits ms × (told_bytes_of ms ≡ take k before)
+AreOfWord (of_bytes ended (told.Kept k)) before ms =
+    AreToldUnits ms × (told_bytes_of ms ≡ take k before)
 AreOfWord (of_bytes ended (told.Acted start end a)) before ms =
     AreToldUnits ms × (told_bytes_of ms ≡ take end before)
 AreOfWord (of_bytes ended (told.Refused e a)) before ms =

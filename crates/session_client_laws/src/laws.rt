@@ -1,8 +1,11 @@
 //! What holds of a client and a cache that are joined.
 
 ghost use Rattle.std.specs.Prelude.{◌≡◌, ◌≤◌, ◌+◌, ℕ, List, Option, Some, true};
+ghost use Rattle.session_client_laws.specs.Again.{IsServedAgain, IsSettled, ShowsThese};
+ghost use Rattle.session_client_laws.specs.Again.{after_call};
 ghost use Rattle.session_client_laws.specs.Called.{IsCalled};
-ghost use Rattle.session_client_laws.specs.Runs.{IsRunOfClient, Pair, RunsInBytes, ShowsHad};
+ghost use Rattle.session_client_laws.specs.Runs.{Calls, IsRunOfClient, Pair, RunsInBytes};
+ghost use Rattle.session_client_laws.specs.Runs.{ShowsHad};
 ghost use Rattle.session_client_laws.specs.Served.{IsServedFrom, TakesSteps};
 ghost use Rattle.session_cache.specs.Worlds.{IsOneDataPerName};
 ghost use Rattle.session_client.specs.Makings.{Octets};
@@ -11,10 +14,12 @@ ghost use Rattle.session_client.specs.declared.client.Client.{Client};
 ghost use Rattle.session_laws.specs.Editions.{editions_of};
 ghost use Rattle.session_router.specs.Asking.{longest};
 ghost use Rattle.session_router.specs.Exchange.{Exchange, exchanged, none_yet};
+ghost use Rattle.session_router.specs.Heeding.{IsTalking};
 ghost use Rattle.session_router.specs.Histories.{Caller, Host, IsHistory, Moment};
 ghost use Rattle.session_router.specs.Pace.{wakes_at};
 ghost use Rattle.session_router.specs.Recovery.{expired_until, served_until};
 ghost use Rattle.session_router.specs.declared.event.Action.{Action};
+ghost use Rattle.session_router.specs.declared.event.Action.TheVariants as actions;
 ghost use Rattle.session_router.specs.declared.router.Phase.TheVariants as phases;
 ghost use Rattle.session_router.specs.declared.settings.Settings.{Settings};
 
@@ -77,13 +82,40 @@ pub fn client_recovers()
     recovers()
 }
 
+/// After any run, from when the client has no connection: while a cache of ours that has data, and
+/// no new ones, keeps the rules, and no data are shown, it isn't later than `served_until`; and the
+/// data that are shown next are the present data of that cache: the client's data buffer has them,
+/// as its version has them. The client is called when it wakes, at the latest. What is shown are
+/// the present data whatever the cache does, and whenever: as long as it has no new ones.
+pub fn client_current_again()
+    ensures soon { (most start : ℕ) (before p : Pair) (none x : Exchange) (now : ℕ)
+        → before.client.router.phase ≡ phases.Offline → none.phase ≡ phases.Offline
+        → before.client.router.floor ≤ none.spoken
+        → IsServedAgain most before none start p x now
+        → now ≤ served_until before.client.router start }
+    ensures settled { (most start : ℕ) (before p : Pair) (none x : Exchange) (now : ℕ)
+        → IsServedAgain most before none start p x now → IsSettled before p }
+    ensures present { (before p : Pair) (k : Client) (input held : Octets)
+        (c : Calls p k input held (Some actions.Show))
+        → IsOneDataPerName (editions_of before.had) → before.present.name.has ≡ true
+        → IsRunOfClient before → (IsTalking before.client.router → ⊥) → IsSettled before p
+        → ShowsThese before.present (after_call p k input held (Some actions.Show)) }
+{
+    bytes_agree();
+    recovers()
+}
+
 /// There is a run in which a client gets a prefix of a cache and shows it: it meets the premises of
 /// `runs_in_bytes` and `data_agree`, beside a cache that keeps the rules those of
-/// `client_recovers`, and those of `client_acts_soon`.
+/// `client_recovers` and `client_current_again`, and those of `client_acts_soon`.
 pub fn data_are_shown()
     ensures run { (p : Pair) × IsRunOfClient p × IsOneDataPerName (editions_of p.had)
         × (p.client.router.has_data ≡ true) × (p.client.shown ≡ Some 44) }
     ensures served { (k k' : Client) × (x : Exchange) × (k.router.phase ≡ phases.Offline)
         × (k.router.floor ≤ 0) × IsServedFrom 2 k none_yet 0 k' x 32 }
     ensures called { (s : Settings) × (k : Client) × IsCalled s k 32 }
+    ensures again { (before p : Pair) × (x : Exchange) × (k : Client) × (input held : Octets)
+        × IsOneDataPerName (editions_of before.had) × (before.present.name.has ≡ true)
+        × IsRunOfClient before × (before.client.router.phase ≡ phases.Offline)
+        × IsServedAgain 2 before none_yet 0 p x 32 × Calls p k input held (Some actions.Show) }
 {}
