@@ -1,0 +1,65 @@
+//! A server beside a system that has no descriptor left. It is the only test of its process.
+
+#[path = "../../tests/peers/mod.rs"]
+mod peers;
+
+use peers::{data, PATIENCE};
+use rtr_wire::{ErrorCode, ServerOptions, Unit};
+use rtr_wire_tokio::AsyncServer;
+use std::fs::File;
+use std::io::{self, ErrorKind};
+use std::process::Command;
+use tokio::io::AsyncReadExt;
+use tokio::net::{TcpListener, TcpStream};
+use tokio::time::timeout;
+
+/// Lowers the limit of descriptors to this number, by util-linux's prlimit.
+fn limit_descriptors(count: usize) -> io::Result<bool> {
+    let process = std::process::id().to_string();
+    let limit = format!("--nofile={count}:");
+    let done = Command::new("prlimit")
+        .args(["--pid", &process, &limit])
+        .status();
+    done.map(|status| status.success())
+}
+
+/// Opens files until the system has this many descriptors left.
+fn leave_descriptors(count: usize) -> Vec<File> {
+    let open = || File::open("/dev/null");
+    let mut files: Vec<File> = std::iter::from_fn(|| open().ok()).collect();
+    files.truncate(files.len() - count);
+    files
+}
+
+/// A client that takes the last descriptor isn't served, but gets a report.
+#[tokio::test]
+async fn the_last_descriptor() {
+    match limit_descriptors(64) {
+        Err(error) if error.kind() == ErrorKind::NotFound => {
+            return eprintln!("no prlimit here: SKIPPED the_last_descriptor");
+        }
+        done => assert!(done.unwrap()),
+    }
+    let server = AsyncServer::new(ServerOptions::default());
+    assert_eq!(server.update(data(1)), Ok(true));
+    let listener = TcpListener::bind("127.0.0.1:0").await.unwrap();
+    let mut client = TcpStream::connect(listener.local_addr().unwrap())
+        .await
+        .unwrap();
+    // One that the server holds itself, and that of the client.
+    let files = leave_descriptors(2);
+    let serving = server.clone();
+    let listening = tokio::spawn(async move { serving.serve(listener).await });
+    let mut came = Vec::new();
+    let read = timeout(PATIENCE, client.read_to_end(&mut came)).await;
+    read.expect("it ends").unwrap();
+    match Unit::first(&came) {
+        Ok((Unit::ErrorReport(report), [])) => {
+            assert_eq!(report.code, ErrorCode::INTERNAL_ERROR);
+        }
+        other => panic!("{other:?}"),
+    }
+    drop(files);
+    server.stop();
+    listening.await.unwrap().unwrap();
+}
