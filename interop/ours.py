@@ -242,6 +242,7 @@ class TokioTLS:
     def build(self):
         """Builds it."""
         copy = os.path.join(self.folder, "bindings/rust")
+        shutil.rmtree(copy, ignore_errors=True)  # what a build left that failed
         os.makedirs(copy)
         for name in self.PARTS:
             source = os.path.join(TOP, "bindings/rust", name)
