@@ -3,12 +3,13 @@
 use Rattle.std.specs.Prelude.{◌+◌, ◌-◌, ◌⊎◌, drop}
 use Rattle.std.specs.Prelude.{◌≡◌, ◌≢◌, ◌<◌, ◌≤◌, ◌^◌, ℕ, List, [], ◌∷◌, ◌++◌, take, length, Some}
 use Rattle.std.specs.Prelude.{⊤}
-use Rattle.std.specs.Prelude.{Result, Ok, Err}
+use Rattle.std.specs.Prelude.{Result, Ok, Err, IsOk}
 use Rattle.std.specs.List.{AllByRecursion}
 use Rattle.std.specs.declared.cmp.Ordering.TheVariants.{Less}
 use Rattle.rtr_base.specs.Serial.{serial_cmp}
 use Rattle.rtr_units.specs.End.{EndMeaning}
 use Rattle.data_memory.specs.Data.{Change}
+use Rattle.data_slices.specs.Canonical.{HoldsData}
 use Rattle.data_slices.specs.CanonicalChanges.{HoldsChanges}
 use Rattle.data_slices.specs.Delta.{delta_form}
 use Rattle.data_slices.specs.Flaws.{IsFlawOfData}
@@ -116,3 +117,27 @@ IsLongest since most (Ok n) z x old after =
     ⊎ (MayBeKept (drop (length (part_rest (part_rest (take n after)))) (part_rest old)) since
     (most - length (part_rest (take n after))) z.end.serial → ⊥)
 IsLongest since most (Err r) z x old after = ⊤
+
+-- ---- the same of bytes: of whatever history the old ones are, and whatever data the new ones
+
+abbrev pub StartsOf : Result ℕ Refused → (new before after : List ℕ) → Type 0
+StartsOf r new before after = (z : Snapshot) → HoldsData new z.payloads z.end →
+    StartsHistory r z before after
+
+abbrev pub AdvancesOf : (since most : ℕ) → Result ℕ Refused → (old new before after : List ℕ) →
+    Type 0
+AdvancesOf since most r old new before after = (x z : Snapshot) (ys : List Snapshot) →
+    HoldsHistory old x ys → HoldsData new z.payloads z.end →
+    Advances since most r z x ys before after
+
+-- data of the session
+abbrev pub LongestOf : (since most : ℕ) → Result ℕ Refused → (old new after : List ℕ) → Type 0
+LongestOf since most r old new after = (x z : Snapshot) (ys : List Snapshot) →
+    HoldsHistory old x ys → HoldsData new z.payloads z.end → z.end.session ≡ x.end.session →
+    IsLongest since most r z x old after
+
+-- what is taken after data of the session is later than they are
+abbrev pub LaterOf : Result ℕ Refused → (old new : List ℕ) → Type 0
+LaterOf r old new = (x z : Snapshot) (ys : List Snapshot) → HoldsHistory old x ys →
+    HoldsData new z.payloads z.end → z.end.session ≡ x.end.session → IsOk r →
+    serial_cmp x.end.serial z.end.serial ≡ Some Less

@@ -2,16 +2,14 @@
 
 ghost use Rattle.std.specs.Prelude.{◌≡◌, ◌-◌, ◌++◌, ◌<◌, ◌≤◌, ◌^◌, ℕ, IfErr, IfOk, IfSome, List};
 ghost use Rattle.std.specs.Prelude.{Some, length, take};
-ghost use Rattle.std.specs.Prelude.{◌+◌, ◌*◌, Err, IsOk, IsSome};
-ghost use Rattle.std.specs.declared.cmp.Ordering.TheVariants.{Less};
-ghost use Rattle.rtr_base.specs.Serial.{serial_cmp};
+ghost use Rattle.std.specs.Prelude.{◌+◌, ◌*◌, Err, IsSome};
 ghost use Rattle.rtr_units.specs.AnyEnd.{end_bytes, end_meaning};
 ghost use Rattle.rtr_units.specs.End.{IsEnd};
 ghost use Rattle.rtr_payload.specs.Payloads.{Payload};
 ghost use Rattle.data_slices.specs.Canonical.{HoldsData, PlacesFront};
 ghost use Rattle.data_history.specs.Snapshots.{Snapshot, HoldsHistory};
-ghost use Rattle.data_history.specs.Next.{Advances, StartsHistory, IsFlawIn, IsLongest};
-ghost use Rattle.data_history.specs.Next.{IsShortForNewer};
+ghost use Rattle.data_history.specs.Next.{Advances, AdvancesOf, IsFlawIn, IsLongest};
+ghost use Rattle.data_history.specs.Next.{IsShortForNewer, LaterOf, LongestOf, StartsOf};
 ghost use Rattle.data_history.specs.PrivateRefusals.{NamesWhy};
 ghost use Rattle.data_history.specs.Parts.{HasPart, part_bytes, part_form};
 
@@ -52,8 +50,7 @@ pub enum Refused {
 
 /// Writes the history that has only these data, and returns its length.
 pub fn first_into(new: &[u8], now: u64, output: &mut [u8]) -> Result<usize, Refused>
-    ensures data { (z : Snapshot) → HoldsData new.now z.payloads z.end →
-        StartsHistory result z output.old output.new }
+    ensures data { StartsOf result new.now output.old output.new }
     ensures flaw { IfErr result (IsFlawIn new.now) }
     ensures within { IfOk result (λ n. n ≤ length output.old) }
     ensures rooms { IsShortForNewer result 0 (16 + length new.now) 0 (length output.old) }
@@ -66,8 +63,7 @@ pub fn first_into(new: &[u8], now: u64, output: &mut [u8]) -> Result<usize, Refu
 
 /// As `first_into`, where the data were checked.
 pub fn begin(new: &[u8], now: u64, output: &mut [u8]) -> Result<usize, Refused>
-    ensures data { (z : Snapshot) → HoldsData new.now z.payloads z.end →
-        StartsHistory result z output.old output.new }
+    ensures data { StartsOf result new.now output.old output.new }
     ensures flaw { IfErr result (IsFlawIn new.now) }
     ensures within { IfOk result (λ n. n ≤ length output.old) }
     ensures rooms { IsShortForNewer result 0 (16 + length new.now) 0 (length output.old) }
@@ -112,17 +108,13 @@ pub fn next_into(
     buffer: &mut [u8],
     output: &mut [u8],
 ) -> Result<usize, Refused>
-    ensures data { (x z : Snapshot) (ys : List Snapshot) → HoldsHistory old.now x ys →
-        HoldsData new.now z.payloads z.end → Advances (now - limits.now.time) limits.now.bytes
-        result z x ys output.old output.new }
+    ensures data { AdvancesOf (now - limits.now.time) limits.now.bytes result old.now new.now
+        output.old output.new }
     ensures flaw { IfErr result (IsFlawIn new.now) }
     ensures within { IfOk result (λ n. n ≤ length output.old) }
-    ensures longest { (x z : Snapshot) (ys : List Snapshot) → HoldsHistory old.now x ys →
-        HoldsData new.now z.payloads z.end → z.end.session ≡ x.end.session →
-        IsLongest (now - limits.now.time) limits.now.bytes result z x old.now output.new }
-    ensures newer { (x z : Snapshot) (ys : List Snapshot) → HoldsHistory old.now x ys →
-        HoldsData new.now z.payloads z.end → z.end.session ≡ x.end.session → IsOk result →
-        serial_cmp x.end.serial z.end.serial ≡ Some Less }
+    ensures longest { LongestOf (now - limits.now.time) limits.now.bytes result old.now new.now
+        output.new }
+    ensures newer { LaterOf result old.now new.now }
     ensures rooms { IsShortForNewer result (length old.now + length new.now)
         (32 + 2 * (length old.now + length new.now)) (length buffer.old) (length output.old) }
 {
@@ -170,17 +162,13 @@ pub fn advance(
     requires before { IsEnd (end_bytes before.now) (end_meaning before.now) }
     requires new { (d : List Payload) × HoldsData new.now d (end_meaning end.now) }
     requires end { IsEnd (end_bytes end.now) (end_meaning end.now) }
-    ensures data { (x z : Snapshot) (ys : List Snapshot) → HoldsHistory old.now x ys →
-        HoldsData new.now z.payloads z.end → Advances (now - limits.now.time) limits.now.bytes
-        result z x ys output.old output.new }
+    ensures data { AdvancesOf (now - limits.now.time) limits.now.bytes result old.now new.now
+        output.old output.new }
     ensures flaw { IfErr result (IsFlawIn new.now) }
     ensures within { IfOk result (λ n. n ≤ length output.old) }
-    ensures longest { (x z : Snapshot) (ys : List Snapshot) → HoldsHistory old.now x ys →
-        HoldsData new.now z.payloads z.end → z.end.session ≡ x.end.session →
-        IsLongest (now - limits.now.time) limits.now.bytes result z x old.now output.new }
-    ensures newer { (x z : Snapshot) (ys : List Snapshot) → HoldsHistory old.now x ys →
-        HoldsData new.now z.payloads z.end → z.end.session ≡ x.end.session → IsOk result →
-        serial_cmp x.end.serial z.end.serial ≡ Some Less }
+    ensures longest { LongestOf (now - limits.now.time) limits.now.bytes result old.now new.now
+        output.new }
+    ensures newer { LaterOf result old.now new.now }
     ensures rooms { IsShortForNewer result (length old.now + length new.now)
         (32 + 2 * (length old.now + length new.now)) (length buffer.old) (length output.old) }
 {
