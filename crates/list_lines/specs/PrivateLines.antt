@@ -16,9 +16,9 @@ use Rattle.list_lines.specs.declared.run.Wanted.{Wanted}
 use Rattle.list_lines.specs.declared.run.Wanted.TheVariants.{Text, Json, Findings}
 
 -- the answer of a call that keeps its fault apart
-abbrev pub answered : {T : Type 0} → Result T Failed → Fault → Result T Fault
-answered (Ok x) failure = Ok x
-answered (Err failed) failure = Err failure
+abbrev pub returned : {T : Type 0} → Result T Failed → Fault → Result T Fault
+returned (Ok x) failure = Ok x
+returned (Err failed) failure = Err failure
 
 -- these lines of one unit were printed, with whether they report a broken rule, or printing
 -- stopped

@@ -7,7 +7,7 @@ ghost use Rattle.rtr_base.specs.PlainTexts.{prefix_text};
 ghost use Rattle.rtr_units.specs.StopCauses.{by_cause, by_reader};
 ghost use Rattle.text_lines.specs.Laying.{text_end};
 ghost use Rattle.list_lines.specs.Lines.{PutsLine, written_line};
-ghost use Rattle.list_lines.specs.PrivateLines.{answered};
+ghost use Rattle.list_lines.specs.PrivateLines.{returned};
 
 use crate::laid::{Bytes, Labelled, Laid, PrefixText};
 use itoa::Buffer;
@@ -175,9 +175,9 @@ impl Line {
     /// Ends the line and writes it, or keeps why it fails: `Memory` says that nothing was written,
     /// `Writer` that a part was.
     pub(crate) fn put<W: Sink>(&mut self, writer: &mut W, failure: &mut Fault) -> Result<(), Failed>
-        ensures bytes { PutsLine self.old (answered result failure.new)
+        ensures bytes { PutsLine self.old (returned result failure.new)
             (W.state writer.old) (W.state writer.new) }
-        ensures no_reader { by_cause (answered result failure.new) ≢ Err by_reader }
+        ensures no_reader { by_cause (returned result failure.new) ≢ Err by_reader }
     {
         if self.end().is_err() {
             return Err(keep(Fault::Memory, failure));

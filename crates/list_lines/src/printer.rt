@@ -12,7 +12,7 @@ ghost use Rattle.text_lines.specs.JsonLines.{unit_json};
 ghost use Rattle.list_lines.specs.Lines.{PutsLine, written_line};
 ghost use Rattle.list_lines.specs.Listing.{end_lines, finding_lines, offset_of};
 ghost use Rattle.list_lines.specs.PrivateLines.{HasChecked, Prints, PrintsUnit};
-ghost use Rattle.list_lines.specs.PrivateLines.{answered, offset_after};
+ghost use Rattle.list_lines.specs.PrivateLines.{offset_after, returned};
 ghost use Rattle.text_lines.specs.TextLines.{unit_text};
 ghost use Rattle.list_lines.specs.declared.run.Wanted.TheVariants.{Text, Json, Findings};
 
@@ -73,10 +73,10 @@ impl Printer {
         // Where these units were before, their lines are those of the unit after them.
         ensures lines { (before : List AnyFields) → HasChecked wanted self.old.checker before →
             PrintsUnit wanted self.old.offset before (any_fields unit.now)
-            (answered result failure.new) (W.state output.old) (W.state output.new) }
+            (returned result failure.new) (W.state output.old) (W.state output.new) }
         ensures checks { (before : List AnyFields) → HasChecked wanted self.old.checker before →
             OnOk result (HasChecked wanted self.new.checker (any_fields unit.now ∷ before)) }
-        ensures no_reader { by_cause (answered result failure.new) ≢ Err by_reader }
+        ensures no_reader { by_cause (returned result failure.new) ≢ Err by_reader }
         ensures moves { OnOk result (
             self.new.offset ≡ offset_after self.old.offset (any_bytes unit.now)) }
         ensures stays { OnErr result (self.new.offset ≡ self.old.offset) }
@@ -99,10 +99,10 @@ impl Printer {
         requires { HasAnyFields (any_bytes unit.now) (any_fields unit.now) }
         ensures lines { (before : List AnyFields) → HasChecked wanted self.old.checker before →
             PrintsUnit wanted self.old.offset before (any_fields unit.now)
-            (answered result failure.new) (W.state output.old) (W.state output.new) }
+            (returned result failure.new) (W.state output.old) (W.state output.new) }
         ensures checks { (before : List AnyFields) → HasChecked wanted self.old.checker before →
             OnOk result (HasChecked wanted self.new.checker (any_fields unit.now ∷ before)) }
-        ensures no_reader { by_cause (answered result failure.new) ≢ Err by_reader }
+        ensures no_reader { by_cause (returned result failure.new) ≢ Err by_reader }
         ensures offset { self.new.offset ≡ self.old.offset }
     {
         match wanted {
@@ -122,8 +122,8 @@ impl Printer {
     ) -> Result<bool, Failed>
         ensures lines { (before : List AnyFields) → HasChecked wanted self.old.checker before →
             self.old.offset ≡ offset_of before → Prints wanted (end_lines wanted before)
-            (answered result failure.new) (W.state output.old) (W.state output.new) }
-        ensures no_reader { by_cause (answered result failure.new) ≢ Err by_reader }
+            (returned result failure.new) (W.state output.old) (W.state output.new) }
+        ensures no_reader { by_cause (returned result failure.new) ≢ Err by_reader }
         ensures offset { self.new.offset ≡ self.old.offset }
     {
         match wanted {
@@ -139,8 +139,8 @@ impl Printer {
     ) -> Result<bool, Failed>
         ensures lines { (before : List AnyFields) → HasSeen self.old.checker before →
             self.old.offset ≡ offset_of before → Prints Findings (end_lines Findings before)
-            (answered result failure.new) (W.state output.old) (W.state output.new) }
-        ensures no_reader { by_cause (answered result failure.new) ≢ Err by_reader }
+            (returned result failure.new) (W.state output.old) (W.state output.new) }
+        ensures no_reader { by_cause (returned result failure.new) ≢ Err by_reader }
         ensures offset { self.new.offset ≡ self.old.offset }
     {
         let offset = self.offset;
@@ -157,8 +157,8 @@ impl Printer {
         failure: &mut Fault,
     ) -> Result<(), Failed>
         ensures line { PutsLine (unit_text self.old.offset (any_fields unit.now))
-            (answered result failure.new) (W.state output.old) (W.state output.new) }
-        ensures no_reader { by_cause (answered result failure.new) ≢ Err by_reader }
+            (returned result failure.new) (W.state output.old) (W.state output.new) }
+        ensures no_reader { by_cause (returned result failure.new) ≢ Err by_reader }
         ensures offset { self.new.offset ≡ self.old.offset }
     {
         self.line.clear();
@@ -179,8 +179,8 @@ impl Printer {
         failure: &mut Fault,
     ) -> Result<(), Failed>
         ensures line { PutsLine (unit_json self.old.offset (any_fields unit.now))
-            (answered result failure.new) (W.state output.old) (W.state output.new) }
-        ensures no_reader { by_cause (answered result failure.new) ≢ Err by_reader }
+            (returned result failure.new) (W.state output.old) (W.state output.new) }
+        ensures no_reader { by_cause (returned result failure.new) ≢ Err by_reader }
         ensures offset { self.new.offset ≡ self.old.offset }
     {
         self.line.clear();
@@ -203,10 +203,10 @@ impl Printer {
         requires { HasAnyFields (any_bytes unit.now) (any_fields unit.now) }
         ensures lines { (before : List AnyFields) → HasSeen self.old.checker before →
             PrintsUnit Findings self.old.offset before (any_fields unit.now)
-            (answered result failure.new) (W.state output.old) (W.state output.new) }
+            (returned result failure.new) (W.state output.old) (W.state output.new) }
         ensures checks { (before : List AnyFields) → HasSeen self.old.checker before →
             OnOk result (HasSeen self.new.checker (any_fields unit.now ∷ before)) }
-        ensures no_reader { by_cause (answered result failure.new) ≢ Err by_reader }
+        ensures no_reader { by_cause (returned result failure.new) ≢ Err by_reader }
         ensures offset { self.new.offset ≡ self.old.offset }
     {
         match self.checker.check(unit, &mut self.findings) {
@@ -219,13 +219,13 @@ impl Printer {
 /// A listed unit breaks no rule that is looked for.
 fn unbroken(line: Result<(), Failed>) -> Result<bool, Failed>
     ensures text { (failure : Fault) → (text : List ℕ) → (old new : WriterState) →
-        PutsLine text (answered line failure) old new →
-        Prints Text (written_line text ∷ []) (answered result failure) old new }
+        PutsLine text (returned line failure) old new →
+        Prints Text (written_line text ∷ []) (returned result failure) old new }
     ensures json { (failure : Fault) → (text : List ℕ) → (old new : WriterState) →
-        PutsLine text (answered line failure) old new →
-        Prints Json (written_line text ∷ []) (answered result failure) old new }
-    ensures reader { (failure : Fault) → by_cause (answered line failure) ≢ Err by_reader →
-        by_cause (answered result failure) ≢ Err by_reader }
+        PutsLine text (returned line failure) old new →
+        Prints Json (written_line text ∷ []) (returned result failure) old new }
+    ensures reader { (failure : Fault) → by_cause (returned line failure) ≢ Err by_reader →
+        by_cause (returned result failure) ≢ Err by_reader }
 {
     match line {
         Ok(()) => Ok(false),
@@ -242,8 +242,8 @@ fn put_findings<W: Sink>(
     failure: &mut Fault,
 ) -> Result<bool, Failed>
     ensures lines { Prints Findings (finding_lines offset findings.now)
-        (answered result failure.new) (W.state output.old) (W.state output.new) }
-    ensures no_reader { by_cause (answered result failure.new) ≢ Err by_reader }
+        (returned result failure.new) (W.state output.old) (W.state output.new) }
+    ensures no_reader { by_cause (returned result failure.new) ≢ Err by_reader }
 {
     for finding in findings {
         line.clear();

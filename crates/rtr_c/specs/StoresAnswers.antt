@@ -121,6 +121,6 @@ check_told checks.Malformed = refused_answer stores_malformed
 check_told (checks.NoRoom room wanted) = no_room_answer (room_number room) wanted
 
 -- so much was written, or why nothing was
-abbrev pub written_told : Result ℕ CheckFault → RtrStoresAnswer
-written_told (Ok n) = wrote_answer n
-written_told (Err fault) = check_told fault
+abbrev pub checked_told : Result ℕ CheckFault → RtrStoresAnswer
+checked_told (Ok n) = wrote_answer n
+checked_told (Err fault) = check_told fault

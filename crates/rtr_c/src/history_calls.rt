@@ -7,7 +7,7 @@ ghost use Rattle.data_history.specs.Seal.{seal};
 ghost use Rattle.data_history.specs.Snapshots.{HoldsHistory, Snapshot, snapshot_at};
 ghost use Rattle.data_history.specs.declared.since.SinceFault.{SinceFault};
 ghost use Rattle.data_history.specs.declared.check.CheckFault.{CheckFault};
-ghost use Rattle.rtr_c.specs.StoresAnswers.{since_told, written_told};
+ghost use Rattle.rtr_c.specs.StoresAnswers.{checked_told, since_told};
 ghost use Rattle.rtr_c.specs.StoresCalls.{TellsOld, TellsSerials, TellsSince};
 
 use crate::stores_answer::RtrStoresAnswer;
@@ -95,7 +95,7 @@ pub extern "C" fn rtr_history_serials_nonnull(
     answer: &mut RtrStoresAnswer,
 ) -> u8
     ensures status { result ≡ answer.new.status }
-    ensures answers { (r : Result ℕ CheckFault) × (answer.new ≡ written_told r)
+    ensures answers { (r : Result ℕ CheckFault) × (answer.new ≡ checked_told r)
         × TellsSerials history.now serials.old serials.new r }
 {
     let listed = serials_into(history, serials);
@@ -133,7 +133,7 @@ pub extern "C" fn rtr_store_open_old_nonnull(
     answer: &mut RtrStoresAnswer,
 ) -> u8
     ensures status { result ≡ answer.new.status }
-    ensures answers { (r : Result ℕ CheckFault) × (answer.new ≡ written_told r)
+    ensures answers { (r : Result ℕ CheckFault) × (answer.new ≡ checked_told r)
         × TellsOld file.now output.old output.new r }
 {
     let opened = old_store_into(file, output);

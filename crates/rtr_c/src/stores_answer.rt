@@ -3,7 +3,7 @@
 ghost use Rattle.std.specs.Prelude.{◌≡◌, Err};
 ghost use Rattle.rtr_c.specs.StoresAnswers.{check_told, flaw_answer, no_room_answer};
 ghost use Rattle.rtr_c.specs.StoresAnswers.{refused_answer, room_number, since_told, taking_told};
-ghost use Rattle.rtr_c.specs.StoresAnswers.{untaken_answer, written_told, wrote_answer};
+ghost use Rattle.rtr_c.specs.StoresAnswers.{checked_told, untaken_answer, wrote_answer};
 
 use crate::data_answer::{reason_detail, reason_status};
 use crate::stores::OK;
@@ -193,7 +193,7 @@ impl RtrStoresAnswer {
 
     /// So much was written, or why nothing was.
     pub(crate) fn of_written(written: &Result<usize, CheckFault>) -> Self
-        ensures { result ≡ written_told written.now }
+        ensures { result ≡ checked_told written.now }
     {
         match written {
             Ok(length) => RtrStoresAnswer::wrote(*length),

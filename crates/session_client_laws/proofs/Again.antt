@@ -21,7 +21,7 @@ use Rattle.session_client.specs.declared.client.Client.{Client}
 use Rattle.session_client.proofs.Runs.{no_show}
 use Rattle.session_laws.specs.Editions.{edition_of, editions_of}
 use Rattle.session_laws.proofs.Payloads.{in_editions}
-use Rattle.session_client_laws.specs.Again.{IsServedAgain, IsSettled, ShowsThese, after_call}
+use Rattle.session_client_laws.specs.Again.{IsServedAgain, IsSettled, ShowsThese, pair_after}
 use Rattle.session_client_laws.specs.Again.IsServedAgain.{again_calls, again_from}
 use Rattle.session_client_laws.specs.Again.IsServedAgain.{again_meanwhile, again_opens}
 use Rattle.session_client_laws.specs.Again.IsSettled.{settled_from, settled_on}
@@ -64,7 +64,7 @@ pub settled : (most : ℕ) (before : Pair) (x₀ : Exchange) (start : ℕ) (p : 
     (n : ℕ) → IsServedAgain most before x₀ start p x n → IsSettled before p
 settled most before x₀ start p x n again_from = settled_from
 settled most before x₀ start p x n (again_calls q y m k input held a c x' so served shut) =
-    settled_on q (after_call q k input held a) (settled most before x₀ start q y m so)
+    settled_on q (pair_after q k input held a) (settled most before x₀ start q y m so)
     (calls q k input held a c shut) refl
 settled most before x₀ start p x n
     (again_opens q y m k input held a new c x' so served opening asked) =
@@ -107,11 +107,11 @@ pub shows_these : BytesAgree → (before p : Pair) (k : Client) (input held : Oc
     (c : Calls p k input held (Some actions.Show)) →
     IsOneDataPerName (editions_of before.had) → before.present.name.has ≡ true →
     IsRunOfClient before → (IsTalking before.client.router → ⊥) → IsSettled before p →
-    ShowsThese before.present (after_call p k input held (Some actions.Show))
+    ShowsThese before.present (pair_after p k input held (Some actions.Show))
 shows_these agree before p k input held c one has was silent so =
     let s = current before was silent p so in
     let shown = shows p.client.router k.router c.now _ _ c.takes.word c.takes.is_told in
-    let q : Pair = after_call p k input held (Some actions.Show) in
+    let q : Pair = pair_after p k input held (Some actions.Show) in
     let run : IsRunOfClient q =
     pair_goes_on p q s.run (calls p k input held (Some actions.Show) c shown.shut) in
     let one_then : IsOneDataPerName (editions_of q.had) =

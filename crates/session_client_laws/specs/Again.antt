@@ -42,8 +42,8 @@ pub record IsServedCall (most : ℕ) (p : Pair) (x : Exchange) (n : ℕ) (k : Cl
   pub well : WellServed most c.now p.client.router x (first ∷ others) k.router x'
 
 -- the two after a call
-abbrev pub after_call : Pair → Client → (input held : Octets) → Option Action → Pair
-after_call p k input held a = record p {
+abbrev pub pair_after : Pair → Client → (input held : Octets) → Option Action → Pair
+pair_after p k input held a = record p {
   client = k;
   input = input;
   held = held;
@@ -62,7 +62,7 @@ pub data IsServedAgain (most : ℕ) (before : Pair) (x₀ : Exchange) (start : �
       → IsServedAgain most before x₀ start p x n
       → IsServedCall most p x n k input held a c x'
       → (IsOpening c.takes.word → ⊥)
-      → IsServedAgain most before x₀ start (after_call p k input held a) x' c.now
+      → IsServedAgain most before x₀ start (pair_after p k input held a) x' c.now
   -- a connection is there; the cache's end of it is new
   again_opens :
       (p : Pair) (x : Exchange) (n : ℕ) (k : Client) (input held : Octets) (a : Option Action)

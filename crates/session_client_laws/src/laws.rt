@@ -2,7 +2,7 @@
 
 ghost use Rattle.std.specs.Prelude.{◌≡◌, ◌≤◌, ◌+◌, ℕ, List, Option, Some, true};
 ghost use Rattle.session_client_laws.specs.Again.{IsServedAgain, IsSettled, ShowsThese};
-ghost use Rattle.session_client_laws.specs.Again.{after_call};
+ghost use Rattle.session_client_laws.specs.Again.{pair_after};
 ghost use Rattle.session_client_laws.specs.Called.{IsCalled};
 ghost use Rattle.session_client_laws.specs.Runs.{Calls, IsRunOfClient, Pair, RunsInBytes};
 ghost use Rattle.session_client_laws.specs.Runs.{ShowsHad};
@@ -99,7 +99,7 @@ pub fn client_current_again()
         (c : Calls p k input held (Some actions.Show))
         → IsOneDataPerName (editions_of before.had) → before.present.name.has ≡ true
         → IsRunOfClient before → (IsTalking before.client.router → ⊥) → IsSettled before p
-        → ShowsThese before.present (after_call p k input held (Some actions.Show)) }
+        → ShowsThese before.present (pair_after p k input held (Some actions.Show)) }
 {
     bytes_agree();
     recovers()
