@@ -1,4 +1,4 @@
-use Rattle.std.proofs.Common.{ap, arith, ◌∙◌, ◌≡◌, ◌+◌, ◌-◌, ◌^◌, min}
+use Rattle.std.proofs.Common.{ap, arith, Some, ◌∙◌, ◌≡◌, ◌+◌, ◌-◌, ◌^◌, min}
 use Rattle.std.proofs.lemmas.Grind.{common_steps}
 use Rattle.std.specs.BTreeMap.{get}
 use Rattle.std.specs.BTreeMap.Entry.{map_with_value}
