@@ -12,9 +12,6 @@
 
 enum { VERSIONS = RTR_HIGHEST_VERSION + 1 };
 
-/* The bytes before each step of a history, and before the history in a file of the earlier form. */
-enum { STEP_HEAD = 16, OLD_HEAD = 16 };
-
 /* Changes from the data of `serial` to the newest data, encoded for routers of `version`. */
 struct rtr_made {
     struct rtr_shared *changes;
@@ -153,21 +150,19 @@ static size_t walk(const uint8_t *units, size_t length, size_t *count, struct rt
     return at;
 }
 
-/* Lists the serial numbers of the steps of a history, each of which follows STEP_HEAD bytes, as far
- * as memory allows. */
-static void list_kept(struct rtr_server *s, const uint8_t *steps, size_t length)
+/* Lists the serial numbers of the earlier data of a history; without memory none, so that routers
+ * get all data. */
+static void list_kept(struct rtr_server *s, const uint8_t *history, size_t length)
 {
-    struct rtr_unit end;
-    size_t count;
+    struct rtr_stores_answer answer;
     s->kept_count = 0;
-    for (size_t at = STEP_HEAD; at < length; at += STEP_HEAD) {
-        at += walk(steps + at, length - at, &count, &end);
-        uint32_t *kept = realloc(s->kept, (s->kept_count + 1) * sizeof *kept);
-        if (!kept)
-            return;
-        s->kept = kept;
-        s->kept[s->kept_count++] = end.serial;
-    }
+    rtr_history_serials(history, length, NULL, 0, &answer);
+    uint32_t *kept = realloc(s->kept, (answer.wanted + 1) * sizeof *kept);
+    if (!kept)
+        return;
+    s->kept = kept;
+    rtr_history_serials(history, length, kept, answer.wanted, &answer);
+    s->kept_count = answer.length;
 }
 
 /* Frees the encodings of the newest data, and the changes that lead to them. */
@@ -210,7 +205,7 @@ static void serve(struct rtr_server *s)
     walk(data, block->length, &s->payloads, &s->end);
     s->present = (struct rtr_present){s->end.serial, s->end.session, true};
     s->number += 1;
-    list_kept(s, data + block->length, length - (size_t)(data - history) - block->length);
+    list_kept(s, history, length);
 }
 
 /* Returns the rtr_update of a store that isn't taken. */
@@ -361,32 +356,20 @@ void rtr_server_saved(struct rtr_server *s)
 
 /* ---- restarts */
 
-/* Reports whether a file has the earlier form: eight letters, the checksum that rtr_store_seal
- * writes, and a history. */
-static bool is_old_file(const uint8_t *file, size_t length)
-{
-    struct rtr_store_head head;
-    if (length <= OLD_HEAD || memcmp(file, "rtrkept1", 8))
-        return false;
-    rtr_store_seal(file + OLD_HEAD, length - OLD_HEAD, &head);
-    return !memcmp(file + 8, head.bytes + sizeof head.bytes - 8, 8);
-}
-
-/* Copies the store of a file, which begins with an empty list of sessions for the earlier form;
- * returns RTR_UPDATE_TORN if the file is damaged. */
+/* Copies the store of a file, which in the earlier form is as long as the file; returns
+ * RTR_UPDATE_TORN if the file is damaged. */
 static enum rtr_update copy_store(const uint8_t *file, size_t length, struct rtr_shared **store)
 {
-    bool is_old = is_old_file(file, length);
-    size_t head = sizeof(struct rtr_store_head), before = is_old ? STEP_HEAD : 0;
-    if (is_old)
-        head = OLD_HEAD;
-    else if (!rtr_store_open(file, length))
-        return RTR_UPDATE_TORN;
-    *store = new_shared(before + length - head);
+    struct rtr_stores_answer answer;
+    bool is_old = !rtr_store_open(file, length);
+    size_t head = is_old ? 0 : sizeof(struct rtr_store_head);
+    *store = new_shared(length - head);
     if (!*store)
         return RTR_UPDATE_MEMORY;
-    memset((*store)->bytes, 0, before);
-    memcpy((*store)->bytes + before, file + head, length - head);
+    if (!is_old)
+        memcpy((*store)->bytes, file + head, length - head);
+    else if (rtr_store_open_old(file, length, (*store)->bytes, length, &answer) != RTR_STORES_OK)
+        return RTR_UPDATE_TORN;
     return RTR_UPDATE_TAKEN;
 }
 

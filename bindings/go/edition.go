@@ -39,14 +39,14 @@ type question struct {
 
 // newEdition returns the edition of a history.
 func newEdition(number C.uint64_t, history []byte, limits ServerLimits) *edition {
-	sequence, steps := firstPart(history)
+	sequence, _ := firstPart(history)
 	data := checkedData(sequence)
 	present := C.struct_rtr_present{
 		has: true, session: C.uint16_t(data.Session()), serial: C.uint32_t(data.Serial()),
 	}
 	return &edition{
 		number: number, present: present,
-		data: data, history: history, known: serialsOf(steps),
+		data: data, history: history, known: serialsOf(history),
 		// An answer to a client that has the present data is never computed again.
 		deltas: map[question][]byte{}, deltaSpace: limits.KeepBytes + versions*longestEnd,
 	}

@@ -6,7 +6,6 @@ package rtr
 import "C"
 
 import (
-	"encoding/binary"
 	"fmt"
 	"time"
 	"unsafe"
@@ -146,16 +145,11 @@ func firstPart(history []byte) (sequence, steps []byte) {
 	return history[part.offset:end:end], history[end:]
 }
 
-// serialsOf returns the serial numbers to which the steps back lead.
-func serialsOf(steps []byte) (all []C.uint32_t) {
-	for len(steps) > 0 {
-		var changes []byte
-		if changes, steps = firstPart(steps); changes == nil {
-			break
-		}
-		_, end := parts(changes)
-		all = append(all, C.uint32_t(binary.BigEndian.Uint32(end[8:])))
-	}
+// serialsOf returns the serial numbers of the earlier data of a history, the latest first.
+func serialsOf(history []byte) []C.uint32_t {
+	in, n := cBytes(history)
+	all := make([]C.uint32_t, C.history_serials(in, n, nil, 0).wanted)
+	C.history_serials(in, n, firstOf(all), C.size_t(len(all)))
 	return all
 }
 
@@ -193,11 +187,17 @@ func sealed(store []byte) []byte {
 	return C.GoBytes(unsafe.Pointer(&head), C.int(storeHead))
 }
 
-// unsealed returns the store of a file; nil if the file isn't whole.
+// unsealed returns the store of a file, also of one that begins with rtrkept1, of versions before
+// 0.3.0; nil if the file isn't whole.
 func unsealed(file []byte) []byte {
 	in, n := cBytes(file)
 	if C.rtr_store_open(in, n) {
 		return file[storeHead:]
 	}
-	return unsealedOld(file)
+	store := make([]byte, len(file))
+	out, capacity := cBytes(store)
+	if C.store_open_old(in, n, out, capacity).status != C.RTR_STORES_OK {
+		return nil
+	}
+	return store
 }

@@ -88,22 +88,35 @@ export class Store {
     /** Begins with the bytes of a file. Throws an UpdateError if they aren't those of a store, or
      * its data have invalid times, and OutOfMemory; then only `drop` may follow. */
     start(file) {
-        const [session, head] = [this.#session, STRUCTS.storeHead.size];
-        const isWhole = session.within([file], (at) => (
-            session.call("rtr_store_open_nonnull", at, file.length)));
-        if (!isWhole) {
+        const session = this.#session;
+        if (!session.within([file], (at) => this.#unsealed(file, at))) {
             throw new UpdateError(StoresStatus.MALFORMED);
         }
-        const store = file.subarray(head);
-        this.#buffers[0] = this.#allocated(store.length);
-        session.heap.bytes(this.#buffers[0].start, store.length).set(store);
-        const room = { index: Math.floor(store.length / SHORTEST_PAYLOAD), buffer: store.length };
-        const { status } = withRoom(room, () => this.#started(store.length, room));
+        const { length } = this.#buffers[0];
+        const room = { index: Math.floor(length / SHORTEST_PAYLOAD), buffer: length };
+        const { status } = withRoom(room, () => this.#started(length, room));
         if (status !== StoresStatus.OK) {
             throw new UpdateError(status);
         }
         this.#serve(0);
         checkTimes(session, this.#edition.data);
+    }
+
+    /** Copies the store of a file, which is at an address, to the first buffer, also of a file that
+     * begins with rtrkept1, of versions before 0.3.0. Returns false if the file isn't whole. */
+    #unsealed(file, at) {
+        const session = this.#session;
+        const isOld = !session.call("rtr_store_open_nonnull", at, file.length);
+        const store = isOld ? file : file.subarray(STRUCTS.storeHead.size);
+        this.#buffers[0] = this.#allocated(store.length);
+        const { start } = this.#buffers[0];
+        if (!isOld) {
+            session.heap.bytes(start, store.length).set(store);
+            return true;
+        }
+        session.call("rtr_store_open_old_nonnull", at, file.length, start, file.length,
+            session.frame("storesAnswer"));
+        return session.answer("storesAnswer").status === StoresStatus.OK;
     }
 
     #started(length, { index, buffer }) {

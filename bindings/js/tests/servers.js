@@ -45,6 +45,21 @@ function manyOf(rtr, serial, count = MANY) {
     return rtr.data(bytes);
 }
 
+/** Returns a file of a version before 0.3.0: `rtrkept1`, the 64-bit FNV-1a hash of what follows, and
+ * the data and the steps back, each behind its time and its length. */
+function formerFile(...parts) {
+    const history = Buffer.concat(parts.flatMap((bytes) => {
+        const head = Buffer.alloc(16);
+        head.writeBigUInt64BE(BigInt(Date.now()), 0);
+        head.writeBigUInt64BE(BigInt(bytes.length), 8);
+        return [head, bytes];
+    }));
+    const checksum = Buffer.alloc(8);
+    checksum.writeBigUInt64BE(history.reduce((sum, byte) => (
+        BigInt.asUintN(64, (sum ^ BigInt(byte)) * 0x100000001b3n)), 0xcbf29ce484222325n));
+    return Buffer.concat([Buffer.from("rtrkept1"), checksum, history]);
+}
+
 /** Runs a test with a server that listens, and closes it after it. `ended` are its events. */
 async function withServer(rtr, settings, run, options = {}) {
     const server = new Server({ rtr: rtr.another(), settings });
@@ -606,7 +621,63 @@ export const TESTS = {
         });
     },
 
-    /** A file that isn't as it was saved is refused, and so is one of the form before. */
+    /** A file of a version before 0.3.0 is restored with its steps back, and replaced with the next
+     * data. */
+    async restoresFormerFiles(rtr) {
+        await withFolder(async (folder) => {
+            const path = join(folder, "state");
+            const [first, second, third] = [1, 2, 3].map((n) => dataOf(rtr, n, n, n + 1));
+            writeFileSync(path, formerFile(third.bytes, rtr.delta(third, second),
+                rtr.delta(second, first)));
+            await withServer(rtr, {}, async (server, port) => {
+                assert.equal((await server.restore(path)).serial, 3);
+                const peer = await router(port);
+                peer.send(serialQuery(1), serialQuery(2));
+                assert.deepEqual(await unitsOf(peer, 3), [prefix(1, false), prefix(2, false),
+                    prefix(3), prefix(4)]);
+                assert.deepEqual(await unitsOf(peer, 3), [prefix(2, false), prefix(4)]);
+                peer.close();
+                await server.updateSaved(dataOf(rtr, 4, 4), path);
+            });
+            assert.equal(readFileSync(path).subarray(0, 8).toString(), "rtrkept2");
+            await withServer(rtr, {}, async (server, port) => {
+                assert.equal((await server.restore(path)).serial, 4);
+                const peer = await router(port);
+                peer.send(serialQuery(1));
+                assert.deepEqual(await unitsOf(peer, 4), [prefix(1, false), prefix(2, false),
+                    prefix(4)]);
+                peer.close();
+            });
+        });
+    },
+
+    /** Such a file is refused if a byte changed or bytes are missing, or if its steps don't lead back
+     * from its data. */
+    async refusesFormerFiles(rtr) {
+        const [first, second, third] = [1, 2, 3].map((n) => dataOf(rtr, n, n, n + 1));
+        const steps = [rtr.delta(third, second), rtr.delta(second, first)];
+        const file = formerFile(third.bytes, ...steps);
+        const damaged = [...file.keys()].flatMap((at) => {
+            const changed = Buffer.from(file);
+            changed[at] ^= 1;
+            return [changed, file.subarray(0, at)];
+        });
+        damaged.push(formerFile(third.bytes, steps[0], steps[0]), formerFile(...steps),
+            formerFile());
+        await withFolder(async (folder) => {
+            const path = join(folder, "state");
+            const server = new Server({ rtr: rtr.another() });
+            for (const bytes of damaged) {
+                writeFileSync(path, bytes);
+                await assert.rejects(server.restore(path), { name: "UpdateError",
+                    message: "the saved file is damaged: the data need a new session" });
+            }
+            await server.close();
+        });
+    },
+
+    /** A file that isn't as it was saved is refused, and so is one with the head of the form
+     * before. */
     async refusesFiles(rtr) {
         await withFolder(async (folder) => {
             const path = join(folder, "state");

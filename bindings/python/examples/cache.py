@@ -12,7 +12,7 @@ import socket
 import sys
 from typing import Optional, Tuple
 
-from rtr_wire import DamagedError, Data, Fault, FormerFileError, Server, UpdateError, load_data
+from rtr_wire import DamagedError, Data, Fault, Server, UpdateError, load_data
 
 LOOK = 0.25  # seconds between two checks of the file
 LONGEST = 60.0  # the longest pause after failures
@@ -100,7 +100,7 @@ def main() -> None:
     host, _, port = words.listen.rpartition(":")
     try:
         asyncio.run(serve(words.file, host, int(port)))
-    except (OSError, DamagedError, FormerFileError) as error:
+    except (OSError, DamagedError) as error:
         sys.exit(f"cache.py: {error}")
 
 

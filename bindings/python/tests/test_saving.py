@@ -4,12 +4,12 @@ import os
 import pathlib
 import subprocess
 import tempfile
+import time
 import unittest
 from unittest import mock
 
-from rtr_wire import (CacheResponse, DamagedError, Data, EndOfData, FormerFileError,
-                      ResetQuery, SerialQuery, Server, ServerLimits, StoresStatus, TimeRule,
-                      UnsyncedError, UpdateError, Vrp)
+from rtr_wire import (CacheResponse, DamagedError, Data, EndOfData, ResetQuery, SerialQuery,
+                      Server, ServerLimits, StoresStatus, TimeRule, UnsyncedError, UpdateError, Vrp)
 from rtr_wire._rtr import Step
 from rtr_wire.serving import Served
 
@@ -31,6 +31,17 @@ def answer(server, query):
 
 def response(version=2, session=SESSION):
     return bytes(CacheResponse(session, version=version))
+
+
+def former_file(*parts):
+    """Returns a file of a library before 0.3.0: rtrkept1, the 64-bit FNV-1a hash of what follows, and
+    the data and the steps back, each behind its time and its length."""
+    now = (time.time_ns() // 1_000_000).to_bytes(8, "big")
+    history = b"".join(now + len(part).to_bytes(8, "big") + part for part in map(bytes, parts))
+    checksum = 0xcbf29ce484222325
+    for byte in history:
+        checksum = (checksum ^ byte) * 0x100000001b3 % 2**64
+    return b"rtrkept1" + checksum.to_bytes(8, "big") + history
 
 
 class Case(unittest.TestCase):
@@ -192,9 +203,31 @@ class Files(Case):
             self.assertEqual(str(caught.exception), f"{self.path}: the saved file is damaged: the "
                                                     "data need a new session")
             self.assertIsNone(after.end)
-        self.path.write_bytes(b"rtrkept1" + bytes(40))
-        with self.assertRaisesRegex(FormerFileError, "kept: the file has the form before 0.3.0"):
-            Server().restore(self.path)
+
+    def test_a_former_file(self):
+        first, second, third, fourth = (data(one, [one, one + 1]) for one in range(1, 5))
+        steps = third.delta(second), second.delta(first)
+        file = former_file(third, *steps)
+        self.path.write_bytes(file)
+        server = Server()
+        self.assertEqual(server.restore(self.path), third)
+        for old in first, second:
+            self.has_changes(server, old.end.serial, old, third)
+        server.update_saved(fourth, self.path)
+        self.assertTrue(self.path.read_bytes().startswith(b"rtrkept2"))
+        server = Server()
+        self.assertEqual(server.restore(self.path), fourth)
+        for old in first, second, third:
+            self.has_changes(server, old.end.serial, old, fourth)
+
+        # Bytes that changed or are missing, and steps that don't lead back from the data.
+        damaged = [file[:at] + bytes([file[at] ^ 1]) + file[at + 1:] for at in range(len(file))]
+        damaged += [file[:at] for at in range(len(file))]
+        damaged += [former_file(third, steps[0], steps[0]), former_file(*steps), former_file()]
+        for content in damaged:
+            self.path.write_bytes(content)
+            with self.assertRaises(DamagedError):
+                Server().restore(self.path)
 
     def test_no_file(self):
         pathlib.Path(f"{self.path}.new").touch()

@@ -80,11 +80,6 @@ impl Body {
         Body::part(Arc::clone(&self.memory), self.offset + offset, length)
     }
 
-    /// The offset in the whole body at which this part ends.
-    pub(crate) fn end_in(&self, whole: &Body) -> usize {
-        self.offset + self.length - whole.offset
-    }
-
     /// The file that holds them, and their offset there, if they are in one.
     pub(crate) fn file(&self) -> Option<(&File, usize)> {
         match &*self.memory {

@@ -20,12 +20,6 @@ use std::time::{SystemTime, UNIX_EPOCH};
 use std::vec;
 use std::vec::Vec;
 
-/// The magic of files that earlier versions of this crate saved.
-const FORMER: &[u8] = b"rtrkept1";
-
-/// How many bytes of time and length come before a part of a store.
-const PART_HEAD: usize = 16;
-
 /// A few bytes more than the data and the steps of a store: a first guess of its length.
 const SLACK: usize = 64;
 
@@ -298,28 +292,18 @@ fn started(store: &Memory) -> io::Result<Stores> {
     }
 }
 
-/// The store in a file, if its head is that of the store.
+/// The store in a file, also in one that begins with `rtrkept1`, of versions before 0.3.0, if its
+/// head is that of what follows.
 fn unsealed(mut file: Vec<u8>) -> io::Result<Memory> {
     if calls::store_open(&file) {
         file.drain(..size_of::<StoreHead>());
         return Ok(Memory::of(file));
     }
-    former(&file).map(Memory::of).ok_or_else(damaged)
-}
-
-/// The store in a file of an earlier version of this crate: eight bytes of magic, the 64-bit FNV-1a
-/// hash of what follows, and a history. The sessions that the cache left weren't saved.
-fn former(file: &[u8]) -> Option<Vec<u8>> {
-    const BASIS: u64 = 0xcbf2_9ce4_8422_2325;
-    const PRIME: u64 = 0x0100_0000_01b3;
-    let sealed = file
-        .strip_prefix(FORMER)
-        .filter(|sealed| sealed.len() >= 8)?;
-    let (hash, history) = sealed.split_at(8);
-    let hashed = history.iter().fold(BASIS, |hash, byte| {
-        (hash ^ u64::from(*byte)).wrapping_mul(PRIME)
-    });
-    (hash == hashed.to_be_bytes()).then(|| [&[0; PART_HEAD], history].concat())
+    let mut store = vec![0; file.len()];
+    match calls::store_open_old(&file, &mut store).status {
+        status::OK => Ok(Memory::of(store)),
+        _ => Err(damaged()),
+    }
 }
 
 /// The error for a file that was changed or damaged.
@@ -358,12 +342,8 @@ impl History {
 
     /// The serial numbers of the earlier data to which steps lead back, the latest first.
     pub(crate) fn known(&self) -> Vec<u32> {
-        let (mut known, mut rest) = (Vec::new(), self.0.clone());
-        while let Some(present) = part(&rest) {
-            let taken = present.end_in(&rest);
-            rest = rest.within(taken, rest.len() - taken);
-            known.extend(part(&rest).map(|step| end_of(&step).serial));
-        }
+        let mut known = vec![0; calls::history_serials(&self.0, &mut []).wanted];
+        calls::history_serials(&self.0, &mut known);
         known
     }
 

@@ -73,7 +73,7 @@ from .lines import change_json, change_line, unit_lines, unit_objects
 from .reading import Normalised, Units, normalise, same_meaning, units
 from .router import Close, Connect, Failed, NoData, Router, SessionError, Settings, Update
 from .serving import BehindError, ServerError, ServerLimits
-from .store import DamagedError, FormerFileError, UnsyncedError
+from .store import DamagedError, UnsyncedError
 from .units import (AnyUnit, Aspa, CacheReset, CacheResponse, EndOfData, ErrorReport, IPv4Prefix,
                     IPv6Prefix, Payload, Prefix, ResetQuery, RouterKey, SerialNotify, SerialQuery,
                     Unit, Vrp, serial_order, version_has)
@@ -97,7 +97,7 @@ __all__ = [
     "AnyUnit", "Aspa", "AsyncClient", "BehindError", "CacheReset", "CacheResponse", "Cause",
     "Changes", "Client", "Close", "Connect", "Covering", "DamagedError", "Data", "DuplicateError",
     "EmptyProvidersError", "EndOfData", "ErrorCode", "ErrorReport", "Failed", "Fault", "Finding",
-    "FormerFileError", "IPv4Prefix", "IPv6Prefix", "Kind", "Loaded", "Mismatch", "NoData",
+    "IPv4Prefix", "IPv6Prefix", "Kind", "Loaded", "Mismatch", "NoData",
     "NoFormError", "NoIndexError", "NoPayloads", "NoRoomError", "Normalised", "NotCanonicalError",
     "OldSerialError", "OtherSessionError", "OtherVersionError", "Payload", "Prefix", "PrefixError",
     "PrefixRule", "Reason", "ReportInsideError", "ResetInsideError", "ResetQuery", "Router",

@@ -151,9 +151,9 @@ class Server:
         routers get changes after a restart. Call it before the first data. It syncs the folder,
         since the process that saved may have ended before that.
 
-        Raises the OSError of the file; DamagedError; FormerFileError for a file of a library before
-        0.3.0; UpdateError for times that RFC 8210 section 6 doesn't allow; ServerClosed after
-        `close`; a RuntimeError if the server has data. Then nothing changes.
+        Raises the OSError of the file; DamagedError; UpdateError for times that RFC 8210 section 6
+        doesn't allow; ServerClosed after `close`; a RuntimeError if the server has data. Then
+        nothing changes.
         """
         with self._updating:
             self._check_open()

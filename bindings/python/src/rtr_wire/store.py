@@ -20,9 +20,6 @@ _ENTRY = ctypes.sizeof(ctypes.c_size_t)
 # A first guess for the buffers of a call: a few bytes more than a unit. Few changes fit in them.
 _SLACK = 1 << 12
 
-# The beginning of a file that libraries before 0.3.0 saved.
-_FORMER = b"rtrkept1"
-
 # The index of a buffer among those of `Store.take`; that of the output is the last.
 _PLACES: Dict[int, int] = {Room.BUFFER: 0, Room.SPARE: 1}
 
@@ -34,14 +31,6 @@ class DamagedError(ValueError):
 
     def __str__(self) -> str:
         return f"{self.args[0]}: {_rtr.FAILURE_DAMAGED}"
-
-
-class FormerFileError(ValueError):
-    """A file has the form that libraries before 0.3.0 saved. A server in C, Go or Rust that
-    restores it writes the present form with its next data."""
-
-    def __str__(self) -> str:
-        return f"{self.args[0]}: the file has the form before 0.3.0, {_FORMER.decode()}"
 
 
 class UnsyncedError(OSError):
@@ -99,15 +88,16 @@ class History:
 
     def known(self) -> List[int]:
         """Returns the earlier serial numbers from which there are changes, the latest first."""
-        serials: List[int] = []
-        rest = self._span.after(self._taken)
-        while True:
-            found = _first_of(rest)
-            if found is None:
-                return serials
-            taken, step = found
-            serials.append(end_of(step.address, step.length).serial)
-            rest = rest.after(taken)
+        _, count = self._serials(0)
+        serials, _ = self._serials(count)
+        return list(serials)
+
+    def _serials(self, count: int) -> Tuple[Any, int]:
+        """Returns the earlier serial numbers, if this is their number, and else their number."""
+        serials, answer = (ctypes.c_uint32 * count)(), _rtr.rtr_stores_answer()
+        CALLS.rtr_history_serials_nonnull(self._span.address, self._span.length, serials, count,
+                                          answer)
+        return serials, answer.wanted
 
     def nothing(self, version: int) -> bytes:
         """Returns the empty changes from the present data, as encoded for a version."""
@@ -267,14 +257,24 @@ def load(path: Path) -> Tuple[Store, History]:
         os.unlink(_beside(path))
     with open(path, "rb") as file:
         content = file.read()
-    if not CALLS.rtr_store_open_nonnull(content, len(content)):
-        raise (FormerFileError if content.startswith(_FORMER) else DamagedError)(os.fspath(path))
-    store = Store.start(content[_HEAD:])
+    saved = _unsealed(content)
+    store = None if saved is None else Store.start(saved)
     history = None if store is None else store.history()
     if store is None or history is None:
         raise DamagedError(os.fspath(path))
     _sync_folder(path)
     return store, history
+
+
+def _unsealed(content: bytes) -> Optional[bytes]:
+    """Returns the store in a file, also in one that begins with rtrkept1, of libraries before 0.3.0;
+    None if the file isn't whole."""
+    size = len(content)
+    if CALLS.rtr_store_open_nonnull(content, size):
+        return content[_HEAD:]
+    output, answer = memory(size), _rtr.rtr_stores_answer()
+    status = CALLS.rtr_store_open_old_nonnull(content, size, output, size, answer)
+    return _library.front(output, size) if status == StoresStatus.OK else None
 
 
 def _beside(path: Path) -> str:
