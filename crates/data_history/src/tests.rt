@@ -365,6 +365,11 @@ fn changed_files_are_refused(rt: HostRuntime) -> Result<(), Fail> {
     Ok(())
 }
 
+/// Reports whether all of these bytes are 1.
+fn are_ones(bytes: Option<&[u8]>) -> bool {
+    bytes.unwrap_or(&[]).iter().all(|byte| *byte == 1)
+}
+
 /// A file of the form before has the head `rtrkept1` and a history, whose store begins with a part
 /// of no sessions.
 #[test]
@@ -379,15 +384,16 @@ fn files_of_the_form_before_are_opened(rt: HostRuntime) -> Result<(), Fail> {
     assert_eq!(rt; old_store_into(&file, &mut output), Ok(file.len()));
     let store = joined(&rt, &[&part(0, 0), &saved])?;
     assert_eq!(rt; output.get(..file.len()), Some(&store[..]));
-    assert!(rt; output[file.len()..].iter().all(|byte| *byte == 1));
-    let mut short = [1; 512];
+    assert!(rt; are_ones(output.get(file.len()..)));
+    let ones = [1; 15];
+    let one_byte_short = joined(&rt, &[&saved, &ones])?;
+    let mut short = joined(&rt, &[&one_byte_short])?;
     let wanted = CheckFault::NoRoom {
         room: Room::Output,
         wanted: file.len(),
     };
-    let got = old_store_into(&file, &mut short[..file.len() - 1]);
-    assert_eq!(rt; got, Err(wanted));
-    assert!(rt; short.iter().all(|byte| *byte == 1));
+    assert_eq!(rt; old_store_into(&file, &mut short[..]), Err(wanted));
+    assert_eq!(rt; &short[..], &one_byte_short[..]);
     for at in 0..file.len() {
         let mut changed = joined(&rt, &[&file])?;
         if let Some(byte) = changed.get_mut(at) {
@@ -417,9 +423,10 @@ fn earlier_serial_numbers_are_listed(rt: HostRuntime) -> Result<(), Fail> {
     assert_eq!(rt; short, [9]);
     let first = joined(&rt, &[&part(0, 64), &data(&rt, 1)?])?;
     assert_eq!(rt; serials_into(&first, &mut []), Ok(0));
-    for bytes in [&saved[..0], &saved[..15]] {
-        let got = serials_into(bytes, &mut serials);
-        assert_eq!(rt; got, Err(CheckFault::Malformed));
+    for size in [0, 15] {
+        let cut = saved.get(..size).unwrap_or(&[]);
+        let got = serials_into(cut, &mut serials);
+        assert_eq!(rt; got, Err(CheckFault::Malformed), "at {size}");
     }
     Ok(())
 }
