@@ -25,7 +25,7 @@
 /* The version of the protocol for jobs that write a given version. */
 #define VERSION 1
 
-/* The jobs that are also written by hand, and those that only the calls do. */
+/* Jobs before COMPARED are also written by hand; the others are only counted. */
 enum job { NORMALISE, NEXT, WRITE_UNIT, COMPARED, NORMALISE_FOR = COMPARED, SAME_MEANING, JOBS };
 
 static const char *const names[JOBS] = {

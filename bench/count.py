@@ -59,7 +59,7 @@ BENCH_RUNS = 21
 # The argument with which bench_units only reads its input.
 READING = "none"
 
-# The calls of rtr.h that calls.c has by hand too, and those that it only counts, for portable.py.
+# The calls of rtr.h that are compared with C by hand, and those counted for portable.py alone.
 CALLS = ["rtr_normalise_slice", "rtr_next", "rtr_write_unit"]
 ONLY_COUNTED = ["rtr_normalise_for_slice", "rtr_same_meaning"]
 

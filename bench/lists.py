@@ -30,7 +30,7 @@ MARKER = "<!-- counted: lists -->"
 JOBS = {"rtr_list --csv": "csv", "rtr_list --vrps": "vrps", "rtr_list --summary": "summary",
         "rtr_diff": "diff"}
 
-# One unit in so many differs for rtr_diff.
+# Of the two recordings of rtr_diff one unit in this many differs.
 DIFFERS = 10
 
 

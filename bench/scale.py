@@ -43,7 +43,7 @@ HEAD = ["| Server | Routers | GB a second | Processor, s | of `sendfile`'s | MiB
 
 COUNTS = "1,100,1000:50000,10000:5000"
 VRPS = 500_000
-# How often all data are asked for, by how many routers at most, unless that takes so many seconds.
+# Up to this many routers ask for all data this often; no round begins after ENOUGH seconds in all.
 ROUNDS, ENOUGH = [(1, 20), (100, 3)], 10
 MOST_SECONDS, MOST_MEMORY = 120, 6 << 30
 SENDFILE = "`sendfile`"
