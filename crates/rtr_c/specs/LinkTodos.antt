@@ -11,14 +11,17 @@ use Rattle.session_router.specs.declared.event.Event.TheVariants as events
 use Rattle.session_router.specs.declared.settings.Settings.{Settings}
 use Rattle.session_bytes.specs.declared.refusal.Refusal.{Refusal}
 use Rattle.session_bytes.specs.declared.refusal.Refusal.TheVariants as refusals
+use Rattle.session_client.specs.Calls.{closed_after, opened_after, said_after, second_after}
 use Rattle.session_client.specs.Counting.{CountsKept}
 use Rattle.session_client.specs.Holding.{Fits, IsClient, data_in, room_at}
 use Rattle.session_client.specs.Makings.{Octets}
-use Rattle.session_client.specs.Next.{IsDataRoom, IsIndexRoom, IsRoom, IsTodoOf, IsWait, NamesRoom}
-use Rattle.session_client.specs.Next.{RestsNow, Turns}
+use Rattle.session_client.specs.Next.{IsDataRoom, IsIndexRoom, IsOutputRoom, IsRoom, IsTodoOf}
+use Rattle.session_client.specs.Next.{IsWait, NamesRoom, RestsNow, Turns}
 use Rattle.session_client.specs.Over.{IfNamed, none_of, over_of}
 use Rattle.session_client.specs.Said.{given_up, with_room}
+use Rattle.session_client.specs.Tells.{TellsCall}
 use Rattle.session_client.specs.Turning.{IsTurn, turns_left}
+use Rattle.session_client.specs.Words.{IsOfAsking, IsOfEvent, IsOfNext}
 use Rattle.session_client.specs.declared.client.Client.{Client}
 use Rattle.session_client.specs.declared.next.Todo.{Todo}
 use Rattle.session_client.specs.declared.next.Todo.TheVariants as todos
@@ -167,8 +170,19 @@ pub record TakesTurn (now : ℕ) (k : Client) (input first second : Octets) (pla
   pub serves :
       (s : Settings) → IsClient s k input (data_in k.second first second)
       → IsClient s k' input' (data_in k'.second first' second')
+  pub opened : k'.opened ≡ opened_after now k (length output) t
+  pub closed : k'.closed ≡ closed_after now k input (length output) t
+  pub in_second : k'.second ≡ second_after t k.second
+  pub held : data_in k.second first' second' ≡ data_in k.second first second
   pub turns : Turns t now k.router k'.router k.unsent k'.unsent output output'
+  pub told :
+      TellsCall
+      (IsOfNext now k input (data_in k.second first second) (length output) places
+      (data_in k.second second first) (data_in k.second second' first'))
+      t now k input (data_in k.second first second) k' input' (data_in k'.second first' second')
+      output output'
   pub full : NamesRoom t k' input' output'
+  pub first_of_all : length output < k.unsent + 65535 → IsOutputRoom t
   pub names :
       IfNamed t (over_of now k input (data_in k.second first second) k' output output')
       (none_of now k input k' input')
@@ -187,6 +201,8 @@ pub record TakesEvent (now : ℕ) (k : Client) (input output : Octets) (k' : Cli
   pub serves :
       (s : Settings) (buffer : Octets) → IsClient s k input buffer → IsClient s k' input' buffer
   pub second : k'.second ≡ k.second
+  pub opened : k'.opened ≡ said_after t k.opened
+  pub closed : k'.closed ≡ said_after t k.closed
   pub turns : Turns t now k.router k'.router k.unsent k'.unsent output output'
   pub names :
       (held : Octets)
@@ -196,6 +212,11 @@ pub record TakesEvent (now : ℕ) (k : Client) (input output : Octets) (k' : Cli
 pub record AsksNow (now : ℕ) (k : Client) (input output : Octets) (k' : Client)
     (input' output' : Octets) (t : Todo) : Type 0 where
   pub takes : TakesEvent now k input output k' input' output' t
+  pub told :
+      (held : Octets)
+      → TellsCall (IsOfAsking k (length output)) t now k input held k' input' held output output'
+  pub full : NamesRoom t k' input' output'
+  pub first_of_all : length output < k.unsent + 65535 → IsOutputRoom t
   pub still : IsRoom t → (k' ≡ k) × (input' ≡ input)
   pub asks :
       k.unsent + 65535 ≤ length output
@@ -207,5 +228,10 @@ pub record GivesUpRoom (now : ℕ) (k : Client) (input output : Octets) (k' : Cl
   pub takes :
       TakesEvent now (record k { unsent = with_room k.unsent (length output) }) input output k'
       input' output' t
+  pub told :
+      (held : Octets)
+      → TellsCall (IsOfEvent (given_up k.router.phase)) t now
+      (record k { unsent = with_room k.unsent (length output) }) input held k' input' held output
+      output'
   pub gives :
       (a : Action) × IsTodoOf (Some a) t × IsStep k.router now (given_up k.router.phase) a k'.router

@@ -226,7 +226,7 @@ fn ask_now(link: &mut RtrLink, now: u64, input: &mut [u8], output: &mut [u8]) ->
     todo_to(&todo, client.second, client.router.wakes())
 }
 
-/// The caller gives a buffer no more room, as `session_client::Client::give_up`.
+/// Reports that a buffer can't grow, as `session_client::Client::give_up`.
 #[unsafe(no_mangle)]
 pub extern "C" fn rtr_link_give_up_nonnull(
     link: &mut RtrLink,

@@ -16,7 +16,7 @@ pub struct RtrLinkState {
     pub wakes: u64,
     /// The offset in the input at which the next bytes are read.
     pub filled: usize,
-    /// The number of bytes of the output that are to be sent, from its front.
+    /// The number of unsent bytes of the output, from its front.
     pub unsent: usize,
     /// The length of the data, in canonical form; 0 if there are none.
     pub shown: usize,
@@ -76,7 +76,7 @@ fn none() -> RtrLinkState
     }
 }
 
-/// What the buffers hold, which have these lengths.
+/// What buffers of these lengths hold.
 #[unsafe(no_mangle)]
 pub extern "C" fn rtr_link_state_of(
     link: &RtrLink,

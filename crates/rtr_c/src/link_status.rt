@@ -14,22 +14,22 @@ use crate::link::{RtrLink, flag_from, is_begun};
 pub(crate) const OK: u8 = 0;
 /// The fields of the struct aren't those that a call leaves.
 pub(crate) const NOT_BEGUN: u8 = 1;
-/// A buffer is shorter than what stands in it, or an output shorter than a report.
+/// A buffer is shorter than what it holds, or an output shorter than a report.
 pub(crate) const SHORT_BUFFER: u8 = 2;
 /// The time is before the latest one, or not below 2^63.
 pub(crate) const BAD_TIME: u8 = 3;
 /// There is no connection that this could happen to.
 pub(crate) const OUT_OF_TURN: u8 = 4;
-/// More bytes than there is room for, or than are to be sent.
+/// More bytes than there is room for, or than are unsent.
 pub(crate) const TOO_LONG: u8 = 5;
 
 /// The length of the longest report.
 const REPORT: usize = 65_535;
 
-/// The last time that a machine is told.
+/// The latest time that may be passed.
 const LAST: u64 = u64::MAX / 2;
 
-/// Whether the time may be passed now.
+/// Whether this time may be passed: not before the latest one, and below 2^63.
 fn suits_time(link: &RtrLink, now: u64) -> bool
     ensures { result ≡ suits_time link.now now }
 {

@@ -68,7 +68,7 @@ pub struct RtrTodo {
 // The fields stand one after the other.
 const _: () = prove!(size_of::<RtrTodo>() == 32);
 
-/// Something that has no fields.
+/// Something without further fields.
 fn plain(kind: u8, wakes: u64) -> RtrTodo
     ensures { result ≡ plain_todo kind wakes }
 {
@@ -86,7 +86,7 @@ fn plain(kind: u8, wakes: u64) -> RtrTodo
     }
 }
 
-/// Nothing is to be done: the call was refused.
+/// Nothing, since the call was refused.
 pub(crate) fn refused() -> RtrTodo
     ensures { result ≡ refused_todo }
 {
@@ -103,8 +103,8 @@ fn room(kind: u8, room: usize, wakes: u64) -> RtrTodo
     }
 }
 
-/// What a caller has to do next, in numbers, where the data are in the second buffer or not, and
-/// the machine is to be called again at this time.
+/// What a caller has to do next, in numbers: whether the data are in the second buffer, and when to
+/// call again.
 pub(crate) fn todo_to(todo: &Todo, second: bool, wakes: u64) -> RtrTodo
     ensures { result ≡ todo_told todo.now second wakes }
 {

@@ -1,3 +1,4 @@
+mod Calls
 mod CountsKept
 pub mod Example
 mod Made
@@ -11,3 +12,4 @@ pub mod Runs
 pub mod Steps
 pub mod Takes
 mod Turns
+mod Words

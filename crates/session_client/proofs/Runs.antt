@@ -31,8 +31,9 @@ use Rattle.session_client.specs.declared.client.Holding.TheVariants as holdings
 use Rattle.session_client.proofs.Places.{answer_of, joined, unit_there}
 
 -- what is kept, and more units
-pub grown : (c : Caller Octets Octets) (h : Host Octets Octets) (m : Holding) (kept start filled : ℕ)
-    (input : Octets) (units : List Octets) → IsHearing m → kept + start ≤ filled →
+pub grown : (c : Caller Octets Octets) (h : Host Octets Octets) (m : Holding)
+    (kept start filled : ℕ) (input : Octets) (units : List Octets) → IsHearing m →
+    kept + start ≤ filled →
     Holds c h m kept input → concat units ≡ take start (drop kept (take filled input)) →
     Holds c (record { kept = h.kept ++ units; made = h.made; shown = h.shown }) m (kept + start)
     input
@@ -383,8 +384,9 @@ middles : (a b : Octets) (n k m : ℕ) → n + k ≤ m → take m a ≡ take m b
 middles a b n k m order same =
     sym (drop-take n k a) ∙ ap (drop n) (fronts a b (n + k) m order same) ∙ drop-take n k b
 
-pub holds_still : (c : Caller Octets Octets) (h : Host Octets Octets) (m : Holding) (kept filled : ℕ)
-    (input input' : Octets) → kept + due_size m ≤ filled → take filled input ≡ take filled input' →
+pub holds_still : (c : Caller Octets Octets) (h : Host Octets Octets) (m : Holding)
+    (kept filled : ℕ) (input input' : Octets) → kept + due_size m ≤ filled →
+    take filled input ≡ take filled input' →
     Holds c h m kept input → Holds c h m kept input'
 holds_still c h holdings.Nothing kept filled input input' within same holds = tt
 holds_still c h holdings.Units kept filled input input' within same holds =

@@ -19,7 +19,8 @@ use Rattle.session_client.specs.Makings.{Octets}
 use Rattle.session_client.specs.Over.{IsOfNone}
 use Rattle.session_client.specs.Next.{IsTodoOf}
 use Rattle.session_client.specs.Said.{Did}
-use Rattle.session_client.specs.Tells.{HostHas, IsNoUnit, TakesCall, TakesFrom, TellsCall, of_nothing}
+use Rattle.session_client.specs.Tells.{HostHas, IsNoUnit, TakesCall, TakesFrom, TellsCall}
+use Rattle.session_client.specs.Tells.{Word, of_nothing}
 use Rattle.session_client.specs.Turning.{InPhase}
 use Rattle.session_client.specs.declared.client.Client.{Client}
 use Rattle.session_client.specs.declared.client.Holding.{Holding}
@@ -32,12 +33,14 @@ use Rattle.session_client.proofs.Turns.{LeavesItself}
 
 -- ---- nothing happens
 
-pub takes_none : (now : ℕ) (r : Router) (m : Holding) (kept filled : ℕ) (shown : Option ℕ)
+abbrev pub takes_none : (now : ℕ) (r : Router) (m : Holding) (kept filled : ℕ) (shown : Option ℕ)
     (input held : Octets) →
     TakesFrom None now r m kept filled shown input held r m kept filled shown input held
 takes_none now r m kept filled shown input held = record {
   word = of_nothing;
   is_told = (refl, refl, refl);
+  front = refl;
+  size = refl;
   made = [];
   were = tt;
   says = λ c h makes x. tt;
@@ -219,25 +222,17 @@ no_unit (events.NotApplied code) none = tt
 
 -- ---- and its caller is told of it
 
-pub told_then : (t : Todo) (a : Action) (now : ℕ) (k k₁ k₂ : Client)
+pub told_then : (P : Word → Type 0) (t : Todo) (a : Action) (now : ℕ) (k k₁ k₂ : Client)
     (input held input' held' before after : Octets) → IsTodoOf (Some a) t →
     Did (Some a) now k.router k₁.router k.unsent k₁.unsent before after →
     k₂.router ≡ k₁.router → k₂.unsent ≡ k₁.unsent →
-    TakesCall (Some a) now k input held k₂ input' held' →
-    TellsCall t now k input held k₂ input' held' before after
-told_then t a now k k₁ k₂ input held input' held' before after is did router unsent takes = (
+    (x : TakesCall (Some a) now k input held k₂ input' held') → P x.word →
+    TellsCall P t now k input held k₂ input' held' before after
+told_then P t a now k k₁ k₂ input held input' held' before after is did router unsent takes told = (
   Some a,
   is,
   subst (λ x. Did (Some a) now k.router x k.unsent k₂.unsent before after) (sym router)
       (subst (λ x. Did (Some a) now k.router k₁.router k.unsent x before after) (sym unsent) did),
   takes,
-)
-
-pub told_none : (t : Todo) (now : ℕ) (k : Client) (input held output : Octets) →
-    IsTodoOf None t → TellsCall t now k input held k input held output output
-told_none t now k input held output is = (
-  None,
-  is,
-  (inl refl, refl, refl),
-  takes_none now k.router k.holding k.kept k.filled k.shown input held,
+  told,
 )

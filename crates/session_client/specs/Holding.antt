@@ -1,5 +1,5 @@
 -- What a client's numbers and buffers hold of a run of a router and its caller.
-use Rattle.std.specs.Prelude.{◌≡◌, ℕ, Bool, false, ◌+◌, ◌≤◌, List, [], length, take, drop}
+use Rattle.std.specs.Prelude.{◌≡◌, ◌≢◌, ℕ, Bool, false, ◌+◌, ◌≤◌, List, [], length, take, drop}
 use Rattle.std.specs.Prelude.{Option, Some, None, if◌then◌else◌, ◌-◌, ◌^◌, min}
 use Rattle.std.specs.List.{concat}
 use Rattle.session_router.specs.declared.event.Action.{Action}
@@ -168,6 +168,11 @@ abbrev pub WantsRoom : Applied → Type 0
 WantsRoom (applied.Data n) = Unit {0}
 WantsRoom (applied.Index n) = Unit {0}
 WantsRoom _ = ⊥
+
+-- the changes of an answer show data by `Shown` alone
+abbrev pub ShowsByThis : Applied → Type 0
+ShowsByThis (applied.Acted action refusal offset) = action ≢ actions.Show
+ShowsByThis _ = Unit {0}
 
 -- as much as the changes may make, or a place for each unit
 abbrev pub AsksRoom : Applied → (most units : ℕ) → Type 0

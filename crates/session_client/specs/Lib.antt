@@ -6,3 +6,5 @@ pub mod Turning
 pub mod Over
 pub mod Next
 pub mod Tells
+pub mod Calls
+pub mod Words

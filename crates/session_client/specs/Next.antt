@@ -32,6 +32,10 @@ IsRoom (todos.IndexRoom n) = Unit {0}
 IsRoom (todos.OutputRoom n) = Unit {0}
 IsRoom _ = ⊥
 
+abbrev pub IsOutputRoom : Todo → Type 0
+IsOutputRoom (todos.OutputRoom n) = Unit {0}
+IsOutputRoom _ = ⊥
+
 -- A buffer is named that has no room: the input is full; behind the unsent bytes of the output a
 -- report doesn't fit. As much is asked for as is enough: a unit more; all that the changes of the
 -- answer may make; a place for each of its payload units.
@@ -74,9 +78,10 @@ pub record Turns (t : Todo) (now : ℕ) (r r' : Router) (unsent unsent' : ℕ)
   pub did : Did action now r r' unsent unsent' before after
 
 -- Nothing is to be done before the machine's own time: it was told of all that came, and of what
--- became of the connection.
+-- became of the connection. The input has room for more.
 pub record RestsNow (now : ℕ) (k : Client) (input : List ℕ) : Type 0 where
   pub time : now < wakes_at k.router
   pub opened : k.opened ≡ false
   pub closed : k.closed ≡ false
+  pub room : k.filled < length input
   pub awaits : IsTalking k.router → Awaits k.router (untold k input) false k.router

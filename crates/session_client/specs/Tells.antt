@@ -4,6 +4,7 @@ use Rattle.std.specs.Prelude.{None}
 use Rattle.session_router.specs.Histories.{Caller, Host, MaySay, host_after}
 use Rattle.session_router.specs.Step.{IsStep}
 use Rattle.session_router.specs.declared.event.Action.{Action}
+use Rattle.session_router.specs.declared.event.Action.TheVariants as actions
 use Rattle.session_router.specs.declared.event.Event.{Event}
 use Rattle.session_router.specs.declared.event.Event.TheVariants as events
 use Rattle.session_router.specs.declared.router.Router.{Router}
@@ -11,6 +12,7 @@ use Rattle.session_bytes.specs.Reading.{Hears}
 use Rattle.session_bytes.specs.declared.telling.Told.{Told}
 use Rattle.session_bytes.specs.declared.telling.Told.TheVariants as told
 use Rattle.session_client.specs.Holding.{Holds, LeavesInput, LeavesTold, ShowsFront, due_size}
+use Rattle.session_client.specs.Holding.{shown_after}
 use Rattle.session_client.specs.Makings.{Octets, MadeAnswer, MakesAll, WereMade}
 use Rattle.session_client.specs.Next.{IsTodoOf}
 use Rattle.session_client.specs.Said.{Did}
@@ -73,6 +75,37 @@ host_then c h b of_nothing = h
 host_then c h b (of_itself e x) = host_after c h [] x
 host_then c h b (of_bytes ended t) = host_heard c h b t
 
+-- ---- where the bytes begin, in the input, that the machine wasn't told of
+
+-- In front of them stand the units that are held, and an end of data whose changes are to be made;
+-- else nothing does, but a report that the cache has no data, which stays until the machine acts
+-- again.
+abbrev pub front_left : Action → (front : ℕ) → ℕ
+front_left actions.Wait front = front
+front_left a front = 0
+
+-- after a unit that stood between these offsets
+abbrev pub front_at : Action → (start end : ℕ) → ℕ
+front_at actions.Wait start end = start
+front_at (actions.Apply since) start end = end
+front_at actions.NoData start end = end
+front_at a start end = 0
+
+abbrev pub front_after : Word → (front : ℕ) → ℕ
+front_after of_nothing n = n
+front_after (of_itself e x) n = front_left x n
+front_after (of_bytes ended told.Awaits) n = n
+front_after (of_bytes ended (told.Kept k)) n = n + k
+front_after (of_bytes ended (told.Acted start end a)) n = front_at a (n + start) (n + end)
+front_after (of_bytes ended (told.Refused e a)) n = front_left a n
+
+-- ---- how many bytes of data are shown: after `Show` as many as the changes made
+
+abbrev pub IsShownAfter : Option Action → (shown shown' : Option ℕ) → Type 0
+IsShownAfter None shown shown' = shown' ≡ shown
+IsShownAfter (Some actions.Show) shown shown' = Unit {0}
+IsShownAfter (Some a) shown shown' = shown' ≡ shown_after a shown
+
 -- what the machine wasn't told of yet
 abbrev pub rest_of : Holding → (kept filled : ℕ) → (input : Octets) → Octets
 rest_of m kept filled input = drop (kept + due_size m) (take filled input)
@@ -86,6 +119,8 @@ pub record TakesFrom (a : Option Action) (now : ℕ) (r : Router) (m : Holding) 
   pub word : Word
   pub is_told :
       IsTold word now r (rest_of m kept filled input) (rest_of m' kept' filled' input') a r'
+  pub front : kept' + due_size m' ≡ front_after word (kept + due_size m)
+  pub size : IsShownAfter a shown shown'
   pub made : List MadeAnswer
   pub were : WereMade made
   pub says :
@@ -103,10 +138,11 @@ TakesCall a now k input held k' input' held' =
     TakesFrom a now k.router k.holding k.kept k.filled k.shown input held k'.router k'.holding
     k'.kept k'.filled k'.shown input' held'
 
--- and what its caller has to do, and the bytes that were put into the output
-abbrev pub TellsCall : Todo → (now : ℕ) → (k : Client) → (input held : Octets) → (k' : Client) →
-    (input' held' output output' : Octets) → Type 0
-TellsCall t now k input held k' input' held' output output' =
+-- and what its caller has to do, and the bytes that were put into the output; this holds of what
+-- the machine was told
+abbrev pub TellsCall : (Word → Type 0) → Todo → (now : ℕ) → (k : Client) → (input held : Octets) →
+    (k' : Client) → (input' held' output output' : Octets) → Type 0
+TellsCall P t now k input held k' input' held' output output' =
     (a : Option Action) × IsTodoOf a t
     × Did a now k.router k'.router k.unsent k'.unsent output output'
-    × TakesCall a now k input held k' input' held'
+    × (x : TakesCall a now k input held k' input' held') × P x.word

@@ -1,9 +1,10 @@
 //! The changes of a whole answer are made.
 
 ghost use Rattle.std.specs.Prelude.{◌≡◌, ◌≢◌, ◌<◌, ◌≤◌, ◌+◌, ◌-◌, ◌^◌, ℕ, Bool, length, take, drop};
-ghost use Rattle.std.specs.Prelude.{List, Option, Some, Err, IfOk, min};
+ghost use Rattle.std.specs.Prelude.{List, Option, Some, None, Err, IfOk, min};
 ghost use Rattle.session_client.specs.Holding.{Fits, SameCalls, IsClient, Stands, base_room};
-ghost use Rattle.session_client.specs.Holding.{AsksRoom, WantsData, WantsIndex, WantsRoom};
+ghost use Rattle.session_client.specs.Holding.{AsksRoom, ShowsByThis, WantsData, WantsIndex};
+ghost use Rattle.session_client.specs.Holding.{WantsRoom};
 ghost use Rattle.session_client.specs.Holding.{data_after, due_size, room_at, room_for};
 ghost use Rattle.session_client.specs.Makings.{Octets, MadeAnswer, MakesThis, WasMade, onto};
 ghost use Rattle.session_client.specs.Counting.{CountsKept};
@@ -11,8 +12,11 @@ ghost use Rattle.session_client.specs.Over.{IfApplied, IsRefusedOver, none_of, o
 ghost use Rattle.session_client.specs.Said.{Did, did_of};
 ghost use Rattle.session_client.specs.Tells.{HostHas, TakesCall};
 ghost use Rattle.session_client.specs.Turning.{HasAnswer, IsInStep, turns_left};
+ghost use Rattle.session_client.specs.Words.{IsOfChanges, IsOfEvent};
 ghost use Rattle.session_client.specs.declared.client.Holding.TheVariants as holdings;
 ghost use Rattle.session_router.specs.Histories.{Caller, Host};
+ghost use Rattle.session_bytes.specs.Sent.{refusal_code};
+ghost use Rattle.session_router.specs.declared.event.Event.TheVariants as events;
 ghost use Rattle.session_router.specs.declared.settings.Settings.{Settings};
 ghost use Rattle.data_slices.specs.InOrder.{AppliesInOrder};
 ghost use Rattle.data_slices.specs.declared.in_order_fault.InOrderFault.TheVariants.{NoRoom};
@@ -68,10 +72,13 @@ impl Client {
         ensures fits { Fits self.new input.new }
         ensures step { IsInStep self.new }
         ensures same { SameCalls self.old self.new }
+        ensures shows { ShowsByThis result }
         ensures did { Did (did_of result) now self.old.router self.new.router self.old.unsent
             self.new.unsent output.old output.new }
-        ensures takes { TakesCall (did_of result) now self.old input.old held.now self.new input.new
-            (data_after result held.now made.new) }
+        ensures takes { (x : TakesCall (did_of result) now self.old input.old held.now self.new
+            input.new (data_after result held.now made.new)) × IsOfChanges self.old.holding
+            self.old.kept self.old.shown input.old held.now (length index.old) made.old made.new
+            x.word }
         ensures room { self.new.unsent ≤ length output.new }
         ensures names { IfApplied result
             (over_of now self.old input.old held.now self.new output.old output.new)
@@ -120,10 +127,13 @@ impl Client {
         ensures fits { Fits self.new input.new }
         ensures step { IsInStep self.new }
         ensures same { SameCalls self.old self.new }
+        ensures shows { ShowsByThis result }
         ensures did { Did (did_of result) now self.old.router self.new.router self.old.unsent
             self.new.unsent output.old output.new }
-        ensures takes { TakesCall (did_of result) now self.old input.old held.now self.new input.new
-            (data_after result held.now made.new) }
+        ensures takes { (x : TakesCall (did_of result) now self.old input.old held.now self.new
+            input.new (data_after result held.now made.new))
+            × IsOfChanges (holdings.Answer size since) self.old.kept self.old.shown input.old
+            held.now (length index.old) made.old made.new x.word }
         ensures room { self.new.unsent ≤ length output.new }
         ensures names { IfApplied result
             (over_of now self.old input.old held.now self.new output.old output.new)
@@ -157,7 +167,12 @@ impl Client {
             Err(InOrderFault::Unknown { offset }) => {
                 self.refuse(now, Refusal::Unknown, offset, input, output)
             }
-            Err(_) => self.cannot_make(now, input, output),
+            Err(
+                InOrderFault::Data(_)
+                | InOrderFault::Changes(_)
+                | InOrderFault::UnitVersion(_)
+                | InOrderFault::Session(_),
+            ) => self.cannot_make(now, input, output),
         }
     }
 
@@ -192,14 +207,15 @@ impl Client {
         ensures step { IsInStep self.new }
         ensures counts { CountsKept self.new input.new }
         ensures same { SameCalls self.old self.new }
+        ensures shows { ShowsByThis result }
         ensures did { Did (did_of result) now self.old.router self.new.router self.old.unsent
             self.new.unsent output.old output.new }
         ensures takes { (held made : Octets) (m : MadeAnswer) → WasMade m
             → ((c : Caller Octets Octets) (h : Host Octets Octets) → MakesThis c m
             → HostHas c h self.old.holding self.old.kept self.old.shown input.old held
             → h.made ≡ Some (take count made))
-            → TakesCall (did_of result) now self.old input.old held self.new input.new
-            (data_after result held made) }
+            → (x : TakesCall (did_of result) now self.old input.old held self.new input.new
+            (data_after result held made)) × IsOfEvent events.Applied x.word }
         ensures room { self.new.unsent ≤ length output.new }
         ensures names { (held : Octets) → IfApplied result
             (over_of now self.old input.old held self.new output.old output.new)
@@ -248,10 +264,12 @@ impl Client {
         ensures step { IsInStep self.new }
         ensures counts { CountsKept self.old input.old → CountsKept self.new input.new }
         ensures same { SameCalls self.old self.new }
+        ensures shows { ShowsByThis result }
         ensures did { Did (did_of result) now self.old.router self.new.router self.old.unsent
             self.new.unsent output.old output.new }
-        ensures takes { (held made : Octets) → TakesCall (did_of result) now self.old input.old held
-            self.new input.new (data_after result held made) }
+        ensures takes { (held made : Octets) → (x : TakesCall (did_of result) now self.old input.old
+            held self.new input.new (data_after result held made))
+            × IsOfEvent (events.NotApplied (Some (refusal_code refusal))) x.word }
         ensures room { self.new.unsent ≤ length output.new }
         ensures names { (held : Octets) (since : Bool) (size places : ℕ)
             → self.old.holding ≡ holdings.Answer size since
@@ -292,10 +310,12 @@ impl Client {
         ensures step { IsInStep self.new }
         ensures counts { CountsKept self.old input.old → CountsKept self.new input.new }
         ensures same { SameCalls self.old self.new }
+        ensures shows { ShowsByThis result }
         ensures did { Did (did_of result) now self.old.router self.new.router self.old.unsent
             self.new.unsent output.old output.new }
-        ensures takes { (held made : Octets) → TakesCall (did_of result) now self.old input.old held
-            self.new input.new (data_after result held made) }
+        ensures takes { (held made : Octets) → (x : TakesCall (did_of result) now self.old input.old
+            held self.new input.new (data_after result held made))
+            × IsOfEvent (events.NotApplied None) x.word }
         ensures room { self.new.unsent ≤ length output.new }
         ensures names { (held : Octets) → IfApplied result
             (over_of now self.old input.old held self.new output.old output.new)

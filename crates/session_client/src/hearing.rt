@@ -11,9 +11,10 @@ ghost use Rattle.session_client.specs.Holding.{untold};
 ghost use Rattle.session_client.specs.Counting.{CountsKept, IsKeptCount};
 ghost use Rattle.session_client.specs.Over.{IfHeard, none_of, over_of};
 ghost use Rattle.session_client.specs.Said.{Did, PutsBehind, did_at, report_bytes};
-ghost use Rattle.session_client.specs.Tells.{HostHas, TakesCall};
+ghost use Rattle.session_client.specs.Tells.{HostHas, TakesCall, front_at, front_left};
 ghost use Rattle.session_client.specs.Turning.{HasAnswer, IsInStep, follows, holding_after};
 ghost use Rattle.session_client.specs.Turning.{turns_left};
+ghost use Rattle.session_client.specs.Words.{IsOfInput};
 ghost use Rattle.session_client.specs.declared.client.Holding.TheVariants as holdings;
 ghost use Rattle.session_bytes.specs.Reading.{Acts, Awaits, EndsConnection, Hears};
 ghost use Rattle.session_router.specs.Heeding.{IsTalking};
@@ -78,9 +79,11 @@ impl Client {
         ensures hears { HearsAll self.old.router now closed (untold self.old input.old)
             (untold self.new input.new) self.new.router }
         ensures takes { (held : Octets)
-            → TakesCall (did_at result) now self.old input.old held self.new input.new held }
+            → (x : TakesCall (did_at result) now self.old input.old held self.new input.new held)
+            × ((IsAwaits result → ⊥) → IsOfInput closed x.word) }
         ensures awaits { IsAwaits result
             → Awaits self.old.router (untold self.old input.old) closed self.old.router }
+        ensures some { (IsAwaits result → ⊥) → 0 < length (untold self.old input.old) }
         ensures rests { IsAwaits result → (self.new ≡ self.old) × (input.new ≡ input.old) }
         ensures fits { Fits self.new input.new }
     {
@@ -139,6 +142,9 @@ impl Client {
         ensures steps { IsStep self.old.router now event result self.new.router }
         ensures left { LeavesInput result 0 (untold self.old input.old)
             (untold self.new input.new) }
+        ensures front { self.new.kept + due_size self.new.holding ≡
+            front_left result (self.old.kept + due_size self.old.holding) }
+        ensures shown { self.new.shown ≡ shown_after result self.old.shown }
         ensures has { (c : Caller Octets Octets) (h : Host Octets Octets) (buffer : Octets)
             → HostHas c h self.old.holding self.old.kept self.old.shown input.old buffer
             → HostHas c (host_after c h [] result) self.new.holding self.new.kept self.new.shown
@@ -193,18 +199,21 @@ impl Client {
             action.now self.old.router
             → IsKeptCount self.old.holding before self.old.kept input.old
             → CountsKept self.new input.new }
-        ensures has { (c : Caller Octets Octets) (h : Host Octets Octets) (buffer : Octets) (now : ℕ)
-            (before : Router)
+        ensures has { (c : Caller Octets Octets) (h : Host Octets Octets) (buffer : Octets)
+            (now : ℕ) (before : Router)
             → Acts before now (drop self.old.kept (take self.old.filled input.old)) start end
             action.now self.old.router
             → HostHas c h self.old.holding self.old.kept self.old.shown input.old buffer
             → HostHas c (host_after c h
-            (drop start (take end (drop self.old.kept (take self.old.filled input.old)))) action.now)
-            self.new.holding self.new.kept self.new.shown input.new buffer }
+            (drop start (take end (drop self.old.kept (take self.old.filled input.old))))
+            action.now) self.new.holding self.new.kept self.new.shown input.new buffer }
         ensures left { LeavesInput action.now end (untold self.old input.old)
             (untold self.new input.new) }
         ensures holding { self.new.holding ≡
             holding_after action.now self.old.holding (end - start) }
+        ensures front { self.new.kept + due_size self.new.holding ≡
+            front_at action.now (self.old.kept + start) (self.old.kept + end) }
+        ensures shown { self.new.shown ≡ shown_after action.now self.old.shown }
         ensures stays { action.now ≡ actions.NoData → input.new ≡ input.old }
         ensures same { SameCalls self.old self.new }
         ensures router { self.new.router ≡ self.old.router }
@@ -330,8 +339,8 @@ impl Client {
             → IsStep before now e action.now self.old.router
             → IsKeptCount self.old.holding before self.old.kept input.old
             → CountsKept self.new input.new }
-        ensures has { (c : Caller Octets Octets) (h : Host Octets Octets) (buffer : Octets) (now : ℕ)
-            (before : Router) (e : Event) → SaysItself before e
+        ensures has { (c : Caller Octets Octets) (h : Host Octets Octets) (buffer : Octets)
+            (now : ℕ) (before : Router) (e : Event) → SaysItself before e
             → IsStep before now e action.now self.old.router
             → HostHas c h self.old.holding self.old.kept self.old.shown input.old buffer
             → HostHas c (host_after c h [] action.now) self.new.holding self.new.kept self.new.shown
@@ -339,6 +348,9 @@ impl Client {
         ensures left { IsHearing self.old.holding → LeavesInput action.now 0
             (untold self.old input.old) (untold self.new input.new) }
         ensures holding { self.new.holding ≡ follows action.now self.old.holding }
+        ensures front { self.new.kept + due_size self.new.holding ≡
+            front_left action.now (self.old.kept + due_size self.old.holding) }
+        ensures shown { self.new.shown ≡ shown_after action.now self.old.shown }
         ensures ends { EndsConnection action.now → untold self.new input.new ≡ [] }
         ensures waits { action.now ≡ actions.Wait →
             (self.new ≡ self.old) × (input.new ≡ input.old) }

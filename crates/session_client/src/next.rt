@@ -2,17 +2,21 @@
 
 ghost use Rattle.std.specs.Prelude.{◌≡◌, ◌<◌, ◌≤◌, ◌+◌, ◌^◌, ℕ, List, length, drop, take, true};
 ghost use Rattle.std.specs.Prelude.{Option, Some, false, min, ◌-◌, ◌≢◌};
-ghost use Rattle.session_client.specs.Next.{IsDataRoom, IsIndexRoom, IsRoom, IsTodoOf, IsWait};
-ghost use Rattle.session_client.specs.Next.{NamesRoom, RestsNow, Turns};
+ghost use Rattle.session_client.specs.Next.{IsDataRoom, IsIndexRoom, IsOutputRoom, IsRoom};
+ghost use Rattle.session_client.specs.Next.{IsTodoOf, IsWait, NamesRoom, RestsNow, Turns};
 ghost use Rattle.session_client.specs.Holding.{Fits, IsHearing, SaysItself, IsClient, data_in};
 ghost use Rattle.session_client.specs.Holding.{room_at};
 ghost use Rattle.session_client.specs.Holding.{untold};
 ghost use Rattle.session_client.specs.Makings.{Octets};
+ghost use Rattle.session_client.specs.Calls.{closed_after, closed_then, is_data, lost_after};
+ghost use Rattle.session_client.specs.Calls.{opened_after, opened_then, said_after, second_after};
 ghost use Rattle.session_client.specs.Counting.{CountsKept};
 ghost use Rattle.session_client.specs.Over.{IfNamed, IsOfNone, none_of, over_of};
 ghost use Rattle.session_client.specs.Said.{given_up, with_room};
 ghost use Rattle.session_client.specs.Tells.{TakesCall, TellsCall};
 ghost use Rattle.session_client.specs.Turning.{HasAnswer, IsInStep, IsTurn, turns_left};
+ghost use Rattle.session_client.specs.Words.{IsInTurn, IsOfAsking, IsOfChanges, IsOfClosed};
+ghost use Rattle.session_client.specs.Words.{IsOfEvent, IsOfNext, IsOfOpened, IsOfRest};
 ghost use Rattle.session_client.specs.declared.client.Client.{Client};
 ghost use Rattle.session_bytes.specs.Reading.{Awaits};
 ghost use Rattle.session_router.specs.Heeding.{IsTalking};
@@ -90,13 +94,24 @@ impl Client {
             → IsClient s self.new input.new (data_in self.new.second first.new second.new) }
         ensures fits { Fits self.new input.new }
         ensures step { IsInStep self.new }
+        ensures opened { self.new.opened ≡
+            opened_after now self.old (length output.old) result }
+        ensures closed { self.new.closed ≡
+            closed_after now self.old input.old (length output.old) result }
+        ensures second { self.new.second ≡ second_after result self.old.second }
+        ensures held { data_in self.old.second first.new second.new
+            ≡ data_in self.old.second first.old second.old }
         ensures turns { Turns result now self.old.router self.new.router self.old.unsent
             self.new.unsent output.old output.new }
-        ensures told { TellsCall result now self.old input.old
+        ensures told { TellsCall (IsOfNext now self.old input.old
+            (data_in self.old.second first.old second.old) (length output.old) (length index.old)
+            (data_in self.old.second second.old first.old)
+            (data_in self.old.second second.new first.new)) result now self.old input.old
             (data_in self.old.second first.old second.old) self.new input.new
             (data_in self.new.second first.new second.new) output.old output.new }
         ensures room { self.new.unsent ≤ length output.new }
         ensures full { NamesRoom result self.new input.new output.new }
+        ensures first { length output.old < self.old.unsent + 65535 → IsOutputRoom result }
         ensures names { IfNamed result (over_of now self.old input.old
             (data_in self.old.second first.old second.old) self.new output.old output.new)
             (none_of now self.old input.old self.new input.new) }
@@ -160,9 +175,14 @@ impl Client {
             → IsClient s self.new input.new (data_in result.1 held.now made.new) }
         ensures fits { Fits self.new input.new }
         ensures step { IsInStep self.new }
+        ensures turned { result.1 ≡ is_data result.0 }
+        ensures opened { self.new.opened ≡ said_after result.0 self.old.opened }
+        ensures closed { self.new.closed ≡ said_after result.0 self.old.closed }
         ensures turns { Turns result.0 now self.old.router self.new.router self.old.unsent
             self.new.unsent output.old output.new }
-        ensures told { TellsCall result.0 now self.old input.old held.now self.new input.new
+        ensures told { TellsCall (IsOfChanges self.old.holding self.old.kept self.old.shown
+            input.old held.now (length index.old) made.old made.new) result.0 now
+            self.old input.old held.now self.new input.new
             (data_in result.1 held.now made.new) output.old output.new }
         ensures room { self.new.unsent ≤ length output.new }
         ensures full { NamesRoom result.0 self.new input.new output.new }
@@ -207,11 +227,14 @@ impl Client {
         ensures fits { Fits self.new input.new }
         ensures step { IsInStep self.new }
         ensures second { self.new.second ≡ self.old.second }
+        ensures plain { is_data result ≡ false }
+        ensures opened { self.new.opened ≡ opened_then now self.old result }
+        ensures closed { self.new.closed ≡ closed_then now self.old input.old result }
         ensures turns { Turns result now self.old.router self.new.router self.old.unsent
             self.new.unsent output.old output.new }
         ensures told { (held : Octets)
-            → TellsCall result now self.old input.old held self.new input.new held
-            output.old output.new }
+            → TellsCall (IsInTurn now self.old input.old) result now
+            self.old input.old held self.new input.new held output.old output.new }
         ensures room { self.new.unsent ≤ length output.new }
         ensures full { NamesRoom result self.new input.new output.new }
         ensures names { (held : Octets) → IfNamed result
@@ -257,11 +280,14 @@ impl Client {
         ensures fits { Fits self.new input.new }
         ensures step { IsInStep self.new }
         ensures second { self.new.second ≡ self.old.second }
+        ensures plain { is_data result ≡ false }
+        ensures opened { self.new.opened ≡ said_after result self.old.opened }
+        ensures closed { self.new.closed ≡ said_after result self.old.closed }
         ensures turns { Turns result now self.old.router self.new.router self.old.unsent
             self.new.unsent output.old output.new }
         ensures told { (held : Octets)
-            → TellsCall result now self.old input.old held self.new input.new held
-            output.old output.new }
+            → TellsCall (IsOfOpened self.old.router.phase) result now
+            self.old input.old held self.new input.new held output.old output.new }
         ensures room { self.new.unsent ≤ length output.new }
         ensures full { NamesRoom result self.new input.new output.new }
         ensures names { (held : Octets) → IfNamed result
@@ -292,11 +318,15 @@ impl Client {
         ensures fits { Fits self.new input.new }
         ensures step { IsInStep self.new }
         ensures second { self.new.second ≡ self.old.second }
+        ensures plain { is_data result ≡ false }
+        ensures opened { self.new.opened ≡ said_after result self.old.opened }
+        ensures closed { self.new.closed ≡
+            lost_after (untold self.old input.old) result self.old.closed }
         ensures turns { Turns result now self.old.router self.new.router self.old.unsent
             self.new.unsent output.old output.new }
         ensures told { (held : Octets)
-            → TellsCall result now self.old input.old held self.new input.new held
-            output.old output.new }
+            → TellsCall (IsOfRest self.old.router (untold self.old input.old) self.old.closed)
+            result now self.old input.old held self.new input.new held output.old output.new }
         ensures room { self.new.unsent ≤ length output.new }
         ensures full { NamesRoom result self.new input.new output.new }
         ensures names { (held : Octets) → IfNamed result
@@ -308,7 +338,8 @@ impl Client {
         ensures enough { IsDataRoom result → ⊥ }
         ensures index { IsIndexRoom result → ⊥ }
         ensures rests { IsWait result → (self.old.closed ≡ false)
-            × Awaits self.old.router (untold self.old input.old) false self.old.router }
+            × Awaits self.old.router (untold self.old input.old) false self.old.router
+            × (self.old.filled < length input.old) }
     {
         match self.hear(now, self.closed, input, output) {
             Heard::Kept => Todo::Go,
@@ -332,11 +363,14 @@ impl Client {
         ensures fits { Fits self.new input.new }
         ensures step { IsInStep self.new }
         ensures second { self.new.second ≡ self.old.second }
+        ensures plain { is_data result ≡ false }
+        ensures opened { self.new.opened ≡ said_after result self.old.opened }
+        ensures closed { self.new.closed ≡ false }
         ensures turns { Turns result now self.old.router self.new.router self.old.unsent
             self.new.unsent output.old output.new }
         ensures told { (held : Octets)
-            → TellsCall result now self.old input.old held self.new input.new held
-            output.old output.new }
+            → TellsCall (IsOfClosed self.old.closed) result now
+            self.old input.old held self.new input.new held output.old output.new }
         ensures room { self.new.unsent ≤ length output.new }
         ensures full { NamesRoom result self.new input.new output.new }
         ensures names { (held : Octets) → IfNamed result
@@ -347,7 +381,8 @@ impl Client {
         ensures still { IsRoom result → (self.new ≡ self.old) × (input.new ≡ input.old) }
         ensures enough { IsDataRoom result → ⊥ }
         ensures index { IsIndexRoom result → ⊥ }
-        ensures rests { IsWait result → self.old.closed ≡ false }
+        ensures rests { IsWait result → (self.old.closed ≡ false)
+            × (self.old.filled < length input.old) }
     {
         if self.closed {
             self.closed = false;
@@ -372,11 +407,14 @@ impl Client {
         ensures fits { Fits self.new input.new }
         ensures step { IsInStep self.new }
         ensures second { self.new.second ≡ self.old.second }
+        ensures plain { is_data result ≡ false }
+        ensures opened { self.new.opened ≡ said_after result self.old.opened }
+        ensures closed { self.new.closed ≡ said_after result self.old.closed }
         ensures turns { Turns result now self.old.router self.new.router self.old.unsent
             self.new.unsent output.old output.new }
         ensures told { (held : Octets)
-            → TellsCall result now self.old input.old held self.new input.new held
-            output.old output.new }
+            → TellsCall (IsOfEvent event) result now
+            self.old input.old held self.new input.new held output.old output.new }
         ensures room { self.new.unsent ≤ length output.new }
         ensures full { NamesRoom result self.new input.new output.new }
         ensures names { (held : Octets) → IfNamed result
@@ -402,8 +440,8 @@ impl Client {
         ensures todo { IsTodoOf (Some action.now) result }
         ensures takes { (a : Option Action) (now : ℕ) (k : Client)
             (input held input' held' : Octets)
-            → TakesCall a now k input held self.old input' held'
-            → TakesCall a now k input held self.new input' held' }
+            → (x : TakesCall a now k input held self.old input' held')
+            → (y : TakesCall a now k input held self.new input' held') × (y.word ≡ x.word) }
         ensures full { (k : Client) (input output : Octets) → NamesRoom result k input output }
         ensures names { IfNamed result
             (λ x r o. (action.now ≡ actions.End x) × (r ≡ refusal) × (o ≡ offset))
@@ -417,6 +455,8 @@ impl Client {
             → IsClient s self.old input buffer → IsClient s self.new input buffer }
         ensures fits { (input : Octets) → Fits self.old input → Fits self.new input }
         ensures second { self.new.second ≡ self.old.second }
+        ensures opened { self.new.opened ≡ said_after result self.old.opened }
+        ensures closed { self.new.closed ≡ said_after result self.old.closed }
         ensures unsent { self.new.unsent ≡ self.old.unsent }
         ensures router { self.new.router ≡ self.old.router }
         ensures acts { IsWait result → ⊥ }
@@ -451,12 +491,16 @@ impl Client {
         ensures fits { Fits self.new input.new }
         ensures step { IsInStep self.new }
         ensures second { self.new.second ≡ self.old.second }
+        ensures opened { self.new.opened ≡ said_after result self.old.opened }
+        ensures closed { self.new.closed ≡ said_after result self.old.closed }
         ensures turns { Turns result now self.old.router self.new.router self.old.unsent
             self.new.unsent output.old output.new }
         ensures told { (held : Octets)
-            → TellsCall result now self.old input.old held self.new input.new held
-            output.old output.new }
+            → TellsCall (IsOfAsking self.old (length output.old)) result now
+            self.old input.old held self.new input.new held output.old output.new }
         ensures room { self.new.unsent ≤ length output.new }
+        ensures full { NamesRoom result self.new input.new output.new }
+        ensures first { length output.old < self.old.unsent + 65535 → IsOutputRoom result }
         ensures names { (held : Octets) → IfNamed result
             (over_of now self.old input.old held self.new output.old output.new)
             (none_of now self.old input.old self.new input.new) }
@@ -482,9 +526,12 @@ impl Client {
         ensures fits { Fits self.new input.new }
         ensures step { IsInStep self.new }
         ensures second { self.new.second ≡ self.old.second }
+        ensures opened { self.new.opened ≡ said_after result self.old.opened }
+        ensures closed { self.new.closed ≡ said_after result self.old.closed }
         ensures turns { Turns result now self.old.router self.new.router
             (with_room self.old.unsent (length output.old)) self.new.unsent output.old output.new }
-        ensures told { (held : Octets) → TellsCall result now
+        ensures told { (held : Octets) → TellsCall (IsOfEvent (given_up self.old.router.phase))
+            result now
             (record self.old { unsent = with_room self.old.unsent (length output.old) })
             input.old held self.new input.new held output.old output.new }
         ensures room { self.new.unsent ≤ length output.new }

@@ -313,6 +313,42 @@ fn a_change_and_a_cut(rt: HostRuntime) {
 }
 
 #[test]
+fn what_was_said_of_the_last_connection(rt: HostRuntime) {
+    // The connection is closed inside a unit, and the next one is opened at once.
+    let mut w = begin();
+    load(&rt, &mut w, 0);
+    play(
+        &rt,
+        &mut w,
+        &[
+            (3_000_000, Act::Reads(&CUT), "", 0),
+            (3_000_000, Act::Closed, "", 0),
+            (3_000_000, Act::Next, "close", 0),
+            (6_000_000, Act::Next, "connect", 0),
+            (6_000_000, Act::Next, "wait", 0),
+            (6_000_000, Act::Opened, "", 0),
+            (6_000_000, Act::Next, "go", 0),
+        ],
+    );
+    // A connection is opened too late.
+    let mut w = begin();
+    play(
+        &rt,
+        &mut w,
+        &[
+            (0, Act::Next, "connect", 0),
+            (30_000, Act::Opened, "", 0),
+            (30_000, Act::Next, "close", 0),
+            (1_000_000, Act::Next, "connect", 0),
+            (1_000_000, Act::Next, "wait", 0),
+            (1_000_000, Act::Opened, "", 0),
+            (1_000_000, Act::Next, "go", 0),
+            (1_000_000, Act::Sends(&RESET), "", 0),
+        ],
+    );
+}
+
+#[test]
 fn a_notify_and_a_wish(rt: HostRuntime) {
     let mut w = begin();
     load(&rt, &mut w, 0);

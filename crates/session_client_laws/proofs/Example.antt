@@ -178,7 +178,7 @@ pair₃ = record pair₂ { cache = cache₁; to_cache = []; to_router = sent_byt
 abbrev sent₃ : Pair
 sent₃ = record pair₃ { client = record client₂ { unsent = 0 } }
 
-abbrev came₃ : Pair
+abbrev pub came₃ : Pair
 came₃ = record pair₃ { client = client₃; input = sent_bytes; to_router = [] }
 
 abbrev pair₄ : Pair
@@ -215,6 +215,8 @@ connects = record {
   takes = record {
     word = of_itself events.Tick actions.Connect;
     is_told = (refl, tt, connects_so, refl);
+    front = refl;
+    size = refl;
     made = [];
     were = tt;
     says = λ c h makes x. tt;
@@ -243,6 +245,8 @@ asks_all = record {
   takes = record {
     word = of_itself events.Connected (actions.Ask (query asked));
     is_told = (refl, tt, asks_so, refl);
+    front = refl;
+    size = refl;
     made = [];
     were = tt;
     says = λ c h makes x. refl;
@@ -284,6 +288,8 @@ begins_answer = record {
   takes = record {
     word = of_bytes false (told.Acted 0 8 actions.Begin);
     is_told = (refl, acts_begin, refl);
+    front = refl;
+    size = refl;
     made = [];
     were = tt;
     says = λ c h makes x. tt;
@@ -327,6 +333,8 @@ keeps_prefix = record {
       },
       refl,
     );
+    front = refl;
+    size = refl;
     made = [];
     were = tt;
     says = λ c h makes x. tt;
@@ -369,6 +377,8 @@ ends_answer = record {
   takes = record {
     word = of_bytes false (told.Acted 0 24 (actions.Apply false));
     is_told = (refl, acts_apply, refl);
+    front = refl;
+    size = refl;
     made = [];
     were = tt;
     says = λ c h makes x. tt;
@@ -399,6 +409,8 @@ shows_answer = record {
   takes = record {
     word = of_itself events.Applied actions.Show;
     is_told = (refl, tt, adopts_so, refl);
+    front = refl;
+    size = tt;
     made = made ∷ [];
     were = (was, tt);
     says = λ c h makes x. (
@@ -465,7 +477,7 @@ receives : Goes sent₃ came₃
 receives = takes_bytes sent₃ 52 sent_bytes sent_bytes [] ((λ is. cc), (λ is. cc))
     (record { kept = lit≤ tt; due = lit≤ tt; filled = lit≤ tt }) (lit≤ tt) refl refl refl
 
-comes_then : IsRunOfClient came₃
+pub comes_then : IsRunOfClient came₃
 comes_then = pair_goes_on sent₃ came₃
     (pair_goes_on pair₃ sent₃ (pair_goes_on pair₂ pair₃ asks_then hears_query) says_sent) receives
 

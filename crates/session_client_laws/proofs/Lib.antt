@@ -2,6 +2,6 @@ mod Again
 mod Along
 mod Called
 mod Current
-mod Example
+pub mod Example
 mod Naming
 mod Served

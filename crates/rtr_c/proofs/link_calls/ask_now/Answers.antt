@@ -28,9 +28,14 @@ returns c =
             takes = record {
               serves = c.ask_now-todo.ensures.serves;
               second = c.ask_now-todo.ensures.second;
+              opened = c.ask_now-todo.ensures.opened;
+              closed = c.ask_now-todo.ensures.closed;
               turns = c.ask_now-todo.ensures.turns;
               names = c.ask_now-todo.ensures.names;
             };
+            told = c.ask_now-todo.ensures.told;
+            full = c.ask_now-todo.ensures.full;
+            first_of_all = c.ask_now-todo.ensures.first;
             still = c.ask_now-todo.ensures.still;
             asks = c.ask_now-todo.ensures.asks;
           }),

@@ -28,9 +28,12 @@ returns c =
             takes = record {
               serves = c.give_up-todo.ensures.serves;
               second = c.give_up-todo.ensures.second;
+              opened = c.give_up-todo.ensures.opened;
+              closed = c.give_up-todo.ensures.closed;
               turns = c.give_up-todo.ensures.turns;
               names = c.give_up-todo.ensures.names;
             };
+            told = c.give_up-todo.ensures.told;
             gives = c.give_up-todo.ensures.gives;
           }),
     )

@@ -27,8 +27,14 @@ returns c =
           c.link_to.ensures.client
           (record {
             serves = c.next-todo.ensures.serves;
+            opened = c.next-todo.ensures.opened;
+            closed = c.next-todo.ensures.closed;
+            in_second = c.next-todo.ensures.second;
+            held = c.next-todo.ensures.held;
             turns = c.next-todo.ensures.turns;
+            told = c.next-todo.ensures.told;
             full = c.next-todo.ensures.full;
+            first_of_all = c.next-todo.ensures.first;
             names = c.next-todo.ensures.names;
             ends = c.next-todo.ensures.ends;
             still = c.next-todo.ensures.still;

@@ -1,12 +1,13 @@
 use native.Mathlib.Omega.{arith}
-use Rattle.std.proofs.Common.{ap, refl, subst, sym, drop, take, ◌+◌, ◌-◌, ◌≤◌, ◌∙◌}
+use Rattle.std.proofs.Common.{add-zero, ap, refl, subst, sym, drop, take, ◌+◌, ◌-◌, ◌≡◌, ◌≤◌, ◌∙◌}
 use Rattle.session_router.specs.declared.event.Action.TheVariants as actions
 use Rattle.session_bytes.specs.Reading.{Acts}
-use Rattle.session_client.specs.Holding.{LeavesInput, Stands, due_after, untold}
+use Rattle.session_client.specs.Holding.{LeavesInput, Stands, due_after, due_size, shown_after}
+use Rattle.session_client.specs.Holding.{untold}
 use Rattle.session_client.specs.declared.client.Client.{Client}
 use Rattle.session_client.proofs.Runs.{acts_begin, acts_complete, acts_other, acts_wait}
 use Rattle.session_client.proofs.Places.{later}
-use Rattle.session_client.proofs.Runs.{leaves_at, untold_hearing}
+use Rattle.session_client.proofs.Runs.{due_none, leaves_at, untold_hearing}
 use Rattle.session_client.specs.declared.client.Holding.TheVariants as holdings
 use Rattle.session_client.specs.Counting.{IsKeptCount}
 use Rattle.session_client.specs.Turning.{holding_after}
@@ -15,7 +16,8 @@ use Rattle.session_client.proofs.CountsKept.{counts_apply, counts_begin, counts_
 use Rattle.session_client.proofs.CountsKept.{counts_wait}
 use Rattle.session_client.proofs.Steps.{holding_other}
 use Rattle.session_router.specs.Histories.{host_after}
-use Rattle.session_client.specs.Tells.{HostHas}
+use Rattle.session_client.specs.Tells.{HostHas, front_at}
+use Rattle.session_client.proofs.Calls.{front_other}
 use Rattle.session_client.proofs.Takes.{has_apply, has_begin, has_other, has_wait, unit_shows_none}
 use Rattle.session_client.proofs.client.Client.act.Goals as goal
 
@@ -149,10 +151,14 @@ returns-in_default c =
       holding = ap (λ (k : Client). k.holding) c.forget.ensures.client
           ∙ sym (holding_other c.args.action.now s.holding (c.args.end - c.args.start)
           c.in_default.not-Wait c.in_default.not-Begin c.in_default.not-Apply);
+      front = ap (λ (k : Client). k.kept + due_size k.holding) c.forget.ensures.client
+          ∙ sym (front_other c.args.action.now (s.kept + c.args.start) (s.kept + c.args.end)
+          c.in_default.not-Wait c.in_default.not-Apply c.in_default.not-NoData);
+      shown = ap (λ (k : Client). k.shown) c.forget.ensures.client;
       has = λ k h buffer now before acts x.
           subst (λ (new : Client). HostHas k (host_after k h
-          (drop c.args.start (take c.args.end rest)) c.args.action.now) new.holding new.kept new.shown
-          c.forget.new.input buffer) (sym c.forget.ensures.client)
+          (drop c.args.start (take c.args.end rest)) c.args.action.now) new.holding new.kept
+          new.shown c.forget.new.input buffer) (sym c.forget.ensures.client)
           (has_other k h s.holding s.kept 0 (drop c.args.start (take c.args.end rest))
           c.args.action.now s.shown input c.forget.new.input buffer
           (unit_shows_none now c.args.start c.args.end rest c.args.action.now before s.router acts)
@@ -224,10 +230,11 @@ returns-in-Wait-clause-has c = λ k h buffer now before acts x.
     let start = c.args.start in
     let end = c.args.end in
     let rest = drop s.kept (take s.filled input) in
-    subst (λ (new : Client). HostHas k (host_after k h (drop start (take end rest)) c.args.action.now)
+    subst (λ (new : Client). HostHas k
+    (host_after k h (drop start (take end rest)) c.args.action.now)
     new.holding new.kept new.shown c.pass.new.input buffer) (sym c.pass.ensures.client)
-    (subst (λ a. HostHas k (host_after k h (drop start (take end rest)) a) s.holding (s.kept + start)
-    s.shown c.pass.new.input buffer) (sym c.in-Wait.is)
+    (subst (λ a. HostHas k (host_after k h (drop start (take end rest)) a) s.holding
+    (s.kept + start) s.shown c.pass.new.input buffer) (sym c.in-Wait.is)
     (has_wait k h s.holding now s.kept start end s.filled before s.router s.shown input
     c.pass.new.input buffer c.requires.hears c.pass.ensures.same
     (subst (λ a. Acts before now rest start end a s.router) c.in-Wait.is acts) x))
@@ -239,8 +246,8 @@ returns-in-Begin-clause-has c = λ k h buffer now before acts x.
     let unit = drop c.args.start (take c.args.end (drop s.kept (take s.filled input))) in
     subst (λ (new : Client). HostHas k (host_after k h unit c.args.action.now) new.holding new.kept
     new.shown c.begin.new.input buffer) (sym c.begin.ensures.client)
-    (subst (λ a. HostHas k (host_after k h unit a) holdings.Units 0 s.shown c.begin.new.input buffer)
-    (sym c.in-Begin.is)
+    (subst (λ a. HostHas k (host_after k h unit a) holdings.Units 0 s.shown
+    c.begin.new.input buffer) (sym c.in-Begin.is)
     (has_begin k h s.holding s.kept unit s.shown input c.begin.new.input buffer x))
 
 pub returns-in-Apply-clause-has : goal.returns-in-Apply-clause-has
@@ -253,7 +260,8 @@ returns-in-Apply-clause-has c = λ k h buffer now before acts x.
     let since = c.in-Apply.since in
     let after = c.complete.new.self in
     let order : start ≤ end = omega (arith, c.requires.order) in
-    subst (λ (new : Client). HostHas k (host_after k h (drop start (take end rest)) c.args.action.now)
+    subst (λ (new : Client). HostHas k
+    (host_after k h (drop start (take end rest)) c.args.action.now)
     new.holding new.kept new.shown input buffer) (sym c.complete.ensures.client)
     (subst (λ a. HostHas k (host_after k h (drop start (take end rest)) a)
     (due_after s.holding (end - start) since) after.kept s.shown input buffer) (sym c.in-Apply.is)
@@ -268,7 +276,55 @@ returns-in-NoData-clause-has c = λ k h buffer now before acts x.
     let unit = drop c.args.start (take c.args.end (drop s.kept (take s.filled input))) in
     subst (λ (new : Client). HostHas k (host_after k h unit c.args.action.now) new.holding new.kept
     new.shown input buffer) (sym c.set_aside.ensures)
-    (subst (λ a. HostHas k (host_after k h unit a) holdings.Nothing (s.kept + c.args.end) s.shown input
-    buffer) (sym c.in-NoData.is)
+    (subst (λ a. HostHas k (host_after k h unit a) holdings.Nothing (s.kept + c.args.end)
+    s.shown input buffer) (sym c.in-NoData.is)
     (has_other k h s.holding s.kept (s.kept + c.args.end) unit actions.NoData s.shown input input
     buffer (λ is. cc) x))
+
+pub returns-in-Wait-clause-front : goal.returns-in-Wait-clause-front
+returns-in-Wait-clause-front c =
+    let s = c.args.self.now in
+    let from = s.kept + c.args.start in
+    let none = due_none s.holding c.requires.hears in
+    let here : from + due_size s.holding ≡ from = omega (arith, none) in
+    ap (λ (k : Client). k.kept + due_size k.holding) c.pass.ensures.client ∙ here
+    ∙ ap (λ a. front_at a from (s.kept + c.args.end)) (sym c.in-Wait.is)
+
+pub returns-in-Begin-clause-front : goal.returns-in-Begin-clause-front
+returns-in-Begin-clause-front c =
+    let s = c.args.self.now in
+    ap (λ (k : Client). k.kept + due_size k.holding) c.begin.ensures.client
+    ∙ ap (λ a. front_at a (s.kept + c.args.start) (s.kept + c.args.end)) (sym c.in-Begin.is)
+
+pub returns-in-Apply-clause-front : goal.returns-in-Apply-clause-front
+returns-in-Apply-clause-front c =
+    let s = c.args.self.now in
+    c.complete.ensures.due
+    ∙ ap (λ a. front_at a (s.kept + c.args.start) (s.kept + c.args.end)) (sym c.in-Apply.is)
+
+pub returns-in-NoData-clause-front : goal.returns-in-NoData-clause-front
+returns-in-NoData-clause-front c =
+    let s = c.args.self.now in
+    ap (λ (k : Client). k.kept + due_size k.holding) c.set_aside.ensures
+    ∙ add-zero (s.kept + c.args.end)
+    ∙ ap (λ a. front_at a (s.kept + c.args.start) (s.kept + c.args.end)) (sym c.in-NoData.is)
+
+pub returns-in-Wait-clause-shown : goal.returns-in-Wait-clause-shown
+returns-in-Wait-clause-shown c =
+    ap (λ (k : Client). k.shown) c.pass.ensures.client
+    ∙ ap (λ a. shown_after a c.args.self.now.shown) (sym c.in-Wait.is)
+
+pub returns-in-Begin-clause-shown : goal.returns-in-Begin-clause-shown
+returns-in-Begin-clause-shown c =
+    ap (λ (k : Client). k.shown) c.begin.ensures.client
+    ∙ ap (λ a. shown_after a c.args.self.now.shown) (sym c.in-Begin.is)
+
+pub returns-in-Apply-clause-shown : goal.returns-in-Apply-clause-shown
+returns-in-Apply-clause-shown c =
+    ap (λ (k : Client). k.shown) c.complete.ensures.client
+    ∙ ap (λ a. shown_after a c.args.self.now.shown) (sym c.in-Apply.is)
+
+pub returns-in-NoData-clause-shown : goal.returns-in-NoData-clause-shown
+returns-in-NoData-clause-shown c =
+    ap (λ (k : Client). k.shown) c.set_aside.ensures
+    ∙ ap (λ a. shown_after a c.args.self.now.shown) (sym c.in-NoData.is)

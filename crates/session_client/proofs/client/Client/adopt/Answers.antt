@@ -1,14 +1,15 @@
 use native.Mathlib.Omega.{arith}
 use Rattle.std.proofs.Common.{◌≤◌, ◌+◌, [], add-zero, ap, drop, length, refl, subst, sym, take}
-use Rattle.std.proofs.Common.{◌∷◌, None, Some}
-use Rattle.session_client.specs.Holding.{LeavesInput, untold}
+use Rattle.std.proofs.Common.{◌∷◌, ◌∙◌, None, Some}
+use Rattle.session_client.specs.Holding.{LeavesInput, due_size, untold}
 use Rattle.session_client.specs.Counting.{IsKeptCount}
 use Rattle.session_client.specs.Over.{over_none}
 use Rattle.session_client.specs.Turning.{InPhase}
 use Rattle.session_client.specs.declared.client.Holding.TheVariants as holdings
 use Rattle.session_router.specs.declared.router.Router.{Router}
 use Rattle.session_client.proofs.Overs.{ends_over}
-use Rattle.session_client.proofs.Steps.{none_applied, step_applied}
+use Rattle.session_client.proofs.Calls.{applied_acts, front_none, size_after}
+use Rattle.session_client.proofs.Steps.{answer_applying, none_applied, step_applied}
 use Rattle.session_client.proofs.Turns.{adopted_turns}
 use Rattle.session_client.specs.declared.client.Client.{Client}
 use Rattle.session_client.proofs.Pieces.{puts_none, said}
@@ -182,27 +183,31 @@ returns-in-Show-clause-takes c = λ held made m was is.
     (sym c.requires.due)
     (leaves_at action to 0 there (untold after c.forget.new.input)
     (subst (λ n. LeavesInput action n there (untold after c.forget.new.input)) (sym (add-zero to))
-    c.forget.ensures.left)) in
-    record {
-      word = of_itself events.Applied actions.Show;
-      is_told = (
-        refl,
-        tt,
-        subst (λ r. IsStep s.router c.args.now events.Applied actions.Show r)
-            (sym (ap (λ (k : Client). k.router) c.forget.ensures.client))
-            (subst (λ a. IsStep s.router c.args.now events.Applied a c.step-action.new.self)
-            c.in-Show.is c.step-action.ensures.steps),
-        subst (λ a. LeavesInput a 0 (untold s c.args.input.now) (untold after c.forget.new.input))
-            c.in-Show.is left,
-      );
-      made = m ∷ [];
-      were = (was, tt);
-      says = λ k h makes x. (take c.args.count made, is k h makes.0 x);
-      has = λ k h makes x.
-          subst (λ (new : Client). HostHas k (host_after k h [] actions.Show) new.holding new.kept
-          (Some c.args.count) c.forget.new.input made) (sym c.forget.ensures.client)
-          (has_made k h c.args.count 0 c.forget.new.input made (is k h makes.0 x));
-    }
+    c.forget.ensures.left)) in (
+      record {
+        word = of_itself events.Applied actions.Show;
+        is_told = (
+          refl,
+          tt,
+          subst (λ r. IsStep s.router c.args.now events.Applied actions.Show r)
+              (sym (ap (λ (k : Client). k.router) c.forget.ensures.client))
+              (subst (λ a. IsStep s.router c.args.now events.Applied a c.step-action.new.self)
+              c.in-Show.is c.step-action.ensures.steps),
+          subst (λ a. LeavesInput a 0 (untold s c.args.input.now) (untold after c.forget.new.input))
+              c.in-Show.is left,
+        );
+        front = ap (λ (k : Client). k.kept + due_size k.holding) c.forget.ensures.client;
+        size = tt;
+        made = m ∷ [];
+        were = (was, tt);
+        says = λ k h makes x. (take c.args.count made, is k h makes.0 x);
+        has = λ k h makes x.
+            subst (λ (new : Client). HostHas k (host_after k h [] actions.Show) new.holding new.kept
+            (Some c.args.count) c.forget.new.input made) (sym c.forget.ensures.client)
+            (has_made k h c.args.count 0 c.forget.new.input made (is k h makes.0 x));
+      },
+      refl,
+    )
 
 pub returns-in_default-clause-takes : goal.returns-in_default-clause-takes
 returns-in_default-clause-takes c = λ held made m was is.
@@ -210,26 +215,41 @@ returns-in_default-clause-takes c = λ held made m was is.
     let there = take s.filled c.args.input.now in
     let action = c.step-action.result in
     let after = c.forget.new.self in
-    let to = s.kept + c.args.size in
-    record {
-      word = of_itself events.Applied action;
-      is_told = (
-        refl,
-        tt,
-        subst (λ r. IsStep s.router c.args.now events.Applied action r)
-            (sym (ap (λ (k : Client). k.router) c.forget.ensures.client)) c.step-action.ensures.steps,
-        subst (λ n. LeavesInput action 0 (drop (s.kept + n) there) (untold after c.forget.new.input))
-            (sym c.requires.due)
-            (leaves_at action to 0 there (untold after c.forget.new.input)
-            (subst (λ n. LeavesInput action n there (untold after c.forget.new.input))
-            (sym (add-zero to)) c.forget.ensures.left)),
-      );
-      made = m ∷ [];
-      were = (was, tt);
-      says = λ k h makes x. (take c.args.count made, is k h makes.0 x);
-      has = λ k h makes x.
-          subst (λ (new : Client). HostHas k (host_after k h [] action) new.holding new.kept new.shown
-          c.forget.new.input held) (sym c.forget.ensures.client)
-          (has_other k h s.holding s.kept 0 [] action s.shown c.args.input.now c.forget.new.input
-          held c.in_default.not-Show x);
-    }
+    let to = s.kept + c.args.size in (
+      record {
+        word = of_itself events.Applied action;
+        is_told = (
+          refl,
+          tt,
+          subst (λ r. IsStep s.router c.args.now events.Applied action r)
+              (sym (ap (λ (k : Client). k.router) c.forget.ensures.client))
+              c.step-action.ensures.steps,
+          subst
+              (λ n. LeavesInput action 0 (drop (s.kept + n) there)
+              (untold after c.forget.new.input))
+              (sym c.requires.due)
+              (leaves_at action to 0 there (untold after c.forget.new.input)
+              (subst (λ n. LeavesInput action n there (untold after c.forget.new.input))
+              (sym (add-zero to)) c.forget.ensures.left)),
+        );
+        front = ap (λ (k : Client). k.kept + due_size k.holding) c.forget.ensures.client
+            ∙ sym (front_none action (s.kept + due_size s.holding)
+            (applied_acts s.router c.step-action.new.self c.args.now action
+            (answer_applying s.router.phase s.holding c.requires.step c.requires.whole)
+            c.step-action.ensures.steps.rule));
+        size = size_after action s.shown after.shown
+            (ap (λ (k : Client). k.shown) c.forget.ensures.client);
+        made = m ∷ [];
+        were = (was, tt);
+        says = λ k h makes x. (take c.args.count made, is k h makes.0 x);
+        has = λ k h makes x.
+            subst (λ (new : Client). HostHas k (host_after k h [] action) new.holding new.kept
+            new.shown c.forget.new.input held) (sym c.forget.ensures.client)
+            (has_other k h s.holding s.kept 0 [] action s.shown c.args.input.now c.forget.new.input
+            held c.in_default.not-Show x);
+      },
+      refl,
+    )
+
+pub returns-in_default-clause-shows : goal.returns-in_default-clause-shows
+returns-in_default-clause-shows c = c.in_default.not-Show

@@ -4,6 +4,8 @@ use Rattle.session_client.proofs.Steps.{answer_applying, refused_ends}
 use Rattle.session_router.specs.declared.event.Event.TheVariants as events
 use Rattle.std.proofs.Common.{[], refl}
 use Rattle.session_client.specs.Tells.{of_itself}
+use Rattle.session_client.proofs.Calls.{size_after}
+use Rattle.session_client.proofs.Runs.{no_show}
 use Rattle.session_client.proofs.client.Client.cannot_make.Goals as goal
 
 pub returns-clause-names : goal.returns-clause-names
@@ -24,12 +26,22 @@ returns-clause-ends c =
 
 pub returns-clause-takes : goal.returns-clause-takes
 returns-clause-takes c = λ held made.
+    let x = c.happens-action in (
+      record {
+        word = of_itself (events.NotApplied None) x.result;
+        is_told = (refl, tt, x.ensures.steps, x.ensures.left);
+        front = x.ensures.front;
+        size = size_after x.result c.args.self.now.shown x.new.self.shown x.ensures.shown;
+        made = [];
+        were = tt;
+        says = λ k h makes y. tt;
+        has = λ k h makes y. x.ensures.has k h held y;
+      },
+      refl,
+    )
+
+pub returns-clause-shows : goal.returns-clause-shows
+returns-clause-shows c =
     let x = c.happens-action in
-    record {
-      word = of_itself (events.NotApplied None) x.result;
-      is_told = (refl, tt, x.ensures.steps, x.ensures.left);
-      made = [];
-      were = tt;
-      says = λ k h makes y. tt;
-      has = λ k h makes y. x.ensures.has k h held y;
-    }
+    no_show c.args.self.now.router c.args.now (events.NotApplied None) x.result x.new.self.router
+    (λ e. cc) x.ensures.steps.rule

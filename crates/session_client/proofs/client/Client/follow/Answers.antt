@@ -1,6 +1,6 @@
-use Rattle.std.proofs.Common.{[], add-zero, ap, refl, subst, sym, take, ◌∙◌}
+use Rattle.std.proofs.Common.{[], ◌+◌, add-zero, ap, refl, subst, sym, take, ◌∙◌}
 use Rattle.session_router.specs.Step.{IsStep}
-use Rattle.session_client.specs.Holding.{LeavesInput, Stands, untold}
+use Rattle.session_client.specs.Holding.{LeavesInput, Stands, due_size, shown_after, untold}
 use Rattle.session_client.specs.declared.client.Client.{Client}
 use Rattle.session_client.proofs.Runs.{leaves_at, says_other, says_wait, untold_hearing}
 use Rattle.session_bytes.specs.Reading.{EndsConnection}
@@ -10,7 +10,8 @@ use Rattle.session_client.specs.Turning.{follows}
 use Rattle.session_client.proofs.Steps.{follows_other}
 use Rattle.session_client.proofs.Turns.{ends_left}
 use Rattle.session_router.specs.Histories.{host_after}
-use Rattle.session_client.specs.Tells.{HostHas}
+use Rattle.session_client.specs.Tells.{HostHas, front_left}
+use Rattle.session_client.proofs.Calls.{front_none}
 use Rattle.session_client.proofs.Runs.{no_show, not_applied}
 use Rattle.session_client.proofs.Takes.{has_other}
 use Rattle.session_client.proofs.client.Client.follow.Goals as goal
@@ -41,11 +42,12 @@ returns-in_default c =
           (says_other k before s.router s.holding now s.kept 0 e c.args.action.now s.shown
           c.args.input.now c.forget.new.input buffer says x step);
       has = λ k h buffer now before e says step x.
-          subst (λ (new : Client). HostHas k (host_after k h [] c.args.action.now) new.holding new.kept
-          new.shown c.forget.new.input buffer) (sym c.forget.ensures.client)
+          subst (λ (new : Client). HostHas k (host_after k h [] c.args.action.now) new.holding
+          new.kept new.shown c.forget.new.input buffer) (sym c.forget.ensures.client)
           (has_other k h s.holding s.kept 0 [] c.args.action.now s.shown c.args.input.now
           c.forget.new.input buffer
-          (no_show before now e c.args.action.now s.router (not_applied e before says) step.rule) x);
+          (no_show before now e c.args.action.now s.router (not_applied e before says) step.rule)
+          x);
       left = λ hearing.
           subst (λ b. LeavesInput c.args.action.now 0 b
           (untold c.forget.new.self c.forget.new.input))
@@ -60,6 +62,9 @@ returns-in_default c =
       counts = λ now before e step x.
           subst (λ m. IsKeptCount m c.forget.new.self.router c.forget.new.self.kept
           c.forget.new.input) (sym (ap (λ (k : Client). k.holding) c.forget.ensures.client)) tt;
+      front = ap (λ (k : Client). k.kept + due_size k.holding) c.forget.ensures.client
+          ∙ sym (front_none c.args.action.now (s.kept + due_size s.holding) c.in_default.not-Wait);
+      shown = ap (λ (k : Client). k.shown) c.forget.ensures.client;
       ends = λ ends. ends_left c.args.action.now s.kept (take s.filled c.args.input.now)
           (untold c.forget.new.self c.forget.new.input) ends c.forget.ensures.left;
       waits = λ is. absurd (c.in_default.not-Wait is);
@@ -84,3 +89,12 @@ returns-in-Wait-clause-has c = λ k h buffer now before e says step x.
     let s = c.args.self.now in
     subst (λ a. HostHas k (host_after k h [] a) s.holding s.kept s.shown c.args.input.now buffer)
     (sym c.in-Wait.is) x
+
+pub returns-in-Wait-clause-front : goal.returns-in-Wait-clause-front
+returns-in-Wait-clause-front c =
+    let s = c.args.self.now in
+    ap (λ a. front_left a (s.kept + due_size s.holding)) (sym c.in-Wait.is)
+
+pub returns-in-Wait-clause-shown : goal.returns-in-Wait-clause-shown
+returns-in-Wait-clause-shown c =
+    ap (λ a. shown_after a c.args.self.now.shown) (sym c.in-Wait.is)

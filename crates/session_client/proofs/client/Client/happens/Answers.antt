@@ -131,3 +131,9 @@ pub returns-clause-has : goal.returns-clause-has
 returns-clause-has c = λ k h buffer x.
     c.follow.ensures.has k h buffer c.args.now c.args.self.now.router c.args.event c.requires.says
     c.step-action.ensures.steps x
+
+pub returns-clause-front : goal.returns-clause-front
+returns-clause-front c = c.follow.ensures.front
+
+pub returns-clause-shown : goal.returns-clause-shown
+returns-clause-shown c = c.follow.ensures.shown

@@ -1,5 +1,6 @@
+use native.Mathlib.Omega.{arith}
 use Rattle.std.proofs.Common.{◌∙◌, [], ap, inl, inr, refl, subst, sym, drop, take, ◌+◌, None}
-use Rattle.std.proofs.Common.{◌<◌, ◌-◌, ◌∷◌, ◌++◌}
+use Rattle.std.proofs.Common.{◌<◌, ◌≡◌, ◌-◌, ◌∷◌, ◌++◌, length}
 use Rattle.unit_views.specs.declared.fault.ViewFault.TheVariants.{Short}
 use Rattle.unit_any.specs.SessionViews.{IsSessionFault}
 use Rattle.session_bytes.specs.Reading.KeepsAll.{kept_none}
@@ -8,14 +9,16 @@ use Rattle.session_router.specs.declared.event.Event.TheVariants as events
 use Rattle.session_bytes.specs.Reading.{Acts, HearsRefused, KeepsUnits, fault_of}
 use Rattle.session_bytes.specs.declared.telling.Told.TheVariants as told
 use Rattle.session_client.specs.declared.client.Client.{Client}
-use Rattle.session_client.specs.Holding.{IsHearing, LeavesInput, RunsBeside, untold}
+use Rattle.session_client.specs.Holding.{IsHearing, LeavesInput, RunsBeside, due_size, shown_after}
+use Rattle.session_client.specs.Holding.{untold}
 use Rattle.session_client.specs.Counting.{IsKeptCount}
+use Rattle.session_client.proofs.Calls.{size_after}
 use Rattle.session_client.proofs.CountsKept.{counts_more}
 use Rattle.session_client.specs.Over.{IfActs, IsOver, none_of, over_of, over_refused, over_unit}
 use Rattle.session_client.specs.Said.{PutsBehind, bytes_of, left_at}
 use Rattle.session_client.specs.Turning.{InPhase, follows, holding_after, turns_left}
 use Rattle.session_client.proofs.Overs.{ends_over}
-use Rattle.session_client.proofs.Runs.{inside, keeps_more, untold_hearing}
+use Rattle.session_client.proofs.Runs.{due_none, inside, keeps_more, untold_hearing}
 use Rattle.session_client.proofs.Steps.{acts_in_step, none_itself, same_kept, stays_in, step_itself}
 use Rattle.session_client.proofs.Steps.{turns_same}
 use Rattle.session_client.proofs.Turns.{acted_turns, kept_turns, refused_turns}
@@ -24,7 +27,9 @@ use Rattle.session_router.specs.declared.event.Action.TheVariants as actions
 use Rattle.session_router.specs.declared.router.Router.{Router}
 use Rattle.session_router.specs.Histories.{host_after}
 use Rattle.session_client.specs.Makings.{Octets}
-use Rattle.session_client.specs.Tells.{HostHas, TakesCall, TakesFrom, of_bytes}
+use Rattle.session_client.specs.Tells.{HostHas, TakesCall, TakesFrom, front_at, front_left}
+use Rattle.session_client.specs.Tells.{of_bytes}
+use Rattle.session_client.specs.Words.{IsOfInput}
 use Rattle.session_client.proofs.Takes.{has_kept, kept_left, takes_none}
 use Rattle.session_client.proofs.client.Client.hear.Goals as goal
 
@@ -385,10 +390,12 @@ returns-in-Refused-clause-counts c = λ x.
 pub returns-in-Awaits-clause-takes : goal.returns-in-Awaits-clause-takes
 returns-in-Awaits-clause-takes c = λ held.
     let s = c.args.self.now in
-    let input = c.args.input.now in
-    subst (λ (new : Client). TakesCall None c.args.now s input held new input held)
-    (sym (returns-in-Awaits-clause-rests c tt).0)
-    (takes_none c.args.now s.router s.holding s.kept s.filled s.shown input held)
+    let input = c.args.input.now in (
+      subst (λ (new : Client). TakesCall None c.args.now s input held new input held)
+          (sym (returns-in-Awaits-clause-rests c tt).0)
+          (takes_none c.args.now s.router s.holding s.kept s.filled s.shown input held),
+      λ acts. absurd (acts tt),
+    )
 
 pub returns-in-Kept-clause-takes : goal.returns-in-Kept-clause-takes
 returns-in-Kept-clause-takes c = λ held.
@@ -400,14 +407,16 @@ returns-in-Kept-clause-takes c = λ held.
     let here = untold_hearing s.holding s.kept s.filled input c.requires.hears in
     let within =
     inside input s.kept size s.filled c.requires.fits.kept c.requires.fits.filled heard.within in
-    let takes : TakesFrom None c.args.now s.router s.holding s.kept s.filled s.shown input held after
-    s.holding (s.kept + size) s.filled s.shown input held = record {
+    let takes : TakesFrom None c.args.now s.router s.holding s.kept s.filled s.shown input held
+    after s.holding (s.kept + size) s.filled s.shown input held = record {
       word = of_bytes c.args.closed (told.Kept size);
       is_told = (
         refl,
         subst (λ b. KeepsUnits s.router c.args.now b size after) (sym here) heard,
         kept_left s.holding s.kept size s.filled input c.requires.hears,
       );
+      front = omega arith;
+      size = refl;
       made = [];
       were = tt;
       says = λ k h makes x. tt;
@@ -417,11 +426,13 @@ returns-in-Kept-clause-takes c = λ held.
             made = h.made;
             shown = h.shown;
           }) s.holding (s.kept + size) s.shown input held) (sym here)
-          (has_kept k h s.holding s.kept size s.filled s.shown input held c.requires.hears within x);
+          (has_kept k h s.holding s.kept size s.filled s.shown input held c.requires.hears within
+          x);
     } in
-    subst (λ (new : Client). TakesCall None c.args.now s input held
+    subst (λ (new : Client). (x : TakesCall None c.args.now s input held
     (record new { router = after; kept = new.kept + size }) input held)
-    (sym c.told.ensures.same) takes
+    × ((⊥ → ⊥) → IsOfInput c.args.closed x.word))
+    (sym c.told.ensures.same) (takes, λ acts. refl)
 
 pub returns-in-Acted-clause-takes : goal.returns-in-Acted-clause-takes
 unfolding returns-in-Acted-clause-hears
@@ -433,24 +444,37 @@ returns-in-Acted-clause-takes c = λ held.
     let heard = returns-in-Acted-clause-hears c in
     let here = untold_hearing s.holding s.kept s.filled input c.requires.hears in
     let rest = drop s.kept (take s.filled input) in
-    record {
-      word = of_bytes c.args.closed (told.Acted x.start x.end x.action);
-      is_told = (refl, heard.hears, heard.leaves);
-      made = [];
-      were = tt;
-      says = λ k h makes y. tt;
-      has = λ k h makes y.
-          subst (λ (b : Octets). HostHas k (host_after k h (drop x.start (take x.end b)) x.action)
-          after.holding after.kept after.shown c.act.new.input held) (sym here)
-          (subst (λ (new : Client). HostHas k (host_after k h
-          (drop x.start (take x.end (drop new.kept (take new.filled input)))) x.action)
-          after.holding after.kept after.shown c.act.new.input held) c.told.ensures.same
-          (c.act.ensures.has k h held c.args.now s.router
-          (subst (λ (new : Client). Acts s.router c.args.now (drop new.kept (take new.filled input))
-          x.start x.end x.action c.told.new.self.router) (sym c.told.ensures.same) x.ensures.hears)
-          (subst (λ (new : Client). HostHas k h new.holding new.kept new.shown input held)
-          (sym c.told.ensures.same) y)));
-    }
+    let none = due_none s.holding c.requires.hears in
+    let at : s.kept ≡ s.kept + due_size s.holding = omega (arith, none) in (
+      record {
+        word = of_bytes c.args.closed (told.Acted x.start x.end x.action);
+        is_told = (refl, heard.hears, heard.leaves);
+        front = subst (λ n. after.kept + due_size after.holding
+            ≡ front_at x.action (n + x.start) (n + x.end)) at
+            (subst (λ (new : Client). after.kept + due_size after.holding
+            ≡ front_at x.action (new.kept + x.start) (new.kept + x.end)) c.told.ensures.same
+            c.act.ensures.front);
+        size = size_after x.action s.shown after.shown
+            (c.act.ensures.shown ∙ ap (λ (k : Client). shown_after x.action k.shown)
+            c.told.ensures.same);
+        made = [];
+        were = tt;
+        says = λ k h makes y. tt;
+        has = λ k h makes y.
+            subst (λ (b : Octets). HostHas k (host_after k h (drop x.start (take x.end b)) x.action)
+            after.holding after.kept after.shown c.act.new.input held) (sym here)
+            (subst (λ (new : Client). HostHas k (host_after k h
+            (drop x.start (take x.end (drop new.kept (take new.filled input)))) x.action)
+            after.holding after.kept after.shown c.act.new.input held) c.told.ensures.same
+            (c.act.ensures.has k h held c.args.now s.router
+            (subst (λ (new : Client). Acts s.router c.args.now
+            (drop new.kept (take new.filled input)) x.start x.end x.action
+            c.told.new.self.router) (sym c.told.ensures.same) x.ensures.hears)
+            (subst (λ (new : Client). HostHas k h new.holding new.kept new.shown input held)
+            (sym c.told.ensures.same) y)));
+      },
+      λ acts. refl,
+    )
 
 pub returns-in-Refused-clause-takes : goal.returns-in-Refused-clause-takes
 unfolding returns-in-Refused-clause-hears
@@ -458,17 +482,52 @@ returns-in-Refused-clause-takes c = λ held.
     let s = c.args.self.now in
     let input = c.args.input.now in
     let x = c.in-Refused in
+    let after = c.follow.new.self in
     let heard = returns-in-Refused-clause-hears c in
-    let rest = drop s.kept (take s.filled input) in
-    record {
-      word = of_bytes c.args.closed (told.Refused x.fault x.action);
-      is_told = (refl, heard.hears, heard.leaves);
-      made = [];
-      were = tt;
-      says = λ k h makes y. tt;
-      has = λ k h makes y.
-          c.follow.ensures.has k h held c.args.now s.router
-          (events.Faulty (fault_of rest x.fault)) tt x.ensures.hears.step
-          (subst (λ (new : Client). HostHas k h new.holding new.kept new.shown input held)
-          (sym c.told.ensures.same) y);
-    }
+    let rest = drop s.kept (take s.filled input) in (
+      record {
+        word = of_bytes c.args.closed (told.Refused x.fault x.action);
+        is_told = (refl, heard.hears, heard.leaves);
+        front = subst (λ (new : Client). after.kept + due_size after.holding
+            ≡ front_left x.action (new.kept + due_size new.holding)) c.told.ensures.same
+            c.follow.ensures.front;
+        size = size_after x.action s.shown after.shown
+            (c.follow.ensures.shown ∙ ap (λ (k : Client). shown_after x.action k.shown)
+            c.told.ensures.same);
+        made = [];
+        were = tt;
+        says = λ k h makes y. tt;
+        has = λ k h makes y.
+            c.follow.ensures.has k h held c.args.now s.router
+            (events.Faulty (fault_of rest x.fault)) tt x.ensures.hears.step
+            (subst (λ (new : Client). HostHas k h new.holding new.kept new.shown input held)
+            (sym c.told.ensures.same) y);
+      },
+      λ acts. refl,
+    )
+
+pub returns-in-Awaits-clause-some : goal.returns-in-Awaits-clause-some
+returns-in-Awaits-clause-some c = λ acts. absurd (acts tt)
+
+pub returns-in-Kept-clause-some : goal.returns-in-Kept-clause-some
+returns-in-Kept-clause-some c = λ acts.
+    let s = c.args.self.now in
+    let heard = c.in-Kept.ensures.hears in
+    subst (λ b. 0 < length b)
+    (sym (untold_hearing s.holding s.kept s.filled c.args.input.now c.requires.hears))
+    (omega (arith, heard.some, heard.within))
+
+pub returns-in-Acted-clause-some : goal.returns-in-Acted-clause-some
+returns-in-Acted-clause-some c = λ acts.
+    let s = c.args.self.now in
+    let heard = c.in-Acted.ensures.hears in
+    subst (λ b. 0 < length b)
+    (sym (untold_hearing s.holding s.kept s.filled c.args.input.now c.requires.hears))
+    (omega (arith, heard.order, heard.within))
+
+pub returns-in-Refused-clause-some : goal.returns-in-Refused-clause-some
+returns-in-Refused-clause-some c = λ acts.
+    let s = c.args.self.now in
+    subst (λ b. 0 < length b)
+    (sym (untold_hearing s.holding s.kept s.filled c.args.input.now c.requires.hears))
+    c.in-Refused.ensures.hears.some

@@ -1,4 +1,13 @@
-use Rattle.std.proofs.Common.{◌+◌, ◌∷◌, length, subst, take, drop}
+use Rattle.std.proofs.Common.{◌+◌, ◌∷◌, ◌<◌, [], None, inl, inr, length, subst, sym, take, drop}
+use Rattle.std.specs.Prelude.{Err, Ok}
+use Rattle.session_client.specs.Tells.{Word, of_nothing}
+use Rattle.data_slices.specs.declared.in_order_fault.InOrderFault.TheVariants as faults
+use Rattle.data_slices.specs.contracts.in_order_fault.InOrderFault.{the_type}
+use Rattle.data_slices.specs.declared.in_order_fault.InOrderFault.{InOrderFault}
+use Rattle.session_router.specs.declared.event.Event.TheVariants as events
+use Rattle.session_client.specs.Words.{IsOfEvent, IsOfResult}
+use types.Run.{OneOf, miss}
+use denote.Enum.Declared.{tag_of}
 use Rattle.session_client.specs.Holding.{Holds}
 use Rattle.session_client.specs.Makings.{MadeAnswer, onto}
 use Rattle.session_client.specs.Counting.{IsKeptCount}
@@ -45,8 +54,8 @@ pub returns-in-Err-Unknown-clause-enough : goal.returns-in-Err-Unknown-clause-en
 returns-in-Err-Unknown-clause-enough c = λ room wants.
     c.refuse-in-Err-Unknown.ensures.enough (wants_room _ wants)
 
-pub returns-in-Err-clause-enough : goal.returns-in-Err-clause-enough
-returns-in-Err-clause-enough c = λ room wants. c.cannot_make.ensures.enough (wants_room _ wants)
+pub returns-in-Err-Data-clause-enough : goal.returns-in-Err-Data-clause-enough
+returns-in-Err-Data-clause-enough c = λ room wants. c.cannot_make.ensures.enough (wants_room _ wants)
 
 pub returns-in-Err-Duplicate-clause-names : goal.returns-in-Err-Duplicate-clause-names
 returns-in-Err-Duplicate-clause-names c =
@@ -96,8 +105,8 @@ pub returns-in-Err-Unknown-clause-index : goal.returns-in-Err-Unknown-clause-ind
 returns-in-Err-Unknown-clause-index c = λ counts room wants.
     c.refuse-in-Err-Unknown.ensures.enough (wants_index _ wants)
 
-pub returns-in-Err-clause-index : goal.returns-in-Err-clause-index
-returns-in-Err-clause-index c = λ counts room wants.
+pub returns-in-Err-Data-clause-index : goal.returns-in-Err-Data-clause-index
+returns-in-Err-Data-clause-index c = λ counts room wants.
     c.cannot_make.ensures.enough (wants_index _ wants)
 
 pub returns-in-Ok-clause-takes : goal.returns-in-Ok-clause-takes
@@ -113,35 +122,93 @@ returns-in-Ok-clause-takes c =
       answer = take (s.kept + size) input;
       new = new;
     } in
-    c.adopt.ensures.takes held made one c.in-Ok.ensures.made
+    let takes = c.adopt.ensures.takes held made one c.in-Ok.ensures.made
     (λ k h makes x. made_is k h size c.args.since s.kept s.shown input held new x.0 makes
-    (subst (λ m. Holds k h m s.kept input) c.requires.due x.1))
+    (subst (λ m. Holds k h m s.kept input) c.requires.due x.1)) in
+    (takes.0, inr (Ok c.in-Ok.count, c.in-Ok.ensures.applies, takes.1))
 
 pub returns-in-Err-Duplicate-clause-takes : goal.returns-in-Err-Duplicate-clause-takes
 returns-in-Err-Duplicate-clause-takes c =
-    c.refuse.ensures.takes c.args.held.now c.make.new.made
+    let takes = c.refuse.ensures.takes c.args.held.now c.make.new.made in
+    let fault = c.in-Err-Duplicate in (
+      takes.0,
+      inr (
+        Err fault.field-0,
+        fault.ensures.applies,
+        subst (λ f. IsOfResult (Err f) takes.0.word) (sym fault.field-0-is) takes.1,
+      ),
+    )
 
 pub returns-in-Err-Unknown-clause-takes : goal.returns-in-Err-Unknown-clause-takes
 returns-in-Err-Unknown-clause-takes c =
-    c.refuse-in-Err-Unknown.ensures.takes c.args.held.now c.make.new.made
+    let takes = c.refuse-in-Err-Unknown.ensures.takes c.args.held.now c.make.new.made in
+    let fault = c.in-Err-Unknown in (
+      takes.0,
+      inr (
+        Err fault.field-0,
+        fault.ensures.applies,
+        subst (λ f. IsOfResult (Err f) takes.0.word) (sym fault.field-0-is) takes.1,
+      ),
+    )
 
-pub returns-in-Err-clause-takes : goal.returns-in-Err-clause-takes
-returns-in-Err-clause-takes c = c.cannot_make.ensures.takes c.args.held.now c.make.new.made
+-- a fault that is neither of room nor of a change
+of_others : (f : InOrderFault) (w : Word) → OneOf (0 ∷ 1 ∷ 2 ∷ 3 ∷ []) (tag_of the_type f) →
+    IsOfEvent (events.NotApplied None) w → IsOfResult (Err f) w
+of_others faults.NoRoom w key is = absurd (miss (0 ∷ 1 ∷ 2 ∷ 3 ∷ []) 7 tt key)
+of_others faults.NoIndex w key is = absurd (miss (0 ∷ 1 ∷ 2 ∷ 3 ∷ []) 4 tt key)
+of_others (faults.Duplicate o) w key is = absurd (miss (0 ∷ 1 ∷ 2 ∷ 3 ∷ []) 5 tt key)
+of_others (faults.Unknown o) w key is = absurd (miss (0 ∷ 1 ∷ 2 ∷ 3 ∷ []) 6 tt key)
+of_others (faults.Data e) w key is = is
+of_others (faults.Changes e) w key is = is
+of_others (faults.UnitVersion v) w key is = is
+of_others (faults.Session n) w key is = is
+
+pub returns-in-Err-Data-clause-takes : goal.returns-in-Err-Data-clause-takes
+returns-in-Err-Data-clause-takes c =
+    let fault = c.in-Err-Data.field-0 in
+    let key : OneOf (0 ∷ 1 ∷ 2 ∷ 3 ∷ []) (tag_of the_type fault) = search in
+    let takes = c.cannot_make.ensures.takes c.args.held.now c.make.new.made in (
+      takes.0,
+      inr (
+        Err fault,
+        c.in-Err-Data.ensures.applies,
+        of_others fault takes.0.word key takes.1,
+      ),
+    )
 
 pub returns-in-Err-NoRoom-clause-takes : goal.returns-in-Err-NoRoom-clause-takes
 returns-in-Err-NoRoom-clause-takes c =
     let s = c.args.self.now in
-    takes_none c.args.now s.router s.holding s.kept s.filled s.shown c.args.input.now
-    c.args.held.now
+    let fault = c.in-Err-NoRoom in (
+      takes_none c.args.now s.router s.holding s.kept s.filled s.shown c.args.input.now
+          c.args.held.now,
+      inr (
+        Err fault.field-0,
+        fault.ensures.applies,
+        subst (λ f. IsOfResult (Err f) of_nothing) (sym fault.field-0-is) tt,
+      ),
+    )
 
 pub returns-in-Err-NoIndex-clause-takes : goal.returns-in-Err-NoIndex-clause-takes
 returns-in-Err-NoIndex-clause-takes c =
     let s = c.args.self.now in
-    takes_none c.args.now s.router s.holding s.kept s.filled s.shown c.args.input.now
-    c.args.held.now
+    let fault = c.in-Err-NoIndex in (
+      takes_none c.args.now s.router s.holding s.kept s.filled s.shown c.args.input.now
+          c.args.held.now,
+      inr (
+        Err fault.field-0,
+        fault.ensures.applies,
+        subst (λ f. IsOfResult (Err f) of_nothing) (sym fault.field-0-is) tt,
+      ),
+    )
 
 pub returns-then-made-room-clause-takes : goal.returns-then-made-room-clause-takes
 returns-then-made-room-clause-takes c =
-    let s = c.args.self.now in
-    takes_none c.args.now s.router s.holding s.kept s.filled s.shown c.args.input.now
-    c.args.held.now
+    let s = c.args.self.now in (
+      takes_none c.args.now s.router s.holding s.kept s.filled s.shown c.args.input.now
+          c.args.held.now,
+      inl (
+        subst (λ n. length c.args.made.now < n) c.data_room-room.ensures c.if-made-room.true,
+        tt,
+      ),
+    )

@@ -15,6 +15,8 @@ use Rattle.session_router.specs.Step.{IsStep}
 use Rattle.session_router.specs.declared.event.Event.TheVariants as events
 use Rattle.session_router.specs.declared.router.Router.{Router}
 use Rattle.session_client.specs.Tells.{of_itself}
+use Rattle.session_client.proofs.Calls.{size_after}
+use Rattle.session_client.proofs.Runs.{no_show}
 use Rattle.session_client.proofs.Takes.{leaves_ended}
 use Rattle.session_client.proofs.client.Client.refuse.Goals as goal
 
@@ -111,22 +113,32 @@ returns-clause-takes c = λ held made.
     let s = c.args.self.now in
     let event = events.NotApplied (Some c.code.result) in
     let action = c.step-action.result in
-    let after = c.follow.new.self in
-    record {
-      word = of_itself event action;
-      is_told = (
-        refl,
-        tt,
-        subst (λ r. IsStep s.router c.args.now event action r) (sym c.follow.ensures.router)
-            c.step-action.ensures.steps,
-        leaves_ended action (untold s c.args.input.now) (untold after c.follow.new.input)
-            (refused_ends s.router c.step-action.new.self c.args.now (Some c.code.result) action
-            (answer_applying s.router.phase s.holding c.requires.step c.requires.whole)
-            c.step-action.ensures.steps.rule) c.follow.ensures.ends,
-      );
-      made = [];
-      were = tt;
-      says = λ k h makes x. tt;
-      has = λ k h makes x.
-          c.follow.ensures.has k h held c.args.now s.router event tt c.step-action.ensures.steps x;
-    }
+    let after = c.follow.new.self in (
+      record {
+        word = of_itself event action;
+        is_told = (
+          refl,
+          tt,
+          subst (λ r. IsStep s.router c.args.now event action r) (sym c.follow.ensures.router)
+              c.step-action.ensures.steps,
+          leaves_ended action (untold s c.args.input.now) (untold after c.follow.new.input)
+              (refused_ends s.router c.step-action.new.self c.args.now (Some c.code.result) action
+              (answer_applying s.router.phase s.holding c.requires.step c.requires.whole)
+              c.step-action.ensures.steps.rule) c.follow.ensures.ends,
+        );
+        front = c.follow.ensures.front;
+        size = size_after action s.shown after.shown c.follow.ensures.shown;
+        made = [];
+        were = tt;
+        says = λ k h makes x. tt;
+        has = λ k h makes x.
+            c.follow.ensures.has k h held c.args.now s.router event tt
+            c.step-action.ensures.steps x;
+      },
+      ap (λ n. events.NotApplied (Some n)) c.code.ensures,
+    )
+
+pub returns-clause-shows : goal.returns-clause-shows
+returns-clause-shows c =
+    no_show c.args.self.now.router c.args.now (events.NotApplied (Some c.code.result))
+    c.step-action.result c.step-action.new.self (λ e. cc) c.step-action.ensures.steps.rule

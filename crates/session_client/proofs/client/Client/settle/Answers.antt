@@ -8,6 +8,10 @@ use Rattle.session_client.proofs.Overs.{named_then}
 use Rattle.session_client.proofs.Pieces.{turned}
 use Rattle.session_client.proofs.Turns.{fewer_then}
 use Rattle.session_client.proofs.Takes.{told_then}
+use Rattle.std.proofs.Common.{◌∙◌, ap, length, subst, sym}
+use Rattle.session_client.specs.Words.{IsOfChanges}
+use Rattle.session_client.specs.Calls.{said_after}
+use Rattle.session_client.proofs.Calls.{not_data}
 use Rattle.session_client.proofs.client.Client.settle.Goals as goal
 
 index_is_room : (t : Todo) → IsIndexRoom t → IsRoom t
@@ -73,24 +77,45 @@ returns-in-Nothing-clause-ends c = λ turn. c.in-Nothing.ensures.ends (λ room. 
 
 pub returns-in-Nothing-clause-told : goal.returns-in-Nothing-clause-told
 returns-in-Nothing-clause-told c =
-    (None, tt, c.in-Nothing.ensures.did, c.in-Nothing.ensures.takes)
+    let takes = c.in-Nothing.ensures.takes in
+    (None, tt, c.in-Nothing.ensures.did, takes.0, takes.1)
 
 pub returns-in-Shown-clause-told : goal.returns-in-Shown-clause-told
 returns-in-Shown-clause-told c =
-    (Some actions.Show, tt, c.in-Shown.ensures.did, c.in-Shown.ensures.takes)
+    let takes = c.in-Shown.ensures.takes in
+    (Some actions.Show, tt, c.in-Shown.ensures.did, takes.0, takes.1)
 
 pub returns-in-Data-clause-told : goal.returns-in-Data-clause-told
-returns-in-Data-clause-told c = (None, tt, c.in-Data.ensures.did, c.in-Data.ensures.takes)
+returns-in-Data-clause-told c =
+    let takes = c.in-Data.ensures.takes in
+    (None, tt, c.in-Data.ensures.did, takes.0, takes.1)
 
 pub returns-in-Index-clause-told : goal.returns-in-Index-clause-told
-returns-in-Index-clause-told c = (None, tt, c.in-Index.ensures.did, c.in-Index.ensures.takes)
+returns-in-Index-clause-told c =
+    let takes = c.in-Index.ensures.takes in
+    (None, tt, c.in-Index.ensures.did, takes.0, takes.1)
 
 pub returns-in-Acted-clause-told : goal.returns-in-Acted-clause-told
 returns-in-Acted-clause-told c =
     let s = c.args.self.now in
-    told_then c.todo.result c.in-Acted.action c.args.now s c.apply.new.self c.todo.new.self
+    let says = IsOfChanges s.holding s.kept s.shown c.args.input.now c.args.held.now
+    (length c.args.index.now) c.args.made.now c.apply.new.made in
+    let takes = c.in-Acted.ensures.takes in
+    let after = c.todo.ensures.takes (Some c.in-Acted.action) c.args.now s c.args.input.now
+    c.args.held.now c.apply.new.input c.args.held.now takes.0 in
+    told_then says c.todo.result c.in-Acted.action c.args.now s c.apply.new.self c.todo.new.self
     c.args.input.now c.args.held.now c.apply.new.input c.args.held.now c.args.output.now
     c.apply.new.output c.todo.ensures.todo c.in-Acted.ensures.did c.todo.ensures.router
-    c.todo.ensures.unsent
-    (c.todo.ensures.takes (Some c.in-Acted.action) c.args.now s c.args.input.now c.args.held.now
-    c.apply.new.input c.args.held.now c.in-Acted.ensures.takes)
+    c.todo.ensures.unsent after.0 (subst says (sym after.1) takes.1)
+
+pub returns-in-Acted-clause-turned : goal.returns-in-Acted-clause-turned
+returns-in-Acted-clause-turned c =
+    sym (not_data c.todo.result c.in-Acted.action c.todo.ensures.todo c.in-Acted.ensures.shows)
+
+pub returns-in-Acted-clause-opened : goal.returns-in-Acted-clause-opened
+returns-in-Acted-clause-opened c =
+    c.todo.ensures.opened ∙ ap (said_after c.todo.result) c.in-Acted.ensures.same.opened
+
+pub returns-in-Acted-clause-closed : goal.returns-in-Acted-clause-closed
+returns-in-Acted-clause-closed c =
+    c.todo.ensures.closed ∙ ap (said_after c.todo.result) c.in-Acted.ensures.same.closed

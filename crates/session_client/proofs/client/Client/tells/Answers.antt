@@ -6,9 +6,13 @@ use Rattle.session_client.proofs.Pieces.{turned}
 use Rattle.session_client.proofs.Steps.{hearing_elsewhere}
 use Rattle.session_client.proofs.Turns.{fewer_then, most_then}
 use Rattle.std.proofs.Common.{[], refl}
-use Rattle.session_client.specs.Tells.{of_itself}
-use Rattle.session_client.proofs.Runs.{heard_none}
+use Rattle.session_client.specs.Tells.{TakesCall, of_itself}
+use Rattle.session_client.specs.Words.{IsOfEvent}
+use Rattle.session_client.proofs.Calls.{not_data, size_after}
+use Rattle.session_client.proofs.Runs.{heard_none, no_show, not_applied}
 use Rattle.session_client.proofs.Takes.{no_unit, told_then}
+use Rattle.std.proofs.Common.{◌∙◌, ap}
+use Rattle.session_client.specs.Calls.{said_after}
 use Rattle.session_client.proofs.client.Client.tells.Goals as goal
 
 pub returns-clause-turns : goal.returns-clause-turns
@@ -61,15 +65,36 @@ pub returns-clause-told : goal.returns-clause-told
 returns-clause-told c = λ held.
     let s = c.args.self.now in
     let x = c.happens-action in
-    told_then c.todo.result x.result c.args.now s x.new.self c.todo.new.self c.args.input.now held
-    x.new.input held c.args.output.now x.new.output c.todo.ensures.todo x.ensures.did
-    c.todo.ensures.router c.todo.ensures.unsent
-    (c.todo.ensures.takes (Some x.result) c.args.now s c.args.input.now held x.new.input held
-    (record {
+    let takes : TakesCall (Some x.result) c.args.now s c.args.input.now held x.new.self x.new.input
+    held = record {
       word = of_itself c.args.event x.result;
       is_told = (refl, no_unit c.args.event c.requires.none, x.ensures.steps, x.ensures.left);
+      front = x.ensures.front;
+      size = size_after x.result s.shown x.new.self.shown x.ensures.shown;
       made = [];
       were = tt;
       says = λ k h makes y. heard_none c.args.event s.router c.requires.says h;
       has = λ k h makes y. x.ensures.has k h held y;
-    }))
+    } in
+    let after = c.todo.ensures.takes (Some x.result) c.args.now s c.args.input.now held x.new.input
+    held takes in
+    told_then (IsOfEvent c.args.event) c.todo.result x.result c.args.now s x.new.self
+    c.todo.new.self c.args.input.now held x.new.input held c.args.output.now x.new.output
+    c.todo.ensures.todo x.ensures.did c.todo.ensures.router c.todo.ensures.unsent after.0
+    (subst (IsOfEvent c.args.event) (sym after.1) refl)
+
+pub returns-clause-opened : goal.returns-clause-opened
+returns-clause-opened c =
+    c.todo.ensures.opened ∙ ap (said_after c.todo.result) c.happens-action.ensures.same.opened
+
+pub returns-clause-closed : goal.returns-clause-closed
+returns-clause-closed c =
+    c.todo.ensures.closed ∙ ap (said_after c.todo.result) c.happens-action.ensures.same.closed
+
+pub returns-clause-plain : goal.returns-clause-plain
+returns-clause-plain c =
+    let s = c.args.self.now in
+    let x = c.happens-action in
+    not_data c.todo.result x.result c.todo.ensures.todo
+    (no_show s.router c.args.now c.args.event x.result x.new.self.router
+    (not_applied c.args.event s.router c.requires.says) x.ensures.steps.rule)
