@@ -154,6 +154,23 @@ asked_so : ((one_answers.caller.members 1).runs ≡ false)
 unfolding last
 asked_so = (refl, (refl, refl))
 
+-- `failure_counts_once`: member 0 loses its data, so member 1 is asked; the failure at which they
+-- were lost changes nothing, though member 1 answers before it is reported
+abbrev one_drops : State
+one_drops = goes_on one_answers 200 (to_member 0 events.Drops 0)
+
+abbrev next_answers : State
+next_answers = goes_on one_drops 300 (to_member 1 (events.Shows 4) 71)
+
+abbrev loss_fails : State
+loss_fails = goes_on next_answers 400 (to_member 0 events.Fails 0)
+
+lost_so : ((one_drops.caller.members 1).began ≡ 200)
+    × (((next_answers.caller.members 0).gave_way ≡ true)
+    × ((loss_fails.group ≡ next_answers.group) × (loss_fails.caller.shown ≡ Some 71)))
+unfolding last
+lost_so = (refl, (refl, (refl, refl)))
+
 -- an empty answer is no data: the next member is asked
 abbrev empty_answer : State
 empty_answer = goes_on begins 100 (to_member 0 (events.Shows 0) 70)

@@ -4,6 +4,7 @@ mod Heard
 mod Stepping
 mod Agreeing
 mod Showing
+mod Failing
 mod Recovering
 mod Joined
 mod Served

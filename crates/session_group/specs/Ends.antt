@@ -31,7 +31,8 @@ tells_at_end false causes.Higher = None
 tells_at_end false cause = Some events.Fails
 
 -- What it is told of a member whose router does this: at most one event. The number is that of the
--- payloads of the data that are shown then.
+-- payloads of the data that are shown then. A failure that is told after the loss of data which it
+-- caused changes nothing (law `failure_counts_once`).
 abbrev pub tells : (payloads : ℕ) → Action → Option Event
 tells p actions.Show = Some (events.Shows p)
 tells p actions.Drop = Some events.Drops

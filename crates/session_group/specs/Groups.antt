@@ -1,5 +1,5 @@
 -- A group of caches by preference (RFC 8210 section 10): 0 is preferred most.
-use Rattle.std.specs.Prelude.{ℕ, zero, suc, Bool, true, false, ◌+◌, ◌-◌, ◌^◌, ◌&&◌, ◌||◌, ◌==◌}
+use Rattle.std.specs.Prelude.{◌≡◌, ℕ, zero, suc, Bool, true, false, ◌+◌, ◌-◌, ◌^◌, ◌&&◌, ◌||◌, ◌==◌}
 use Rattle.std.specs.Prelude.{nat_lt, nat_le, min, Option, Some, None, get_or, set, not}
 use Rattle.std.specs.Prelude.{if◌then◌else◌}
 use Rattle.session_group.specs.declared.event.Event.{Event}
@@ -118,3 +118,8 @@ answer g n m e = answer_between g (group_after g n m e) (news g.settings m e)
 
 abbrev pub tick_answer : Group → (now : ℕ) → Answer
 tick_answer g n = answer_between g (group_ticked g n) None
+
+-- an event of a member changes nothing, and the caller has nothing to do
+pub record ChangesNothing (g : Group) (n m : ℕ) (e : Event) : Type 0 where
+  pub group : group_after g n m e ≡ g
+  pub answer : answer g n m e ≡ record { shown = shows.Same; stops = None; starts = None }

@@ -1,7 +1,8 @@
 //! Events of the members of a group, and its answers.
 
 /// An event of a member: a router's end and the cache that it queries. A step of a router is at
-/// most one event.
+/// most one event. A caller may report a loss of data, and then the failure that caused it, too:
+/// that changes nothing.
 #[derive(Clone, Copy)]
 pub enum Event {
     /// It shows the data of a complete answer, changed or not, with this number of payloads.

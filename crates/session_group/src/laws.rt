@@ -5,13 +5,14 @@ ghost use Rattle.session_router.specs.Histories as histories;
 ghost use Rattle.session_router.specs.Exchange.{Exchange, exchanged};
 ghost use Rattle.session_router.specs.Recovery.{served_until};
 ghost use Rattle.session_group.specs.Ends.{End, IsGroup, ShowsWhole};
-ghost use Rattle.session_group.specs.Groups.{best_of};
+ghost use Rattle.session_group.specs.Groups.{ChangesNothing, best_of, group_after};
 ghost use Rattle.session_group.specs.Recovery.{IsWaitedFor, shown_until};
 ghost use Rattle.session_group.specs.Served.{Deed, GroupStep, IsServedIn, GroupReaches, served_by};
 ghost use Rattle.session_group.specs.Runs.{ChangesRightly, GroupMoment, Happened, IsGroupRun};
 ghost use Rattle.session_group.specs.Runs.{LeavesNone, Listener, NeverOlder, RunsInOrder};
 ghost use Rattle.session_group.specs.Runs.{ShowsBest};
 ghost use Rattle.session_group.specs.Runs.{answer_then, best_in, caller_then};
+ghost use Rattle.session_group.specs.declared.event.Event.TheVariants as events;
 ghost use Rattle.session_group.specs.declared.group.Group.{Group};
 ghost use Rattle.session_group.specs.declared.settings.Settings as settings;
 
@@ -49,6 +50,22 @@ pub fn asked_in_order()
         (c : Listener ℕ) → IsGroupRun count s history g c → RunsInOrder count c }
     ensures none { (count : ℕ) (s : settings.Settings) (history : List (GroupMoment ℕ)) (g : Group)
         (c : Listener ℕ) → IsGroupRun count s history g c → LeavesNone c }
+{}
+
+/// A failure counts once. Whatever comes: if a member failed, lost its data or was silent for the
+/// patience, since it began and since its last whole answer, its next failure changes nothing. So
+/// its caller may report a loss of data and then, whatever else happens between, the failure that
+/// caused it: both are one event, also of the routers' ends of `whole_answers_of_one`.
+pub fn failure_counts_once()
+    ensures again { (count : ℕ) (s : settings.Settings) (history : List (GroupMoment ℕ)) (g : Group)
+        (c : Listener ℕ) (m n : ℕ) → IsGroupRun count s history g c
+        → (c.members m).gave_way ≡ true → ChangesNothing g n m events.Fails }
+    ensures loss { (g : Group) (m n later : ℕ)
+        → ChangesNothing (group_after g n m events.Drops) later m events.Fails }
+    ensures ends { (c : ℕ → histories.Caller ℕ ℕ) (count : ℕ) (s : settings.Settings)
+        (payloads : ℕ → ℕ) (history : List (GroupMoment ℕ)) (g : Group) (k : Listener ℕ)
+        (ends : ℕ → End ℕ ℕ) (m n : ℕ) → IsGroup c count s payloads history g k ends
+        → (k.members m).gave_way ≡ true → ChangesNothing g n m events.Fails }
 {}
 
 /// A group recovers. After any history: if member `i` keeps the rules from `start` on, so that it

@@ -26,8 +26,9 @@ impl Settings {
         }
     }
 
-    /// Reports whether data of this number of payloads count as data.
-    pub(crate) fn counts(&self, payloads: usize) -> bool
+    /// Reports whether a complete answer with this number of payloads counts as data. Otherwise it
+    /// is a failure, which the caller reports.
+    pub fn counts(&self, payloads: usize) -> bool
         ensures { result ≡ counts self.now payloads }
     {
         self.empty_is_data || payloads > 0

@@ -66,6 +66,8 @@ fn down_and_up(rt: HostRuntime) {
             (2, Event::Drops, "same", 99, 99),
             (0, Event::Shows(7), "data of 0", 99, 99),
             (0, Event::Drops, "nothing", 99, 1),
+            (0, Event::Fails, "same", 99, 99),
+            (1, Event::Fails, "same", 99, 2),
         ],
     );
     assert!(rt; group.best().is_none());
