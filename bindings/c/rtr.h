@@ -711,7 +711,7 @@ static inline uint8_t rtr_apply(const uint8_t *data, size_t data_length,
  *   RTR_DUPLICATE, RTR_UNKNOWN                   the first change, as they came, that announces a
  *                                                payload which is present then, or withdraws one
  *                                                which isn't (side 2), at `offset`: rtr_error_code
- *                                                gives 7 and 6 for it (RFC 8210 section 12)
+ *                                                returns 7 or 6 (RFC 8210 section 12)
  *   RTR_NO_ROOM                                  the output is shorter than the data */
 static inline uint8_t rtr_apply_in_order(const uint8_t *data, size_t data_length,
                                          const uint8_t *changes, size_t changes_length,
@@ -729,8 +729,8 @@ static inline uint8_t rtr_apply_in_order(const uint8_t *data, size_t data_length
 /* Writes the sequence at the start of the input in canonical form: the net effect of its changes,
  * applied one after the other. Caches send deltas in any order, and rtr_apply only takes the
  * canonical form; to apply changes without comparing or showing them, rtr_apply_in_order is enough.
- * If all of the changes are allowed one after the other, rtr_apply gives the same data with what is
- * written here. An output as long as the input always suffices.
+ * If all of the changes are allowed one after the other, rtr_apply makes the same data of this
+ * output. An output as long as the input always suffices.
  *
  * The index is working memory: as many entries as there are payload units. Its contents afterwards
  * are unspecified.
@@ -743,7 +743,7 @@ static inline uint8_t rtr_apply_in_order(const uint8_t *data, size_t data_length
  *                                     the rules never allow (side 1, the second unit)
  *   RTR_UNDECIDED                     the first change to a customer's ASPA announces it, and the
  *                                     last withdraws it (side 1, the last)
- *   RTR_NO_ROOM                       the output is shorter than what is to be written
+ *   RTR_NO_ROOM                       the output is shorter than the result
  * Of several units that RTR_DUPLICATE, RTR_UNKNOWN and RTR_UNDECIDED refuse, the first in the order
  * of payloads is reported. An ASPA is never RTR_DUPLICATE: of two announcements the later one
  * counts. */
@@ -1129,9 +1129,9 @@ void rtr_router_not_applied(struct rtr_router *router, uint64_t now, uint8_t sta
 /* Returns when to call rtr_router_tick, if nothing happens before. The time may be past. */
 uint64_t rtr_router_wakes(const struct rtr_router *router);
 
-/* Gives the router the units at the start of the input: as many payload units of a response as
- * there are (RTR_KEEP), otherwise one unit. If the peer has closed, `ended`, an incomplete unit is
- * refused. RTR_WAIT with nothing taken means that there is no whole unit. */
+/* Tells the router of the units at the start of the input: of all payload units of a response that
+ * are there (RTR_KEEP), otherwise of one unit. If the peer has closed, `ended`, an incomplete unit
+ * is refused. RTR_WAIT with nothing taken means that there is no whole unit. */
 static inline void rtr_router_read(struct rtr_router *router, uint64_t now,
                                    const uint8_t *input, size_t input_length, bool ended,
                                    struct rtr_action *action)
@@ -1210,8 +1210,8 @@ static inline void rtr_reported_text(const char *what, const struct rtr_unit *re
 
 /* A router's end of a session with its bytes and its data, without sockets, clock and memory (RFC
  * 8210; docs/SESSIONS.md has its states): a struct rtr_router with what carries its units. The
- * program owns the buffers, passes them to each call, and makes them longer when it is asked to. It
- * calls rtr_link_next again and again, and does what that returns in a struct rtr_todo:
+ * program owns the buffers, passes them to each call, and grows them on request. It calls
+ * rtr_link_next in a loop, and does what that returns in a struct rtr_todo:
  *
  *   RTR_TODO_GO         nothing
  *   RTR_TODO_WAIT       send the bytes at rtr_link_output, and call rtr_link_sent; read to
@@ -1246,7 +1246,7 @@ enum rtr_link_status {
                                   the output is shorter than RTR_LONGEST_UNIT */
     RTR_LINK_BAD_TIME = 3,     /* the time is before that of an earlier call, or not below 2^63 */
     RTR_LINK_OUT_OF_TURN = 4,  /* no connection is there, or being opened, to which this happens */
-    RTR_LINK_TOO_LONG = 5      /* more bytes than there is room for, or than are to be sent */
+    RTR_LINK_TOO_LONG = 5      /* more bytes than there is room for, or than are unsent */
 };
 
 enum rtr_todo_kind {
@@ -1277,7 +1277,7 @@ struct rtr_link {
     uint8_t has_data, holding, since, shows, second, opened, closed;
 };
 
-/* What is to be done. Fields that it doesn't have are 0. */
+/* What the program does next. Fields that it doesn't have are 0. */
 struct rtr_todo {
     uint64_t wakes; /* when to call rtr_link_next, if nothing comes before. It may have passed */
     size_t room;    /* the length that a buffer needs: in bytes, of the index in entries */
@@ -1295,7 +1295,7 @@ struct rtr_todo {
 struct rtr_link_state {
     uint64_t wakes; /* when to call rtr_link_next, if nothing comes before. It may have passed */
     size_t filled;  /* the offset in the input at which the next bytes are read */
-    size_t unsent;  /* the number of bytes of the output that are to be sent, from its front */
+    size_t unsent;  /* the number of unsent bytes of the output, from its front */
     size_t shown;   /* the length of the data, in canonical form; 0 if there are none */
     size_t answer;  /* the length of the payload units of a whole answer, at the front of the
                        input, which the next rtr_link_next applies; or 0 */
@@ -1313,7 +1313,7 @@ struct rtr_link_buffers {
     size_t first_length, second_length;
     size_t *index;             /* to sort in: an entry for each payload unit of an answer */
     size_t index_length;
-    uint8_t *output;           /* what is to be sent */
+    uint8_t *output;           /* the bytes to send */
     size_t output_length;
 };
 
@@ -1334,7 +1334,7 @@ uint8_t rtr_link_opened(struct rtr_link *link);
 uint8_t rtr_link_lost(struct rtr_link *link);
 
 /* Reports that `size` bytes were read to rtr_link_room. RTR_LINK_OUT_OF_TURN if there is no
- * connection, or it was lost; RTR_LINK_TOO_LONG if the room is shorter. */
+ * connection, or it was lost; RTR_LINK_TOO_LONG if there is less room. */
 static inline uint8_t rtr_link_received(struct rtr_link *link,
                                         const struct rtr_link_buffers *buffers, size_t size)
 {
@@ -1350,7 +1350,7 @@ static inline uint8_t rtr_link_sent(struct rtr_link *link, const struct rtr_link
     return rtr_link_sent_nonnull(link, rtr_writable(buffers->output), buffers->output_length, size);
 }
 
-/* What is to be done next. */
+/* Sets `todo` to what the program does next. */
 static inline uint8_t rtr_link_next(struct rtr_link *link, const struct rtr_link_buffers *buffers,
                                     uint64_t now, struct rtr_todo *todo)
 {
@@ -1372,9 +1372,9 @@ static inline uint8_t rtr_link_ask_now(struct rtr_link *link,
                                     rtr_writable(buffers->output), buffers->output_length, todo);
 }
 
-/* A buffer gets no more room: the connection ends, if there is one, and the data stay. The program
- * does what this returns, as for rtr_link_next. If the output has no room for a report, its unsent
- * bytes are dropped. */
+/* Reports that a buffer can't grow: the connection ends, if there is one, and the data stay. The
+ * program does what this returns, as for rtr_link_next. If the output has no room for a report, its
+ * unsent bytes are dropped. */
 static inline uint8_t rtr_link_give_up(struct rtr_link *link,
                                        const struct rtr_link_buffers *buffers, uint64_t now,
                                        struct rtr_todo *todo)
@@ -1383,7 +1383,7 @@ static inline uint8_t rtr_link_give_up(struct rtr_link *link,
                                     rtr_writable(buffers->output), buffers->output_length, todo);
 }
 
-/* What the buffers hold at this time. If the call is refused, all fields are 0. */
+/* Sets `state` to what the buffers hold at this time; to 0 in all fields if the call is refused. */
 static inline uint8_t rtr_link_state(const struct rtr_link *link,
                                      const struct rtr_link_buffers *buffers, uint64_t now,
                                      struct rtr_link_state *state)
@@ -1392,7 +1392,8 @@ static inline uint8_t rtr_link_state(const struct rtr_link *link,
                              buffers->second_length, buffers->output_length, state);
 }
 
-/* Where to read to, and how many bytes at most: some, after RTR_TODO_WAIT. */
+/* Returns where to read to, and sets `length` to how many bytes at most: not 0 after
+ * RTR_TODO_WAIT. */
 static inline uint8_t *rtr_link_room(const struct rtr_link_buffers *buffers,
                                      const struct rtr_link_state *state, size_t *length)
 {
@@ -1400,7 +1401,7 @@ static inline uint8_t *rtr_link_room(const struct rtr_link_buffers *buffers,
     return buffers->input ? buffers->input + state->filled : buffers->input;
 }
 
-/* What is to be sent, of `length` bytes: nothing, if that is 0. */
+/* Returns the bytes to send, and sets `length` to their number, which may be 0. */
 static inline const uint8_t *rtr_link_output(const struct rtr_link_buffers *buffers,
                                              const struct rtr_link_state *state, size_t *length)
 {
@@ -1408,7 +1409,8 @@ static inline const uint8_t *rtr_link_output(const struct rtr_link_buffers *buff
     return buffers->output;
 }
 
-/* The data, in canonical form, of `length` bytes; a null pointer if there are none. */
+/* Returns the data, in canonical form, and sets `length` to their length; returns a null pointer if
+ * there are none. */
 static inline const uint8_t *rtr_link_data(const struct rtr_link_buffers *buffers,
                                            const struct rtr_link_state *state, size_t *length)
 {
@@ -1423,15 +1425,16 @@ static inline const uint8_t *rtr_link_data(const struct rtr_link_buffers *buffer
  * rtr_group_wakes, and carries out each answer, in this order:
  *
  *   shown   RTR_GROUP_DATA: show the present data of `member` in place of those before (rtr_delta
- *           gives the difference). RTR_GROUP_NOTHING: no data are shown any more
+ *           computes the difference). RTR_GROUP_NOTHING: no data are shown any more
  *   stops   stop the members from `stop` on that run, and drop their data. Keep their routers
  *   starts  start the member `start` without data: the first time with a new router, later with
  *           rtr_router_again, so that the waits for its cache aren't reset
  *
  * An action of a router is at most one event of the group: RTR_SHOW is rtr_group_shows; RTR_DROP,
- * and RTR_END with `drops`, is rtr_group_drops alone; RTR_NO_DATA, and RTR_END without `drops`, is
+ * and RTR_END with `drops`, is rtr_group_drops; RTR_NO_DATA, and RTR_END without `drops`, is
  * rtr_group_fails, unless its cause is RTR_CAUSE_LOWER or RTR_CAUSE_HIGHER; other actions are no
- * event.
+ * event. A program may report the failure that caused a loss of data after it, by rtr_group_fails:
+ * then that changes nothing.
  *
  * A member is current from a whole answer until its next failure. The data of the most preferred
  * current member are shown; while none is current, those of the member with the latest whole
@@ -1485,6 +1488,10 @@ uint8_t rtr_group_init(struct rtr_group *group, const struct rtr_group_settings 
 
 /* Reports whether data are shown, and sets `member` to the one that they are from, or to 0. */
 bool rtr_group_best(const struct rtr_group *group, size_t *member);
+
+/* Reports whether a whole answer with this number of payloads counts as data. Otherwise it is a
+ * failure, RTR_FAILURE_EMPTY. */
+bool rtr_group_counts(const struct rtr_group *group, size_t payloads);
 
 /* Returns when to call rtr_group_tick, if nothing happens before; UINT64_MAX for never. */
 uint64_t rtr_group_wakes(const struct rtr_group *group);
@@ -1554,10 +1561,11 @@ struct rtr_cache_settings {
 struct rtr_cache {
     struct rtr_cache_settings settings;
     uint64_t notify_from, due;
-    uint32_t serial; /* the serial number of the newest data that the router was `told` of, or of
-                        the newest data when a cache reset made it ask for all, `reset` */
+    uint32_t serial; /* the serial number of the newest data that the router was sent or notified
+                        of, if `told`; or of the newest data at the cache reset that made it ask
+                        for all data, if `reset` */
     uint16_t session;
-    uint8_t version; /* the version of the connection, once a query came, `asked` */
+    uint8_t version; /* the version of the connection, if a query came, `asked` */
     bool live, asked, told, reset;
 };
 
@@ -1610,7 +1618,7 @@ void rtr_cache_settings_usual(struct rtr_cache_settings *settings);
 void rtr_cache_init(struct rtr_cache *cache, uint64_t now,
                     const struct rtr_cache_settings *settings);
 
-/* Time passed, or there are new data. */
+/* Reports that time passed, or that there are new data. */
 void rtr_cache_tick(struct rtr_cache *cache, uint64_t now, const struct rtr_present *present,
                     struct rtr_serving *serving);
 
@@ -1626,10 +1634,10 @@ void rtr_cache_lost(struct rtr_cache *cache, uint64_t now, const struct rtr_pres
  * The time may be past; UINT64_MAX after the end. */
 uint64_t rtr_cache_wakes(const struct rtr_cache *cache, const struct rtr_present *present);
 
-/* Gives the cache the unit at the start of the input. `kept` are the serial numbers of the present
- * session from which the program can send changes, in any order; the present one, from which there
- * are none, needn't be among them. If the router has closed, `ended`, an incomplete unit is
- * refused. RTR_SERVE_WAIT with nothing taken means that there is no whole unit. */
+/* Tells the cache of the unit at the start of the input. `kept` are the serial numbers of the
+ * present session from which the program can send changes, in any order; the present one, from
+ * which there are none, needn't be among them. If the router has closed, `ended`, an incomplete unit
+ * is refused. RTR_SERVE_WAIT with nothing taken means that there is no whole unit. */
 static inline void rtr_cache_read(struct rtr_cache *cache, uint64_t now,
                                   const struct rtr_present *present,
                                   const uint32_t *kept, size_t kept_length,

@@ -473,6 +473,12 @@ static inline struct group_best_result group_best(
 	return all;
 }
 
+static inline bool group_counts(
+	struct rtr_group group, size_t payloads)
+{
+	return rtr_group_counts(&group, payloads);
+}
+
 static inline uint64_t group_wakes(
 	struct rtr_group group)
 {

@@ -331,7 +331,7 @@ export const LinkStatus: {
     readonly BAD_TIME: 3;
     /** No connection is there, or being opened, to which this happens. */
     readonly OUT_OF_TURN: 4;
-    /** More bytes than there is room for, or than are to be sent. */
+    /** More bytes than there is room for, or than are unsent. */
     readonly TOO_LONG: 5;
 };
 export type LinkStatus = (typeof LinkStatus)[keyof typeof LinkStatus];

@@ -757,6 +757,7 @@ export const FUNCTIONS = Object.freeze({
     rtr_group_usual: ["void", "*"],
     rtr_group_init: ["uint8", "*", "*", "size", "uint64"],
     rtr_group_best: ["bool", "*", "*"],
+    rtr_group_counts: ["bool", "*", "size"],
     rtr_group_wakes: ["uint64", "*"],
     rtr_group_tick: ["void", "*", "uint64", "*"],
     rtr_group_shows: ["void", "*", "uint64", "size", "size", "*"],

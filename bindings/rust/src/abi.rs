@@ -384,7 +384,7 @@ pub(crate) mod link_status {
     pub(crate) const BAD_TIME: u8 = 3;
     /// No connection is there, or being opened, to which this happens.
     pub(crate) const OUT_OF_TURN: u8 = 4;
-    /// More bytes than there is room for, or than are to be sent.
+    /// More bytes than there is room for, or than are unsent.
     pub(crate) const TOO_LONG: u8 = 5;
 }
 
@@ -1005,7 +1005,7 @@ pub(crate) struct LinkState {
     pub(crate) wakes: u64,
     /// The offset in the input at which the next bytes are read.
     pub(crate) filled: usize,
-    /// The number of bytes of the output that are to be sent, from its front.
+    /// The number of unsent bytes of the output, from its front.
     pub(crate) unsent: usize,
     /// The length of the data, in canonical form; 0 if there are none.
     pub(crate) shown: usize,
@@ -1098,11 +1098,11 @@ pub(crate) struct Cache {
     pub(crate) settings: CacheSettings,
     pub(crate) notify_from: u64,
     pub(crate) due: u64,
-    /// The serial number of the newest data that the router was `told` of, or of the newest data
-    /// when a cache reset made it ask for all, `reset`.
+    /// The serial number of the newest data that the router was sent or notified of, if `told`; or
+    /// of the newest data at the cache reset that made it ask for all data, if `reset`.
     pub(crate) serial: u32,
     pub(crate) session: u16,
-    /// The version of the connection, once a query came, `asked`.
+    /// The version of the connection, if a query came, `asked`.
     pub(crate) version: u8,
     pub(crate) live: bool,
     pub(crate) asked: bool,
@@ -1640,6 +1640,10 @@ extern "C" {
     pub(crate) fn rtr_group_best(
         group: *const Group,
         member: *mut usize,
+    ) -> bool;
+    pub(crate) fn rtr_group_counts(
+        group: *const Group,
+        payloads: usize,
     ) -> bool;
     pub(crate) fn rtr_group_wakes(
         group: *const Group,

@@ -643,6 +643,12 @@ pub(crate) fn group_best(group: &abi::Group) -> (usize, bool) {
 }
 
 #[inline]
+pub(crate) fn group_counts(group: &abi::Group, payloads: usize) -> bool {
+    // SAFETY: as at the head of this file.
+    unsafe { abi::rtr_group_counts(group, payloads) }
+}
+
+#[inline]
 pub(crate) fn group_wakes(group: &abi::Group) -> u64 {
     // SAFETY: as at the head of this file.
     unsafe { abi::rtr_group_wakes(group) }

@@ -47,11 +47,11 @@ pub struct RtrCache {
     pub settings: RtrCacheSettings,
     pub notify_from: u64,
     pub due: u64,
-    /// The serial number of the newest data that the router was `told` of, or of the newest data
-    /// when a cache reset made it ask for all, `reset`.
+    /// The serial number of the newest data that the router was sent or notified of, if `told`; or
+    /// of the newest data at the cache reset that made it ask for all data, if `reset`.
     pub serial: u32,
     pub session: u16,
-    /// The version of the connection, once a query came, `asked`.
+    /// The version of the connection, if a query came, `asked`.
     pub version: u8,
     pub live: bool,
     pub asked: bool,

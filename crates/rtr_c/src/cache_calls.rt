@@ -54,8 +54,7 @@ pub extern "C" fn rtr_cache_init(cache: &mut RtrCache, now: u64, settings: &RtrC
     *cache = cache_to(&Cache::new(clock(now), cache_settings_from(settings)));
 }
 
-/// When the cache is to be told that time passed, where these are the newest data, if nothing comes
-/// before.
+/// When to call `rtr_cache_tick`, where these are the newest data, if nothing comes before.
 #[unsafe(no_mangle)]
 pub extern "C" fn rtr_cache_wakes(cache: &RtrCache, present: &RtrPresent) -> u64
     ensures { result ≡ cache_wakes_at (cache_of cache.now) (present_of present.now) }
@@ -87,7 +86,7 @@ pub extern "C" fn rtr_cache_tick(
     *serving = step(cache, now, present, CacheEvent::Tick);
 }
 
-/// The connection is one more than the cache may have.
+/// The connection is above the limit of the cache.
 #[unsafe(no_mangle)]
 pub extern "C" fn rtr_cache_full(
     cache: &mut RtrCache,
@@ -100,8 +99,7 @@ pub extern "C" fn rtr_cache_full(
     *serving = step(cache, now, present, CacheEvent::Full);
 }
 
-/// The connection is gone, and what came over it was read; or something that is sent isn't taken in
-/// its time.
+/// The connection was lost, and all input was read; or sending took too long.
 #[unsafe(no_mangle)]
 pub extern "C" fn rtr_cache_lost(
     cache: &mut RtrCache,
@@ -158,7 +156,7 @@ fn served_to(came: &Served, input: &[u8], version: u8, present: &Present) -> Rtr
     }
 }
 
-/// Writes the unit that an answer begins with, as `session_bytes::place_opening`. Answers its
+/// Writes the unit that an answer begins with, as `session_bytes::place_opening`. Returns its
 /// length in bytes, 8 or 12, or 0 if it begins with none or the output is shorter.
 #[unsafe(no_mangle)]
 pub extern "C" fn rtr_cache_unit_nonnull(serving: &RtrServing, output: &mut [u8]) -> usize
@@ -171,7 +169,7 @@ pub extern "C" fn rtr_cache_unit_nonnull(serving: &RtrServing, output: &mut [u8]
 }
 
 /// Writes the report that an answer owes about the unit that the input begins with, as
-/// `session_bytes::place_owed`. Answers whether it is written.
+/// `session_bytes::place_owed`. Reports whether it is written.
 #[unsafe(no_mangle)]
 pub extern "C" fn rtr_cache_report_nonnull(
     serving: &RtrServing,

@@ -3,9 +3,10 @@
 
 ghost use Rattle.std.specs.Prelude.{◌≡◌, false, is_some};
 ghost use Rattle.std.specs.Option.{unwrap_or};
-ghost use Rattle.session_group.specs.Groups.{best_of, group_wakes};
+ghost use Rattle.session_group.specs.Groups.{best_of, counts, group_wakes};
 ghost use Rattle.session_group.specs.declared.event.Event.TheVariants as events;
 ghost use Rattle.rtr_c.specs.GroupsShown.{IsGroupStep, IsGroupTick, IsInitialGroup, group_of};
+ghost use Rattle.rtr_c.specs.GroupsShown.{group_settings_of};
 ghost use Rattle.rtr_c.specs.Routers.{clock};
 
 use crate::answer::{ACCEPTED, TOO_MANY_MEMBERS};
@@ -28,8 +29,8 @@ pub extern "C" fn rtr_group_usual(settings: &mut RtrGroupSettings)
 }
 
 /// Begins a group of this number of members, whatever the struct holds, as
-/// `session_group::group::Group::new`. If there are more than 16, it returns a status that says so,
-/// and the group has no members.
+/// `session_group::group::Group::new`. For more than 16 it returns `TOO_MANY_MEMBERS`, and the group
+/// has no members.
 #[unsafe(no_mangle)]
 pub extern "C" fn rtr_group_init(
     group: &mut RtrGroup,
@@ -71,7 +72,16 @@ pub extern "C" fn rtr_group_best(group: &RtrGroup, member: &mut usize) -> bool
     best.is_some()
 }
 
-/// When the group is to be told that time passed, if nothing happens before.
+/// Reports whether a whole answer with this number of payloads counts as data, as
+/// `session_group::settings::Settings::counts`. Otherwise it is a failure.
+#[unsafe(no_mangle)]
+pub extern "C" fn rtr_group_counts(group: &RtrGroup, payloads: usize) -> bool
+    ensures { result ≡ counts (group_settings_of group.now.settings) payloads }
+{
+    group_settings_from(&group.settings).counts(payloads)
+}
+
+/// When to call `rtr_group_tick`, if nothing happens before.
 #[unsafe(no_mangle)]
 pub extern "C" fn rtr_group_wakes(group: &RtrGroup) -> u64
     ensures { result ≡ group_wakes (group_of group.now) }

@@ -70,7 +70,7 @@ pub extern "C" fn rtr_router_has_data(router: &RtrRouter, now: u64) -> bool
     router_from(router).has_data_at(now)
 }
 
-/// When the router is to be told that time passed, if nothing comes before.
+/// When to call `rtr_router_tick`, if nothing comes before.
 #[unsafe(no_mangle)]
 pub extern "C" fn rtr_router_wakes(router: &RtrRouter) -> u64
     ensures { result ≡ wakes_at (router_of router.now) }
@@ -104,7 +104,7 @@ pub extern "C" fn rtr_router_asked(router: &mut RtrRouter, now: u64, action: &mu
     *action = step(router, now, Event::Asked);
 }
 
-/// The connection is there.
+/// A connection was opened.
 #[unsafe(no_mangle)]
 pub extern "C" fn rtr_router_connected(router: &mut RtrRouter, now: u64, action: &mut RtrAction)
     ensures { IsRouterStep router.old (clock now) events.Connected action.new router.new }
@@ -112,7 +112,7 @@ pub extern "C" fn rtr_router_connected(router: &mut RtrRouter, now: u64, action:
     *action = step(router, now, Event::Connected);
 }
 
-/// None could be made, or it is gone, and what came over it was read.
+/// No connection could be opened, or it was lost, and all input was read.
 #[unsafe(no_mangle)]
 pub extern "C" fn rtr_router_lost(router: &mut RtrRouter, now: u64, action: &mut RtrAction)
     ensures { IsRouterStep router.old (clock now) events.Lost action.new router.new }
@@ -128,7 +128,7 @@ pub extern "C" fn rtr_router_applied(router: &mut RtrRouter, now: u64, action: &
     *action = step(router, now, Event::Applied);
 }
 
-/// None was made, for what has this status, or a unit couldn't be kept.
+/// No change was made: one was refused with this status, or there was no memory.
 #[unsafe(no_mangle)]
 pub extern "C" fn rtr_router_not_applied(
     router: &mut RtrRouter,
@@ -195,8 +195,8 @@ fn told_to(told: &Told, input: &[u8], version: u8) -> RtrAction
     }
 }
 
-/// Writes the query that an action tells of, as `session_bytes::place_query`. Answers its length
-/// in bytes, 8 or 12, or 0 if the output is shorter.
+/// Writes the query of an action, as `session_bytes::place_query`. Returns its length in bytes, 8
+/// or 12, or 0 if the output is shorter.
 #[unsafe(no_mangle)]
 pub extern "C" fn rtr_router_query_nonnull(action: &RtrAction, output: &mut [u8]) -> usize
     ensures { (n : Option ℕ) × Places n (query_bytes (query_of action.now)) output.old output.new
@@ -206,7 +206,7 @@ pub extern "C" fn rtr_router_query_nonnull(action: &RtrAction, output: &mut [u8]
 }
 
 /// Writes the report that an action owes about the unit that the input begins with, as
-/// `session_bytes::place_ending`. Answers whether it is written.
+/// `session_bytes::place_ending`. Reports whether it is written.
 #[unsafe(no_mangle)]
 pub extern "C" fn rtr_router_report_nonnull(
     action: &RtrAction,

@@ -20,7 +20,7 @@ const NOTIFY: u8 = 5;
 
 const END: u8 = 6;
 
-/// The code of a report that there are no data yet (RFC 8210 section 12).
+/// The code of the report "No Data Available" (RFC 8210 section 12).
 const NO_DATA_CODE: u16 = 2;
 
 /// What the machine answers: as `session_cache::event::Answer`, with what is needed to send it.
@@ -77,7 +77,7 @@ pub(crate) fn bare(kind: u8, version: u8) -> RtrServing
     }
 }
 
-/// Nothing is to be sent.
+/// Nothing to send.
 pub(crate) fn waiting() -> RtrServing
     ensures { result ≡ bare_serving 0 0 }
 {
@@ -153,7 +153,7 @@ fn reason_to(reason: Reason) -> u8
     }
 }
 
-/// The reason of a number; of a number that is none, that the connection is gone.
+/// The reason of a number; for any other number, that the connection was lost.
 pub(crate) fn reason_from(reason: u8) -> Reason
     ensures { result ≡ numbered_reason reason }
 {

@@ -172,7 +172,7 @@ fn take(
     RtrStoresAnswer::of_taking(&taken, found.numbers().second)
 }
 
-/// Says that the file has the store that was taken, as `data_history::Stores::saved`.
+/// Reports that the store that was taken is saved, as `data_history::Stores::saved`.
 #[unsafe(no_mangle)]
 pub extern "C" fn rtr_stores_saved(stores: &mut RtrStores) -> u8
     ensures refused { made_stores stores.old ≡ None →

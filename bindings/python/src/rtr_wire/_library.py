@@ -57,7 +57,7 @@ def whole(buffer: Buffer, name: str = "data") -> bytes:
 
 
 def integer(name: str, value: Any) -> int:
-    """Converts a value to an integer. Errors name it."""
+    """Converts a value to an integer. `name` appears in errors."""
     try:
         return operator.index(value)
     except TypeError:
@@ -65,7 +65,7 @@ def integer(name: str, value: Any) -> int:
 
 
 def number(name: str, value: Any, bits: int) -> int:
-    """Converts a value to an unsigned integer of this many bits. Errors name it."""
+    """Converts a value to an unsigned integer of this many bits. `name` appears in errors."""
     found = integer(name, value)
     if not 0 <= found < 1 << bits:
         raise ValueError(f"{name} is {found}: it must be from 0 to {(1 << bits) - 1}")

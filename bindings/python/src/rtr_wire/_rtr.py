@@ -378,7 +378,7 @@ class LinkStatus(enum.IntEnum):
     BAD_TIME = 3
     # No connection is there, or being opened, to which this happens.
     OUT_OF_TURN = 4
-    # More bytes than there is room for, or than are to be sent.
+    # More bytes than there is room for, or than are unsent.
     TOO_LONG = 5
 
 
@@ -1216,7 +1216,7 @@ class rtr_link_state(Structure):
     wakes: int
     # The offset in the input at which the next bytes are read.
     filled: int
-    # The number of bytes of the output that are to be sent, from its front.
+    # The number of unsent bytes of the output, from its front.
     unsent: int
     # The length of the data, in canonical form; 0 if there are none.
     shown: int
@@ -1345,11 +1345,11 @@ class rtr_cache(Structure):
     settings: rtr_cache_settings
     notify_from: int
     due: int
-    # The serial number of the newest data that the router was `told` of, or of the newest data
-    # when a cache reset made it ask for all, `reset`.
+    # The serial number of the newest data that the router was sent or notified of, if `told`;
+    # or of the newest data at the cache reset that made it ask for all data, if `reset`.
     serial: int
     session: int
-    # The version of the connection, once a query came, `asked`.
+    # The version of the connection, if a query came, `asked`.
     version: int
     live: bool
     asked: bool
@@ -1692,6 +1692,7 @@ PROTOTYPES: dict[str, tuple[Any, list[Any]]] = {
     "rtr_group_init": (c_uint8, [POINTER(rtr_group), POINTER(rtr_group_settings), c_size_t,
         c_uint64]),
     "rtr_group_best": (c_bool, [POINTER(rtr_group), c_void_p]),
+    "rtr_group_counts": (c_bool, [POINTER(rtr_group), c_size_t]),
     "rtr_group_wakes": (c_uint64, [POINTER(rtr_group)]),
     "rtr_group_tick": (None, [POINTER(rtr_group), c_uint64, POINTER(rtr_group_answer)]),
     "rtr_group_shows": (None, [POINTER(rtr_group), c_uint64, c_size_t, c_size_t,
