@@ -1,4 +1,4 @@
-mod Example
+pub mod Example
 mod Keeping
 mod Steps
 mod Talking

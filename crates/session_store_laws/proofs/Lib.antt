@@ -1,0 +1,6 @@
+mod Answering
+mod Circles
+mod Example
+mod OneName
+mod Sending
+mod Shown

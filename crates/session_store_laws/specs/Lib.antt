@@ -1,0 +1,3 @@
+pub mod SentOfStore
+pub mod ServedData
+pub mod ShownOfStore
