@@ -10,3 +10,4 @@ pub mod Meeting
 pub mod Narrowing
 pub mod Sets
 pub mod Agreeing
+pub mod Following

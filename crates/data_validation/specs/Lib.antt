@@ -4,3 +4,4 @@ pub mod Tables
 pub mod PrivateTable
 pub mod PrivateCovering
 pub mod PrivateSets
+pub mod PrivateTrail

@@ -35,7 +35,7 @@ fn is_up_to(is_v4: bool, left: u128, left_len: u8, right: u128, right_len: u8) -
 /// Whether the prefix of a unit isn't after this one in the order of units.
 #[inline(always)]
 #[tactic(auto, unfolding(crate::specs::Tables::order_key))]
-fn is_at_most(units: &[u8], is_v4: bool, index: usize, address: u128, len: u8) -> bool
+pub(crate) fn is_at_most(units: &[u8], is_v4: bool, index: usize, address: u128, len: u8) -> bool
     requires room { (index + 1) * prefix_size (family_of is_v4) ≤ length units.now }
     requires address { address < 2 ^ width (family_of is_v4) }
     ensures { IsTrue result ↔
@@ -99,7 +99,14 @@ fn bound_before(units: &[u8], is_v4: bool, top: usize, address: u128, len: u8) -
 /// The same from `low` to `top`, where it isn't far above `low`.
 #[inline(always)]
 #[tactic(auto, using(crate::proofs::Bits::room_at))]
-fn bound_after(units: &[u8], is_v4: bool, low: usize, top: usize, address: u128, len: u8) -> usize
+pub(crate) fn bound_after(
+    units: &[u8],
+    is_v4: bool,
+    low: usize,
+    top: usize,
+    address: u128,
+    len: u8,
+) -> usize
     requires room { top * prefix_size (family_of is_v4) ≤ length units.now }
     requires address { address < 2 ^ width (family_of is_v4) }
     requires order { low ≤ top }
@@ -145,7 +152,7 @@ pub(crate) fn one_says(is_v4: bool, vrp: Vrp, address: u128, len: u8, asn: u32) 
 
 /// The validity of a route by the unit of this index.
 #[inline(always)]
-fn unit_says(
+pub(crate) fn unit_says(
     units: &[u8],
     is_v4: bool,
     index: usize,
@@ -281,7 +288,13 @@ fn below(
 
 /// Whether the unit of this index covers a route, and its VRP.
 #[inline(always)]
-fn unit_covers(units: &[u8], is_v4: bool, index: usize, address: u128, len: u8) -> (bool, Vrp)
+pub(crate) fn unit_covers(
+    units: &[u8],
+    is_v4: bool,
+    index: usize,
+    address: u128,
+    len: u8,
+) -> (bool, Vrp)
     requires room { (index + 1) * prefix_size (family_of is_v4) ≤ length units.now }
     requires address { address < 2 ^ width (family_of is_v4) }
     ensures covers { IsTrue result.0 ↔ Covers (vrp_at (family_of is_v4) units.now index)
