@@ -1,11 +1,9 @@
 -- Changes that are printed one after the other.
-use Rattle.std.proofs.Common.{◌≡◌, ℕ, Bool, true, false, ◌||◌, cond, List, [], ◌∷◌, ◌++◌, map}
+use Rattle.std.proofs.Common.{◌≡◌, ℕ, Bool, true, false, ◌||◌, List, [], ◌∷◌, ◌++◌, map}
 use Rattle.std.proofs.Common.{Result, Ok, Err, refl, sym, ap, ◌∙◌, subst}
 use Rattle.std.proofs.KnownBytes.{Appends-nil, Appends-trans}
-use Rattle.std.proofs.lemmas.List.{append_assoc, append-nil, map-append, length-append}
-use Rattle.std.proofs.lemmas.List.Elements.{filter-append}
+use Rattle.std.proofs.lemmas.List.{append_assoc, append-nil, length-append}
 use Rattle.std.specs.Io.KnownBytes.{Appends}
-use Rattle.std.specs.List.{filter}
 use Rattle.std.proofs.Common.{arith}
 use Rattle.rtr_base.specs.declared.action.Action.{Action}
 use Rattle.rtr_units.specs.StopCauses.{WriterState, writer_count, by_cause}
@@ -15,7 +13,7 @@ use Rattle.rtr_payload.specs.Payloads.{Payload}
 use Rattle.data_memory.specs.Data.{Change}
 use Rattle.data_memory.proofs.Fronts.{Wrote}
 use Rattle.diff_work.specs.Differences.{change_piece, change_pieces, has_some}
-use Rattle.diff_work.specs.PrivateChanges.{change_by, changes_by, is_changed}
+use Rattle.diff_work.specs.PrivateChanges.{change_by}
 use Rattle.diff_work.specs.Printing.{Puts, StopsPrinting}
 use Rattle.diff_work.specs.declared.words.Form.{Form}
 
@@ -128,14 +126,7 @@ done_starves form v a b any cs ds all is done =
     (ap (change_pieces form v) is ∙ pieces_append form v cs ds) done.wrote
     (([], change_pieces form v ds, Appends-nil b.held, refl, tt), refl)
 
--- ---- the changes of one kind
-
-pub by_append : (action : Action) (other ps qs : List Payload) →
-    changes_by action other (ps ++ qs) ≡ changes_by action other ps ++ changes_by action other qs
-by_append action other ps qs =
-    ap (map (change_by action)) (filter-append (is_changed action other) ps qs)
-    ∙ map-append (change_by action) (filter (is_changed action other) ps)
-    (filter (is_changed action other) qs)
+-- ---- the form and the version that a printer has
 
 pub in_form : (r : Result (Unit {0}) Fault) (a b : WriterState) (form other : Form)
     (v w : ℕ) (c : Change) → other ≡ form → w ≡ v → Puts r a b (change_piece other w c) →
@@ -149,14 +140,6 @@ pub wrote_in_form : (a b : WriterState) (form other : Form) (v w : ℕ) (c : Cha
 wrote_in_form a b form other v w c e h put =
     subst (λ (l : List ℕ). Wrote a b l)
     (ap (λ (x : Form). change_piece x w c) e ∙ ap (λ (n : ℕ). change_piece form n c) h) put
-
--- the changes of one action, in three parts
-pub three_parts : (action : Action) (other d ps qs rs : List Payload) → d ≡ ps ++ (qs ++ rs) →
-    changes_by action other d ≡
-    changes_by action other ps ++ (changes_by action other qs ++ changes_by action other rs)
-three_parts action other d ps qs rs is =
-    ap (changes_by action other) is ∙ by_append action other ps (qs ++ rs)
-    ∙ ap (λ l. changes_by action other ps ++ l) (by_append action other qs rs)
 
 pub pieces_in_form : (r : Result Bool Fault) (a b : WriterState) (form other : Form)
     (v w : ℕ) (cs : List Change) → other ≡ form → w ≡ v → Puts r a b (change_pieces other w cs) →
@@ -202,76 +185,51 @@ any_of_two x y ps qs all is e f =
     ap (λ (b : Bool). b || y) e ∙ ap (λ (b : Bool). has_some ps || b) f
     ∙ sym (some_append ps qs) ∙ ap has_some (sym is)
 
--- ---- a part of data that is gone over
+-- ---- changes that are gone over
 
 -- of the changes by all these payloads those before the ones that are left were printed
-pub record Going (form : Form) (v : ℕ) (action : Action) (other : List Payload)
-    (a b : WriterState) (any : Bool) (all left : List Payload) : Type 0 where
+pub record Going (form : Form) (v : ℕ) (action : Action) (a b : WriterState) (any : Bool)
+    (all left : List Payload) : Type 0 where
   pub changes : List Change
   pub done : Done form v a b any changes
-  pub rest : changes_by action other all ≡ changes ++ changes_by action other left
+  pub rest : map (change_by action) all ≡ changes ++ map (change_by action) left
 
-pub going_begins : (form : Form) (v : ℕ) (action : Action) (other : List Payload)
-    (a : WriterState) (all : List Payload) → Going form v action other a a false all all
-going_begins form v action other a all =
-    record { changes = []; done = done_none form v a; rest = refl }
+pub going_begins : (form : Form) (v : ℕ) (action : Action) (a : WriterState)
+    (all left : List Payload) → left ≡ all → Going form v action a a false all left
+going_begins form v action a all left is = record {
+  changes = [];
+  done = done_none form v a;
+  rest = ap (map (change_by action)) (sym is);
+}
 
--- the next payload makes a change or none
-by_next : (action : Action) (other ps qs : List Payload) (p : Payload) (b : Bool) →
-    ps ≡ p ∷ qs → is_changed action other p ≡ b →
-    changes_by action other ps ≡
-    cond b (change_by action p ∷ changes_by action other qs) (changes_by action other qs)
-by_next action other ps qs p true is e =
-    ap (changes_by action other) is
-    ∙ ap (λ (b : Bool). map (change_by action)
-    (cond b (p ∷ filter (is_changed action other) qs) (filter (is_changed action other) qs))) e
-by_next action other ps qs p false is e =
-    ap (changes_by action other) is
-    ∙ ap (λ (b : Bool). map (change_by action)
-    (cond b (p ∷ filter (is_changed action other) qs) (filter (is_changed action other) qs))) e
-
-pub going_on : (form : Form) (v : ℕ) (action : Action) (other : List Payload)
-    (a b d : WriterState) (any : Bool) (all ps qs : List Payload) (p : Payload) →
-    Going form v action other a b any all ps → ps ≡ p ∷ qs → is_changed action other p ≡ true →
-    Wrote b d (change_piece form v (change_by action p)) →
-    Going form v action other a d true all qs
-going_on form v action other a b d any all ps qs p g is e put = record {
+pub going_on : (form : Form) (v : ℕ) (action : Action) (a b d : WriterState) (any : Bool)
+    (all ps qs : List Payload) (p : Payload) → Going form v action a b any all ps →
+    ps ≡ p ∷ qs → Wrote b d (change_piece form v (change_by action p)) →
+    Going form v action a d true all qs
+going_on form v action a b d any all ps qs p g is put = record {
   changes = g.changes ++ change_by action p ∷ [];
   done = done_more form v a b d any g.changes _ (change_by action p) refl g.done put;
-  rest = g.rest ∙ ap (λ l. g.changes ++ l) (by_next action other ps qs p true is e)
-      ∙ sym (append_assoc g.changes (change_by action p ∷ []) (changes_by action other qs));
+  rest = g.rest ∙ ap (λ l. g.changes ++ map (change_by action) l) is
+      ∙ sym (append_assoc g.changes (change_by action p ∷ []) (map (change_by action) qs));
 }
 
-pub going_past : (form : Form) (v : ℕ) (action : Action) (other : List Payload)
-    (a b : WriterState) (any : Bool) (all ps qs : List Payload) (p : Payload) →
-    Going form v action other a b any all ps → ps ≡ p ∷ qs → is_changed action other p ≡ false →
-    Going form v action other a b any all qs
-going_past form v action other a b any all ps qs p g is e = record {
-  changes = g.changes;
-  done = g.done;
-  rest = g.rest ∙ ap (λ l. g.changes ++ l) (by_next action other ps qs p false is e);
-}
+pub going_stops : (form : Form) (v : ℕ) (action : Action) (a b d : WriterState) (any : Bool)
+    (all ps qs : List Payload) (p : Payload) (f : Fault) → Going form v action a b any all ps →
+    ps ≡ p ∷ qs → Puts {T = Unit {0}} (Err f) b d (change_piece form v (change_by action p)) →
+    Puts {T = Bool} (Err f) a d (change_pieces form v (map (change_by action) all))
+going_stops form v action a b d any all ps qs p f g is put =
+    done_stops form v a b d any f g.changes (map (change_by action) qs) _ (change_by action p)
+    (g.rest ∙ ap (λ l. g.changes ++ map (change_by action) l) is) g.done put
 
-pub going_stops : (form : Form) (v : ℕ) (action : Action) (other : List Payload)
-    (a b d : WriterState) (any : Bool) (all ps qs : List Payload) (p : Payload) (f : Fault) →
-    Going form v action other a b any all ps → ps ≡ p ∷ qs → is_changed action other p ≡ true →
-    Puts {T = Unit {0}} (Err f) b d (change_piece form v (change_by action p)) →
-    Puts {T = Bool} (Err f) a d (change_pieces form v (changes_by action other all))
-going_stops form v action other a b d any all ps qs p f g is e put =
-    done_stops form v a b d any f g.changes (changes_by action other qs) _ (change_by action p)
-    (g.rest ∙ ap (λ l. g.changes ++ l) (by_next action other ps qs p true is e)) g.done put
+pub going_starves : (form : Form) (v : ℕ) (action : Action) (a b : WriterState) (any : Bool)
+    (all ps : List Payload) → Going form v action a b any all ps →
+    Puts {T = Bool} (Err faults.Memory) a b (change_pieces form v (map (change_by action) all))
+going_starves form v action a b any all ps g =
+    done_starves form v a b any g.changes (map (change_by action) ps) _ g.rest g.done
 
-pub going_starves : (form : Form) (v : ℕ) (action : Action) (other : List Payload)
-    (a b : WriterState) (any : Bool) (all ps : List Payload) →
-    Going form v action other a b any all ps →
-    Puts {T = Bool} (Err faults.Memory) a b (change_pieces form v (changes_by action other all))
-going_starves form v action other a b any all ps g =
-    done_starves form v a b any g.changes (changes_by action other ps) _ g.rest g.done
-
-pub going_ends : (form : Form) (v : ℕ) (action : Action) (other : List Payload)
-    (a b : WriterState) (any : Bool) (all ps : List Payload) →
-    Going form v action other a b any all ps → ps ≡ [] →
-    Done form v a b any (changes_by action other all)
-going_ends form v action other a b any all ps g is =
+pub going_ends : (form : Form) (v : ℕ) (action : Action) (a b : WriterState) (any : Bool)
+    (all ps : List Payload) → Going form v action a b any all ps → ps ≡ [] →
+    Done form v a b any (map (change_by action) all)
+going_ends form v action a b any all ps g is =
     done_same form v a b any g.changes _
-    (g.rest ∙ ap (λ l. g.changes ++ changes_by action other l) is ∙ append-nil g.changes) g.done
+    (g.rest ∙ ap (λ l. g.changes ++ map (change_by action) l) is ∙ append-nil g.changes) g.done

@@ -1,5 +1,6 @@
 mod Putting
 mod Going
 mod UnitPieces
+mod Passing
 mod Statuses
 mod OfUnits

@@ -1,15 +1,15 @@
 //! The changes from old data to new, printed one after the other.
 
-ghost use Rattle.std.specs.Prelude.{◌≡◌, not};
-ghost use Rattle.rtr_payload.specs.Meanings.{payload_of_ref};
+ghost use Rattle.std.specs.Prelude.{◌≡◌};
 ghost use Rattle.data_memory.specs.Changes.{changes};
-ghost use Rattle.diff_work.specs.PrivateChanges.{PrintsChanges, changes_by, is_changed};
+ghost use Rattle.data_memory.specs.Data.{IsData};
+ghost use Rattle.diff_work.specs.PrivateChanges.{PrintsChanges, changes_by};
 
+use crate::beside::Beside;
 use crate::part::Part;
 use crate::printer::Printer;
 use data_memory::Data;
 use rtr_base::action::Action;
-use rtr_payload::payload::PayloadRef;
 use rtr_units::fault::Fault;
 use rtr_units::source::Sink;
 
@@ -47,47 +47,40 @@ fn print_made<W: Sink>(
     ensures version { printer.new.version ≡ printer.old.version }
 {
     let (origins, keys, aspas) = members.parts();
-    let of_origins = print_part(printer, action, origins, other, output)?;
-    let of_keys = print_part(printer, action, keys, other, output)?;
-    let of_aspas = print_part(printer, action, aspas, other, output)?;
+    let (other_origins, other_keys, other_aspas) = other.parts();
+    let of_origins = print_part(printer, action, origins, other_origins, output)?;
+    let of_keys = print_part(printer, action, keys, other_keys, output)?;
+    let of_aspas = print_part(printer, action, aspas, other_aspas, output)?;
     Ok(of_origins | of_keys | of_aspas)
 }
 
-/// Whether data with the payload becomes, or was, other data by a change of this payload.
-fn is_changed(action: Action, payload: &PayloadRef<'_>, other: &Data) -> bool
-    ensures { result ≡ is_changed action other.now (payload_of_ref payload.now) }
-{
-    match action {
-        Action::Announce => !other.contains(payload),
-        Action::Withdraw => !other.contains_name(payload),
-    }
-}
-
-/// Prints those of these changes that one part of data makes, and reports whether there is one.
+/// Prints those of these changes that one part of data makes, in one pass over it and the same part
+/// of the other data, and reports whether there is one.
 fn print_part<P: Part, W: Sink>(
     printer: &mut Printer,
     action: Action,
-    mut part: P,
-    other: &Data,
+    members: P,
+    others: P,
     output: &mut W,
 ) -> Result<bool, Fault>
+    requires members { IsData (P.left members) }
+    requires others { IsData (P.left others) }
     ensures changes { PrintsChanges printer.old
-        (changes_by action other.now (P.left part))
+        (changes_by action (P.left others) (P.left members))
         result (W.state output.old) (W.state output.new) }
     ensures form { printer.new.form ≡ printer.old.form }
     ensures version { printer.new.version ≡ printer.old.version }
 {
     let mut any = false;
-    'payloads: loop {
-        match part.next_payload() {
-            Ok(Some(payload)) => {
-                if is_changed(action, &payload.as_ref(), other) {
-                    printer.print(action, payload, output)?;
-                    any = true;
-                }
-            }
-            Ok(None) => return Ok(any),
+    let mut beside = Beside::new(members, others);
+    'changes: loop {
+        let Some(lent) = beside.next_changed(action) else {
+            return Ok(any);
+        };
+        match P::payload(lent) {
+            Ok(payload) => printer.print(action, payload, output)?,
             Err(_) => return Err(Fault::Memory),
         }
+        any = true;
     }
 }

@@ -2,6 +2,7 @@
 //! sequence to that of another.
 #![tactic(auto)]
 
+mod beside;
 mod differences;
 pub mod laws;
 mod part;

@@ -1,0 +1,6 @@
+use Rattle.std.proofs.Common.{sym, ◌∙◌}
+use Rattle.data_memory.proofs.Parts.{key_same}
+use Rattle.diff_work.proofs.part.Btree_setIterPayloadRouterKeyPart.compare_names.Goals as goal
+
+pub returns : goal.returns
+returns c = c.cmp.ensures ∙ sym (key_same c.args.one.now c.args.other.now)
