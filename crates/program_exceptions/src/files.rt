@@ -2,30 +2,9 @@
 
 use data_slurm::{JoinError, Slurm, SlurmReason, SlurmRefusal, read_slurm};
 use json::Scratch;
-use program_frame::{Escaped, Input};
+use program_frame::{FAILED, Input, REFUSED, Subject};
+use std::io;
 use std::io::{Read, Write};
-use std::{fmt, io};
-
-/// The status if a file is refused.
-const REFUSED: u8 = 1;
-
-/// The status if a file can't be opened or read, or memory runs out.
-const FAILED: u8 = 3;
-
-/// The name of a program and that of a file.
-#[derive(Clone, Copy)]
-struct Named<'a> {
-    program: &'a str,
-    file: &'a str,
-}
-
-impl fmt::Display for Named<'_> {
-    fn fmt<W: fmt::Write>(&self, f: &mut fmt::Formatter<W>) -> fmt::Result {
-        let program = self.program;
-        let file = Escaped(self.file);
-        write!(f, "{program}: {file}")
-    }
-}
 
 /// The entries of these SLURM files (RFC 8416), in their order. If a file can't be read, is refused
 /// or overlaps another one, says so and fails with the status to end with: 1 if it is refused or
@@ -38,11 +17,7 @@ pub fn read_files<F: Write>(
 ) -> Result<Slurm, u8> {
     let mut slurm = Slurm::new(rt.alloc());
     for file in files {
-        let named = Named {
-            program,
-            file: file.as_str(),
-        };
-        match add_file(rt, named, &mut slurm, faults) {
+        match add_file(rt, program, file.as_str(), &mut slurm, faults) {
             Ok(()) => {}
             Err(status) => return Err(status),
         }
@@ -61,27 +36,26 @@ fn read_all(rt: &HostRuntime, file: &str) -> io::Result<Vec<u8>> {
 /// Adds the entries of a file to those of the files before.
 fn add_file<F: Write>(
     rt: &HostRuntime,
-    named: Named<'_>,
+    program: &str,
+    file: &str,
     slurm: &mut Slurm,
     faults: &mut F,
 ) -> Result<(), u8> {
-    let text = match read_all(rt, named.file) {
+    let subject = Subject::of_file(program, file);
+    let text = match read_all(rt, file) {
         Ok(text) => text,
-        Err(error) => {
-            let _ = writeln!(faults, "{named}: {error}");
-            return Err(FAILED);
-        }
+        Err(error) => return Err(subject.report_unread(&error, faults)),
     };
     let mut scratch = Scratch::new(rt.alloc());
     match read_slurm(rt.alloc(), &text, &mut scratch) {
         Ok(next) => match slurm.join(next) {
             Ok(()) => Ok(()),
             Err(error) => {
-                let _ = writeln!(faults, "{named}: {error}");
+                let _ = writeln!(faults, "{subject}: {error}");
                 Err(join_status(error))
             }
         },
-        Err(refusal) => Err(tell_refusal(named, &refusal, faults)),
+        Err(refusal) => Err(tell_refusal(subject, &refusal, faults)),
     }
 }
 
@@ -93,10 +67,10 @@ fn join_status(error: JoinError) -> u8 {
 }
 
 /// Prints why a SLURM file is refused, and returns the status.
-fn tell_refusal<F: Write>(named: Named<'_>, refusal: &SlurmRefusal<'_>, faults: &mut F) -> u8 {
+fn tell_refusal<F: Write>(subject: Subject<'_>, refusal: &SlurmRefusal<'_>, faults: &mut F) -> u8 {
     let place = refusal.place;
     let reason = &refusal.reason;
-    let _ = writeln!(faults, "{named}: {place}: {reason}");
+    let _ = writeln!(faults, "{subject}: {place}: {reason}");
     match reason {
         SlurmReason::Memory => FAILED,
         _ => REFUSED,

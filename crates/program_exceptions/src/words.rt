@@ -1,5 +1,8 @@
 //! Words that name files.
 
+ghost use Rattle.std.specs.Prelude.{◌≡◌, IfSome, Some};
+ghost use Rattle.program_exceptions.specs.Splitting.{words_split};
+
 use std::alloc::Global;
 
 /// What words say: the files after each use of an option, and the other words.
@@ -13,24 +16,24 @@ pub struct Split {
 
 /// Splits words into the files after each `option` and the others. The word after `valued`, another
 /// option, is its value, whatever it says. None if no file follows an `option`, or memory runs out.
-pub fn split_words(alloc: Global, words: Vec<String>, option: &str, valued: &str) -> Option<Split> {
+pub fn split_words(alloc: Global, words: Vec<String>, option: &str, valued: &str) -> Option<Split>
+    ensures { IfSome result (λ split. words_split option.now valued.now words.items ≡
+        Some (split.words.items, split.files.items)) }
+{
     let mut others = Vec::new(alloc);
     let mut files = Vec::new(alloc);
-    let mut is_file = false;
-    let mut is_value = false;
-    for word in words {
-        if is_file {
-            files.push(word).ok()?;
-            is_file = false;
-        } else if !is_value && word.as_str() == option {
-            is_file = true;
+    let mut rest = words.into_iter();
+    while let Some(word) = rest.next() {
+        if word.as_str() == option {
+            files.push(rest.next()?).ok()?;
+        } else if word.as_str() == valued {
+            others.push(word).ok()?;
+            if let Some(value) = rest.next() {
+                others.push(value).ok()?;
+            }
         } else {
-            is_value = !is_value && word.as_str() == valued;
             others.push(word).ok()?;
         }
-    }
-    if is_file {
-        return None;
     }
     Some(Split {
         words: others,
