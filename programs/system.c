@@ -96,3 +96,17 @@ ssize_t rattle_env(const char *name, char *buffer, size_t room)
 {
     return copied(getenv(name), buffer, room);
 }
+
+extern char **environ;
+
+/* The same of the variable at this index, as NAME=VALUE. */
+ssize_t rattle_env_at(size_t index, char *buffer, size_t room)
+{
+    char **variable = environ;
+
+    while (variable != NULL && *variable != NULL && index != 0) {
+        variable++;
+        index--;
+    }
+    return copied(variable != NULL ? *variable : NULL, buffer, room);
+}

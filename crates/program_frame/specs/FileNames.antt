@@ -2,6 +2,7 @@
 use Rattle.std.specs.Prelude.{◌≡◌, ℕ, Bool, true, false, List, [], ◌∷◌, ◌++◌, ◌==◌, ◌||◌, not}
 use Rattle.std.specs.Prelude.{Option, Some, None, slice_index, length}
 use Rattle.std.specs.Prelude.{String, string_bytes}
+use Rattle.std.specs.Fn.{FnOnceReturnsAt, Once}
 use denote.Ref.{Bor}
 
 -- an option begins with a hyphen; alone it stands for standard input
@@ -17,3 +18,10 @@ NamesFile {Z} words (Some (before, name)) = (last : String Z)
     × (names_file name.now ≡ true)
 NamesFile {Z} words None = (before : List (String Z)) (last : String Z) →
     words ≡ before ++ last ∷ [] → names_file (string_bytes last) ≡ false
+
+-- reads_input says that nothing is read for the words before a last one that names a file
+abbrev pub AsksForNone : {Z F : Type 0} → Once F (Bor (List (String Z)) × Unit {0}) Bool → F →
+    List (String Z) → Type 0
+AsksForNone {Z} once reads_input words = (before : List (String Z)) (last : String Z) →
+    words ≡ before ++ last ∷ [] → names_file (string_bytes last) ≡ true →
+    FnOnceReturnsAt once reads_input before false

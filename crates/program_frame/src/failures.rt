@@ -1,8 +1,12 @@
 //! Lines about what failed.
 
+ghost use Rattle.std.specs.Prelude.{◌≡◌};
+
+use crate::input::STANDARD_INPUT;
+use crate::status::FAILED;
 use rtr_units::fault::Fault;
-use std::fmt;
 use std::io::{ErrorKind, Write};
+use std::{fmt, io};
 
 /// A fault with the reason of the system, where it has one.
 #[derive(Clone, Copy)]
@@ -32,6 +36,58 @@ impl fmt::Display for Escaped<'_> {
         }
         Ok(())
     }
+}
+
+/// What a line about a failure begins with: the program's name, and the name of a file if the line
+/// is about one.
+#[derive(Clone, Copy)]
+pub struct Subject<'a> {
+    /// The name of the program.
+    pub program: &'a str,
+    /// The name of the file.
+    pub file: Option<&'a str>,
+}
+
+impl<'a> Subject<'a> {
+    /// The subject of a line about this file.
+    pub fn of_file(program: &'a str, name: &'a str) -> Subject<'a> {
+        Subject {
+            program,
+            file: Some(name),
+        }
+    }
+
+    /// Reports why it can't be read, and returns the status for that.
+    pub fn report_unread<F: Write>(self, error: &io::Error, faults: &mut F) -> u8
+        ensures { result ≡ 3 }
+    {
+        let _ = writeln!(faults, "{self}: {error}");
+        FAILED
+    }
+}
+
+impl fmt::Display for Subject<'_> {
+    fn fmt<W: fmt::Write>(&self, f: &mut fmt::Formatter<W>) -> fmt::Result {
+        let program = self.program;
+        match self.file {
+            Some(file) => {
+                let shown = Escaped(file);
+                write!(f, "{program}: {shown}")
+            }
+            None => f.write_str(program),
+        }
+    }
+}
+
+/// Reports that standard input is closed, and returns the status for that.
+pub fn report_closed<F: Write>(program: &str, faults: &mut F) -> u8
+    ensures { result ≡ 3 }
+{
+    let _ = writeln!(
+        faults,
+        "{program}: {STANDARD_INPUT}: read failed: standard input is closed"
+    );
+    FAILED
 }
 
 /// Whether the output is a pipe that nobody reads any more, of which there is no word to say.

@@ -1,8 +1,10 @@
 //! What the programs share: the words that they are started with, what they say of themselves,
-//! standard input or the file that their last word names, their buffers, how they show lines on a
-//! terminal, and their lines about what failed.
+//! standard input or the file that their last word names, their buffers and clock, how they show
+//! lines on a terminal, their lines about what failed, and their statuses.
 #![tactic(auto)]
 
+mod buffers;
+mod clock;
 mod colours;
 mod failures;
 mod guises;
@@ -11,15 +13,19 @@ mod names;
 mod painted;
 mod prompt;
 mod questions;
+mod status;
 mod terminal;
 mod words;
 
-pub use failures::{Escaped, Failed, is_closed_pipe, report};
+pub use buffers::{BUFFER_SIZE, buffered_input, buffered_output};
+pub use clock::seconds_since_epoch;
+pub use failures::{Escaped, Failed, Subject, is_closed_pipe, report, report_closed};
 pub use guises::{Front, Guise, hint};
-pub use input::Input;
-pub use names::file_after;
+pub use input::{Input, InputName, STANDARD_INPUT};
+pub use names::{file_after, take_file};
 pub use painted::Painted;
 pub use prompt::{Prompt, Shared, Watched};
 pub use questions::{Manual, about, usage};
+pub use status::{FAILED, REFUSED, USAGE, WELL};
 pub use terminal::wants_colours;
-pub use words::words_after_name;
+pub use words::{program_words, words_after_name};

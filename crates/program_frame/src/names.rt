@@ -1,7 +1,11 @@
 //! Words that name files.
 
-ghost use Rattle.std.specs.Prelude.{◌≡◌};
-ghost use Rattle.program_frame.specs.FileNames.{NamesFile, names_file};
+ghost use Rattle.std.specs.Fn.{FnOnceReturnsAt};
+ghost use Rattle.std.specs.Option.{option_to_list};
+ghost use Rattle.std.specs.Prelude.{◌≡◌, ◌++◌, drop, true, IfSome, IsNone, string_bytes};
+ghost use Rattle.program_frame.specs.FileNames.{AsksForNone, NamesFile, names_file};
+
+use crate::words::words_after_name;
 
 /// What an option begins with, and alone the name of standard input.
 const HYPHEN: u8 = b'-';
@@ -18,6 +22,28 @@ pub fn file_after(words: &[String]) -> Option<(&[String], &str)>
     } else {
         None
     }
+}
+
+/// Takes the last word off and returns it, if it can name a file and the words before it, without
+/// the program's name, ask for an input.
+pub fn take_file<F: FnOnce(&[String]) -> bool>(
+    words: &mut Vec<String>,
+    reads_input: F,
+) -> Option<String>
+    requires { F.IsAlwaysCallable reads_input }
+    // No word is lost.
+    ensures words { words.old.items ≡ words.new.items ++ option_to_list result }
+    // What is taken off names a file for the words that are left.
+    ensures file { IfSome result (λ name. (names_file (string_bytes name) ≡ true)
+        × FnOnceReturnsAt F.FnOnce reads_input (drop 1 words.new.items) true) }
+    // A last word that names a file stays only if the words before it ask for no input.
+    ensures stays { IsNone result → AsksForNone F.FnOnce reads_input (drop 1 words.old.items) }
+{
+    let has_file = match file_after(words_after_name(words)) {
+        Some((before, _)) => reads_input(before),
+        None => false,
+    };
+    if has_file { words.pop() } else { None }
 }
 
 /// Whether the word can name a file.

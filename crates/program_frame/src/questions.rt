@@ -3,16 +3,11 @@
 ghost use Rattle.std.specs.Prelude.{◌≡◌, ◌≢◌, None, IfSome};
 ghost use Rattle.program_frame.specs.Questions.{WritesText, asked_of, manual_text};
 
+use crate::status::{USAGE, WELL};
 use rtr_units::fault::Fault;
 use rtr_units::piece::put;
 use rtr_units::source::Sink;
 use std::io::Write;
-
-/// The status where what was asked for was written.
-const WELL: u8 = 0;
-
-/// The status where the words ask for nothing.
-const USAGE: u8 = 2;
 
 /// What a program says of itself. Each text ends with a line feed.
 #[derive(Clone, Copy)]

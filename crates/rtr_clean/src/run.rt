@@ -9,20 +9,11 @@ ghost use Rattle.rtr_clean.specs.PrivateClean.{form_held};
 
 use crate::clean::clean;
 use crate::wanted::{WantedForm, form_wanted};
-use program_frame::{Manual, about, report, usage, words_after_name};
+use program_frame::{FAILED, Manual, REFUSED, WELL, about, report, usage, words_after_name};
 use rtr_units::fault::Fault;
 use rtr_units::source::{Sink, Source};
 use std::alloc::Global;
 use std::io::Write;
-
-/// The status if all was written.
-const WELL: u8 = 0;
-
-/// The status if the input was refused.
-const REFUSED: u8 = 1;
-
-/// The status if reading, writing, flushing or memory failed.
-const FAILED: u8 = 3;
 
 /// Runs the program with the words that it was started with, its name first, and returns the exit
 /// status. Where they ask for units, they are read up to the end of the input, what is wanted of

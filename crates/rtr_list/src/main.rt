@@ -4,24 +4,15 @@
 
 use list_work::{program, reads_input};
 use program_frame::{
-    Escaped, Front, Input, Manual, Painted, Prompt, Shared, file_after, hint, usage, wants_colours,
-    words_after_name,
+    Front, Input, InputName, Manual, Painted, Prompt, REFUSED, Shared, Subject, buffered_input,
+    buffered_output, hint, program_words, take_file, usage, wants_colours, words_after_name,
 };
 use rtr_units::buffered::BufferedSource;
 use rtr_units::source::Counted;
 use std::cell::{Cell, RefCell};
-use std::io::{BufReader, BufWriter, Stderr, Stdout, Write};
+use std::io;
+use std::io::{BufReader, BufWriter, Stderr, Stdout};
 use std::process::ExitCode;
-use std::{env, io};
-
-/// How many bytes of the input are read at once, and of output written at once.
-const BUFFER_SIZE: usize = 65536;
-
-/// The status at a fault of the input.
-const REFUSED: u8 = 1;
-
-/// The status where a file can't be opened.
-const FAILED: u8 = 3;
 
 /// The texts of --help and --version.
 const MANUAL: Manual = Manual {
@@ -52,16 +43,8 @@ type Lines = RefCell<BufWriter<Stdout>>;
 /// The input, which flushes the lines before it reads on, and whose front is kept.
 type Prompted<'a> = Prompt<'a, Input, BufWriter<Stdout>>;
 
-/// Standard output, unbuffered if there is no memory for a buffer.
-fn buffered_output(rt: &HostRuntime) -> BufWriter<Stdout> {
-    match BufWriter::with_capacity(rt.alloc(), BUFFER_SIZE, rt.stdout()) {
-        Ok(writer) => writer,
-        Err(_) => BufWriter::with_capacity(rt.alloc(), 0, rt.stdout()).unwrap(),
-    }
-}
-
 /// The file of this name behind a buffer, unbuffered if there is no memory for one.
-fn buffered_input<'a>(
+fn open<'a>(
     rt: &HostRuntime,
     name: &str,
     lines: &'a Lines,
@@ -69,44 +52,19 @@ fn buffered_input<'a>(
 ) -> io::Result<BufReader<Prompted<'a>>> {
     let input = Input::open(rt, name)?;
     let spare = input.try_clone(rt);
-    let prompted = Prompt::new(input, lines, front);
-    match BufReader::with_capacity(rt.alloc(), BUFFER_SIZE, prompted) {
-        Ok(reader) => Ok(reader),
-        Err(_) => BufReader::with_capacity(rt.alloc(), 0, Prompt::new(spare?, lines, front)),
-    }
+    let prompt = |input| Prompt::new(input, lines, front);
+    buffered_input(rt, prompt(input), spare.map(prompt))
 }
 
-/// The words that the program was started with, its name first, or none if they can't be had as
-/// texts.
-fn words(rt: &HostRuntime) -> Option<Vec<String>> {
-    env::args(rt).ok()?.collect(rt.alloc()).ok()
-}
-
-/// Takes the last word off, if it names a file after words that ask for what is in one.
-fn take_file(words: &mut Vec<String>) -> Option<String> {
-    let has_file = match file_after(words_after_name(words)) {
-        Some((before, _)) => reads_input(before),
-        None => false,
-    };
-    if has_file { words.pop() } else { None }
-}
-
-/// Says why the file of this name can't be read.
-fn unread(name: &str, error: &io::Error, faults: &mut Stderr) -> u8 {
-    let program = MANUAL.name;
-    let file = Escaped(name);
-    let _ = writeln!(faults, "{program}: {file}: {error}");
-    FAILED
-}
-
-/// Prints what the words ask for of the file of this name, and returns the status. Faults are told
-/// of the name that is shown. Lines for people are in colours on a terminal.
-fn print(rt: &HostRuntime, words: Vec<String>, name: &str, shown: &str, faults: &mut Stderr) -> u8 {
+/// Prints what the words ask for of this input, and returns the status. Lines for people are in
+/// colours on a terminal.
+fn print(rt: &HostRuntime, words: Vec<String>, input: InputName<'_>, faults: &mut Stderr) -> u8 {
     let lines = RefCell::new(buffered_output(rt));
     let front = Cell::new(Front::new());
-    let mut input = match buffered_input(rt, name, &lines, &front) {
-        Ok(input) => BufferedSource::new(input),
-        Err(error) => return unread(shown, &error, faults),
+    let subject = Subject::of_file(MANUAL.name, input.shown);
+    let mut source = match open(rt, input.name, &lines, &front) {
+        Ok(source) => BufferedSource::new(source),
+        Err(error) => return subject.report_unread(&error, faults),
     };
     let colours = words_after_name(&words).is_empty() && wants_colours(rt);
     let mut output = Painted::new(Counted::new(Shared::new(&lines)), colours);
@@ -114,24 +72,21 @@ fn print(rt: &HostRuntime, words: Vec<String>, name: &str, shown: &str, faults: 
         rt.alloc(),
         &MANUAL,
         Some(words),
-        &mut input,
+        &mut source,
         &mut output,
         faults,
     );
     if status == REFUSED {
-        hint(MANUAL.name, shown, front.get(), faults);
+        hint(MANUAL.name, input.shown, front.get(), faults);
     }
     status
 }
 
 fn main(rt: HostRuntime) -> ExitCode {
     let mut faults: Stderr = rt.stderr();
-    let Some(mut words) = words(&rt) else {
+    let Some(mut words) = program_words(&rt) else {
         return ExitCode::from(usage(&MANUAL, &mut faults));
     };
-    let status = match take_file(&mut words) {
-        Some(name) => print(&rt, words, name.as_str(), name.as_str(), &mut faults),
-        None => print(&rt, words, "-", "standard input", &mut faults),
-    };
-    ExitCode::from(status)
+    let file = take_file(&mut words, reads_input);
+    ExitCode::from(print(&rt, words, InputName::of(&file), &mut faults))
 }

@@ -5,29 +5,17 @@ mod progress;
 
 use data_slurm::Slurm;
 use program_exceptions::{read_files, split_words};
-use program_frame::{Escaped, Front, Manual, Prompt, Shared, about, usage, words_after_name};
+use program_frame::{
+    FAILED, Front, Input, Manual, Prompt, Shared, Subject, about, buffered_input, buffered_output,
+    program_words, report_closed, seconds_since_epoch, usage, words_after_name,
+};
 use progress::{Counting, Screen};
 use rtr_units::buffered::BufferedSource;
 use rtr_units::source::Counted;
 use std::cell::{Cell, RefCell};
-use std::fs::File;
-use std::io::{BufReader, BufWriter, IsTerminal, Read, Stdin, Stdout, Write};
-use std::os::fd::AsRawFd;
+use std::io::{BufWriter, IsTerminal, Stdin, Stdout};
 use std::process::ExitCode;
-use std::time::{SystemTime, UNIX_EPOCH};
-use std::{env, io};
 use validate_work::{Named, Request, asked, can_compare, run, run_against};
-
-/// How many bytes of standard input are read at once, and of output written at once.
-const BUFFER_SIZE: usize = 65536;
-
-/// The name that stands for standard input, and its descriptor.
-const STANDARD_INPUT: &str = "-";
-
-const STANDARD_DESCRIPTOR: i32 = 0;
-
-/// The status where reading, writing or memory failed.
-const FAILED: u8 = 3;
 
 /// The texts of --help and --version.
 const MANUAL: Manual = Manual {
@@ -86,70 +74,12 @@ struct Ends<'a> {
     screen: &'a RefCell<Screen>,
 }
 
-/// The file that has the VRPs, or standard input.
-#[derive(Drop)]
-enum Input {
-    Opened(File),
-    Standard(Stdin),
-}
-
-impl Read for Input {
-    fn read(&mut self, piece: &mut [u8]) -> io::Result<usize> {
-        match self {
-            Input::Opened(file) => file.read(piece),
-            Input::Standard(input) => input.read(piece),
-        }
-    }
-}
-
-impl Input {
-    /// The file of this name, or standard input.
-    fn open(rt: &HostRuntime, name: &str) -> io::Result<Input> {
-        if name == STANDARD_INPUT {
-            Ok(Input::Standard(rt.stdin()))
-        } else {
-            Ok(Input::Opened(File::open(rt, name)?))
-        }
-    }
-
-    /// Whether it is a file that took the descriptor of standard input, which was closed then.
-    fn took_standard_input(&self) -> bool {
-        match self {
-            Input::Opened(file) => file.as_raw_fd() == STANDARD_DESCRIPTOR,
-            Input::Standard(_) => false,
-        }
-    }
-}
-
-impl Files {
-    /// Whether one of them took the descriptor of standard input.
-    fn took_standard_input(&self) -> bool {
-        self.used.took_standard_input()
-            || match &self.other {
-                Some(other) => other.took_standard_input(),
-                None => false,
-            }
-    }
-}
-
-/// Standard output, unbuffered if there is no memory for a buffer.
-fn buffered_output(rt: &HostRuntime) -> BufWriter<Stdout> {
-    match BufWriter::with_capacity(rt.alloc(), BUFFER_SIZE, rt.stdout()) {
-        Ok(writer) => writer,
-        Err(_) => BufWriter::with_capacity(rt.alloc(), 0, rt.stdout()).unwrap(),
-    }
-}
-
 /// Standard input, which flushes the lines before it reads on; unbuffered if there is no memory for
 /// a buffer. On a terminal where no answers are printed it says how far it is.
 fn buffered_routes<'a>(ends: Ends<'a>, is_summary: bool, front: &'a Cell<Front>) -> Routes<'a> {
-    let alloc = ends.rt.alloc();
-    BufferedSource::new(
-        match BufReader::with_capacity(alloc, BUFFER_SIZE, counted(ends, is_summary, front)) {
-            Ok(reader) => reader,
-            Err(_) => BufReader::with_capacity(alloc, 0, counted(ends, is_summary, front)).unwrap(),
-        },
-    )
+    let routes = counted(ends, is_summary, front);
+    let spare = counted(ends, is_summary, front);
+    BufferedSource::new(buffered_input(ends.rt, routes, Ok(spare)).unwrap())
 }
 
 /// Standard input, unbuffered.
@@ -164,32 +94,6 @@ fn counted<'a>(
     Counting::new(rt, MANUAL.name, ends.screen, is_wanted, input)
 }
 
-/// Says why the file of this name can't be read.
-fn unread(name: &str, error: &io::Error, faults: &mut Faults<'_>) -> u8 {
-    let program = MANUAL.name;
-    let file = Escaped(name);
-    let _ = writeln!(faults, "{program}: {file}: {error}");
-    FAILED
-}
-
-/// Says that standard input is closed.
-fn closed(faults: &mut Faults<'_>) -> u8 {
-    let program = MANUAL.name;
-    let _ = writeln!(
-        faults,
-        "{program}: -: read failed: standard input is closed"
-    );
-    FAILED
-}
-
-/// How many seconds have passed since the epoch, the first second of 1970.
-fn seconds(rt: &HostRuntime) -> io::Result<u64> {
-    match SystemTime::now(rt)?.duration_since(UNIX_EPOCH) {
-        Ok(time) => Ok(time.as_secs()),
-        Err(_) => Ok(0),
-    }
-}
-
 /// The files that a run reads.
 #[derive(Drop)]
 struct Files {
@@ -199,6 +103,17 @@ struct Files {
     other: Option<Input>,
 }
 
+impl Files {
+    /// Whether one of them took the descriptor of standard input.
+    fn took_standard_input(&self) -> bool {
+        self.used.took_standard_input()
+            || match &self.other {
+                Some(other) => other.took_standard_input(),
+                None => false,
+            }
+    }
+}
+
 /// Opens the lists. If one can't be opened, says so and fails with the status.
 fn open_files(
     rt: &HostRuntime,
@@ -206,20 +121,12 @@ fn open_files(
     against: Option<&str>,
     faults: &mut Faults<'_>,
 ) -> Result<Files, u8> {
-    let used = match Input::open(rt, file) {
-        Ok(input) => input,
-        Err(error) => return Err(unread(file, &error, faults)),
+    let used = Input::open_or_report(rt, MANUAL.name, file, faults)?;
+    let other = match against {
+        Some(name) => Some(Input::open_or_report(rt, MANUAL.name, name, faults)?),
+        None => None,
     };
-    let Some(name) = against else {
-        return Ok(Files { used, other: None });
-    };
-    match Input::open(rt, name) {
-        Ok(input) => Ok(Files {
-            used,
-            other: Some(input),
-        }),
-        Err(error) => Err(unread(name, &error, faults)),
-    }
+    Ok(Files { used, other })
 }
 
 /// Opens the files, returns the routes that are asked for, and returns the status.
@@ -235,11 +142,13 @@ fn validate(
         Err(status) => return status,
     };
     if request.route.is_none() && files.took_standard_input() {
-        return closed(faults);
+        return report_closed(MANUAL.name, faults);
     }
-    let now = match seconds(ends.rt) {
+    let now = match seconds_since_epoch(ends.rt) {
         Ok(now) => now,
-        Err(error) => return unread("clock", &error, faults),
+        Err(error) => {
+            return Subject::of_file(MANUAL.name, "clock").report_unread(&error, faults);
+        }
     };
     let status = run_over(ends, now, request, against, slurm, &mut files, faults);
     if let Ok(mut screen) = ends.screen.try_borrow_mut() {
@@ -290,12 +199,6 @@ fn run_over(
     }
 }
 
-/// The words that the program was started with, its name first, or none if they can't be had as
-/// texts.
-fn words(rt: &HostRuntime) -> Option<Vec<String>> {
-    env::args(rt).ok()?.collect(rt.alloc()).ok()
-}
-
 /// What the words ask for: the SLURM files, the lists to compare with, and the other words, the
 /// program's name first.
 #[derive(Drop)]
@@ -307,7 +210,7 @@ struct Asked {
 
 /// Splits the words. None if they can't be had, or no file follows an option that names one.
 fn asked_words(rt: &HostRuntime) -> Option<Asked> {
-    let by_slurm = split_words(rt.alloc(), words(rt)?, "--slurm", "--against")?;
+    let by_slurm = split_words(rt.alloc(), program_words(rt)?, "--slurm", "--against")?;
     let by_against = split_words(rt.alloc(), by_slurm.words, "--against", "")?;
     Some(Asked {
         slurm: by_slurm.files,
