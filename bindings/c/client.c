@@ -35,7 +35,6 @@ static struct member {
     struct addrinfo *all, *tried; /* its addresses, and the one that is being tried */
     int64_t tried_until;
     bool runs, kept; /* `kept`: it ran before */
-    bool dropped;    /* its data were dropped, and the failure of the same event is still to come */
     bool failed;     /* it failed, or sent no data that count */
 } members[MOST];
 
@@ -264,7 +263,6 @@ static void start(size_t number, uint8_t version)
     }
     m->socket = NONE;
     m->runs = m->kept = true;
-    m->dropped = false;
 }
 
 static void stop(struct member *m)
@@ -316,8 +314,7 @@ static void obey(const struct rtr_group_answer *answer, size_t number)
         start(answer->start, version);
 }
 
-/* Tells the group what happened to a client, if that is an event of the group; a failure that
- * comes with the loss of data isn't. */
+/* Tells the group what happened to a client, if that is an event of the group. */
 static void tell(size_t number, enum rtr_client_event event, struct rtr_group_answer *answer)
 {
     struct member *m = &members[number];
@@ -326,15 +323,13 @@ static void tell(size_t number, enum rtr_client_event event, struct rtr_group_an
         rtr_group_shows(&group, time, number, m->client.payloads, answer);
     if (event == RTR_CLIENT_DROPPED)
         rtr_group_drops(&group, time, number, answer);
-    if ((event == RTR_CLIENT_NO_DATA || event == RTR_CLIENT_FAILED) && !m->dropped)
+    if (event == RTR_CLIENT_NO_DATA || event == RTR_CLIENT_FAILED)
         rtr_group_fails(&group, time, number, answer);
-    bool empty = event == RTR_CLIENT_DATA && !group.has[number];
+    bool empty = event == RTR_CLIENT_DATA && !rtr_group_counts(&group, m->client.payloads);
     if (empty)
         fprintf(stderr, "%s:%s: " RTR_FAILURE_EMPTY "\n", m->host, m->port);
-    if (event >= RTR_CLIENT_DATA) {
-        m->dropped = event == RTR_CLIENT_DROPPED;
+    if (event >= RTR_CLIENT_DATA)
         m->failed = event != RTR_CLIENT_DATA || empty;
-    }
 }
 
 /* Reports whether all caches failed, so that none is left for --once. */

@@ -28,7 +28,6 @@ static struct member {
     BIO *connection; /* null if there is none */
     bool open;       /* it is established, and TLS hasn't failed */
     short awaited;   /* POLLIN or POLLOUT: what TLS waits for */
-    bool dropped;    /* its data were dropped, and the failure of the same event is still to come */
 } members[RTR_MOST_MEMBERS];
 
 static SSL_CTX *context;
@@ -211,12 +210,10 @@ static void obey(const struct rtr_group_answer *answer)
         close_connection(&members[i]);
         rtr_client_free(&members[i].client);
         rtr_client_again(&members[i].client);
-        members[i].dropped = false;
     }
 }
 
-/* Carries out an event of a client. The group isn't told of a failure that comes with a loss of
- * data. */
+/* Carries out an event of a client. */
 static void act(size_t number, enum rtr_client_event event)
 {
     struct member *m = &members[number];
@@ -233,10 +230,8 @@ static void act(size_t number, enum rtr_client_event event)
         rtr_group_shows(&group, (uint64_t)now(), number, m->client.payloads, &answer);
     else if (event == RTR_CLIENT_DROPPED)
         rtr_group_drops(&group, (uint64_t)now(), number, &answer);
-    else if (event >= RTR_CLIENT_NO_DATA && !m->dropped)
+    else if (event >= RTR_CLIENT_NO_DATA)
         rtr_group_fails(&group, (uint64_t)now(), number, &answer);
-    if (event >= RTR_CLIENT_DATA)
-        m->dropped = event == RTR_CLIENT_DROPPED;
     obey(&answer);
 }
 

@@ -32,7 +32,6 @@ type chooser struct {
 	listener Listener
 	clock    clock
 	group    *Group
-	settings GroupSettings
 	events   chan sourceEvent
 	members  []member
 	shown    Data // the zero Data if there are none
@@ -41,11 +40,10 @@ type chooser struct {
 
 // member is the state of a source.
 type member struct {
-	stop    context.CancelFunc // nil if it doesn't run
-	run     int                // how often it was started
-	data    Data
-	dropped bool       // its data were dropped, and the failure with that hasn't come yet
-	ended   chan *link // gets the link of its last run when that ends; nil before the first run
+	stop  context.CancelFunc // nil if it doesn't run
+	run   int                // how often it was started
+	data  Data
+	ended chan *link // gets the link of its last run when that ends; nil before the first run
 }
 
 // sourceEvent is new data of a source, or a failure.
@@ -78,7 +76,7 @@ func FollowWith(ctx context.Context, sources []Source, settings GroupSettings,
 	}
 	ctx, cancel := context.WithCancel(ctx)
 	c := &chooser{
-		sources: sources, listener: listener, clock: newClock(), group: group, settings: settings,
+		sources: sources, listener: listener, clock: newClock(), group: group,
 		events: make(chan sourceEvent), members: make([]member, len(sources)),
 	}
 	defer c.running.Wait()
@@ -125,31 +123,34 @@ func (c *chooser) patience() (over <-chan time.Time, release func()) {
 	return timer.C, func() { timer.Stop() }
 }
 
-// handle passes an event to the group, and carries out its decision. The group gets one event when
-// data are dropped, so the failure that comes with that isn't passed on.
+// handle reports an event to the group, passes a failure to the listener, and carries out the
+// group's decision.
 func (c *chooser) handle(ctx context.Context, e sourceEvent) error {
-	m := &c.members[e.index]
-	switch {
-	case e.failed != nil:
-		if err := c.listener.Failed(c.sources[e.index], e.failed); err != nil {
-			return err
-		}
-		if m.dropped {
-			m.dropped = false
-			return nil
-		}
-		return c.obey(ctx, e.index, c.group.Fails(c.now(), e.index))
-	case e.data.IsZero():
-		m.data, m.dropped = Data{}, true
-		return c.obey(ctx, e.index, c.group.Drops(c.now(), e.index))
-	}
-	m.data = e.data
-	if e.data.Len() == 0 && !c.settings.EmptyIsData {
-		if err := c.listener.Failed(c.sources[e.index], ErrEmpty); err != nil {
+	decision, failed := c.report(e)
+	if failed != nil {
+		if err := c.listener.Failed(c.sources[e.index], failed); err != nil {
 			return err
 		}
 	}
-	return c.obey(ctx, e.index, c.group.Shows(c.now(), e.index, e.data.Len()))
+	return c.obey(ctx, e.index, decision)
+}
+
+// report reports an event to the group. It returns the decision, and the failure that the event is,
+// or nil.
+func (c *chooser) report(e sourceEvent) (Decision, error) {
+	now := c.now()
+	if e.failed != nil {
+		return c.group.Fails(now, e.index), e.failed
+	}
+	c.members[e.index].data = e.data
+	if e.data.IsZero() {
+		return c.group.Drops(now, e.index), nil
+	}
+	var failed error
+	if !c.group.Counts(e.data.Len()) {
+		failed = ErrEmpty
+	}
+	return c.group.Shows(now, e.index, e.data.Len()), failed
 }
 
 // obey carries out a decision of the group about an event of the member at this index.

@@ -107,14 +107,20 @@ func (g *Group) Best() (member int, has bool) {
 	return int(best.member), bool(best.result)
 }
 
+// Counts reports whether a complete answer with this number of payloads counts as data, instead of
+// as a failure (ErrEmpty).
+func (g *Group) Counts(payloads int) bool {
+	return bool(C.rtr_group_counts(&g.group, C.size_t(payloads)))
+}
+
 // Shows reports to the group that a member has the data of a complete answer, with this number of
 // payloads. They may be unchanged.
 func (g *Group) Shows(now time.Duration, member, payloads int) Decision {
 	return decisionOf(C.group_shows(&g.group, clockTime(now), C.size_t(member), C.size_t(payloads)))
 }
 
-// Drops reports to the group that a member dropped its data. This counts as a failure too: don't
-// call Fails for the same end of a connection.
+// Drops reports to the group that a member dropped its data. This counts as a failure too: calling
+// Fails for the same end of a connection changes nothing.
 func (g *Group) Drops(now time.Duration, member int) Decision {
 	return decisionOf(C.group_drops(&g.group, clockTime(now), C.size_t(member)))
 }

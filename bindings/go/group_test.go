@@ -55,6 +55,23 @@ func TestGroup(t *testing.T) {
 	}
 }
 
+// A loss of data and the failure that caused it are one event, also if the next member fails or
+// answers between them.
+func TestGroupLoss(t *testing.T) {
+	g := groupOf(t, 3, UsualGroupSettings())
+	decisions(t, [][2]Decision{
+		{g.Shows(0, 0, 5), {GroupData, 0, -1, -1}},
+		{g.Drops(0, 0), {GroupNothing, 0, -1, 1}},
+		{g.Fails(0, 0), {GroupSame, 0, -1, -1}},
+		{g.Shows(0, 1, 5), {GroupData, 1, -1, -1}},
+		{g.Drops(0, 1), {GroupNothing, 0, -1, 2}},
+		{g.Shows(0, 2, 5), {GroupData, 2, -1, -1}},
+		{g.Fails(0, 1), {GroupSame, 0, -1, -1}},
+		{g.Drops(0, 2), {GroupNothing, 0, -1, -1}},
+		{g.Fails(0, 2), {GroupSame, 0, -1, -1}},
+	})
+}
+
 // An empty answer is a failure that drops data, or counts as data.
 func TestGroupEmpty(t *testing.T) {
 	g := groupOf(t, 2, UsualGroupSettings())
@@ -62,7 +79,13 @@ func TestGroupEmpty(t *testing.T) {
 		{g.Shows(0, 0, 1), {GroupData, 0, -1, -1}},
 		{g.Shows(0, 0, 0), {GroupNothing, 0, -1, 1}},
 	})
+	if g.Counts(0) || !g.Counts(1) {
+		t.Error("empty answers count")
+	}
 	g = groupOf(t, 2, GroupSettings{EmptyIsData: true})
+	if !g.Counts(0) {
+		t.Error("empty answers don't count")
+	}
 	decisions(t, [][2]Decision{
 		{g.Shows(0, 0, 0), {GroupData, 0, -1, -1}},
 		{g.Fails(0, 0), {GroupSame, 0, -1, 1}},

@@ -113,7 +113,7 @@ class Chooser {
     }
 
     /** Reports an event of a member to the group, and carries out its decision. */
-    #happens(index, member, { name, value, isPartOfLoss }) {
+    #happens(index, member, { name, value }) {
         switch (name) {
             case "data":
                 return this.#has(index, member, value.data);
@@ -121,10 +121,8 @@ class Chooser {
                 member.data = null;
                 return this.#obeys(index, this.#group.drops(now(), index));
             case "noData":
-                return this.#obeys(index, this.#group.fails(now(), index));
             case "failed":
-                return isPartOfLoss ? null
-                    : this.#obeys(index, this.#group.fails(now(), index));
+                return this.#obeys(index, this.#group.fails(now(), index));
             default:
                 return null;
         }
@@ -132,11 +130,11 @@ class Chooser {
 
     #has(index, member, data) {
         member.data = data;
-        if (data.isEmpty && !this.#settings.emptyIsData) {
+        const payloads = data.isEmpty ? 0 : 1; // the group only checks whether there are any
+        if (!this.#group.counts(payloads)) {
             member.client.emit("failed", new Empty());
         }
-        // The group only checks whether there are any.
-        return this.#obeys(index, this.#group.shows(now(), index, data.isEmpty ? 0 : 1));
+        return this.#obeys(index, this.#group.shows(now(), index, payloads));
     }
 
     /** Carries out the group's decision after an event of a member. */

@@ -41,6 +41,12 @@ export class Group {
         return has ? Number(this.#session.heap.view.getBigUint64(member, true)) : null;
     }
 
+    /** Reports whether a whole answer with this number of payloads counts as data. Otherwise it is
+     * a failure. */
+    counts(payloads) {
+        return this.#session.call("rtr_group_counts", this.#put(), numberOf(payloads, "payloads"));
+    }
+
     /** Reports that time has passed. */
     tick(now) {
         return this.#call("rtr_group_tick", now);

@@ -287,6 +287,9 @@ export class Group {
     readonly wakes: number;
     /** The member whose data are used, or null. */
     readonly best: number | null;
+    /** Reports whether a whole answer with this number of payloads counts as data. Otherwise it is
+     * a failure. */
+    counts(payloads: number): boolean;
     tick(now: number): Decision;
     /** Reports that a member has the data of a whole answer, with this number of payloads. */
     shows(now: number, member: number, payloads: number): Decision;

@@ -78,8 +78,7 @@ export class Run {
         this.#bell.ring();
     }
 
-    /** Iterates over the events: each has a name, a value, and `isPartOfLoss` if it belongs to the
-     * loss of data in the event before it. */
+    /** Iterates over the events: each has a name and a value. */
     async * events() {
         const signals = [this.#stop, this.#options.signal].filter((signal) => signal !== undefined);
         const aborted = () => this.#abort();
@@ -133,14 +132,13 @@ export class Run {
 
     /** Ends the connection, or drops the data, or both. */
     async * #ends({ kind, drops, error }) {
-        const isDropped = drops || kind === TodoKind.DROPPED;
         const closed = kind === TodoKind.CLOSE ? this.#closes() : null;
-        if (isDropped) {
+        if (drops || kind === TodoKind.DROPPED) {
             yield { name: "dropped", value: this.#update(null) };
         }
         await closed;
         if (error !== null) {
-            yield { name: "failed", value: error, isPartOfLoss: isDropped };
+            yield { name: "failed", value: error };
         }
     }
 

@@ -63,7 +63,7 @@ def names(*folders):
         yield from (f"{top} lacks {name}" for name in lacking)
 
 
-def said(*words):
+def output_of(*words):
     """Returns the output of a command."""
     return subprocess.run(words, capture_output=True, text=True, check=True,
                           env={**os.environ, "LC_ALL": "C"}).stdout
@@ -72,11 +72,12 @@ def said(*words):
 def needs(library):
     """Returns the machine of a library, the libraries that it needs, the newest glibc, and the
     symbols that it lacks, as readelf says."""
-    machine = re.search(r"Machine: +(.*)", said("readelf", "-h", library))[1]
+    machine = re.search(r"Machine: +(.*)", output_of("readelf", "-h", library))[1]
     machine = {"Advanced Micro Devices X86-64": "x86_64", "AArch64": "aarch64"}[machine]
-    libraries = set(re.findall(r"\(NEEDED\).*\[(.*)\]", said("readelf", "-d", library)))
-    versions = re.findall(r"Name: GLIBC_(\d+)\.(\d+)", said("readelf", "-V", library))
-    symbols = re.findall(r"GLOBAL +DEFAULT +UND (\w+)", said("readelf", "-W", "--dyn-syms", library))
+    libraries = set(re.findall(r"\(NEEDED\).*\[(.*)\]", output_of("readelf", "-d", library)))
+    versions = re.findall(r"Name: GLIBC_(\d+)\.(\d+)", output_of("readelf", "-V", library))
+    symbols = re.findall(r"GLOBAL +DEFAULT +UND (\w+)",
+                         output_of("readelf", "-W", "--dyn-syms", library))
     return machine, libraries, max((tuple(map(int, one)) for one in versions), default=(0, 0)), \
         set(symbols)
 
@@ -185,10 +186,10 @@ def unpack(folder, to):
 
 def npm(folder):
     """Yields what the list of npm lacks or has beyond what is needed."""
-    said = sys.stdin.read()
+    listing = sys.stdin.read()
     listed = listed_by(folder)
-    if said:
-        by_npm = {file["path"] for file in json.loads(said)[0]["files"]}
+    if listing:
+        by_npm = {file["path"] for file in json.loads(listing)[0]["files"]}
         yield from (f"npm and package.json differ in {name}" for name in sorted(by_npm ^ listed))
     wanted = {name for name in below(folder) if not name.startswith("tests/")}
     yield from (f"npm leaves out {name}" for name in sorted(wanted - listed))

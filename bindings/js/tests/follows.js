@@ -75,6 +75,9 @@ export const TESTS = {
         assert.deepEqual([group.wakes, group.best], [Infinity, 0]);
         assert.deepEqual(group.drops(0, 0), decision(NOTHING, null, null, 1));
         assert.equal(group.best, null);
+        // The failure of this loss changes nothing.
+        assert.deepEqual(group.fails(0, 0), decision(SAME, null, null, null));
+        assert.deepEqual([group.counts(0), group.counts(1)], [false, true]);
         assert.deepEqual(group.tick(4999), decision(SAME, null, null, null));
         assert.deepEqual(group.tick(5000), decision(SAME, null, null, 2));
         const empty = rtr.group(1, 0, { emptyIsData: true });

@@ -329,6 +329,8 @@ const CALLS = {
     "Link.sent": (rtr) => linked(rtr, (link) => (
         number("count", BEYOND, (count) => link.sent(count)))),
     "Link.lost": (rtr) => linked(rtr, (link) => assert.throws(() => link.lost(), /OUT_OF_TURN/)),
+    "Group.counts": (rtr) => (
+        number("payloads", BEYOND, (payloads) => rtr.group(1, 0).counts(payloads))),
     "Group.tick": (rtr) => now((now) => rtr.group(1, 0).tick(now)),
     "Group.shows": (rtr) => {
         now((now) => rtr.group(1, 0).shows(now, 0, 1));

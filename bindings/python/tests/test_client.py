@@ -10,6 +10,7 @@ import ssl
 import subprocess
 import tempfile
 import threading
+import time
 import unittest
 import warnings
 from dataclasses import replace
@@ -116,6 +117,17 @@ def both(*scripts):
     return script
 
 
+def is_read(connection):
+    """Reports whether a client that has sent all doesn't reset the connection when more comes."""
+    try:
+        connection.sendall(b"more")
+        time.sleep(0.2)
+        connection.sendall(b"more")
+    except ConnectionError:
+        return False
+    return True
+
+
 def waits(connection, queries):
     """A script: waits until the client closes."""
     assert next(queries, None) is None
@@ -205,6 +217,38 @@ class Following:
                              [(code, about)])
             self.assertEqual((caught.exception.code, caught.exception.unit), (code, about))
             self.assertGreater(len(str(caught.exception)), 5)
+
+    @mock.patch("rtr_wire.aio.REPORT_SECONDS", 3600)
+    @mock.patch("rtr_wire.client.REPORT_SECONDS", 3600)
+    def test_floods(self):
+        """A cache that floods the connection after a report doesn't keep it for the time of a
+        report."""
+        most, sent = 1 << 26, [0]  # more than the system buffers
+
+        def script(connection, queries):
+            says(RESET, b"\1\5\0\0\0\0\0\10")(connection, queries)
+            while sent[0] < most:
+                sent[0] += connection.send(bytes(1 << 16))
+
+        with Cache(script) as cache, self.assertRaises(UnitTypeError):
+            self.fetch(cache)
+        self.assertLess(sent[0], most)
+
+    def test_report_time(self):
+        """After a report it reads for up to two seconds, and then closes."""
+        seen = []
+
+        def script(connection, queries):
+            says(RESET, b"\1\5\0\0\0\0\0\10")(connection, queries)
+            seen.extend(report.code for report in queries)
+            time.sleep(1)
+            seen.append(is_read(connection))
+            time.sleep(2)
+            seen.append(is_read(connection))
+
+        with Cache(script) as cache, self.assertRaises(UnitTypeError):
+            self.fetch(cache)
+        self.assertEqual(seen, [5, True, False])
 
     def test_reported(self):
         report = ErrorReport(1, text=b"it rains")

@@ -132,14 +132,21 @@ impl Group {
         has.then_some(member)
     }
 
+    /// Reports whether a whole answer with this number of payloads counts as data. Otherwise it is
+    /// a failure, [`ClientError::Empty`](crate::ClientError::Empty).
+    #[must_use]
+    pub fn counts(&self, payloads: usize) -> bool {
+        calls::group_counts(&self.0, payloads)
+    }
+
     /// Reports that a member has the data of a whole answer, with this number of payloads; they may
     /// be the same as before.
     pub fn shows(&mut self, now: u64, member: usize, payloads: usize) -> Decision {
         Decision::of(&calls::group_shows(&mut self.0, now, member, payloads))
     }
 
-    /// Reports that a member lost its data. This is also a failure: don't call [`Group::fails`] for
-    /// the end of the connection.
+    /// Reports that a member lost its data. This is also a failure: [`Group::fails`] for the same
+    /// end of a connection changes nothing.
     pub fn drops(&mut self, now: u64, member: usize) -> Decision {
         Decision::of(&calls::group_drops(&mut self.0, now, member))
     }
@@ -202,13 +209,28 @@ mod tests {
         use Shown::{Data, Nothing};
         let mut strict = group(2);
         assert_eq!(strict.shows(0, 0, 1), decided(Data(0), None, None));
+        assert!(strict.counts(1) && !strict.counts(0));
         assert_eq!(strict.shows(0, 0, 0), decided(Nothing, None, Some(1)));
         let settings = GroupSettings {
             empty_is_data: true,
             ..GroupSettings::default()
         };
         let mut lax = Group::new(2, settings, 0).unwrap();
+        assert!(lax.counts(0));
         assert_eq!(lax.shows(0, 0, 0), decided(Data(0), None, None));
+    }
+
+    #[test]
+    fn a_loss_and_its_failure_are_one() {
+        use Shown::{Data, Nothing, Same};
+        let mut group = group(3);
+        assert_eq!(group.shows(0, 0, 5), decided(Data(0), None, None));
+        assert_eq!(group.drops(0, 0), decided(Nothing, None, Some(1)));
+        assert_eq!(group.fails(0, 0), decided(Same, None, None));
+        assert_eq!(group.fails(0, 1), decided(Same, None, Some(2)));
+        assert_eq!(group.shows(0, 2, 5), decided(Data(2), None, None));
+        assert_eq!(group.drops(0, 2), decided(Nothing, None, None));
+        assert_eq!(group.fails(0, 2), decided(Same, None, None));
     }
 
     #[test]

@@ -7,7 +7,6 @@ use crate::owned_data::Data;
 use crate::router::{Event, Step};
 use alloc::collections::VecDeque;
 use alloc::vec::Vec;
-use core::mem::replace;
 
 /// The data in use of several routers by preference (RFC 8210 section 10), as a [`Group`] decides,
 /// without sockets or a clock: the data of one of them, and the steps that lead there.
@@ -24,19 +23,11 @@ use core::mem::replace;
 #[derive(Debug)]
 pub struct Preferred {
     group: Group,
-    settings: GroupSettings,
-    members: Vec<Member>,
+    /// The data of each member.
+    members: Vec<Option<Data>>,
     /// The member whose data are used, and the data.
     shown: Option<(usize, Data)>,
     pending: VecDeque<Pending>,
-}
-
-/// The state of a member.
-#[derive(Clone, Debug, Default)]
-struct Member {
-    data: Option<Data>,
-    /// Whether its data were dropped, and the failure of the same event is still to come.
-    dropped: bool,
 }
 
 /// A step of a member, and the data that are used from then on; none if they don't change.
@@ -66,8 +57,7 @@ impl Preferred {
         });
         Ok(Preferred {
             group: Group::new(members, settings, now)?,
-            settings,
-            members: (0..members).map(|_| Member::default()).collect(),
+            members: (0..members).map(|_| None).collect(),
             shown: None,
             pending: VecDeque::new(),
         })
@@ -93,9 +83,10 @@ impl Preferred {
     ///
     /// If there is no such member.
     pub fn tell(&mut self, now: u64, member: usize, step: Step, data: Option<&Data>) -> Decision {
-        self.members[member].data = data.cloned();
-        let decided = self.decide(now, member, &step);
-        if self.has_empty(member, &step) {
+        self.members[member] = data.cloned();
+        let payloads = data.map_or(0, Data::len);
+        let decided = self.decide(now, member, payloads, &step);
+        if matches!(step, Step::Data(_)) && !self.group.counts(payloads) {
             self.push(member, Step::Failed(ClientError::Empty), None);
         }
         match decided.shown {
@@ -145,16 +136,12 @@ impl Preferred {
         self.shown.map(|(_, data)| data)
     }
 
-    /// Returns the group's decision on a step. The group isn't told of the failure that follows a
-    /// loss of data.
-    fn decide(&mut self, now: u64, member: usize, step: &Step) -> Decision {
-        let has = &mut self.members[member];
-        let dropped = replace(&mut has.dropped, matches!(step, Step::Dropped(_)));
-        let payloads = has.data.as_ref().map_or(0, Data::len);
+    /// Returns the group's decision on a step.
+    fn decide(&mut self, now: u64, member: usize, payloads: usize, step: &Step) -> Decision {
         match step {
             Step::Data(_) => self.group.shows(now, member, payloads),
             Step::Dropped(_) => self.group.drops(now, member),
-            Step::Failed(_) if !dropped => self.group.fails(now, member),
+            Step::Failed(_) => self.group.fails(now, member),
             _ => Decision {
                 shown: Shown::Same,
                 stop: None,
@@ -163,20 +150,12 @@ impl Preferred {
         }
     }
 
-    /// Reports whether a member has new data without payloads, which don't count.
-    fn has_empty(&self, member: usize, step: &Step) -> bool {
-        let data = self.members[member].data.as_ref();
-        matches!(step, Step::Data(_))
-            && !self.settings.empty_is_data
-            && data.map_or(false, Data::is_empty)
-    }
-
     /// Drops the data of members that stop or start.
     fn forget(&mut self, decided: &Decision) {
         let first = decided.stop.unwrap_or(self.members.len());
-        self.members[first..].fill(Member::default());
+        self.members[first..].fill(None);
         if let Some(member) = decided.start {
-            self.members[member] = Member::default();
+            self.members[member] = None;
         }
     }
 
@@ -208,7 +187,7 @@ impl Preferred {
     /// Uses the data of a member after a step of one. The changes are its own if its data were used
     /// before, or there were none.
     fn show(&mut self, source: usize, member: usize, step: Step) {
-        let data = self.members[source].data.clone();
+        let data = self.members[source].clone();
         let others = self.shown.as_ref().filter(|(before, _)| *before != source);
         let changes = match (others, step) {
             (Some((_, old)), step) => {

@@ -644,6 +644,26 @@ fn hostile_caches() {
     assert!(matches!(error, ClientError::TooLong));
 }
 
+/// After a report a client reads few bytes of a cache that floods the connection.
+#[test]
+fn floods_after_a_report() {
+    const MOST: usize = 1 << 24; // more than the system buffers
+    let _alone = alone();
+    let (count, counted) = std::sync::mpsc::channel();
+    let plays = Box::new(move |mut peer: Peer| {
+        peer.send(&data(1).as_bytes()[..20]); // out of place
+        let stream = peer.stream.get_mut();
+        let mut sent = 0;
+        while sent < MOST && stream.write_all(&[0; 4096]).is_ok() {
+            sent += 4096;
+        }
+        count.send(sent).unwrap();
+    });
+    let (error, _) = fetch_played(plays, options());
+    assert!(matches!(error, ClientError::Breach { .. }), "{error}");
+    assert!(counted.recv().unwrap() < MOST);
+}
+
 /// An answer with as many bytes of payload units, or units, as are allowed is accepted, and one
 /// more is refused.
 #[test]

@@ -285,6 +285,22 @@ fn begins_again() {
     assert_eq!(router.data(), Some(&data(2)));
 }
 
+/// The defaults that docs/SESSIONS.md names, and two seconds for a report.
+#[test]
+fn usual_options() {
+    let usual = ClientOptions::default();
+    let times = [usual.dial, usual.response, usual.pause, usual.report];
+    assert_eq!(
+        times.map(|time| time.as_millis()),
+        [30_000, 120_000, 1000, 2000]
+    );
+    assert_eq!(
+        (usual.version, usual.bytes, usual.units),
+        (1, 128 << 20, 4_000_001)
+    );
+    assert_eq!([usual.refresh, usual.retry, usual.expire], [None; 3]);
+}
+
 #[test]
 #[should_panic(expected = "the time of a router goes back")]
 fn a_clock_that_goes_back() {

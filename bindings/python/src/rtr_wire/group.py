@@ -67,9 +67,7 @@ class Group:
         status = CALLS.rtr_group_init(self._group, settings, members, 0)
         if status != Status.OK:
             raise ValueError(_library.status_text(status, 0))
-        self._empty_is_data = bool(settings.empty_is_data)
         self._data: List[Optional[Data]] = [None] * members
-        self._dropped = [False] * members  # whether the failure of the same event is still to come
         self._shown: Optional[Data] = None
 
     @property
@@ -86,18 +84,15 @@ class Group:
     def happens(self, now: int, member: int, step: Union[Update, Failed]) -> Decision:
         """Reports a step of a running member."""
         group, answer, error = self._group, self._answer, None
-        dropped, self._dropped[member] = self._dropped[member], False
         if isinstance(step, Failed):
-            if dropped:  # part of the event before
-                return Decision(step.error, member)
             error = step.error
             CALLS.rtr_group_fails(group, now, member, answer)
         elif step.data is None:
-            self._data[member], self._dropped[member] = None, True
+            self._data[member] = None
             CALLS.rtr_group_drops(group, now, member, answer)
         else:
             self._data[member], payloads = step.data, len(step.data)
-            if not payloads and not self._empty_is_data:
+            if not CALLS.rtr_group_counts(group, payloads):
                 error = NoPayloads()
             CALLS.rtr_group_shows(group, now, member, payloads, answer)
         return self._decided(member, error)
@@ -113,7 +108,7 @@ class Group:
             update = self._show(None)
         stop = range(answer.stop, len(self._data)) if answer.stops else range(0)
         for stopped in stop:
-            self._data[stopped], self._dropped[stopped] = None, False
+            self._data[stopped] = None
         start = answer.start if answer.starts else None
         return Decision(error, member, update, source, stop, start)
 

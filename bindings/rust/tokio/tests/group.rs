@@ -101,7 +101,7 @@ async fn the_first_that_answers() {
         assert_eq!((member, data.end().serial), (0, serial));
         let old = second.numbered(SESSION, serial);
         assert_eq!(changes, old.delta_to(&data).unwrap());
-        // The second isn't needed any more: it is told so by the next call.
+        // The second isn't needed any more: the next call of the group ends it.
         assert_eq!(backup.clients(), 1);
         assert!(timeout(Duration::from_secs(1), group.next()).await.is_err());
         assert_eq!((backup.clients(), server.clients()), (0, 1));
