@@ -229,7 +229,7 @@ static void ends(void)
     rtr_server_free(&server);
 }
 
-/* Begins a scene, of a cache without data. */
+/* Begins a scene, with a cache without data. */
 static void begins(void)
 {
     ends();

@@ -311,6 +311,26 @@ def test_door():
         waiting[2].gets_report(2, 1)
 
 
+def test_door_with_room():
+    """64 refused routers that neither read nor close delay no router for which there is room.
+    Without room the next one gets its report when the first of them had its 10 seconds."""
+    with started(data(1, [1]), words=["--max-clients", "2"]) as cache, \
+            contextlib.ExitStack() as stack:
+        served = [stack.enter_context(Router(cache)) for _ in range(2)]
+        for router in served:
+            router.asks(RESET_QUERY, response(data(1, [1])))
+        begun = time.monotonic()
+        refused = [stack.enter_context(Router(cache)) for _ in range(64)]
+        refused[-1].is_quiet(PATIENCE)
+        served[0].socket.close()
+        router = stack.enter_context(Router(cache))
+        router.asks(RESET_QUERY, response(data(1, [1])))
+        assert time.monotonic() - begun < 5
+        late = stack.enter_context(Router(cache))
+        late.gets_report(2, 1)
+        assert 9.5 < time.monotonic() - begun < 30, time.monotonic() - begun
+
+
 def test_pipelining():
     """A router that sends queries without a pause delays neither others nor the end."""
     def sends(router):

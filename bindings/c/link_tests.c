@@ -162,8 +162,8 @@ static void shows(struct end *e, const char *digits)
     CHECK(length == 0 || memcmp(data, bytes, length) == 0);
 }
 
-/* Checks that a report of this code is unsent, which encloses this unit and has this text (section
- * 5.11), and sends it. */
+/* Checks that the unsent report has this code, encloses this unit and has this text (section 5.11),
+ * and sends it. */
 static void sends_report(struct end *e, uint16_t code, const char *unit, const char *text)
 {
     uint8_t bytes[256];

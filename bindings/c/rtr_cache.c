@@ -150,18 +150,34 @@ static size_t walk(const uint8_t *units, size_t length, size_t *count, struct rt
     return at;
 }
 
-/* Lists the serial numbers of the earlier data of a history; without memory none, so that routers
- * get all data. */
+/* Grows the list of serial numbers of earlier data to this many; returns false without memory. */
+static bool reserve_kept(struct rtr_server *s, size_t count)
+{
+    if (count <= s->kept_capacity)
+        return true;
+    uint32_t *kept = realloc(s->kept, count * sizeof *kept);
+    if (!kept)
+        return false;
+    s->kept = kept;
+    s->kept_capacity = count;
+    return true;
+}
+
+/* Returns how many earlier data the history has that is served. */
+static size_t count_kept(const struct rtr_server *s)
+{
+    struct rtr_stores_answer answer;
+    size_t length;
+    const uint8_t *history = history_of(s, &length);
+    rtr_history_serials(history, length, NULL, 0, &answer);
+    return answer.wanted;
+}
+
+/* Lists the serial numbers of the earlier data of a history; the list is long enough. */
 static void list_kept(struct rtr_server *s, const uint8_t *history, size_t length)
 {
     struct rtr_stores_answer answer;
-    s->kept_count = 0;
-    rtr_history_serials(history, length, NULL, 0, &answer);
-    uint32_t *kept = realloc(s->kept, (answer.wanted + 1) * sizeof *kept);
-    if (!kept)
-        return;
-    s->kept = kept;
-    rtr_history_serials(history, length, kept, answer.wanted, &answer);
+    rtr_history_serials(history, length, s->kept, s->kept_capacity, &answer);
     s->kept_count = answer.length;
 }
 
@@ -190,7 +206,8 @@ static void forget(struct rtr_server *s)
     s->present.has = false;
 }
 
-/* Lets connections send the data of the store that is served now, and frees the other store. */
+/* Lets connections send the data of the store that is served now, and frees the other store. The
+ * list of serial numbers has to have room for those of its history. */
 static void serve(struct rtr_server *s)
 {
     size_t length;
@@ -243,7 +260,7 @@ static void give_up(struct rtr_server *s)
 }
 
 /* Takes data in canonical form, which replace a store that waits. The buffers have the lengths that
- * suffice for rtr_stores_take. */
+ * suffice for rtr_stores_take; the served data become one more of the earlier ones. */
 static enum rtr_update take(struct rtr_server *s, int64_t date, const uint8_t *data, size_t length)
 {
     struct rtr_work work;
@@ -264,6 +281,8 @@ static enum rtr_update take(struct rtr_server *s, int64_t date, const uint8_t *d
         rtr_stores_take(&stores, data, length, (uint64_t)date, &limits, &buffers, &work, &answer);
     }
     free_work(&work);
+    if (answer.status == RTR_STORES_OK && !reserve_kept(s, s->kept_count + 1))
+        answer.status = RTR_STORES_NO_ROOM;
     if (answer.status != RTR_STORES_OK) {
         release(store);
         return refused_by(answer.status);
@@ -385,6 +404,8 @@ static enum rtr_update start(struct rtr_server *s, size_t size)
     free_work(&work);
     if (answer.status != RTR_STORES_OK)
         return refused_by(answer.status);
+    if (!reserve_kept(s, count_kept(s)))
+        return RTR_UPDATE_MEMORY;
     serve(s);
     return are_times_allowed(s, &s->end) ? RTR_UPDATE_TAKEN : RTR_UPDATE_TIMES;
 }

@@ -68,7 +68,7 @@ enum rtr_update {
     RTR_UPDATE_SERIAL,  /* their serial number isn't after the present one (RFC 1982) */
     RTR_UPDATE_TIMING,  /* only their timings differ, under the same serial number */
     RTR_UPDATE_TIMES,   /* their timings break `time_rule` (RFC 8210 section 6) */
-    RTR_UPDATE_LEFT,    /* the cache used their session before another one (section 5.1) */
+    RTR_UPDATE_LEFT,    /* the cache has used their session, and another since (section 5.1) */
     RTR_UPDATE_SESSION, /* the server doesn't save, and began with another session */
     RTR_UPDATE_VERSION, /* they are of a higher protocol version than the saved data, which another
                            program wrote, or an earlier one of this cache */
@@ -103,7 +103,7 @@ struct rtr_server {
     size_t offset;              /* the offset of the unit that was refused, for `status` */
     uint8_t status;             /* an rtr_status */
     uint8_t time_rule;          /* an rtr_time_rule */
-    uint32_t refused;           /* the serial number of the last data that were given */
+    uint32_t refused;           /* the serial number of the data of the last update */
     bool has_cut;               /* whether the input that was loaded last has an answer without an
                                    end of data, which is left out */
 
@@ -118,7 +118,7 @@ struct rtr_server {
     /* The data in other versions, encoded when a router first asks in one. */
     struct rtr_shared *forms[RTR_HIGHEST_VERSION + 1];
     uint32_t *kept;             /* the serial numbers from which there are changes */
-    size_t kept_count;
+    size_t kept_count, kept_capacity;
     struct rtr_made *made;
     size_t made_count;
 };
@@ -154,8 +154,9 @@ void rtr_server_unsaved(struct rtr_server *server, uint16_t session);
 void rtr_server_free(struct rtr_server *server);
 
 /* Takes new data from a recording or a list, which rtr_load loads. `date` is the time in
- * milliseconds since 1970. New data replace those that wait to be saved. If they are the data that
- * routers get, RTR_UPDATE_SAME, nothing waits any more. After any other result nothing changes.
+ * milliseconds since 1970. New data replace those that wait to be saved. RTR_UPDATE_SAME: routers
+ * get these data already, and nothing waits to be saved any more. After any other result nothing
+ * changes.
  *
  * Begin serial numbers at 1: a router that lost the first answer, such as BIRD 2.0, asks for the
  * changes since serial number 0, and there are none if that is the present one. */

@@ -444,6 +444,7 @@ static bool denies(uint8_t version, size_t which)
     bool ended = runs() == RTR_SERVED_CLOSE, failed = allocations >= which;
     denied = 0;
     CHECK(ended == !sent.length);
+    CHECK(ended || sent.bytes[1] == 3); /* a cache response, not a cache reset */
     if (ended)
         closes("no memory");
     else
@@ -451,6 +452,34 @@ static bool denies(uint8_t version, size_t which)
     begins();
     asks_all(1);
     says(whole(1, s.present.serial, 1, s.present.serial - 2));
+    asks_changes(1, SESSION, 5);
+    says(whole(1, s.present.serial, 4, s.present.serial - 2));
+    leaves();
+    ends();
+    return failed;
+}
+
+/* One allocation of a restart fails: it restores nothing, and the next try restores the data with
+ * the changes from earlier ones. Returns whether that allocation was reached. */
+static bool denies_restart(size_t which)
+{
+    static struct text saved;
+    has_data(1);
+    saves(&saved, whole(1, 6, 1, 4));
+    ends();
+    rtr_server_init(&s);
+    allocations = 0;
+    denied = which;
+    enum rtr_update update = rtr_server_restore(&s, saved.bytes, saved.length);
+    bool failed = allocations >= which;
+    denied = 0;
+    CHECK(update == (failed ? RTR_UPDATE_MEMORY : RTR_UPDATE_TAKEN));
+    CHECK(s.present.has == !failed);
+    if (failed)
+        CHECK(rtr_server_restore(&s, saved.bytes, saved.length) == RTR_UPDATE_TAKEN);
+    begins();
+    asks_changes(1, SESSION, 5);
+    says(whole(1, 6, 4, 4));
     leaves();
     ends();
     return failed;
@@ -479,6 +508,8 @@ static void test_memory(void)
     for (uint8_t version = 1; version < 3; version++)
         for (size_t which = 1; denies(version, which); which++)
             CHECK(which < 100);
+    for (size_t which = 1; denies_restart(which); which++)
+        CHECK(which < 100);
 }
 
 /* Routers that ask for the same data share one copy, which is that of the store if they ask in the

@@ -279,8 +279,8 @@ static void owes_report(void)
     CHECK(capacity == 0);
 }
 
-/* The last report has one time to be sent, and to be read until the router closes; then, or when
- * the connection breaks, the cache closes it. */
+/* One limit holds for the last report: to be sent, and to be read until the router closes. After
+ * it, or when the connection breaks, the cache closes the connection. */
 static void test_last_report(void)
 {
     size_t capacity;
