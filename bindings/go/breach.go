@@ -21,7 +21,7 @@ var (
 	ErrHigherVersion = errors.New(causeHigherVersion.String())
 	// ErrNoVersion: the query's version isn't supported at all.
 	ErrNoVersion = errors.New(reasonText(C.RTR_REASON_NO_VERSION))
-	// ErrOtherSession: the unit of a cache is of another session than its data.
+	// ErrOtherSession: a unit's session differs from that of the data.
 	ErrOtherSession = errors.New(causeOtherSession.String())
 	// ErrSerialBack: the end of data has an earlier serial number than the query.
 	ErrSerialBack = errors.New(causeOldSerial.String())

@@ -178,9 +178,10 @@ func (d Data) With(session uint16, serial uint32, timing Timing) (Data, error) {
 		return d, err
 	}
 	other.units, other.kinds = d.units, d.kinds
-	_, end := parts(other.bytes)
-	units, _ := parts(d.bytes)
-	other.bytes = append(append(make([]byte, 0, len(d.bytes)), units...), end...)
+	all := append([]byte(nil), d.bytes...) // make would first clear them
+	_, end := parts(all)
+	copy(end, other.bytes)
+	other.bytes = all[:len(all):len(all)]
 	return other, nil
 }
 

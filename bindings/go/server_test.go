@@ -501,21 +501,24 @@ func TestServerShutdownLimit(t *testing.T) {
 	}
 }
 
-// failingListener fails this many times, and then accepts a connection.
+// failingListener fails this many times before each connection that it accepts.
 type failingListener struct {
 	net.Listener
-	err   error
-	times int
+	err    error
+	times  int
+	failed int // since the last connection
 }
 
 func (f *failingListener) Accept() (net.Conn, error) {
-	if f.times--; f.times >= 0 {
+	if f.failed++; f.failed <= f.times {
 		return nil, f.err
 	}
+	f.failed = 0
 	return f.Listener.Accept()
 }
 
-// A server continues after a temporary failure of Accept, and ends when a listener is broken.
+// A server continues after a temporary failure of Accept, and ends when a listener is broken: after
+// ten failures in a row.
 func TestServerListener(t *testing.T) {
 	noLeaks(t)
 	server, _ := started(t, nil, parsed(t, ending(1, 7, 1)))
@@ -527,16 +530,19 @@ func TestServerListener(t *testing.T) {
 	}{{full, 12, false}, {errFailed, 9, false}, {errFailed, 10, true}} {
 		listener := listen(t, "127.0.0.1:0")
 		done := make(chan error, 1)
-		go func() { done <- server.Serve(&failingListener{listener, row.err, row.times}) }()
+		failing := &failingListener{Listener: listener, err: row.err, times: row.times}
+		go func() { done <- server.Serve(failing) }()
 		if row.broken {
 			if err := <-done; err != errFailed {
 				t.Fatal(err)
 			}
 			continue
 		}
-		connection := dial(t, listener.Addr().String())
-		send(t, connection, asked(1, 0))
-		expect(t, connection, join(response(1, 7), ending(1, 7, 1)))
+		for count := 0; count < 2; count++ {
+			connection := dial(t, listener.Addr().String())
+			send(t, connection, asked(1, 0))
+			expect(t, connection, join(response(1, 7), ending(1, 7, 1)))
+		}
 	}
 }
 

@@ -75,7 +75,8 @@ func arguments(words []string) (opts options, ok bool) {
 	return opts, opts.path != ""
 }
 
-// run serves until the context ends, or a listener fails.
+// run serves until the context ends, or a listener fails. It fails at once if the saved file is
+// damaged or can't be read.
 func run(ctx context.Context, opts options) error {
 	server := rtr.NewServer()
 	server.Limits.Refuse = opts.refuse
@@ -88,7 +89,8 @@ func run(ctx context.Context, opts options) error {
 	if data, err := server.Restore(saved); err == nil {
 		sayServed(saved, data)
 	} else if !errors.Is(err, os.ErrNotExist) {
-		say(err)
+		// Without the file its serial numbers could be used for other data.
+		return err
 	}
 	failed := make(chan error, len(opts.addresses))
 	for _, address := range opts.addresses {
