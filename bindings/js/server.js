@@ -6,6 +6,7 @@
 //
 // The proved module decides each step; docs/SESSIONS.md has the rules.
 
+import { AsyncLocalStorage } from "node:async_hooks";
 import { EventEmitter, once } from "node:events";
 import { closeSync, openSync } from "node:fs";
 import { createServer } from "node:net";
@@ -77,11 +78,6 @@ async function listening(listener) {
     } finally {
         done.abort();
     }
-}
-
-/** Identifies a connection to a listener, from its accept to its close. */
-function nameOf({ remoteAddress, remotePort, localAddress }) {
-    return `${remoteAddress} ${remotePort} ${localAddress}`;
 }
 
 /** Reports whether the system has another descriptor, as for a file. */
@@ -315,25 +311,23 @@ export class Server extends EventEmitter {
     }
 
     /** Returns a listener over TLS. It checks certificates itself, since Node would close the
-     * connection without reporting its address and the reason. */
+     * connection without reporting its address and the reason. The events of a handshake don't name
+     * its socket: they come in the context in which the handshake began. */
     #tlsListener(tls) {
-        const shaking = new Map();
-        const listener = createTlsServer({ ...tls, ...LISTENER, rejectUnauthorized: false });
-        listener.on("connection", (socket) => {
-            const name = nameOf(socket);
-            socket.on("close", () => shaking.delete(name));
+        const routers = new AsyncLocalStorage();
+        const shaker = createTlsServer({ ...tls, ...LISTENER, rejectUnauthorized: false });
+        shaker.on("secureConnection", (stream) => {
+            routers.getStore()?.opens(stream, strangerError(stream, tls));
+        });
+        shaker.on("tlsClientError", (error, stream) => {
+            routers.getStore()?.opens(stream, error);
+        });
+        return createServer(LISTENER, (socket) => {
             const router = this.#enters(socket);
             if (router !== null) {
-                shaking.set(name, router);
+                routers.run(router, () => shaker.emit("connection", socket));
             }
         });
-        listener.on("secureConnection", (stream) => {
-            shaking.get(nameOf(stream))?.opens(stream, strangerError(stream, tls));
-        });
-        listener.on("tlsClientError", (error, stream) => {
-            shaking.get(nameOf(stream))?.opens(stream, error);
-        });
-        return listener;
     }
 
     /** Closes the listeners, and each connection by this function. */

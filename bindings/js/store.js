@@ -85,8 +85,8 @@ export class Store {
         return this.#edition;
     }
 
-    /** Begins with the bytes of a file. Throws an UpdateError if they aren't those of a store, or
-     * its data have invalid times, and OutOfMemory; then only `drop` may follow. */
+    /** Loads the store from a saved file. Throws an UpdateError if the bytes aren't a store or its
+     * times are invalid, or OutOfMemory; afterwards only `drop` may be called. */
     start(file) {
         const session = this.#session;
         if (!session.within([file], (at) => this.#unsealed(file, at))) {

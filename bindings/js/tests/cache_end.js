@@ -17,7 +17,7 @@ const SETTINGS = { "first-limit": "firstLimit", "idle-limit": "idleLimit", "paus
 const hex = (bytes) => Buffer.from(bytes).toString("hex");
 const bytesOf = (text) => Uint8Array.from(Buffer.from(text.replaceAll(" ", ""), "hex"));
 
-/** An edition that lacks the changes since some serial numbers. */
+/** A snapshot that lacks the changes since some serial numbers. */
 function without(edition, forgotten) {
     return {
         number: edition.number,

@@ -5,6 +5,7 @@ import dns from "node:dns/promises";
 import { once } from "node:events";
 import { syncBuiltinESMExports } from "node:module";
 import { createServer } from "node:net";
+import { PassThrough } from "node:stream";
 import { setTimeout as sleep } from "node:timers/promises";
 import { Cause, Fault, NoData, OutOfMemory, SessionError, Status, load } from "../rtr_wire.js";
 import { Client, follow } from "../client.js";
@@ -273,6 +274,65 @@ export const TESTS = {
             assert.equal(error.reason, Cause.OUT_OF_PLACE);
             assert.ok(performance.now() - begun > 90);
         });
+    },
+
+    /** By default a client asks in version 1, and its last report costs at most two seconds. */
+    async hasDefaults(rtr) {
+        const asked = [];
+        const script = async (peer) => {
+            asked.push(await peer.next());
+            peer.send(end(1)); // out of place
+            peer.socket.resume();
+            await once(peer.socket, "close");
+        };
+        await withCache([script], async ({ port }) => {
+            const begun = performance.now();
+            const error = await failureOf(new Client({ host: HOST, port, rtr: rtr.another() }));
+            const took = performance.now() - begun;
+            assert.equal(error.reason, Cause.OUT_OF_PLACE);
+            assert.ok(took > 1990 && took < 20_000, `${took} ms`);
+        });
+        assert.deepEqual(asked, [RESET_QUERY]);
+    },
+
+    /** A cache that floods the connection after a report doesn't keep the client for its limit. */
+    async endsFloods(rtr) {
+        const most = 1 << 26; // more than the system buffers
+        let sent = 0;
+        const script = async ({ socket }) => {
+            socket.resume();
+            socket.write(end(1)); // out of place
+            while (sent < most && !socket.destroyed) {
+                await new Promise((done) => {
+                    socket.write(Buffer.alloc(1 << 16), done);
+                });
+                sent += 1 << 16;
+            }
+        };
+        await withCache([script], async ({ port }) => {
+            const error = await failureOf(clientOf(rtr, port, { reportLimit: 3_600_000 }));
+            assert.equal(error.reason, Cause.OUT_OF_PLACE);
+        });
+        assert.ok(sent < most);
+    },
+
+    /** A stream that the caller opens after the client gave up is destroyed. */
+    async dropsLateStreams(rtr) {
+        let give = null;
+        const client = new Client({ rtr: rtr.another(),
+            connect: () => new Promise((resolve) => {
+                give = resolve;
+            }) });
+        const updates = client[Symbol.asyncIterator]();
+        const update = updates.next();
+        while (give === null) {
+            await sleep(1);
+        }
+        await updates.return();
+        await update;
+        const late = new PassThrough();
+        give(late);
+        await once(late, "close");
     },
 
     /** A time limit above that of a timer isn't over at once: to connect to an address that isn't

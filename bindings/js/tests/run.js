@@ -18,6 +18,7 @@ import { samples } from "./samples.js";
 import { TESTS as clients } from "./clients.js";
 import { TESTS as follows } from "./follows.js";
 import { TESTS as given } from "./given.js";
+import { TESTS as handshakes } from "./handshakes.js";
 import { TESTS as links } from "./links.js";
 import { TESTS as own } from "./own.js";
 import { TESTS as servers } from "./servers.js";
@@ -82,7 +83,7 @@ function missing(name) {
 }
 
 /** The tests of JavaScript only. */
-const GROUPS = { own, given, large, links, clients, follows, servers };
+const GROUPS = { own, given, large, links, clients, follows, servers, handshakes };
 
 if (!existsSync(MODULE)) {
     console.error(`there is no ${MODULE}: node run.js MODULE names another`);

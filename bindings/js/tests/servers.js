@@ -10,7 +10,6 @@ import { tmpdir } from "node:os";
 import { join } from "node:path";
 import { Duplex } from "node:stream";
 import { setTimeout as sleep } from "node:timers/promises";
-import { connect as connectTls } from "node:tls";
 import { fileURLToPath } from "node:url";
 import v8 from "node:v8";
 import { runInNewContext } from "node:vm";
@@ -21,15 +20,14 @@ import { Behind, Closed, Reason, Server, ServerError, StoresStatus, UpdateError 
 import { compiledCache, lineOf } from "./c_cache.js";
 import { Peer, RESET_QUERY, answer, cacheReset, end, notify, prefix, report, response,
     serialQuery, unit, unused } from "./caches.js";
-import { NO_OPENSSL, certified } from "./certificates.js";
 
-const HOST = "127.0.0.1";
+export const HOST = "127.0.0.1";
 
 /** Payloads whose answer is longer than what the system buffers of a connection. */
 const MANY = 500_000;
 
 /** Returns data of session 7 with the prefixes of these numbers. */
-const dataOf = (rtr, serial, ...numbers) => (
+export const dataOf = (rtr, serial, ...numbers) => (
     rtr.loadData(answer(serial, ...numbers.map((n) => prefix(n)))).data);
 
 /** Returns data with this many prefixes, from 10.0.0.0/30 on. */
@@ -61,7 +59,7 @@ function formerFile(...parts) {
 }
 
 /** Runs a test with a server that listens, and closes it after it. `ended` are its events. */
-async function withServer(rtr, settings, run, options = {}) {
+export async function withServer(rtr, settings, run, options = {}) {
     const server = new Server({ rtr: rtr.another(), settings });
     const ended = [];
     server.on("ended", (error) => ended.push(error));
@@ -75,7 +73,7 @@ async function withServer(rtr, settings, run, options = {}) {
 }
 
 /** Connects a router; a script sends and reads. */
-async function router(port) {
+export async function router(port) {
     const socket = connect({ port, host: HOST, allowHalfOpen: true });
     socket.on("error", () => {});
     await once(socket, "connect");
@@ -103,7 +101,7 @@ function heldBytes() {
 }
 
 /** Waits until a condition holds. */
-async function until(condition) {
+export async function until(condition) {
     while (!condition()) {
         await sleep(5);
     }
@@ -167,7 +165,7 @@ class Slow extends Duplex {
         [this.#left, this.#done] = [bytes.length, done];
     }
 
-    /** Takes so many bytes of a write, and then calls the server. */
+    /** Takes `count` bytes of a write, and calls the server once the write is complete. */
     takes(count) {
         this.#left -= count;
         if (this.#left <= 0) {
@@ -551,39 +549,6 @@ export const TESTS = {
         assert.deepEqual(await last.next(), response());
         last.socket.destroy();
         await server.close();
-    },
-
-    /** Over TLS a router has to prove who it is, if the server asks for it; a handshake counts to
-     * the limits. */
-    async provesBoth(rtr, _, t) {
-        const [own, routers] = ["IP:127.0.0.1", "DNS:router.example"].map(certified);
-        if (own === null) {
-            t.skip(NO_OPENSSL);
-            return;
-        }
-        const tls = { ...own, ca: routers.cert, requestCert: true };
-        await withServer(rtr, { firstLimit: 500 }, async (server, port, ended) => {
-            await server.update(dataOf(rtr, 1, 1));
-            const client = new Client({ host: HOST, port, tls: { ...routers, ca: own.cert } });
-            assert.equal((await client.fetch()).serial, 1);
-            for (const identity of [{}, own]) {
-                const stranger = connectTls({ port, host: HOST, ca: own.cert, ...identity });
-                stranger.on("error", () => {});
-                await new Promise((resolve) => stranger.on("close", resolve));
-            }
-            await until(() => ended.length === 2);
-            assert.equal(ended[1].code, "DEPTH_ZERO_SELF_SIGNED_CERT");
-            const silent = await router(port);
-            assert.equal(await silent.next(), null);
-            silent.close();
-            await until(() => ended.length === 3);
-            assert.equal(ended[2].reason, Reason.SLOW);
-            const wrong = await router(port);
-            wrong.send(RESET_QUERY);
-            await wrong.gone();
-            wrong.close();
-            await until(() => ended.length === 4);
-        }, { tls });
     },
 
     /** After a restart from the saved file routers get changes, and a session that was left before
