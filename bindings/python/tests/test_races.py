@@ -37,7 +37,7 @@ class Cancelled(unittest.TestCase):
     """A task ends when it is cancelled, and its connection is closed."""
 
     async def ends(self, follow, happens, count):
-        """Cancels a task so many turns after something happens."""
+        """Cancels a task `count` turns of the loop after something happens."""
         task = asyncio.ensure_future(follow)
         await turns(TURNS)
         happens()
@@ -110,6 +110,11 @@ class Asked(unittest.TestCase):
 
 
 class Groups(unittest.TestCase):
+    def changes_nothing(self, decision, error, member):
+        """A decision only reports this failure of a member."""
+        self.assertEqual(decision[:3], (error, member, None))
+        self.assertEqual((len(decision.stop), decision.start), (0, None))
+
     def test_whose_failure(self):
         """An empty answer of the cache that is used is its failure, also if the data of another one
         are shown then."""
@@ -129,7 +134,16 @@ class Groups(unittest.TestCase):
         group.happens(1, 1, Update(FIRST, None))
         decision = group.happens(2, 1, Update(None, None))
         self.assertEqual((decision.source, decision.update.data), (1, None))
-        self.assertEqual(group.happens(2, 1, Failed(lost))[:2], (lost, 1))
+        self.changes_nothing(group.happens(2, 1, Failed(lost)), lost, 1)
+
+    def test_failure_after_an_answer(self):
+        """The failure that comes with a loss of data stops and starts nobody, also if the next
+        client answers between them."""
+        group, lost = Group(3, None, None), ConnectionAbortedError()
+        group.happens(0, 0, Update(FIRST, None))
+        self.assertEqual(group.happens(1, 0, Update(None, None)).start, 1)
+        self.assertEqual(group.happens(2, 1, Update(SECOND, None)).update.data, SECOND)
+        self.changes_nothing(group.happens(3, 0, Failed(lost)), lost, 0)
 
 
 if __name__ == "__main__":

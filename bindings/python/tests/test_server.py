@@ -267,6 +267,36 @@ class Answers(Servers):
             self.routers[-1].asks_all()
             self.assertEqual((await self.routers[-1].answer())[0], prefix(1))
 
+    async def test_address_in_use(self):
+        """A server that can't listen at one of its addresses listens at none."""
+        with socket.create_server(("127.0.0.1", 0)) as free, \
+                socket.create_server(("127.0.0.2", 0)) as used:
+            first, second = free.getsockname(), used.getsockname()
+            free.close()
+            found = [(socket.AF_INET, socket.SOCK_STREAM, 6, "", one) for one in (first, second)]
+            with mock.patch("socket.getaddrinfo", lambda *given, **named: found):
+                with self.assertRaises(OSError) as raised:
+                    await Server().serve("localhost", first[1])
+        self.assertEqual(raised.exception.errno, errno.EADDRINUSE)
+        socket.create_server(first).close()
+
+    async def test_crowd(self):
+        """While the event loop is busy hundreds of routers may connect, and are served after it."""
+        with socket.create_server(("127.0.0.1", 0)) as free:
+            port = free.getsockname()[1]
+        server = Server()
+        server.update(data(1, [1]))
+        self.tasks.append(asyncio.ensure_future(server.serve("127.0.0.1", port)))
+        self.routers.append(Router(*await self.connected(port)))
+        with contextlib.ExitStack() as crowd:
+            for _ in range(300):
+                last = socket.create_connection(("127.0.0.1", port), 0.9)
+                crowd.enter_context(last)
+            last.setblocking(False)
+            self.routers.append(Router(*await asyncio.open_connection(sock=last)))
+            self.routers[-1].asks_all()
+            self.assertEqual((await self.routers[-1].answer())[0], prefix(1))
+
     async def connected(self, port):
         """Connects as soon as a server listens."""
         while not self.tasks[-1].done():

@@ -309,7 +309,7 @@ def _listener(family: int, address: Any) -> socket.socket:
         if family == socket.AF_INET6:
             listener.setsockopt(socket.IPPROTO_IPV6, socket.IPV6_V6ONLY, 1)
         listener.bind(address)
-        listener.listen()
+        listener.listen(socket.SOMAXCONN)
     except BaseException:
         listener.close()
         raise
