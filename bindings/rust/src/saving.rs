@@ -79,7 +79,7 @@ impl Retries {
         let task = move || {
             let mut pause = FIRST_PAUSE;
             while has_waited(&turn, number, pause) && !is_done() {
-                pause = LONGEST_PAUSE.min(2 * pause);
+                pause = longer(pause);
             }
         };
         let thread = Builder::new().name("rtr save".to_string()).spawn(task)?;
@@ -111,6 +111,11 @@ impl Retries {
     }
 }
 
+/// The pause after one of this length.
+fn longer(pause: Duration) -> Duration {
+    LONGEST_PAUSE.min(2 * pause)
+}
+
 /// Waits for a time; returns whether the thread of this number may continue.
 fn has_waited((turn, changed): &(Mutex<Turn>, Condvar), number: u64, pause: Duration) -> bool {
     let until = Instant::now() + pause;
@@ -124,4 +129,19 @@ fn has_waited((turn, changed): &(Mutex<Turn>, Condvar), number: u64, pause: Dura
         turn = woken.unwrap_or_else(PoisonError::into_inner).0;
     }
     false
+}
+
+#[cfg(test)]
+mod tests {
+    use super::{longer, FIRST_PAUSE};
+    use std::iter::successors;
+    use std::vec::Vec;
+
+    // As `Server::update` says.
+    #[test]
+    fn pauses_double_up_to_a_minute() {
+        let pauses = successors(Some(FIRST_PAUSE), |pause| Some(longer(*pause)));
+        let seconds: Vec<u64> = pauses.take(8).map(|pause| pause.as_secs()).collect();
+        assert_eq!(seconds, [1, 2, 4, 8, 16, 32, 60, 60]);
+    }
 }

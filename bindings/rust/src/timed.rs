@@ -137,3 +137,17 @@ fn close(mut socket: impl Socket) {
         }
     }
 }
+
+#[cfg(test)]
+mod tests {
+    use super::Stop;
+    use std::time::{Duration, Instant};
+
+    #[test]
+    fn a_stop_before_a_wait_ends_it() {
+        let (stop, begun) = (Stop::default(), Instant::now());
+        stop.set();
+        stop.wait(None, Duration::from_secs(60));
+        assert!(begun.elapsed() < Duration::from_secs(30));
+    }
+}

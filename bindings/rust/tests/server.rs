@@ -8,7 +8,7 @@ use peers::*;
 use rtr_wire::*;
 use std::fs::DirEntry;
 use std::io::{self, ErrorKind, Read};
-use std::net::SocketAddr;
+use std::net::{SocketAddr, TcpStream};
 use std::path::{Path, PathBuf};
 use std::sync::mpsc::{channel, Receiver};
 use std::sync::{Arc, Mutex};
@@ -956,6 +956,31 @@ fn too_many_clients() {
     cache.serves(1);
     one.send(&reset_query(2));
     one.response();
+}
+
+/// While a callback keeps the server, hundreds of clients may connect, and are served after it.
+#[test]
+fn a_crowd_that_waits() {
+    let _alone = alone();
+    let (enter, entered) = channel();
+    let (leave, left) = channel::<()>();
+    let gate = Mutex::new((enter, left));
+    let server = Server::telling(options(), move |_, _| {
+        let (enter, left) = &*gate.lock().unwrap();
+        let _ = enter.send(());
+        let _ = left.recv();
+    });
+    let address = server.listen("127.0.0.1:0").unwrap();
+    assert_eq!(server.update(data(1)), Ok(true));
+    Peer::connect(address).send(&[2, 5, 0, 0, 0, 0, 0, 8]); // a unit of an unknown type
+    entered.recv().unwrap();
+    let crowd: Result<Vec<TcpStream>, _> = (0..300)
+        .map(|_| TcpStream::connect_timeout(&address, milliseconds(900)))
+        .collect();
+    drop(leave);
+    let mut last = Peer::of(crowd.unwrap().pop().unwrap());
+    last.send(&reset_query(2));
+    assert_eq!(last.response(), data(1).as_bytes());
 }
 
 /// The behaviour of a hostile client, by its number.
