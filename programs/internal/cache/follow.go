@@ -25,6 +25,7 @@ type followed struct {
 	settles settling
 	data    rtr.Data // its payloads when it was last accepted, if there are other files
 	taken   int      // their number
+	size    int      // their size in bytes
 	anchors payloads.Anchors
 	held    *held          // its held list; nil for none
 	offered *payloads.List // its list that is held or contradicted, if there are other files
@@ -68,7 +69,9 @@ func (c *Cache) look(ctx context.Context, asked bool) (changing bool) {
 			changing = true
 			continue
 		}
-		how := payloads.Read{Now: c.clock.Now(), Expires: expires, Body: file.body()}
+		how := payloads.Read{
+			Now: c.clock.Now(), Expires: expires, Body: file.body(), Size: file.size,
+		}
 		list, err := c.settings.Reader.Read(ctx, file.File, how)
 		if errors.Is(err, payloads.ErrChanged) {
 			changing = true
@@ -252,7 +255,8 @@ func (c *Cache) recordAccepted(file *followed, list payloads.List) {
 	c.lock.Lock()
 	defer c.lock.Unlock()
 	file.held, file.offered = nil, nil
-	file.taken, file.expired = list.Data.Len(), list.Expired
+	file.taken, file.size = list.Data.Len(), len(list.Data.Bytes())
+	file.expired = list.Expired
 	file.anchors = list.Anchors
 	if len(c.files) > 1 {
 		file.data = list.Data

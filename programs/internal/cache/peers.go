@@ -32,22 +32,29 @@ func (o observer) Came(peer *transport.Peer, unit *rtr.Unit) {
 	if !query {
 		return
 	}
-	line := o.log.WithFields(logrus.Fields{
-		"client": peer.String(), "transport": peer.Kind, "version": unit.Version,
-	})
+	level := logrus.DebugLevel
+	if first {
+		level = logrus.InfoLevel
+	}
+	if !o.log.IsLevelEnabled(level) {
+		return
+	}
+	line := lineOf(o.log, peer).WithField("version", unit.Version)
 	message := "reset query"
 	if unit.Kind == rtr.SerialQuery {
 		message = "serial query"
 		line = line.WithFields(logrus.Fields{"session": unit.Session, "serial": unit.Serial})
 	}
-	if first {
-		line.Info(message)
-		return
-	}
-	line.Debug(message)
+	line.Log(level, message)
 }
 
-// logClient logs the server's messages about its clients.
+// lineOf returns a line about a router.
+func lineOf(log *logrus.Logger, peer *transport.Peer) *logrus.Entry {
+	return log.WithFields(logrus.Fields{"client": peer.String(), "transport": peer.Kind})
+}
+
+// logClient logs the server's messages about its clients. Lines that the level leaves out aren't
+// made: with ten thousand routers they take a tenth of the processor time.
 func (c *Cache) logClient(_ rtr.Level, message string, fields ...any) {
 	byName := map[string]any{}
 	for i := 0; i+1 < len(fields); i += 2 {
@@ -59,22 +66,27 @@ func (c *Cache) logClient(_ rtr.Level, message string, fields ...any) {
 	if !ok {
 		return
 	}
-	line := c.log.WithFields(logrus.Fields{"client": peer.String(), "transport": peer.Kind})
+	debugs := c.log.IsLevelEnabled(logrus.DebugLevel)
 	switch message {
 	case "connected":
 		c.clients.Connected(peer)
-		line.Info(message)
+		lineOf(c.log, peer).Info(message)
 	case "answers":
-		line.WithFields(logrus.Fields{"unit": byName["unit"], "version": byName["version"]}).
-			Debug(message)
+		if debugs {
+			fields := logrus.Fields{"unit": byName["unit"], "version": byName["version"]}
+			lineOf(c.log, peer).WithFields(fields).Debug(message)
+		}
 	case "answered":
 		session, _ := byName["session"].(uint16)
 		serial, _ := byName["serial"].(uint32)
 		c.clients.Answered(peer, clients.Serial{Session: session, Serial: serial})
-		line.WithFields(logrus.Fields{"session": session, "serial": serial}).Debug(message)
+		if debugs {
+			fields := logrus.Fields{"session": session, "serial": serial}
+			lineOf(c.log, peer).WithFields(fields).Debug(message)
+		}
 	case "ended":
 		err, _ := byName["error"].(error)
-		c.ended(line, peer, err)
+		c.ended(lineOf(c.log, peer), peer, err)
 	}
 }
 

@@ -124,15 +124,18 @@ func memberIn(chunk []byte) int {
 // wholeString returns the string behind a colon and at most a space, without escapes, and the size
 // of all; size 0 if the bytes begin with something else, or end before.
 func wholeString(rest []byte) (name []byte, size int) {
-	for _, begin := range []string{`: "`, `:"`} {
-		if len(rest) < len(begin) || string(rest[:len(begin)]) != begin {
-			continue
-		}
-		if end := bytes.IndexByte(rest[len(begin):], '"'); end >= 0 {
-			return rest[len(begin) : len(begin)+end], len(begin) + end + 1
-		}
+	begin := len(`:"`)
+	if len(rest) > 1 && rest[1] == ' ' {
+		begin = len(`: "`)
 	}
-	return nil, 0
+	if len(rest) < begin || rest[0] != ':' || rest[begin-1] != '"' {
+		return nil, 0
+	}
+	end := bytes.IndexByte(rest[begin:], '"')
+	if end < 0 {
+		return nil, 0
+	}
+	return rest[begin : begin+end], begin + end + 1
 }
 
 // unlessEnd returns the error of a reader, except for its end.

@@ -1,6 +1,7 @@
 package payloads
 
 import (
+	"bytes"
 	"context"
 	"crypto/sha256"
 	"errors"
@@ -84,7 +85,7 @@ type Reader struct {
 	Empty   bool           // whether to accept a file without payloads
 }
 
-// ErrChanged is the error of a file that changed while it was read.
+// ErrChanged is returned if a file changed while it was read.
 var ErrChanged = errors.New("the file was changed while it was read")
 
 // Expired is about the expired items of a file when it was read.
@@ -101,6 +102,7 @@ type Read struct {
 	Now     time.Time // items that have expired by this time are left out
 	Expires bool      // the file was accepted before, so it may have no items left
 	Body    *Body     // the fetched list to read; nil for a local file
+	Size    int       // the bytes of the data that it had before; 0 if unknown
 }
 
 // List is the content of a file.
@@ -181,12 +183,21 @@ func (r *Reader) read(
 	if file.Format == Sequence {
 		return r.loadUnits(input)
 	}
-	// Most items of a list take at least four times the bytes of their unit.
-	room := int(size / 4)
+	room := how.room(size)
 	if list, err = r.runMaker(ctx, input, room, r.words(file.Format, how)); err == nil {
 		list.Anchors, err = anchorsOf(io.NewSectionReader(input, 0, rtr.MostDataBytes), file.Format)
 	}
 	return list, err
+}
+
+// room returns the size of a buffer for the data of a list of this size: with some space for more
+// than it had, and for the read that sees the end. Most items of a list take at least four times
+// the bytes of their unit.
+func (r Read) room(size int64) int {
+	if r.Size == 0 {
+		return int(size / 4)
+	}
+	return r.Size + r.Size/32 + bytes.MinRead
 }
 
 // loadUnits returns the data of a recording or a list of units. Nothing in it expires.
