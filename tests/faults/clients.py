@@ -15,7 +15,7 @@ import threading
 import time
 
 import held
-from units import AS, LONG, NOTIFY, RESET_QUERY, RESPONSE, SERIAL_QUERY, SESSION, Wrong
+from units import AS, LONG, NOTIFY, REPORT, RESET_QUERY, RESPONSE, SERIAL_QUERY, SESSION, Wrong
 from units import end, prefix, size_of, unit
 
 RECONNECTS = 4
@@ -24,6 +24,11 @@ RECONNECTS = 4
 CONNECTS = "two hundred connects"
 PAUSE = ["--pause", "10ms"]  # between two connections, for clients that take it
 MEMORY = 1 << 15  # bytes by which it may grow; a connection alone has more than 200
+
+# A cache whose first answer is a unit of a type that nobody knows: the client has to send a whole
+# report of this code about it (RFC 8210 section 12), and asks again.
+REFUSED = "a report by sends of a byte"
+UNKNOWN, UNKNOWN_TYPE = unit(5, 0), 5
 
 # What is injected: faults that end a connection, or keep one from being opened, and all.
 BREAKING = {
@@ -39,6 +44,7 @@ BREAKING = {
 FAULTS = {
     "nothing": "",
     "sends of a byte": "send:1:0:1",
+    REFUSED: "send:1:0:1",
     "reads of a byte": "receive:1:0:1",
     "an interrupted send": "send:1:1:EINTR send:3:3:EINTR",
     "sends that would block": "send:1:2:EAGAIN send:4:4:EAGAIN",
@@ -56,15 +62,17 @@ def line(text, sign):
 
 
 class Cache:
-    """A cache that answers each query by its rules, with data that change."""
+    """A cache that answers each query by its rules, with data that change; but the first by
+    `refused`, if that isn't empty."""
 
-    def __init__(self, family):
+    def __init__(self, family, refused):
         host = "::1" if family == socket.AF_INET6 else "127.0.0.1"
         self.listener = socket.create_server((host, 0), family=family)
         self.port = self.listener.getsockname()[1]
         self.lock = threading.Lock()
         self.serial, self.had = 1, {1: ["10.0.0.0/8", "192.0.2.0/24", "2001:db8::/32"]}
         self.connections, self.accepted = [], 0
+        self.refused, self.reports = refused, []
         threading.Thread(target=self.accept, daemon=True).start()
 
     def accept(self):
@@ -94,8 +102,13 @@ class Cache:
 
     def answer(self, query):
         since = struct.unpack(">I", query[8:12])[0] if query[1] == SERIAL_QUERY else None
+        if query[1] == REPORT:
+            self.reports.append(query)
         if query[1] not in (SERIAL_QUERY, RESET_QUERY):
             return b""
+        if self.refused:
+            refused, self.refused = self.refused, b""
+            return refused
         old, new = self.had.get(since, []), self.had[self.serial]
         changes = [prefix(one, 1) for one in new if one not in old]
         changes += [prefix(one, 0) for one in old if one not in new]
@@ -130,11 +143,11 @@ class Cache:
 class Run:
     """Runs a client beside a cache, with these faults."""
 
-    def __init__(self, command, faults, library, folder):
-        self.cache = Cache(socket.AF_INET)
+    def __init__(self, command, faults, library, folder, refused=b""):
+        self.cache = Cache(socket.AF_INET, refused)
         self.seen, self.state = (os.path.join(folder, name) for name in ("seen", "state"))
         self.said = open(os.path.join(folder, "said"), "w+b")
-        # The name has two addresses, and the cache is at the second.
+        # The name has two addresses in sockets.c, and the cache is at the second.
         words = [word.replace("ADDRESS", f"localhost:{self.cache.port}") for word in command]
         self.process = subprocess.Popen(
             words, stdout=subprocess.PIPE, stderr=self.said,
@@ -204,6 +217,13 @@ class Run:
         if self.lines or self.held:
             raise Wrong(f"it printed more: {list(self.lines)}")
 
+    def has_reported(self):
+        """The client has sent one report, about the unit of a type that nobody knows."""
+        got = self.cache.reports
+        code, about = bytes([REPORT, 0, UNKNOWN_TYPE]), struct.pack(">I", len(UNKNOWN)) + UNKNOWN
+        if len(got) != 1 or got[0][1:4] != code or not got[0][8:].startswith(about):
+            raise Wrong(f"it sent these reports: {[one.hex() for one in got]}")
+
     def end(self):
         self.process.kill()
         self.process.wait()
@@ -218,11 +238,14 @@ class Run:
 def play(command, name, library, folder):
     """Plays a client with the faults of this name; returns what was wrong, or nothing."""
     faults = FAULTS.get(name, "")
-    run = Run([*command, *(PAUSE if name == CONNECTS else [])], faults, library, folder)
+    run = Run([*command, *(PAUSE if name == CONNECTS else [])], faults, library, folder,
+              UNKNOWN if name == REFUSED else b"")
     wrong = None
     try:
         connects = 200 if name == CONNECTS else RECONNECTS
-        run.play(name in BREAKING or name == CONNECTS, connects)
+        run.play(name in BREAKING or name in (CONNECTS, REFUSED), connects)
+        if name == REFUSED:
+            run.has_reported()
         if faults and not os.path.exists(run.seen):
             raise Wrong("the fault wasn't injected")
     except (Wrong, OSError, subprocess.TimeoutExpired) as error:
@@ -232,7 +255,8 @@ def play(command, name, library, folder):
 
 
 def names(program):
-    """Returns the names of the runs of a client. In Go only calls of connections get faults."""
+    """Returns the names of the runs of a client. In Go only calls of connections get faults, and a
+    short write is one whose time is over, after which no more of a report is sent."""
     if program != "Go":
         return list(FAULTS)
-    return [*(name for name in FAULTS if name != "interrupted waits"), CONNECTS]
+    return [*(name for name in FAULTS if name not in ("interrupted waits", REFUSED)), CONNECTS]

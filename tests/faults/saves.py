@@ -42,6 +42,8 @@ LASTING = {
 }
 KILLS = "killed savings"
 START = "a start with a failing sync of the folder"
+MINUTE = "savings that fail for a minute"
+PAUSES = (1, 2, 4, 8, 16, 32, 60)  # seconds between two of them
 FULL = "a saving to a full disk"  # the system's own: what is written there has no space
 LEAST_CALLS = 5  # of a saving: open, write, sync, rename, and sync of the folder
 
@@ -56,6 +58,8 @@ def names(program):
     if program == "Go cache":
         return [FULL, "a saving"]
     every = [KILLS, START, *LASTING, FULL, *FAULTS]
+    if program == "C cache":
+        every.insert(0, MINUTE)  # it says how long it pauses
     return [name for name in every if program != "Node cache" or name != CLOSE]
 
 
@@ -196,6 +200,19 @@ def play_lasting(saved, faults, number, replaces):
         cache.kill()
 
 
+def play_minute(saved):
+    """All savings fail: the pauses between them double, up to a minute."""
+    cache = saved.started("write:1:0:ENOSPC")
+    try:
+        cache.serves(1)
+        cache.puts(content(2, DATA[2]))
+        for seconds in PAUSES:
+            cache.says(rf"trying again in {seconds} seconds?")
+        cache.ends()
+    finally:
+        cache.kill()
+
+
 def play_start(saved):
     """The cache can't sync the folder at a start: it says why, and serves nothing. Its last run may
     have ended between the rename and the sync, and after a power cut the file would be an older
@@ -249,6 +266,8 @@ def play(command, name, library, folder):
             play_kills(saved)
         elif name == START:
             play_start(saved)
+        elif name == MINUTE:
+            play_minute(saved)
         elif name == FULL:
             play_fault(saved, FULL, errno.ENOSPC)
         elif name in LASTING:

@@ -2,7 +2,9 @@
 #define _GNU_SOURCE
 #include <errno.h>
 #include <fcntl.h>
+#include <netdb.h>
 #include <poll.h>
+#include <string.h>
 #include <sys/epoll.h>
 #include <sys/sendfile.h>
 #include <sys/socket.h>
@@ -24,6 +26,28 @@ static int is_socket(int fd)
 static int is_nonblocking(int fd, int flags)
 {
     return (flags & MSG_DONTWAIT) || (fcntl(fd, F_GETFL) & O_NONBLOCK);
+}
+
+/* ---- names: localhost has two addresses, and nobody listens at the first */
+
+int getaddrinfo(const char *host, const char *port, const struct addrinfo *hints,
+                struct addrinfo **found)
+{
+    int (*next)(const char *, const char *, const struct addrinfo *, struct addrinfo **) =
+        real("getaddrinfo");
+    if (!host || strcmp(host, "localhost"))
+        return next(host, port, hints, found);
+    struct addrinfo *second;
+    int failed = next("127.0.0.1", port, hints, &second);
+    if (!failed && (failed = next("127.0.0.2", port, hints, found)))
+        freeaddrinfo(second);
+    if (failed)
+        return failed;
+    struct addrinfo *last = *found;
+    while (last->ai_next)
+        last = last->ai_next;
+    last->ai_next = second;
+    return 0;
 }
 
 /* ---- new connections: one that isn't accepted stays in the queue */

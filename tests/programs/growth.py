@@ -168,14 +168,14 @@ def held_run(shim, command, path, refused, writer):
             writer.join()
         os.write(releasing, b"x")
         try:
-            written, said = process.communicate(timeout=SECONDS)
+            written, errors = process.communicate(timeout=SECONDS)
         except subprocess.TimeoutExpired:
             process.kill()
             raise
         finally:
             for end in (met, held, releasing):
                 os.close(end)
-    return (process.returncode, written, said), is_met
+    return (process.returncode, written, errors), is_met
 
 
 def piped(shim, command, path, given, refused):
@@ -211,13 +211,13 @@ def row_problem(shim, names, name, row):
     """Returns what is wrong with the runs of a row, if anything is."""
     command = [built.program("test_rows"), str(MARK)]
     given = f"{names}\n{row}\n".encode()
-    said = [ran.stdout.decode().split("\n")[0] for ran in runs(shim, command, given, MARK)]
+    marks = [ran.stdout.decode().split("\n")[0] for ran in runs(shim, command, given, MARK)]
     answers = row.split("=>")[2].strip()
     wanted = ""
     if answers:
         wanted = "".join(f"(refused {place}, )+" for place in range(len(answers.split(";"))))
-    if not re.fullmatch(f"{wanted}whole", ", ".join(said)):
-        return f"{name} {row}: {', '.join(said)}"
+    if not re.fullmatch(f"{wanted}whole", ", ".join(marks)):
+        return f"{name} {row}: {', '.join(marks)}"
     return None
 
 
@@ -235,11 +235,11 @@ def program_problem(shim, program, arguments, given, pieces, usage, others=()):
     memory = [(3, text, name + b"out of memory\n") for text in written]
     called = (2, b"", b"usage: " + program.encode() + b" " + usage + b"\n")
     ended = runs(shim, [built.program(program), *arguments], given, 0)
-    said = [(ran.returncode, ran.stdout, counts.sub(b"", ran.stderr)) for ran in ended]
-    for answer in said:
+    results = [(ran.returncode, ran.stdout, counts.sub(b"", ran.stderr)) for ran in ended]
+    for answer in results:
         if answer not in [whole, *memory, called]:
             return f"{program} {arguments}: {answer}"
-    if not any(answer in said for answer in memory) or said[-1] != whole:
+    if not any(answer in results for answer in memory) or results[-1] != whole:
         return f"{program} {arguments}: no growth of it was refused"
     return None
 
@@ -283,9 +283,9 @@ def diff_problem(shim, folder, arguments, pieces):
     with open(new, "wb") as file:
         file.write(END_ALONE)
     command = [built.program("rtr_diff"), *arguments, "-", new]
-    said = []
+    results = []
     for ran in runs(shim, command, KEY_INPUT, 0):
-        said.append((ran.returncode, ran.stdout, ran.stderr.decode()))
+        results.append((ran.returncode, ran.stdout, ran.stderr.decode()))
     whole = (1, b"".join(pieces), "")
     texts = {"rtr_diff: out of memory\n": [b"".join(pieces[:place]) for place in range(len(pieces))]}
     for name in ("-", new):
@@ -293,10 +293,11 @@ def diff_problem(shim, folder, arguments, pieces):
                   for place in ("", "offset 0: ", "offset 36: ")}
     called = "usage: rtr_diff [--json | --units] OLD NEW, where one of them may be -\n"
     short = {(2, b"", called)} | {(3, some, text) for text, front in texts.items() for some in front}
-    for answer in said:
+    for answer in results:
         if answer != whole and answer not in short:
             return f"rtr_diff {arguments}: {answer}"
-    if said[-1] != whole or not any(text.endswith(": out of memory\n") for _, _, text in said):
+    if results[-1] != whole or not any(text.endswith(": out of memory\n")
+                                       for _, _, text in results):
         return f"rtr_diff {arguments}: no growth of it was refused"
     return None
 
@@ -311,9 +312,9 @@ def validate_problem(shim, folder, arguments, pieces):
     with open(file, "wb") as units:
         units.write(KEY.bytes + ELSEWHERE + END.bytes)
     command = [built.program("rtr_validate"), *arguments, file]
-    said = []
+    results = []
     for ran in runs(shim, command, ROUTES, 0):
-        said.append((ran.returncode, ran.stdout, ran.stderr.decode()))
+        results.append((ran.returncode, ran.stdout, ran.stderr.decode()))
     whole = (0, b"".join(pieces), "")
     short = {(3, b"".join(pieces[:place]), "rtr_validate: out of memory\n")
              for place in range(len(pieces))}
@@ -322,10 +323,10 @@ def validate_problem(shim, folder, arguments, pieces):
                             f"offset {len(KEY.bytes + ELSEWHERE)}: ")}
     short.add((2, b"", "usage: rtr_validate [--json] [--summary] [--strict] [--format F] "
                        "[--at N] [--slurm FILE].. [--against FILE] FILE [PREFIX ASN]\n"))
-    for answer in said:
+    for answer in results:
         if answer != whole and answer not in short:
             return f"rtr_validate {arguments}: {answer}"
-    if said[-1] != whole or not any(text.endswith("out of memory\n") for _, _, text in said):
+    if results[-1] != whole or not any(text.endswith("out of memory\n") for _, _, text in results):
         return f"rtr_validate {arguments}: no growth of it was refused"
     return None
 

@@ -135,13 +135,13 @@ def problem(name, words, unit, count, last, status, first=b""):
         hangs = threading.Timer(SECONDS, run.kill)
         hangs.start()
         feed(run, first, unit, count, last)
-        said = run.stderr.read().decode()
+        errors = run.stderr.read().decode()
         got = run.wait()
         hangs.cancel()
     if words == ["--check"]:
-        said = said[said.startswith("rtr_list: looked at ") and len(said):]
-    if (got, said) != (status, ""):
-        return f"{name} {words} {count} times {unit[:8].hex(' ')}: status {got}, {said}"
+        errors = errors[errors.startswith("rtr_list: looked at ") and len(errors):]
+    if (got, errors) != (status, ""):
+        return f"{name} {words} {count} times {unit[:8].hex(' ')}: status {got}, {errors}"
     return None
 
 

@@ -314,8 +314,8 @@ def by_summary(content):
     found = Counter({"complete: yes": 1, f"bytes: {len(content)}": 1, f"units: {len(units)}": 1})
     for kind, name in KINDS.items():
         of_kind = [unit for unit in units if unit[1] == kind]
-        for said, wanted in (("announce", True), ("withdraw", False)) if kind in PAYLOADS else ():
-            found[f"{name} {said}: {sum(announces(unit) == wanted for unit in of_kind)}"] += 1
+        for action, wanted in (("announce", True), ("withdraw", False)) if kind in PAYLOADS else ():
+            found[f"{name} {action}: {sum(announces(unit) == wanted for unit in of_kind)}"] += 1
         if kind not in PAYLOADS:
             found[f"{name}: {len(of_kind)}"] += 1
     for line in answers_of(units) or ["none"]:
@@ -404,7 +404,7 @@ class Programs:
         for name, words, good, wanted, read in self.runs(content, route):
             if name not in self.paths:
                 continue
-            status, text, said = self.run(name, words, content)
+            status, text, errors = self.run(name, words, content)
             what = f"{name} {' '.join(words)}: "
             try:
                 right = wanted()
@@ -413,7 +413,7 @@ class Programs:
                     yield f"{what}takes what the reader refuses: {error}"
                 continue
             if status not in good:
-                yield f"{what}status {status}, {said}; the reader takes it"
+                yield f"{what}status {status}, {errors}; the reader takes it"
             elif read(text) != right:
                 yield f"{what}{read(text)}, the reader has {right}"
 
