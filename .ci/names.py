@@ -63,9 +63,9 @@ def tables():
     found = re.findall(r"<!-- rules: (\w+) (\w+) -->\n((?:\|.*\n)+)", text)
     good = bool(found)
     for module, name, table in found:
-        said = re.findall(r"^\| `(\w+)` \|", table, re.MULTILINE)
-        if said != rules(module, name):
-            print(f"names: docs/SESSIONS.md has {said} for {name}, and not {rules(module, name)}")
+        listed = re.findall(r"^\| `(\w+)` \|", table, re.MULTILINE)
+        if listed != rules(module, name):
+            print(f"names: docs/SESSIONS.md has {listed} for {name}, and not {rules(module, name)}")
             good = False
     return good
 
@@ -98,10 +98,10 @@ def requirements():
     for page in sorted((TOP / "docs").rglob("*.md")):
         text = page.read_text(encoding="utf-8")
         for crate, table in re.findall(r"<!-- requires: (\w+) -->\n((?:\|.*\n)+)", text):
-            said = {name for row in table.splitlines()[2:]
-                    for name in re.findall(r"`([\w:]+)`", row.split("|")[1])}
+            listed = {name for row in table.splitlines()[2:]
+                      for name in re.findall(r"`([\w:]+)`", row.split("|")[1])}
             wanted, found = preconditions(crate), found + 1
-            for name in sorted(said ^ wanted):
+            for name in sorted(listed ^ wanted):
                 lacks = "lacks" if name in wanted else "has, without a precondition,"
                 print(f"names: {page.relative_to(TOP)} {lacks} {name}")
                 good = False

@@ -71,13 +71,13 @@ def main():
         with ThreadPoolExecutor(2) as pool:
             in_time = pool.submit(tried, top, "view_in_time", INPUT, "")
             kept = pool.submit(tried, top, "view_kept", "", INPUT)
-        said, status = in_time.result()
-        if status != 0 or "true\n" not in said:
-            sys.exit(f"{said}\nrefused: a view that is looked at in time doesn't run")
-        said, status = kept.result()
-        errors = [line for line in said.splitlines() if "error[" in line]
+        output, status = in_time.result()
+        if status != 0 or "true\n" not in output:
+            sys.exit(f"{output}\nrefused: a view that is looked at in time doesn't run")
+        output, status = kept.result()
+        errors = [line for line in output.splitlines() if "error[" in line]
         if status == 0 or len(errors) != 1 or not errors[0].endswith(REFUSAL):
-            sys.exit(f"{said}\nrefused: a view kept longer than its input isn't refused")
+            sys.exit(f"{output}\nrefused: a view kept longer than its input isn't refused")
 
 
 if __name__ == "__main__":

@@ -185,7 +185,7 @@ def read_until(clients, done):
 
 
 def read_all(port, count):
-    """Lets so many clients read all data at once; returns what names the data."""
+    """Lets `count` clients read all data at once; returns what names the data."""
     clients = [Client(port, reset_query()) for _ in range(count)]
     read_until(clients, Client.has_end)
     for client in clients:
@@ -359,14 +359,14 @@ def how(name, loads):
     """The machine and the versions that it was measured with."""
     tools = [count.version(name) for name in ("gcc", "rustc") if shutil.which(name)]
     if shutil.which("go"):
-        said = subprocess.run(["go", "version"], capture_output=True, text=True).stdout
-        tools.append(f"go {re.search(r'go([0-9.]+)', said)[1]}")
+        version = subprocess.run(["go", "version"], capture_output=True, text=True).stdout
+        tools.append(f"go {re.search(r'go([0-9.]+)', version)[1]}")
     tools.append(f"stayrtr {processes.package_version('stayrtr')}")
     return (f"{name}: measured with {', '.join(tools)}, on {os.cpu_count()} processors under a load "
             f"of {min(loads):.0f} to {max(loads):.0f}.")
 
 
-def write(marker, run, table, said):
+def write(marker, run, table, run_line):
     """Renews a table of the page and the line below it."""
     with open(PAGE, encoding="utf-8") as file:
         lines = file.read().splitlines()
@@ -374,7 +374,7 @@ def write(marker, run, table, said):
     while end < len(lines) and lines[end].startswith("|"):
         end += 1
     lines[begin:end] = table
-    lines = [said if run.match(line) else line for line in lines]
+    lines = [run_line if run.match(line) else line for line in lines]
     with open(PAGE, "w", encoding="utf-8") as file:
         file.write("\n".join(lines) + "\n")
 
@@ -393,10 +393,10 @@ def main():
             rows.append(measured(kind(name, words, table, folder), asked.rounds))
             print(rows[-1], flush=True)
             loads.append(os.getloadavg()[0])
-    said = how("Caches", loads)
-    print(*rows, said, sep="\n")
+    run_line = how("Caches", loads)
+    print(*rows, run_line, sep="\n")
     if asked.write:
-        write(MARKER, RUN, rows, said)
+        write(MARKER, RUN, rows, run_line)
     return 0
 
 

@@ -83,8 +83,8 @@ def generated(units, shuffled):
 
 @contextlib.contextmanager
 def cache(units, shuffled=False):
-    """A cache of a table; its port. It is a process of its own, so that no client is told to have
-    had the memory of this one."""
+    """Runs a cache of a table, and yields its port. It is a process of its own, so that its memory
+    isn't counted as a client's."""
     with generated(units, shuffled) as made, subprocess.Popen(
             [sys.executable, "-c", CACHE], stdin=made.stdout, stdout=subprocess.PIPE) as server:
         try:
@@ -131,20 +131,20 @@ def clients(folder):
     return found
 
 
-def is_whole(said, units):
+def is_whole(errors, units):
     """Whether a client reports the whole table."""
-    return f": {units} payloads" in said or f"received {units} Prefix PDUs" in said
+    return f": {units} payloads" in errors or f"received {units} Prefix PDUs" in errors
 
 
 def run(words, units):
     """The processor time and the memory of a run, in seconds and in MiB."""
     with subprocess.Popen(words, stdout=subprocess.DEVNULL, stderr=subprocess.PIPE,
                           text=True) as process:
-        said = process.stderr.read()
+        errors = process.stderr.read()
         _, status, used = os.wait4(process.pid, 0)
         process.returncode = status
-    if status or not is_whole(said, units):
-        sys.exit(f"bench/clients.py: {words[0]} ended with {status}, and said {said[-300:]}")
+    if status or not is_whole(errors, units):
+        sys.exit(f"bench/clients.py: {words[0]} ended with {status}, and said {errors[-300:]}")
     return used.ru_utime + used.ru_stime, used.ru_maxrss / 1024
 
 
@@ -184,8 +184,8 @@ def how(loads):
     """The machine and the versions that it was measured with."""
     tools = [count.version(name) for name in ("gcc", "rustc") if shutil.which(name)]
     if shutil.which("go"):
-        said = subprocess.run(["go", "version"], capture_output=True, text=True).stdout
-        tools.append(f"go {re.search(r'go([0-9.]+)', said)[1]}")
+        version = subprocess.run(["go", "version"], capture_output=True, text=True).stdout
+        tools.append(f"go {re.search(r'go([0-9.]+)', version)[1]}")
     tools.append(f"rtr-tools {processes.package_version('rtr-tools')}")
     least, most = min(loads), max(loads)
     return (f"Measured with {', '.join(tools)}, on {os.cpu_count()} processors under a load of "
@@ -204,9 +204,9 @@ def check(found):
                 yield f"{name}: the lines aren't those of the table"
     with open(PAGE, encoding="utf-8") as file:
         lines = file.read().splitlines()
-    said = next(line for line in lines if RUN.match(line))
+    run_line = next(line for line in lines if RUN.match(line))
     here = [count.version(name) for name in ("gcc", "rustc") if shutil.which(name)]
-    if any(tool not in said for tool in here):
+    if any(tool not in run_line for tool in here):
         warn(f"docs/SPEED.md wasn't measured with {' and '.join(here)}: no instructions compared")
         return
     begin = lines.index(MARKER)

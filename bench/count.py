@@ -341,9 +341,9 @@ def written(page, found, machine, used):
         file.write("\n".join(lines) + "\n")
 
 
-def is_near(said, counted):
+def is_near(shown, counted):
     """Whether a number on a page is near enough."""
-    return abs(said - counted) <= max(LEAST, SHARE * counted)
+    return abs(shown - counted) <= max(LEAST, SHARE * counted)
 
 
 def wrong_cells(page, row, found):
@@ -376,11 +376,11 @@ def wrong_machine(lines, machine):
 def check(found, machine, used):
     """Compares the pages; returns how many rows were compared, and how many cells are wrong."""
     rows = wrong = 0
-    said = []
+    tool_lines = []
     for page in PAGES:
         with open(os.path.join(TOP, page), encoding="utf-8") as file:
             lines = file.read().splitlines()
-        said += [text for text in lines if TOOLS.match(text)]
+        tool_lines += [text for text in lines if TOOLS.match(text)]
         if MACHINE_MARKER in lines:
             rows += len(machine)
             wrong += wrong_machine(lines, machine)
@@ -392,7 +392,7 @@ def check(found, machine, used):
                 elif key[0] not in BENCH and any(key[1] == name.split()[0] for name in used):
                     print(f"{page}: no row that is counted: {' '.join(key)}")
                     wrong += 1
-    if rows == 0 or len(said) != 1:
+    if rows == 0 or len(tool_lines) != 1:
         print("the pages have no table, or don't say once what it was counted with")
         wrong += 1
     return rows, wrong
@@ -402,8 +402,9 @@ def same_tools(used):
     """Whether the pages were counted with these tools, except for a compiler that isn't
     installed."""
     with open(os.path.join(TOP, "docs", "SPEED.md"), encoding="utf-8") as file:
-        said = [text for text in file.read().splitlines() if TOOLS.match(text)]
-    return bool(said) and all(re.search(rf"\b{re.escape(name)}[,.]", said[0]) for name in used)
+        tool_lines = [text for text in file.read().splitlines() if TOOLS.match(text)]
+    return bool(tool_lines) and all(re.search(rf"\b{re.escape(name)}[,.]", tool_lines[0])
+                                    for name in used)
 
 
 def can_count(warns, *needed):

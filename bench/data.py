@@ -159,18 +159,18 @@ def rows_said():
     return [(row[0], row[1:]) for row in rows]
 
 
-def is_near(said, exact):
+def is_near(shown, exact):
     """Whether a number of the page is near enough."""
-    return re.fullmatch(r"[\d.]+", said) and abs(float(said) - exact) <= max(LEAST, SHARE * exact)
+    return re.fullmatch(r"[\d.]+", shown) and abs(float(shown) - exact) <= max(LEAST, SHARE * exact)
 
 
 def check(calls):
     """Compares the page; returns how many numbers are wrong."""
-    said, wrong, compared = rows_said(), 0, 0
-    if [name for name, _ in said] != [name for name, _ in calls]:
+    rows, wrong, compared = rows_said(), 0, 0
+    if [name for name, _ in rows] != [name for name, _ in calls]:
         print("docs/SPEED.md: the table of the calls has other rows")
         return 1
-    for (name, cells), (_, numbers) in zip(said, calls):
+    for (name, cells), (_, numbers) in zip(rows, calls):
         for cell, exact in zip(cells, numbers, strict=True):
             compared += 1
             if not is_near(cell, exact):

@@ -5,8 +5,8 @@
  * One router asks for all data, reads them unit by unit, and notes their end of data. Then the
  * program takes a step for each line of standard input, and prints a line when the step is done:
  *
- *   connect   so many routers connect, from addresses of 127.0.0.0/8, PER_ADDRESS from each
- *   all       they ask for all data at once, and pass over them up to their end of data
+ *   connect   COUNT routers connect, from addresses of 127.0.0.0/8, PER_ADDRESS from each
+ *   all       they ask for all data at once, and skip them up to their end of data
  *   changes   each answers a notify by a serial query, and reads up to the end of data
  *
  * The line has the name of the step, or `first`, its start and end in nanoseconds of the monotonic

@@ -24,7 +24,7 @@
 
 #define MOST_ROUNDS 99
 
-/* One in so many VRPs is a short one. */
+/* One VRP in FEW is a short one. */
 #define FEW 5000
 
 /* A VRP. Its bytes up to the AS compare in the order of payloads. */

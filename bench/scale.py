@@ -220,7 +220,7 @@ def servers(examples, folder, asked):
 def row(kind, name, words, table, size, many, shares):
     """The row of a server with a number of routers."""
     count, vrps = size
-    said = f"{count:,}" + (f", {vrps:,} VRPs" if vrps != VRPS else "")
+    amount = f"{count:,}" + (f", {vrps:,} VRPs" if vrps != VRPS else "")
     with tempfile.TemporaryDirectory() as folder:
         try:
             server = kind(name, words_of(words, count), table, folder)
@@ -229,7 +229,7 @@ def row(kind, name, words, table, size, many, shares):
         except Stopped as why:
             shares.setdefault(name, 0)
             cells = [str(why), *[""] * 5]
-    return f"| {name} | {said} | {' | '.join(cells)} |"
+    return f"| {name} | {amount} | {' | '.join(cells)} |"
 
 
 def sizes(text):
@@ -258,10 +258,10 @@ def main():
             rows.append(row(kind, name, words, table, size, many, shares))
             print(rows[-1], flush=True)
             loads.append(os.getloadavg()[0])
-    said = cache.how("Scale", loads)
-    print(*HEAD, *rows, said, sep="\n")
+    run_line = cache.how("Scale", loads)
+    print(*HEAD, *rows, run_line, sep="\n")
     if asked.write:
-        cache.write(MARKER, RUN, [*HEAD, *rows], said)
+        cache.write(MARKER, RUN, [*HEAD, *rows], run_line)
     return 0
 
 

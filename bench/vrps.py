@@ -60,7 +60,7 @@ def commands():
 
 
 def make_list(folder, length):
-    """The path of a list of so many VRPs."""
+    """Writes a list of `length` VRPs, and returns its path."""
     path = os.path.join(folder, str(length))
     with open(path, "wb") as file:
         subprocess.run([count.source("generate_vrps.py"), "--vrps", str(length)], stdout=file,

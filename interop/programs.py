@@ -39,9 +39,9 @@ def run(words, content=b""):
 
 def listed(content):
     """Returns the units of a recording, as `rtr_list --json` prints them. A fault is an error."""
-    status, lines, said = run(["rtr_list", "--json"], content)
+    status, lines, errors = run(["rtr_list", "--json"], content)
     if status:
-        raise ValueError(f"rtr_list ends with {status}: {said}")
+        raise ValueError(f"rtr_list ends with {status}: {errors}")
     return [json.loads(line) for line in lines.splitlines()]
 
 
@@ -52,34 +52,34 @@ def line_of(unit):
 
 def found(content):
     """Returns the findings of `rtr_list --check`, a line each."""
-    status, lines, said = run(["rtr_list", "--check"], content)
+    status, lines, errors = run(["rtr_list", "--check"], content)
     counts = r"rtr_list: looked at units \d+, answers \d+"
-    if status not in (0, 1) or not re.fullmatch(counts, said):
-        raise ValueError(f"rtr_list --check ends with {status}: {said}")
+    if status not in (0, 1) or not re.fullmatch(counts, errors):
+        raise ValueError(f"rtr_list --check ends with {status}: {errors}")
     return lines.decode().splitlines()
 
 
 def differing(old, new):
     """Returns the output of `rtr_diff --json` for two files: a set of lines, with sorted fields."""
-    status, lines, said = run(["rtr_diff", "--json", old, new])
+    status, lines, errors = run(["rtr_diff", "--json", old, new])
     if status not in (0, 1):
-        raise ValueError(f"rtr_diff ends with {status}: {said}")
+        raise ValueError(f"rtr_diff ends with {status}: {errors}")
     return {json.dumps(json.loads(line), sort_keys=True) for line in lines.splitlines()}
 
 
 def units_of_change(old, new):
     """Returns the output of `rtr_diff --units` for two files."""
-    status, units, said = run(["rtr_diff", "--units", old, new])
+    status, units, errors = run(["rtr_diff", "--units", old, new])
     if status not in (0, 1):
-        raise ValueError(f"rtr_diff ends with {status}: {said}")
+        raise ValueError(f"rtr_diff ends with {status}: {errors}")
     return units
 
 
 def normalised(content):
     """Returns the output of `rtr_normalise` for a sequence."""
-    status, form, said = run(["rtr_normalise"], content)
+    status, form, errors = run(["rtr_normalise"], content)
     if status:
-        raise ValueError(f"rtr_normalise ends with {status}: {said}")
+        raise ValueError(f"rtr_normalise ends with {status}: {errors}")
     return form
 
 
@@ -87,15 +87,15 @@ def made(content, version):
     """Returns the output of `rtr_make --json` for a cache's file, without what the version
     lacks."""
     words = ["rtr_make", "--json", "--version", str(version), "--session", "4660", "--serial", "1"]
-    status, units, said = run([*words, "--drop", "--empty"], content)
+    status, units, errors = run([*words, "--drop", "--empty"], content)
     if status:
-        raise ValueError(f"rtr_make ends with {status}: {said}")
+        raise ValueError(f"rtr_make ends with {status}: {errors}")
     return units
 
 
 def cleaned(content):
     """Returns the output of `rtr_clean` for a session."""
-    status, clean, said = run(["rtr_clean"], content)
+    status, clean, errors = run(["rtr_clean"], content)
     if status:
-        raise ValueError(f"rtr_clean ends with {status}: {said}")
+        raise ValueError(f"rtr_clean ends with {status}: {errors}")
     return clean

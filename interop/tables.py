@@ -79,7 +79,7 @@ def scenes(found, part, names, across=False):
 
 
 def marks(name):
-    """Returns the pattern of the table between its marks of this name."""
+    """Returns a pattern that finds the marks of this name and the table between them."""
     return re.compile(rf"(<!-- measured: {name} -->\n)(.*?)(<!-- end -->)", re.DOTALL)
 
 
