@@ -1261,190 +1261,192 @@ static u32 w2c_rtr_error_code_nonnull(M *, u32, u64, u64, u64);
 static u32 w2c_f113(M *, u32, u64, u64, u64);
 static u32 w2c_rtr_group_best(M *, u64, u64);
 static u32 w2c_f115(M *, u64, u64);
+static u32 w2c_rtr_group_counts(M *, u64, u64);
+static u32 w2c_f117(M *, u64, u64);
 static u32 w2c_rtr_group_init(M *, u64, u64, u64, u64);
-static u32 w2c_f117(M *, u64, u64, u64, u64);
+static u32 w2c_f119(M *, u64, u64, u64, u64);
 static void w2c_rtr_group_usual(M *, u64);
-static void w2c_f119(M *, u64);
+static void w2c_f121(M *, u64);
 static u64 w2c_rtr_group_wakes(M *, u64);
-static u64 w2c_f121(M *, u64);
+static u64 w2c_f123(M *, u64);
 static u32 w2c_rtr_history_data_nonnull(M *, u64, u64, u64, u64);
-static u32 w2c_f123(M *, u64, u64, u64, u64);
+static u32 w2c_f125(M *, u64, u64, u64, u64);
 static u32 w2c_rtr_history_knows_nonnull(M *, u64, u64, u32);
-static u32 w2c_f125(M *, u64, u64, u32);
+static u32 w2c_f127(M *, u64, u64, u32);
 static u32 w2c_rtr_provider_nonnull(M *, u64, u64, u64, u64, u64);
-static u32 w2c_f127(M *, u64, u64, u64, u64, u64);
+static u32 w2c_f129(M *, u64, u64, u64, u64, u64);
 static u64 w2c_rtr_router_query_nonnull(M *, u64, u64, u64);
-static u64 w2c_f129(M *, u64, u64, u64);
+static u64 w2c_f131(M *, u64, u64, u64);
 static u32 w2c_rtr_serial_order(M *, u32, u32);
-static u32 w2c_f131(M *, u32, u32);
+static u32 w2c_f133(M *, u32, u32);
 static u32 w2c_rtr_store_open_nonnull(M *, u64, u64);
-static u32 w2c_f133(M *, u64, u64);
+static u32 w2c_f135(M *, u64, u64);
 static void w2c_rtr_store_seal_nonnull(M *, u64, u64, u64);
-static void w2c_f135(M *, u64, u64, u64);
+static void w2c_f137(M *, u64, u64, u64);
 static u32 w2c_rtr_times_rule(M *, u32, u32, u32);
-static u32 w2c_f137(M *, u32, u32, u32);
+static u32 w2c_f139(M *, u32, u32, u32);
 static u32 w2c_rtr_version_has(M *, u32, u32);
-static u32 w2c_f139(M *, u32, u32);
+static u32 w2c_f141(M *, u32, u32);
 static u32 w2c_rtr_wire_version(M *);
-static void w2c_f141(M *);
+static void w2c_f143(M *);
 static u32 w2c_rtr_cache_report_nonnull(M *, u64, u64, u64, u64, u64, u64);
-static u32 w2c_f143(M *, u64, u64, u64, u64, u64, u64);
-static u32 w2c_rtr_router_report_nonnull(M *, u64, u64, u64, u64, u64, u64);
 static u32 w2c_f145(M *, u64, u64, u64, u64, u64, u64);
+static u32 w2c_rtr_router_report_nonnull(M *, u64, u64, u64, u64, u64, u64);
+static u32 w2c_f147(M *, u64, u64, u64, u64, u64, u64);
 static u32 w2c_rtr_check_name_nonnull(M *, u64, u64, u64, u64, u64);
-static u32 w2c_f147(M *, u64, u64, u64, u64, u64);
+static u32 w2c_f149(M *, u64, u64, u64, u64, u64);
 static u32 w2c_rtr_unit_size_nonnull(M *, u64, u64, u64, u64);
-static u32 w2c_f149(M *, u64, u64, u64, u64);
+static u32 w2c_f151(M *, u64, u64, u64, u64);
 static void w2c_rtr_door_init(M *, u64, u64);
-static void w2c_f151(M *, u64, u64);
+static void w2c_f153(M *, u64, u64);
 static void w2c_rtr_server_settings_usual(M *, u64);
-static void w2c_f153(M *, u64);
+static void w2c_f155(M *, u64);
 static u32 w2c_rtr_router_has_data(M *, u64, u64);
-static u32 w2c_f155(M *, u64, u64);
+static u32 w2c_f157(M *, u64, u64);
 static u64 w2c_rtr_router_wakes(M *, u64);
-static u64 w2c_f157(M *, u64);
+static u64 w2c_f159(M *, u64);
 static void w2c_rtr_link_init(M *, u64, u64);
-static void w2c_f159(M *, u64, u64);
+static void w2c_f161(M *, u64, u64);
 static void w2c_rtr_router_again(M *, u64);
-static void w2c_f161(M *, u64);
+static void w2c_f163(M *, u64);
 static void w2c_rtr_router_init(M *, u64, u64);
-static void w2c_f163(M *, u64, u64);
+static void w2c_f165(M *, u64, u64);
 static void w2c_rtr_settings_usual(M *, u64, u32);
-static void w2c_f165(M *, u64, u32);
+static void w2c_f167(M *, u64, u32);
 static u32 w2c_rtr_covering_nonnull(M *, u64, u64, u64, u64, u64, u64);
-static u32 w2c_f167(M *, u64, u64, u64, u64, u64, u64);
+static u32 w2c_f169(M *, u64, u64, u64, u64, u64, u64);
 static void w2c_rtr_group_tick(M *, u64, u64, u64);
-static void w2c_f169(M *, u64, u64, u64);
+static void w2c_f171(M *, u64, u64, u64);
 static void w2c_rtr_check_end(M *, u64, u64);
-static void w2c_f171(M *, u64, u64);
+static void w2c_f173(M *, u64, u64);
 static u32 w2c_rtr_check_unit_nonnull(M *, u64, u64, u64, u32, u64);
-static u32 w2c_f173(M *, u64, u64, u64, u32, u64);
+static u32 w2c_f175(M *, u64, u64, u64, u32, u64);
 static u64 w2c_rtr_connection_wakes(M *, u64, u64, u64);
-static u64 w2c_f175(M *, u64, u64, u64);
-static u64 w2c_rtr_cache_unit_nonnull(M *, u64, u64, u64);
 static u64 w2c_f177(M *, u64, u64, u64);
+static u64 w2c_rtr_cache_unit_nonnull(M *, u64, u64, u64);
+static u64 w2c_f179(M *, u64, u64, u64);
 static u32 w2c_rtr_connection_answers(M *, u64, u64, u64, u64);
-static u32 w2c_f179(M *, u64, u64, u64, u64);
+static u32 w2c_f181(M *, u64, u64, u64, u64);
 static void w2c_rtr_connection_closed(M *, u64);
-static void w2c_f181(M *, u64);
+static void w2c_f183(M *, u64);
 static u32 w2c_rtr_connection_ends(M *, u64, u64, u64);
-static u32 w2c_f183(M *, u64, u64, u64);
+static u32 w2c_f185(M *, u64, u64, u64);
 static void w2c_rtr_connection_heard(M *, u64, u64, u64);
-static void w2c_f185(M *, u64, u64, u64);
-static void w2c_rtr_connection_init(M *, u64, u64, u64);
 static void w2c_f187(M *, u64, u64, u64);
-static void w2c_rtr_connection_received(M *, u64, u64, u64);
+static void w2c_rtr_connection_init(M *, u64, u64, u64);
 static void w2c_f189(M *, u64, u64, u64);
+static void w2c_rtr_connection_received(M *, u64, u64, u64);
+static void w2c_f191(M *, u64, u64, u64);
 static u32 w2c_rtr_connection_sent(M *, u64, u64, u64);
-static u32 w2c_f191(M *, u64, u64, u64);
+static u32 w2c_f193(M *, u64, u64, u64);
 static void w2c_rtr_group_drops(M *, u64, u64, u64, u64);
-static void w2c_f193(M *, u64, u64, u64, u64);
-static void w2c_rtr_group_fails(M *, u64, u64, u64, u64);
 static void w2c_f195(M *, u64, u64, u64, u64);
+static void w2c_rtr_group_fails(M *, u64, u64, u64, u64);
+static void w2c_f197(M *, u64, u64, u64, u64);
 static void w2c_rtr_group_shows(M *, u64, u64, u64, u64, u64);
-static void w2c_f197(M *, u64, u64, u64, u64, u64);
+static void w2c_f199(M *, u64, u64, u64, u64, u64);
 static void w2c_rtr_router_applied(M *, u64, u64, u64);
-static void w2c_f199(M *, u64, u64, u64);
-static void w2c_rtr_router_asked(M *, u64, u64, u64);
 static void w2c_f201(M *, u64, u64, u64);
-static void w2c_rtr_router_connected(M *, u64, u64, u64);
+static void w2c_rtr_router_asked(M *, u64, u64, u64);
 static void w2c_f203(M *, u64, u64, u64);
-static void w2c_rtr_router_lost(M *, u64, u64, u64);
+static void w2c_rtr_router_connected(M *, u64, u64, u64);
 static void w2c_f205(M *, u64, u64, u64);
+static void w2c_rtr_router_lost(M *, u64, u64, u64);
+static void w2c_f207(M *, u64, u64, u64);
 static void w2c_rtr_router_not_applied(M *, u64, u64, u32, u64);
-static void w2c_f207(M *, u64, u64, u32, u64);
+static void w2c_f209(M *, u64, u64, u32, u64);
 static void w2c_rtr_router_tick(M *, u64, u64, u64);
-static void w2c_f209(M *, u64, u64, u64);
+static void w2c_f211(M *, u64, u64, u64);
 static u32 w2c_rtr_connection_next(M *, u64, u64, u64, u64, u64, u64);
-static u32 w2c_f211(M *, u64, u64, u64, u64, u64, u64);
+static u32 w2c_f213(M *, u64, u64, u64, u64, u64, u64);
 static u32 w2c_rtr_stores_give_up(M *, u64);
-static u32 w2c_f213(M *, u64);
+static u32 w2c_f215(M *, u64);
 static void w2c_rtr_stores_new(M *, u64);
-static void w2c_f215(M *, u64);
+static void w2c_f217(M *, u64);
 static u32 w2c_rtr_stores_saved(M *, u64);
-static u32 w2c_f217(M *, u64);
+static u32 w2c_f219(M *, u64);
 static void w2c_rtr_stores_unsaved(M *, u64, u32);
-static void w2c_f219(M *, u64, u32);
+static void w2c_f221(M *, u64, u32);
 static u32 w2c_rtr_stores_state_nonnull(M *, u64, u64, u64, u64, u64, u64);
-static u32 w2c_f221(M *, u64, u64, u64, u64, u64, u64);
+static u32 w2c_f223(M *, u64, u64, u64, u64, u64, u64);
 static u32 w2c_rtr_link_again(M *, u64);
-static u32 w2c_f223(M *, u64);
-static u32 w2c_rtr_link_lost(M *, u64);
 static u32 w2c_f225(M *, u64);
-static u32 w2c_rtr_link_opened(M *, u64);
+static u32 w2c_rtr_link_lost(M *, u64);
 static u32 w2c_f227(M *, u64);
+static u32 w2c_rtr_link_opened(M *, u64);
+static u32 w2c_f229(M *, u64);
 static u32 w2c_rtr_link_received_nonnull(M *, u64, u64, u64, u64);
-static u32 w2c_f229(M *, u64, u64, u64);
+static u32 w2c_f231(M *, u64, u64, u64);
 static u32 w2c_rtr_link_sent_nonnull(M *, u64, u64, u64, u64);
-static u32 w2c_f231(M *, u64, u64, u64, u64);
+static u32 w2c_f233(M *, u64, u64, u64, u64);
 static u32 w2c_rtr_link_state_of(M *, u64, u64, u64, u64, u64, u64, u64);
-static u32 w2c_f233(M *, u64, u64, u64, u64, u64, u64, u64);
+static u32 w2c_f235(M *, u64, u64, u64, u64, u64, u64, u64);
 static u32 w2c_rtr_text_nonnull(M *, u32, u32, u64, u64, u64);
-static u32 w2c_f235(M *, u32, u32, u64, u64, u64);
-static u32 w2c_rtr_name_nonnull(M *, u32, u32, u64, u64, u64);
 static u32 w2c_f237(M *, u32, u32, u64, u64, u64);
+static u32 w2c_rtr_name_nonnull(M *, u32, u32, u64, u64, u64);
+static u32 w2c_f239(M *, u32, u32, u64, u64, u64);
 static u64 w2c_rtr_finding_line_nonnull(M *, u64, u64, u64, u64);
-static u64 w2c_f239(M *, u64, u64, u64, u64);
+static u64 w2c_f241(M *, u64, u64, u64, u64);
 static u32 w2c_rtr_link_ask_now_nonnull(M *, u64, u64, u64, u64, u64, u64, u64);
-static u32 w2c_f241(M *, u64, u64, u64, u64, u64, u64, u64);
-static u32 w2c_rtr_link_give_up_nonnull(M *, u64, u64, u64, u64, u64, u64, u64);
 static u32 w2c_f243(M *, u64, u64, u64, u64, u64, u64, u64);
+static u32 w2c_rtr_link_give_up_nonnull(M *, u64, u64, u64, u64, u64, u64, u64);
+static u32 w2c_f245(M *, u64, u64, u64, u64, u64, u64, u64);
 static u32 w2c_rtr_link_next_nonnull(M *, u64, u64, u64, u64, u64, u64, u64, u64, u64, u64, u64, u64, u64);
-static u32 w2c_f245(M *, u64, u64, u64, u64, u64, u64, u64, u64, u64, u64, u64, u64, u64);
+static u32 w2c_f247(M *, u64, u64, u64, u64, u64, u64, u64, u64, u64, u64, u64, u64, u64);
 static u32 w2c_rtr_validate_nonnull(M *, u64, u64, u64, u64);
-static u32 w2c_f247(M *, u64, u64, u64, u64);
+static u32 w2c_f249(M *, u64, u64, u64, u64);
 static void w2c_rtr_cache_full(M *, u64, u64, u64, u64);
-static void w2c_f249(M *, u64, u64, u64, u64);
-static void w2c_rtr_cache_lost(M *, u64, u64, u64, u64);
 static void w2c_f251(M *, u64, u64, u64, u64);
-static void w2c_rtr_cache_tick(M *, u64, u64, u64, u64);
+static void w2c_rtr_cache_lost(M *, u64, u64, u64, u64);
 static void w2c_f253(M *, u64, u64, u64, u64);
+static void w2c_rtr_cache_tick(M *, u64, u64, u64, u64);
+static void w2c_f255(M *, u64, u64, u64, u64);
 static u32 w2c_rtr_load_nonnull(M *, u64, u64, u64, u64, u64, u64, u64, u64, u64);
-static u32 w2c_f255(M *, u64, u64, u64, u64, u64, u64, u64, u64, u64);
+static u32 w2c_f257(M *, u64, u64, u64, u64, u64, u64, u64, u64, u64);
 static u32 w2c_rtr_same_meaning_nonnull(M *, u64, u64, u64, u64, u64, u64);
-static u32 w2c_f257(M *, u64, u64, u64, u64, u64, u64);
+static u32 w2c_f259(M *, u64, u64, u64, u64, u64, u64);
 static void w2c_rtr_cache_read_nonnull(M *, u64, u64, u64, u64, u64, u64, u64, u32, u64);
-static void w2c_f259(M *, u64, u64, u64, u64, u64, u64, u64, u32, u64);
+static void w2c_f261(M *, u64, u64, u64, u64, u64, u64, u64, u32, u64);
 static u32 w2c_rtr_next_nonnull(M *, u64, u64, u64);
-static u32 w2c_f261(M *, u64, u64, u64);
+static u32 w2c_f263(M *, u64, u64, u64);
 static u32 w2c_rtr_next_many_nonnull(M *, u64, u64, u64, u64, u64, u64);
-static u32 w2c_f263(M *, u64, u64, u64, u64, u64, u64);
+static u32 w2c_f265(M *, u64, u64, u64, u64, u64, u64);
 static u32 w2c_rtr_normalise_for_slice_nonnull(M *, u64, u64, u64, u64, u64, u32, u64);
-static u32 w2c_f265(M *, u64, u64, u64, u64, u64, u32, u64);
+static u32 w2c_f267(M *, u64, u64, u64, u64, u64, u32, u64);
 static u32 w2c_rtr_normalise_slice_nonnull(M *, u64, u64, u64, u64, u64, u64);
-static u32 w2c_f267(M *, u64, u64, u64, u64, u64, u64);
+static u32 w2c_f269(M *, u64, u64, u64, u64, u64, u64);
 static void w2c_rtr_router_read_nonnull(M *, u64, u64, u64, u64, u32, u64);
-static void w2c_f269(M *, u64, u64, u64, u64, u32, u64);
+static void w2c_f271(M *, u64, u64, u64, u64, u32, u64);
 static u32 w2c_rtr_write_unit_nonnull(M *, u64, u64, u64, u64, u64, u64);
-static u32 w2c_f271(M *, u64, u64, u64, u64, u64, u64);
+static u32 w2c_f273(M *, u64, u64, u64, u64, u64, u64);
 static u32 w2c_rtr_change_json_nonnull(M *, u64, u64, u64, u64, u64);
-static u32 w2c_f273(M *, u64, u64, u64, u64, u64);
-static u32 w2c_rtr_change_line_nonnull(M *, u64, u64, u64, u64, u64);
 static u32 w2c_f275(M *, u64, u64, u64, u64, u64);
+static u32 w2c_rtr_change_line_nonnull(M *, u64, u64, u64, u64, u64);
+static u32 w2c_f277(M *, u64, u64, u64, u64, u64);
 static u32 w2c_rtr_json_nonnull(M *, u64, u64, u64, u64, u64, u64);
-static u32 w2c_f277(M *, u64, u64, u64, u64, u64, u64);
-static u32 w2c_rtr_line_nonnull(M *, u64, u64, u64, u64, u64, u64);
 static u32 w2c_f279(M *, u64, u64, u64, u64, u64, u64);
+static u32 w2c_rtr_line_nonnull(M *, u64, u64, u64, u64, u64, u64);
+static u32 w2c_f281(M *, u64, u64, u64, u64, u64, u64);
 static u32 w2c_rtr_apply_in_order_nonnull(M *, u64, u64, u64, u64, u64, u64, u64, u64, u64);
-static u32 w2c_f281(M *, u64, u64, u64, u64, u64, u64, u64, u64, u64);
+static u32 w2c_f283(M *, u64, u64, u64, u64, u64, u64, u64, u64, u64);
 static u32 w2c_rtr_apply_nonnull(M *, u64, u64, u64, u64, u64, u64, u64);
-static u32 w2c_f283(M *, u64, u64, u64, u64, u64, u64, u64);
+static u32 w2c_f285(M *, u64, u64, u64, u64, u64, u64, u64);
 static u32 w2c_rtr_check_data_nonnull(M *, u64, u64, u64, u64);
-static u32 w2c_f285(M *, u64, u64, u64, u64);
+static u32 w2c_f287(M *, u64, u64, u64, u64);
 static u32 w2c_rtr_delta_nonnull(M *, u64, u64, u64, u64, u64, u64, u64);
-static u32 w2c_f287(M *, u64, u64, u64, u64, u64, u64, u64);
-static u32 w2c_rtr_order_nonnull(M *, u64, u64, u64, u64, u64, u64, u64);
 static u32 w2c_f289(M *, u64, u64, u64, u64, u64, u64, u64);
+static u32 w2c_rtr_order_nonnull(M *, u64, u64, u64, u64, u64, u64, u64);
+static u32 w2c_f291(M *, u64, u64, u64, u64, u64, u64, u64);
 static u32 w2c_rtr_history_serials_nonnull(M *, u64, u64, u64, u64, u64);
-static u32 w2c_f291(M *, u64, u64, u64, u64, u64);
+static u32 w2c_f293(M *, u64, u64, u64, u64, u64);
 static u32 w2c_rtr_history_since_nonnull(M *, u64, u64, u32, u32, u64, u64, u64, u64, u64, u64, u64, u64, u64);
-static u32 w2c_f293(M *, u64, u64, u32, u32, u64, u64, u64, u64, u64, u64, u64, u64, u64);
+static u32 w2c_f295(M *, u64, u64, u32, u32, u64, u64, u64, u64, u64, u64, u64, u64, u64);
 static u32 w2c_rtr_store_open_old_nonnull(M *, u64, u64, u64, u64, u64);
-static u32 w2c_f295(M *, u64, u64, u64, u64, u64);
+static u32 w2c_f297(M *, u64, u64, u64, u64, u64);
 static u32 w2c_rtr_stores_start_nonnull(M *, u64, u64, u64, u64, u64, u64, u64, u64, u64);
-static u32 w2c_f297(M *, u64, u64, u64, u64, u64, u64, u64, u64, u64);
+static u32 w2c_f299(M *, u64, u64, u64, u64, u64, u64, u64, u64, u64);
 static u32 w2c_rtr_stores_take_nonnull(M *, u64, u64, u64, u64, u64, u64, u64, u64, u64, u64, u64, u64, u64, u64);
-static u32 w2c_f299(M *, u64, u64, u64, u64, u64, u64, u64, u64, u64, u64, u64, u64, u64, u64);
+static u32 w2c_f301(M *, u64, u64, u64, u64, u64, u64, u64, u64, u64, u64, u64, u64, u64, u64);
 
 
 static u32 w2c_f0(M *m) {
@@ -86639,6 +86641,47 @@ i0 = l3;
 return i0;
 }
 
+static u32 w2c_rtr_group_counts(M *m, u64 p0, u64 p1) {
+u32 l2 = 0;
+u32 i0;
+u64 j0, j1;
+i0 = w2c_f0(m);
+i0 = !(i0);
+if (i0) goto B0;
+w2c_f2(m);
+abort();
+B0:;
+j0 = p0;
+j1 = p1;
+i0 = w2c_f117(m, j0, j1);
+l2 = i0;
+w2c_f1(m);
+i0 = l2;
+return i0;
+}
+
+static u32 w2c_f117(M *m, u64 p0, u64 p1) {
+u32 i0, i1;
+u64 j0, j1, j2;
+j0 = m->g0;
+j1 = m->lowest + 15;
+i0 = (u64)((s64)j0 > (s64)j1);
+if (i0) goto B0;
+abort();
+B0:;
+j0 = p1;
+j1 = 0ull;
+i0 = j0 != j1;
+j1 = p0;
+j2 = 4ull;
+j1 += j2;
+i1 = i32_load8_u(j1);
+i0 |= i1;
+i1 = 1u;
+i0 &= i1;
+return i0;
+}
+
 static u32 w2c_rtr_group_init(M *m, u64 p0, u64 p1, u64 p2, u64 p3) {
 u32 l4 = 0;
 u32 i0;
@@ -86653,14 +86696,14 @@ j0 = p0;
 j1 = p1;
 j2 = p2;
 j3 = p3;
-i0 = w2c_f117(m, j0, j1, j2, j3);
+i0 = w2c_f119(m, j0, j1, j2, j3);
 l4 = i0;
 w2c_f1(m);
 i0 = l4;
 return i0;
 }
 
-static u32 w2c_f117(M *m, u64 p0, u64 p1, u64 p2, u64 p3) {
+static u32 w2c_f119(M *m, u64 p0, u64 p1, u64 p2, u64 p3) {
 u32 l4 = 0, l5 = 0, l6 = 0;
 u64 l7 = 0;
 u32 i0, i1, i2, i4;
@@ -86783,11 +86826,11 @@ w2c_f2(m);
 abort();
 B0:;
 j0 = p0;
-w2c_f119(m, j0);
+w2c_f121(m, j0);
 w2c_f1(m);
 }
 
-static void w2c_f119(M *m, u64 p0) {
+static void w2c_f121(M *m, u64 p0) {
 u32 i0;
 u64 j0, j1;
 j0 = m->g0;
@@ -86811,14 +86854,14 @@ w2c_f2(m);
 abort();
 B0:;
 j0 = p0;
-j0 = w2c_f121(m, j0);
+j0 = w2c_f123(m, j0);
 p0 = j0;
 w2c_f1(m);
 j0 = p0;
 return j0;
 }
 
-static u64 w2c_f121(M *m, u64 p0) {
+static u64 w2c_f123(M *m, u64 p0) {
 u64 l1 = 0;
 u32 i0, i1, i2, i3, i4;
 u64 j0, j1, j2, j3, j4, j5;
@@ -86872,14 +86915,14 @@ j0 = p0;
 j1 = p1;
 j2 = p2;
 j3 = p3;
-i0 = w2c_f123(m, j0, j1, j2, j3);
+i0 = w2c_f125(m, j0, j1, j2, j3);
 l4 = i0;
 w2c_f1(m);
 i0 = l4;
 return i0;
 }
 
-static u32 w2c_f123(M *m, u64 p0, u64 p1, u64 p2, u64 p3) {
+static u32 w2c_f125(M *m, u64 p0, u64 p1, u64 p2, u64 p3) {
 u32 l6 = 0;
 u64 l4 = 0, l5 = 0;
 u32 i0, i1, i4;
@@ -86992,14 +87035,14 @@ B0:;
 j0 = p0;
 j1 = p1;
 i2 = p2;
-i0 = w2c_f125(m, j0, j1, i2);
+i0 = w2c_f127(m, j0, j1, i2);
 p2 = i0;
 w2c_f1(m);
 i0 = p2;
 return i0;
 }
 
-static u32 w2c_f125(M *m, u64 p0, u64 p1, u32 p2) {
+static u32 w2c_f127(M *m, u64 p0, u64 p1, u32 p2) {
 u32 l6 = 0, l7 = 0;
 u64 l3 = 0, l4 = 0, l5 = 0;
 u32 i0, i1, i2, i4;
@@ -87273,14 +87316,14 @@ j1 = p1;
 j2 = p2;
 j3 = p3;
 j4 = p4;
-i0 = w2c_f127(m, j0, j1, j2, j3, j4);
+i0 = w2c_f129(m, j0, j1, j2, j3, j4);
 l5 = i0;
 w2c_f1(m);
 i0 = l5;
 return i0;
 }
 
-static u32 w2c_f127(M *m, u64 p0, u64 p1, u64 p2, u64 p3, u64 p4) {
+static u32 w2c_f129(M *m, u64 p0, u64 p1, u64 p2, u64 p3, u64 p4) {
 u32 l5 = 0;
 u64 l6 = 0;
 u32 i0, i1, i2, i3, i4;
@@ -87375,14 +87418,14 @@ B0:;
 j0 = p0;
 j1 = p1;
 j2 = p2;
-j0 = w2c_f129(m, j0, j1, j2);
+j0 = w2c_f131(m, j0, j1, j2);
 p2 = j0;
 w2c_f1(m);
 j0 = p2;
 return j0;
 }
 
-static u64 w2c_f129(M *m, u64 p0, u64 p1, u64 p2) {
+static u64 w2c_f131(M *m, u64 p0, u64 p1, u64 p2) {
 u32 l3 = 0, l4 = 0, l5 = 0;
 u32 i0, i1, i2, i3;
 u64 j0, j1, j2, j3;
@@ -87496,14 +87539,14 @@ abort();
 B0:;
 i0 = p0;
 i1 = p1;
-i0 = w2c_f131(m, i0, i1);
+i0 = w2c_f133(m, i0, i1);
 p1 = i0;
 w2c_f1(m);
 i0 = p1;
 return i0;
 }
 
-static u32 w2c_f131(M *m, u32 p0, u32 p1) {
+static u32 w2c_f133(M *m, u32 p0, u32 p1) {
 u32 i0, i1, i2, i3;
 u64 j0, j1;
 j0 = m->g0;
@@ -87552,14 +87595,14 @@ abort();
 B0:;
 j0 = p0;
 j1 = p1;
-i0 = w2c_f133(m, j0, j1);
+i0 = w2c_f135(m, j0, j1);
 l2 = i0;
 w2c_f1(m);
 i0 = l2;
 return i0;
 }
 
-static u32 w2c_f133(M *m, u64 p0, u64 p1) {
+static u32 w2c_f135(M *m, u64 p0, u64 p1) {
 u32 l10 = 0;
 u64 l2 = 0, l3 = 0, l4 = 0, l5 = 0, l6 = 0, l7 = 0, l8 = 0, l9 = 0;
 u32 i0, i1, i3;
@@ -87864,11 +87907,11 @@ B0:;
 j0 = p0;
 j1 = p1;
 j2 = p2;
-w2c_f135(m, j0, j1, j2);
+w2c_f137(m, j0, j1, j2);
 w2c_f1(m);
 }
 
-static void w2c_f135(M *m, u64 p0, u64 p1, u64 p2) {
+static void w2c_f137(M *m, u64 p0, u64 p1, u64 p2) {
 u64 l3 = 0, l4 = 0, l5 = 0, l6 = 0, l7 = 0, l8 = 0, l9 = 0;
 u32 i0, i1, i2;
 u64 j0, j1, j2, j3, j4, j5;
@@ -88098,14 +88141,14 @@ B0:;
 i0 = p0;
 i1 = p1;
 i2 = p2;
-i0 = w2c_f137(m, i0, i1, i2);
+i0 = w2c_f139(m, i0, i1, i2);
 p2 = i0;
 w2c_f1(m);
 i0 = p2;
 return i0;
 }
 
-static u32 w2c_f137(M *m, u32 p0, u32 p1, u32 p2) {
+static u32 w2c_f139(M *m, u32 p0, u32 p1, u32 p2) {
 u32 i0, i1, i2, i3;
 u64 j0, j1;
 j0 = m->g0;
@@ -88177,14 +88220,14 @@ abort();
 B0:;
 i0 = p0;
 i1 = p1;
-i0 = w2c_f139(m, i0, i1);
+i0 = w2c_f141(m, i0, i1);
 p1 = i0;
 w2c_f1(m);
 i0 = p1;
 return i0;
 }
 
-static u32 w2c_f139(M *m, u32 p0, u32 p1) {
+static u32 w2c_f141(M *m, u32 p0, u32 p1) {
 u32 l2 = 0, l3 = 0;
 u32 i0, i1, i2, i3;
 u64 j0, j1;
@@ -88264,13 +88307,13 @@ if (i0) goto B0;
 w2c_f2(m);
 abort();
 B0:;
-w2c_f141(m);
+w2c_f143(m);
 w2c_f1(m);
 i0 = 300u;
 return i0;
 }
 
-static void w2c_f141(M *m) {
+static void w2c_f143(M *m) {
 u32 i0;
 u64 j0, j1;
 j0 = m->g0;
@@ -88297,14 +88340,14 @@ j2 = p2;
 j3 = p3;
 j4 = p4;
 j5 = p5;
-i0 = w2c_f143(m, j0, j1, j2, j3, j4, j5);
+i0 = w2c_f145(m, j0, j1, j2, j3, j4, j5);
 l6 = i0;
 w2c_f1(m);
 i0 = l6;
 return i0;
 }
 
-static u32 w2c_f143(M *m, u64 p0, u64 p1, u64 p2, u64 p3, u64 p4, u64 p5) {
+static u32 w2c_f145(M *m, u64 p0, u64 p1, u64 p2, u64 p3, u64 p4, u64 p5) {
 u32 l18 = 0, l19 = 0, l20 = 0, l21 = 0, l22 = 0, l23 = 0, l24 = 0, l25 = 0,
 l26 = 0;
 u64 l6 = 0, l7 = 0, l8 = 0, l9 = 0, l10 = 0, l11 = 0, l12 = 0, l13 = 0,
@@ -89817,14 +89860,14 @@ j2 = p2;
 j3 = p3;
 j4 = p4;
 j5 = p5;
-i0 = w2c_f145(m, j0, j1, j2, j3, j4, j5);
+i0 = w2c_f147(m, j0, j1, j2, j3, j4, j5);
 l6 = i0;
 w2c_f1(m);
 i0 = l6;
 return i0;
 }
 
-static u32 w2c_f145(M *m, u64 p0, u64 p1, u64 p2, u64 p3, u64 p4, u64 p5) {
+static u32 w2c_f147(M *m, u64 p0, u64 p1, u64 p2, u64 p3, u64 p4, u64 p5) {
 u32 l8 = 0, l9 = 0, l10 = 0, l11 = 0, l12 = 0, l13 = 0;
 u64 l6 = 0, l7 = 0;
 u32 i0, i1, i2, i3, i4, i7, i9;
@@ -90103,14 +90146,14 @@ j1 = p1;
 j2 = p2;
 j3 = p3;
 j4 = p4;
-i0 = w2c_f147(m, j0, j1, j2, j3, j4);
+i0 = w2c_f149(m, j0, j1, j2, j3, j4);
 l5 = i0;
 w2c_f1(m);
 i0 = l5;
 return i0;
 }
 
-static u32 w2c_f147(M *m, u64 p0, u64 p1, u64 p2, u64 p3, u64 p4) {
+static u32 w2c_f149(M *m, u64 p0, u64 p1, u64 p2, u64 p3, u64 p4) {
 u32 l15 = 0, l16 = 0, l17 = 0;
 u64 l5 = 0, l6 = 0, l7 = 0, l8 = 0, l9 = 0, l10 = 0, l11 = 0, l12 = 0,
 l13 = 0, l14 = 0;
@@ -90929,14 +90972,14 @@ j0 = p0;
 j1 = p1;
 j2 = p2;
 j3 = p3;
-i0 = w2c_f149(m, j0, j1, j2, j3);
+i0 = w2c_f151(m, j0, j1, j2, j3);
 l4 = i0;
 w2c_f1(m);
 i0 = l4;
 return i0;
 }
 
-static u32 w2c_f149(M *m, u64 p0, u64 p1, u64 p2, u64 p3) {
+static u32 w2c_f151(M *m, u64 p0, u64 p1, u64 p2, u64 p3) {
 u32 l5 = 0, l6 = 0, l7 = 0, l8 = 0, l9 = 0;
 u64 l4 = 0;
 u32 i0, i1, i2, i3, i4;
@@ -91210,11 +91253,11 @@ abort();
 B0:;
 j0 = p0;
 j1 = p1;
-w2c_f151(m, j0, j1);
+w2c_f153(m, j0, j1);
 w2c_f1(m);
 }
 
-static void w2c_f151(M *m, u64 p0, u64 p1) {
+static void w2c_f153(M *m, u64 p0, u64 p1) {
 u32 i0;
 u64 j0, j1;
 j0 = m->g0;
@@ -91246,11 +91289,11 @@ w2c_f2(m);
 abort();
 B0:;
 j0 = p0;
-w2c_f153(m, j0);
+w2c_f155(m, j0);
 w2c_f1(m);
 }
 
-static void w2c_f153(M *m, u64 p0) {
+static void w2c_f155(M *m, u64 p0) {
 u32 i0;
 u64 j0, j1;
 j0 = m->g0;
@@ -91297,14 +91340,14 @@ abort();
 B0:;
 j0 = p0;
 j1 = p1;
-i0 = w2c_f155(m, j0, j1);
+i0 = w2c_f157(m, j0, j1);
 l2 = i0;
 w2c_f1(m);
 i0 = l2;
 return i0;
 }
 
-static u32 w2c_f155(M *m, u64 p0, u64 p1) {
+static u32 w2c_f157(M *m, u64 p0, u64 p1) {
 u32 i0, i1;
 u64 j0, j1, j2;
 j0 = m->g0;
@@ -91337,14 +91380,14 @@ w2c_f2(m);
 abort();
 B0:;
 j0 = p0;
-j0 = w2c_f157(m, j0);
+j0 = w2c_f159(m, j0);
 p0 = j0;
 w2c_f1(m);
 j0 = p0;
 return j0;
 }
 
-static u64 w2c_f157(M *m, u64 p0) {
+static u64 w2c_f159(M *m, u64 p0) {
 u32 l4 = 0;
 u64 l1 = 0, l2 = 0, l3 = 0;
 u32 i0, i1, i2, i3;
@@ -91428,11 +91471,11 @@ abort();
 B0:;
 j0 = p0;
 j1 = p1;
-w2c_f159(m, j0, j1);
+w2c_f161(m, j0, j1);
 w2c_f1(m);
 }
 
-static void w2c_f159(M *m, u64 p0, u64 p1) {
+static void w2c_f161(M *m, u64 p0, u64 p1) {
 u32 l2 = 0, l3 = 0;
 u64 l4 = 0, l5 = 0, l6 = 0, l7 = 0;
 u32 i0, i1, i2, i3, i4;
@@ -91536,11 +91579,11 @@ w2c_f2(m);
 abort();
 B0:;
 j0 = p0;
-w2c_f161(m, j0);
+w2c_f163(m, j0);
 w2c_f1(m);
 }
 
-static void w2c_f161(M *m, u64 p0) {
+static void w2c_f163(M *m, u64 p0) {
 u32 l2 = 0;
 u64 l1 = 0;
 u32 i0, i1, i2, i3, i4;
@@ -91603,11 +91646,11 @@ abort();
 B0:;
 j0 = p0;
 j1 = p1;
-w2c_f163(m, j0, j1);
+w2c_f165(m, j0, j1);
 w2c_f1(m);
 }
 
-static void w2c_f163(M *m, u64 p0, u64 p1) {
+static void w2c_f165(M *m, u64 p0, u64 p1) {
 u32 l2 = 0, l3 = 0;
 u64 l4 = 0, l5 = 0, l6 = 0, l7 = 0;
 u32 i0, i1, i2, i3, i4;
@@ -91709,11 +91752,11 @@ abort();
 B0:;
 j0 = p0;
 i1 = p1;
-w2c_f165(m, j0, i1);
+w2c_f167(m, j0, i1);
 w2c_f1(m);
 }
 
-static void w2c_f165(M *m, u64 p0, u32 p1) {
+static void w2c_f167(M *m, u64 p0, u32 p1) {
 u32 i0, i1, i2, i3, i4;
 u64 j0, j1;
 j0 = m->g0;
@@ -91772,14 +91815,14 @@ j2 = p2;
 j3 = p3;
 j4 = p4;
 j5 = p5;
-i0 = w2c_f167(m, j0, j1, j2, j3, j4, j5);
+i0 = w2c_f169(m, j0, j1, j2, j3, j4, j5);
 l6 = i0;
 w2c_f1(m);
 i0 = l6;
 return i0;
 }
 
-static u32 w2c_f167(M *m, u64 p0, u64 p1, u64 p2, u64 p3, u64 p4, u64 p5) {
+static u32 w2c_f169(M *m, u64 p0, u64 p1, u64 p2, u64 p3, u64 p4, u64 p5) {
 u32 l10 = 0, l11 = 0, l12 = 0, l13 = 0, l14 = 0, l15 = 0, l16 = 0;
 u64 l6 = 0, l7 = 0, l8 = 0, l9 = 0;
 u32 i0, i1, i2, i3, i5, i6, i7, i8,
@@ -92266,11 +92309,11 @@ B0:;
 j0 = p0;
 j1 = p1;
 j2 = p2;
-w2c_f169(m, j0, j1, j2);
+w2c_f171(m, j0, j1, j2);
 w2c_f1(m);
 }
 
-static void w2c_f169(M *m, u64 p0, u64 p1, u64 p2) {
+static void w2c_f171(M *m, u64 p0, u64 p1, u64 p2) {
 u32 l9 = 0, l10 = 0, l11 = 0;
 u64 l3 = 0, l4 = 0, l5 = 0, l6 = 0, l7 = 0, l8 = 0;
 u32 i0, i1, i2, i3, i4;
@@ -92577,11 +92620,11 @@ abort();
 B0:;
 j0 = p0;
 j1 = p1;
-w2c_f171(m, j0, j1);
+w2c_f173(m, j0, j1);
 w2c_f1(m);
 }
 
-static void w2c_f171(M *m, u64 p0, u64 p1) {
+static void w2c_f173(M *m, u64 p0, u64 p1) {
 u32 l2 = 0;
 u32 i0, i1, i2, i3, i4, i5;
 u64 j0, j1;
@@ -92634,14 +92677,14 @@ j1 = p1;
 j2 = p2;
 i3 = p3;
 j4 = p4;
-i0 = w2c_f173(m, j0, j1, j2, i3, j4);
+i0 = w2c_f175(m, j0, j1, j2, i3, j4);
 p3 = i0;
 w2c_f1(m);
 i0 = p3;
 return i0;
 }
 
-static u32 w2c_f173(M *m, u64 p0, u64 p1, u64 p2, u32 p3, u64 p4) {
+static u32 w2c_f175(M *m, u64 p0, u64 p1, u64 p2, u32 p3, u64 p4) {
 u32 l11 = 0, l12 = 0, l13 = 0, l14 = 0, l15 = 0, l16 = 0, l17 = 0, l18 = 0,
 l19 = 0, l20 = 0, l21 = 0, l22 = 0, l23 = 0, l24 = 0, l25 = 0, l26 = 0,
 l27 = 0, l28 = 0, l29 = 0, l30 = 0, l31 = 0, l32 = 0, l33 = 0, l34 = 0,
@@ -95259,14 +95302,14 @@ B0:;
 j0 = p0;
 j1 = p1;
 j2 = p2;
-j0 = w2c_f175(m, j0, j1, j2);
+j0 = w2c_f177(m, j0, j1, j2);
 p2 = j0;
 w2c_f1(m);
 j0 = p2;
 return j0;
 }
 
-static u64 w2c_f175(M *m, u64 p0, u64 p1, u64 p2) {
+static u64 w2c_f177(M *m, u64 p0, u64 p1, u64 p2) {
 u32 l6 = 0, l7 = 0, l8 = 0, l9 = 0, l10 = 0, l11 = 0, l12 = 0, l13 = 0,
 l14 = 0;
 u64 l3 = 0, l4 = 0, l5 = 0;
@@ -95522,14 +95565,14 @@ B0:;
 j0 = p0;
 j1 = p1;
 j2 = p2;
-j0 = w2c_f177(m, j0, j1, j2);
+j0 = w2c_f179(m, j0, j1, j2);
 p2 = j0;
 w2c_f1(m);
 j0 = p2;
 return j0;
 }
 
-static u64 w2c_f177(M *m, u64 p0, u64 p1, u64 p2) {
+static u64 w2c_f179(M *m, u64 p0, u64 p1, u64 p2) {
 u32 l4 = 0, l5 = 0, l6 = 0;
 u64 l3 = 0;
 u32 i0, i1, i2, i3;
@@ -95688,14 +95731,14 @@ j0 = p0;
 j1 = p1;
 j2 = p2;
 j3 = p3;
-i0 = w2c_f179(m, j0, j1, j2, j3);
+i0 = w2c_f181(m, j0, j1, j2, j3);
 l4 = i0;
 w2c_f1(m);
 i0 = l4;
 return i0;
 }
 
-static u32 w2c_f179(M *m, u64 p0, u64 p1, u64 p2, u64 p3) {
+static u32 w2c_f181(M *m, u64 p0, u64 p1, u64 p2, u64 p3) {
 u32 l11 = 0, l12 = 0;
 u64 l4 = 0, l5 = 0, l6 = 0, l7 = 0, l8 = 0, l9 = 0, l10 = 0;
 u32 i0, i1, i2, i3, i4;
@@ -95817,11 +95860,11 @@ w2c_f2(m);
 abort();
 B0:;
 j0 = p0;
-w2c_f181(m, j0);
+w2c_f183(m, j0);
 w2c_f1(m);
 }
 
-static void w2c_f181(M *m, u64 p0) {
+static void w2c_f183(M *m, u64 p0) {
 u32 l1 = 0;
 u32 i0, i1, i2, i3, i4;
 u64 j0, j1, j2, j3;
@@ -95892,14 +95935,14 @@ B0:;
 j0 = p0;
 j1 = p1;
 j2 = p2;
-i0 = w2c_f183(m, j0, j1, j2);
+i0 = w2c_f185(m, j0, j1, j2);
 l3 = i0;
 w2c_f1(m);
 i0 = l3;
 return i0;
 }
 
-static u32 w2c_f183(M *m, u64 p0, u64 p1, u64 p2) {
+static u32 w2c_f185(M *m, u64 p0, u64 p1, u64 p2) {
 u32 l10 = 0, l11 = 0;
 u64 l3 = 0, l4 = 0, l5 = 0, l6 = 0, l7 = 0, l8 = 0, l9 = 0;
 u32 i0, i1, i2, i3;
@@ -96027,11 +96070,11 @@ B0:;
 j0 = p0;
 j1 = p1;
 j2 = p2;
-w2c_f185(m, j0, j1, j2);
+w2c_f187(m, j0, j1, j2);
 w2c_f1(m);
 }
 
-static void w2c_f185(M *m, u64 p0, u64 p1, u64 p2) {
+static void w2c_f187(M *m, u64 p0, u64 p1, u64 p2) {
 u32 l7 = 0, l8 = 0;
 u64 l3 = 0, l4 = 0, l5 = 0, l6 = 0;
 u32 i0, i1, i2, i3, i4;
@@ -96138,11 +96181,11 @@ B0:;
 j0 = p0;
 j1 = p1;
 j2 = p2;
-w2c_f187(m, j0, j1, j2);
+w2c_f189(m, j0, j1, j2);
 w2c_f1(m);
 }
 
-static void w2c_f187(M *m, u64 p0, u64 p1, u64 p2) {
+static void w2c_f189(M *m, u64 p0, u64 p1, u64 p2) {
 u32 l8 = 0, l9 = 0, l10 = 0;
 u64 l3 = 0, l4 = 0, l5 = 0, l6 = 0, l7 = 0;
 u32 i0, i1;
@@ -96267,11 +96310,11 @@ B0:;
 j0 = p0;
 j1 = p1;
 j2 = p2;
-w2c_f189(m, j0, j1, j2);
+w2c_f191(m, j0, j1, j2);
 w2c_f1(m);
 }
 
-static void w2c_f189(M *m, u64 p0, u64 p1, u64 p2) {
+static void w2c_f191(M *m, u64 p0, u64 p1, u64 p2) {
 u32 l9 = 0, l10 = 0;
 u64 l3 = 0, l4 = 0, l5 = 0, l6 = 0, l7 = 0, l8 = 0;
 u32 i0, i1, i2, i3, i4;
@@ -96387,14 +96430,14 @@ B0:;
 j0 = p0;
 j1 = p1;
 j2 = p2;
-i0 = w2c_f191(m, j0, j1, j2);
+i0 = w2c_f193(m, j0, j1, j2);
 l3 = i0;
 w2c_f1(m);
 i0 = l3;
 return i0;
 }
 
-static u32 w2c_f191(M *m, u64 p0, u64 p1, u64 p2) {
+static u32 w2c_f193(M *m, u64 p0, u64 p1, u64 p2) {
 u32 l10 = 0;
 u64 l3 = 0, l4 = 0, l5 = 0, l6 = 0, l7 = 0, l8 = 0, l9 = 0;
 u32 i0, i1, i2, i3, i4;
@@ -96511,11 +96554,11 @@ j0 = p0;
 j1 = p1;
 j2 = p2;
 j3 = p3;
-w2c_f193(m, j0, j1, j2, j3);
+w2c_f195(m, j0, j1, j2, j3);
 w2c_f1(m);
 }
 
-static void w2c_f193(M *m, u64 p0, u64 p1, u64 p2, u64 p3) {
+static void w2c_f195(M *m, u64 p0, u64 p1, u64 p2, u64 p3) {
 u64 l4 = 0;
 u32 i0, i1, i4;
 u64 j0, j1, j2, j3, j5;
@@ -96585,11 +96628,11 @@ j0 = p0;
 j1 = p1;
 j2 = p2;
 j3 = p3;
-w2c_f195(m, j0, j1, j2, j3);
+w2c_f197(m, j0, j1, j2, j3);
 w2c_f1(m);
 }
 
-static void w2c_f195(M *m, u64 p0, u64 p1, u64 p2, u64 p3) {
+static void w2c_f197(M *m, u64 p0, u64 p1, u64 p2, u64 p3) {
 u64 l4 = 0;
 u32 i0, i1, i4;
 u64 j0, j1, j2, j3, j5;
@@ -96660,11 +96703,11 @@ j1 = p1;
 j2 = p2;
 j3 = p3;
 j4 = p4;
-w2c_f197(m, j0, j1, j2, j3, j4);
+w2c_f199(m, j0, j1, j2, j3, j4);
 w2c_f1(m);
 }
 
-static void w2c_f197(M *m, u64 p0, u64 p1, u64 p2, u64 p3, u64 p4) {
+static void w2c_f199(M *m, u64 p0, u64 p1, u64 p2, u64 p3, u64 p4) {
 u64 l5 = 0;
 u32 i0, i1, i4;
 u64 j0, j1, j2, j3, j5;
@@ -96733,11 +96776,11 @@ B0:;
 j0 = p0;
 j1 = p1;
 j2 = p2;
-w2c_f199(m, j0, j1, j2);
+w2c_f201(m, j0, j1, j2);
 w2c_f1(m);
 }
 
-static void w2c_f199(M *m, u64 p0, u64 p1, u64 p2) {
+static void w2c_f201(M *m, u64 p0, u64 p1, u64 p2) {
 u64 l3 = 0;
 u32 i0, i1;
 u64 j0, j1, j2, j3, j4;
@@ -96830,11 +96873,11 @@ B0:;
 j0 = p0;
 j1 = p1;
 j2 = p2;
-w2c_f201(m, j0, j1, j2);
+w2c_f203(m, j0, j1, j2);
 w2c_f1(m);
 }
 
-static void w2c_f201(M *m, u64 p0, u64 p1, u64 p2) {
+static void w2c_f203(M *m, u64 p0, u64 p1, u64 p2) {
 u64 l3 = 0;
 u32 i0, i1;
 u64 j0, j1, j2, j3, j4;
@@ -96927,11 +96970,11 @@ B0:;
 j0 = p0;
 j1 = p1;
 j2 = p2;
-w2c_f203(m, j0, j1, j2);
+w2c_f205(m, j0, j1, j2);
 w2c_f1(m);
 }
 
-static void w2c_f203(M *m, u64 p0, u64 p1, u64 p2) {
+static void w2c_f205(M *m, u64 p0, u64 p1, u64 p2) {
 u64 l3 = 0;
 u32 i0, i1;
 u64 j0, j1, j2, j3, j4;
@@ -97024,11 +97067,11 @@ B0:;
 j0 = p0;
 j1 = p1;
 j2 = p2;
-w2c_f205(m, j0, j1, j2);
+w2c_f207(m, j0, j1, j2);
 w2c_f1(m);
 }
 
-static void w2c_f205(M *m, u64 p0, u64 p1, u64 p2) {
+static void w2c_f207(M *m, u64 p0, u64 p1, u64 p2) {
 u64 l3 = 0;
 u32 i0, i1;
 u64 j0, j1, j2, j3, j4;
@@ -97122,11 +97165,11 @@ j0 = p0;
 j1 = p1;
 i2 = p2;
 j3 = p3;
-w2c_f207(m, j0, j1, i2, j3);
+w2c_f209(m, j0, j1, i2, j3);
 w2c_f1(m);
 }
 
-static void w2c_f207(M *m, u64 p0, u64 p1, u32 p2, u64 p3) {
+static void w2c_f209(M *m, u64 p0, u64 p1, u32 p2, u64 p3) {
 u32 l6 = 0, l7 = 0;
 u64 l4 = 0, l5 = 0;
 u32 i0, i1, i2;
@@ -97276,11 +97319,11 @@ B0:;
 j0 = p0;
 j1 = p1;
 j2 = p2;
-w2c_f209(m, j0, j1, j2);
+w2c_f211(m, j0, j1, j2);
 w2c_f1(m);
 }
 
-static void w2c_f209(M *m, u64 p0, u64 p1, u64 p2) {
+static void w2c_f211(M *m, u64 p0, u64 p1, u64 p2) {
 u64 l3 = 0;
 u32 i0, i1;
 u64 j0, j1, j2, j3, j4;
@@ -97374,14 +97417,14 @@ j2 = p2;
 j3 = p3;
 j4 = p4;
 j5 = p5;
-i0 = w2c_f211(m, j0, j1, j2, j3, j4, j5);
+i0 = w2c_f213(m, j0, j1, j2, j3, j4, j5);
 l6 = i0;
 w2c_f1(m);
 i0 = l6;
 return i0;
 }
 
-static u32 w2c_f211(M *m, u64 p0, u64 p1, u64 p2, u64 p3, u64 p4, u64 p5) {
+static u32 w2c_f213(M *m, u64 p0, u64 p1, u64 p2, u64 p3, u64 p4, u64 p5) {
 u32 l6 = 0, l7 = 0, l8 = 0, l9 = 0, l10 = 0, l11 = 0, l12 = 0, l13 = 0,
 l14 = 0, l15 = 0, l16 = 0, l17 = 0;
 u64 l18 = 0, l19 = 0;
@@ -97774,14 +97817,14 @@ w2c_f2(m);
 abort();
 B0:;
 j0 = p0;
-i0 = w2c_f213(m, j0);
+i0 = w2c_f215(m, j0);
 l1 = i0;
 w2c_f1(m);
 i0 = l1;
 return i0;
 }
 
-static u32 w2c_f213(M *m, u64 p0) {
+static u32 w2c_f215(M *m, u64 p0) {
 u32 l1 = 0, l2 = 0, l3 = 0, l4 = 0, l5 = 0, l6 = 0;
 u64 l7 = 0;
 u32 i0, i1, i2;
@@ -97940,11 +97983,11 @@ w2c_f2(m);
 abort();
 B0:;
 j0 = p0;
-w2c_f215(m, j0);
+w2c_f217(m, j0);
 w2c_f1(m);
 }
 
-static void w2c_f215(M *m, u64 p0) {
+static void w2c_f217(M *m, u64 p0) {
 u32 i0, i1;
 u64 j0, j1;
 j0 = m->g0;
@@ -97981,14 +98024,14 @@ w2c_f2(m);
 abort();
 B0:;
 j0 = p0;
-i0 = w2c_f217(m, j0);
+i0 = w2c_f219(m, j0);
 l1 = i0;
 w2c_f1(m);
 i0 = l1;
 return i0;
 }
 
-static u32 w2c_f217(M *m, u64 p0) {
+static u32 w2c_f219(M *m, u64 p0) {
 u32 l1 = 0, l2 = 0, l3 = 0, l4 = 0, l5 = 0, l6 = 0;
 u64 l7 = 0;
 u32 i0, i1, i2, i3;
@@ -98173,11 +98216,11 @@ abort();
 B0:;
 j0 = p0;
 i1 = p1;
-w2c_f219(m, j0, i1);
+w2c_f221(m, j0, i1);
 w2c_f1(m);
 }
 
-static void w2c_f219(M *m, u64 p0, u32 p1) {
+static void w2c_f221(M *m, u64 p0, u32 p1) {
 u32 i0, i1;
 u64 j0, j1;
 j0 = m->g0;
@@ -98222,14 +98265,14 @@ j2 = p2;
 j3 = p3;
 j4 = p4;
 j5 = p5;
-i0 = w2c_f221(m, j0, j1, j2, j3, j4, j5);
+i0 = w2c_f223(m, j0, j1, j2, j3, j4, j5);
 l6 = i0;
 w2c_f1(m);
 i0 = l6;
 return i0;
 }
 
-static u32 w2c_f221(M *m, u64 p0, u64 p1, u64 p2, u64 p3, u64 p4, u64 p5) {
+static u32 w2c_f223(M *m, u64 p0, u64 p1, u64 p2, u64 p3, u64 p4, u64 p5) {
 u32 l6 = 0, l7 = 0, l8 = 0, l9 = 0, l10 = 0, l11 = 0;
 u64 l12 = 0, l13 = 0, l14 = 0;
 u32 i0, i1, i2, i3, i4, i5;
@@ -98549,14 +98592,14 @@ w2c_f2(m);
 abort();
 B0:;
 j0 = p0;
-i0 = w2c_f223(m, j0);
+i0 = w2c_f225(m, j0);
 l1 = i0;
 w2c_f1(m);
 i0 = l1;
 return i0;
 }
 
-static u32 w2c_f223(M *m, u64 p0) {
+static u32 w2c_f225(M *m, u64 p0) {
 u32 l2 = 0, l3 = 0;
 u64 l1 = 0;
 u32 i0, i1, i2, i3, i4;
@@ -98698,14 +98741,14 @@ w2c_f2(m);
 abort();
 B0:;
 j0 = p0;
-i0 = w2c_f225(m, j0);
+i0 = w2c_f227(m, j0);
 l1 = i0;
 w2c_f1(m);
 i0 = l1;
 return i0;
 }
 
-static u32 w2c_f225(M *m, u64 p0) {
+static u32 w2c_f227(M *m, u64 p0) {
 u32 l2 = 0;
 u64 l1 = 0;
 u32 i0, i1;
@@ -98762,14 +98805,14 @@ w2c_f2(m);
 abort();
 B0:;
 j0 = p0;
-i0 = w2c_f227(m, j0);
+i0 = w2c_f229(m, j0);
 l1 = i0;
 w2c_f1(m);
 i0 = l1;
 return i0;
 }
 
-static u32 w2c_f227(M *m, u64 p0) {
+static u32 w2c_f229(M *m, u64 p0) {
 u32 l2 = 0;
 u64 l1 = 0;
 u32 i0, i1;
@@ -98835,14 +98878,14 @@ B0:;
 j0 = p0;
 j1 = p2;
 j2 = p3;
-i0 = w2c_f229(m, j0, j1, j2);
+i0 = w2c_f231(m, j0, j1, j2);
 l4 = i0;
 w2c_f1(m);
 i0 = l4;
 return i0;
 }
 
-static u32 w2c_f229(M *m, u64 p0, u64 p1, u64 p2) {
+static u32 w2c_f231(M *m, u64 p0, u64 p1, u64 p2) {
 u32 l5 = 0, l6 = 0;
 u64 l3 = 0, l4 = 0;
 u32 i0, i1, i2;
@@ -98963,14 +99006,14 @@ j0 = p0;
 j1 = p1;
 j2 = p2;
 j3 = p3;
-i0 = w2c_f231(m, j0, j1, j2, j3);
+i0 = w2c_f233(m, j0, j1, j2, j3);
 l4 = i0;
 w2c_f1(m);
 i0 = l4;
 return i0;
 }
 
-static u32 w2c_f231(M *m, u64 p0, u64 p1, u64 p2, u64 p3) {
+static u32 w2c_f233(M *m, u64 p0, u64 p1, u64 p2, u64 p3) {
 u32 l13 = 0;
 u64 l4 = 0, l5 = 0, l6 = 0, l7 = 0, l8 = 0, l9 = 0, l10 = 0, l11 = 0,
 l12 = 0;
@@ -99179,14 +99222,14 @@ j3 = p3;
 j4 = p4;
 j5 = p5;
 j6 = p6;
-i0 = w2c_f233(m, j0, j1, j2, j3, j4, j5, j6);
+i0 = w2c_f235(m, j0, j1, j2, j3, j4, j5, j6);
 l7 = i0;
 w2c_f1(m);
 i0 = l7;
 return i0;
 }
 
-static u32 w2c_f233(M *m, u64 p0, u64 p1, u64 p2, u64 p3, u64 p4, u64 p5, u64 p6) {
+static u32 w2c_f235(M *m, u64 p0, u64 p1, u64 p2, u64 p3, u64 p4, u64 p5, u64 p6) {
 u32 l10 = 0, l11 = 0, l12 = 0, l13 = 0, l14 = 0, l15 = 0;
 u64 l7 = 0, l8 = 0, l9 = 0;
 u32 i0, i1, i2, i3;
@@ -99478,14 +99521,14 @@ i1 = p1;
 j2 = p2;
 j3 = p3;
 j4 = p4;
-i0 = w2c_f235(m, i0, i1, j2, j3, j4);
+i0 = w2c_f237(m, i0, i1, j2, j3, j4);
 p1 = i0;
 w2c_f1(m);
 i0 = p1;
 return i0;
 }
 
-static u32 w2c_f235(M *m, u32 p0, u32 p1, u64 p2, u64 p3, u64 p4) {
+static u32 w2c_f237(M *m, u32 p0, u32 p1, u64 p2, u64 p3, u64 p4) {
 u32 l9 = 0, l10 = 0, l11 = 0, l12 = 0;
 u64 l5 = 0, l6 = 0, l7 = 0, l8 = 0;
 u32 i0, i1, i2, i3, i5;
@@ -99705,14 +99748,14 @@ i1 = p1;
 j2 = p2;
 j3 = p3;
 j4 = p4;
-i0 = w2c_f237(m, i0, i1, j2, j3, j4);
+i0 = w2c_f239(m, i0, i1, j2, j3, j4);
 p1 = i0;
 w2c_f1(m);
 i0 = p1;
 return i0;
 }
 
-static u32 w2c_f237(M *m, u32 p0, u32 p1, u64 p2, u64 p3, u64 p4) {
+static u32 w2c_f239(M *m, u32 p0, u32 p1, u64 p2, u64 p3, u64 p4) {
 u64 l5 = 0, l6 = 0, l7 = 0, l8 = 0;
 u32 i0, i1, i2, i3, i5;
 u64 j0, j1, j2, j3, j4;
@@ -100088,14 +100131,14 @@ j0 = p0;
 j1 = p1;
 j2 = p2;
 j3 = p3;
-j0 = w2c_f239(m, j0, j1, j2, j3);
+j0 = w2c_f241(m, j0, j1, j2, j3);
 p3 = j0;
 w2c_f1(m);
 j0 = p3;
 return j0;
 }
 
-static u64 w2c_f239(M *m, u64 p0, u64 p1, u64 p2, u64 p3) {
+static u64 w2c_f241(M *m, u64 p0, u64 p1, u64 p2, u64 p3) {
 u32 l11 = 0, l12 = 0, l13 = 0, l14 = 0, l15 = 0;
 u64 l4 = 0, l5 = 0, l6 = 0, l7 = 0, l8 = 0, l9 = 0, l10 = 0;
 u32 i0, i1, i2, i3, i5;
@@ -101897,14 +101940,14 @@ j3 = p3;
 j4 = p4;
 j5 = p5;
 j6 = p6;
-i0 = w2c_f241(m, j0, j1, j2, j3, j4, j5, j6);
+i0 = w2c_f243(m, j0, j1, j2, j3, j4, j5, j6);
 l7 = i0;
 w2c_f1(m);
 i0 = l7;
 return i0;
 }
 
-static u32 w2c_f241(M *m, u64 p0, u64 p1, u64 p2, u64 p3, u64 p4, u64 p5, u64 p6) {
+static u32 w2c_f243(M *m, u64 p0, u64 p1, u64 p2, u64 p3, u64 p4, u64 p5, u64 p6) {
 u32 l25 = 0, l26 = 0, l27 = 0, l28 = 0, l29 = 0, l30 = 0, l31 = 0, l32 = 0,
 l33 = 0, l34 = 0, l35 = 0, l36 = 0, l37 = 0, l38 = 0, l39 = 0, l40 = 0,
 l41 = 0, l42 = 0, l43 = 0, l44 = 0, l45 = 0, l46 = 0, l47 = 0, l48 = 0,
@@ -102817,14 +102860,14 @@ j3 = p3;
 j4 = p4;
 j5 = p5;
 j6 = p6;
-i0 = w2c_f243(m, j0, j1, j2, j3, j4, j5, j6);
+i0 = w2c_f245(m, j0, j1, j2, j3, j4, j5, j6);
 l7 = i0;
 w2c_f1(m);
 i0 = l7;
 return i0;
 }
 
-static u32 w2c_f243(M *m, u64 p0, u64 p1, u64 p2, u64 p3, u64 p4, u64 p5, u64 p6) {
+static u32 w2c_f245(M *m, u64 p0, u64 p1, u64 p2, u64 p3, u64 p4, u64 p5, u64 p6) {
 u32 l25 = 0, l26 = 0, l27 = 0, l28 = 0, l29 = 0, l30 = 0, l31 = 0, l32 = 0,
 l33 = 0, l34 = 0, l35 = 0, l36 = 0, l37 = 0, l38 = 0, l39 = 0, l40 = 0,
 l41 = 0, l42 = 0, l43 = 0, l44 = 0, l45 = 0, l46 = 0, l47 = 0, l48 = 0,
@@ -103796,14 +103839,14 @@ j9 = p9;
 j10 = p10;
 j11 = p11;
 j12 = p12;
-i0 = w2c_f245(m, j0, j1, j2, j3, j4, j5, j6, j7, j8, j9, j10, j11, j12);
+i0 = w2c_f247(m, j0, j1, j2, j3, j4, j5, j6, j7, j8, j9, j10, j11, j12);
 l13 = i0;
 w2c_f1(m);
 i0 = l13;
 return i0;
 }
 
-static u32 w2c_f245(M *m, u64 p0, u64 p1, u64 p2, u64 p3, u64 p4, u64 p5, u64 p6, u64 p7,
+static u32 w2c_f247(M *m, u64 p0, u64 p1, u64 p2, u64 p3, u64 p4, u64 p5, u64 p6, u64 p7,
 u64 p8, u64 p9, u64 p10, u64 p11, u64 p12) {
 u32 l26 = 0, l27 = 0, l28 = 0, l29 = 0, l30 = 0, l31 = 0, l32 = 0, l33 = 0,
 l34 = 0, l35 = 0, l36 = 0, l37 = 0, l38 = 0, l39 = 0, l40 = 0, l41 = 0,
@@ -106652,14 +106695,14 @@ j0 = p0;
 j1 = p1;
 j2 = p2;
 j3 = p3;
-i0 = w2c_f247(m, j0, j1, j2, j3);
+i0 = w2c_f249(m, j0, j1, j2, j3);
 l4 = i0;
 w2c_f1(m);
 i0 = l4;
 return i0;
 }
 
-static u32 w2c_f247(M *m, u64 p0, u64 p1, u64 p2, u64 p3) {
+static u32 w2c_f249(M *m, u64 p0, u64 p1, u64 p2, u64 p3) {
 u32 l12 = 0, l13 = 0, l14 = 0, l15 = 0, l16 = 0, l17 = 0, l18 = 0, l19 = 0;
 u64 l4 = 0, l5 = 0, l6 = 0, l7 = 0, l8 = 0, l9 = 0, l10 = 0, l11 = 0;
 u32 i0, i1, i2, i3, i4;
@@ -108747,11 +108790,11 @@ j0 = p0;
 j1 = p1;
 j2 = p2;
 j3 = p3;
-w2c_f249(m, j0, j1, j2, j3);
+w2c_f251(m, j0, j1, j2, j3);
 w2c_f1(m);
 }
 
-static void w2c_f249(M *m, u64 p0, u64 p1, u64 p2, u64 p3) {
+static void w2c_f251(M *m, u64 p0, u64 p1, u64 p2, u64 p3) {
 u64 l4 = 0;
 u32 i0, i1;
 u64 j0, j1, j2, j3, j4, j5;
@@ -108842,11 +108885,11 @@ j0 = p0;
 j1 = p1;
 j2 = p2;
 j3 = p3;
-w2c_f251(m, j0, j1, j2, j3);
+w2c_f253(m, j0, j1, j2, j3);
 w2c_f1(m);
 }
 
-static void w2c_f251(M *m, u64 p0, u64 p1, u64 p2, u64 p3) {
+static void w2c_f253(M *m, u64 p0, u64 p1, u64 p2, u64 p3) {
 u64 l4 = 0;
 u32 i0, i1;
 u64 j0, j1, j2, j3, j4, j5;
@@ -108937,11 +108980,11 @@ j0 = p0;
 j1 = p1;
 j2 = p2;
 j3 = p3;
-w2c_f253(m, j0, j1, j2, j3);
+w2c_f255(m, j0, j1, j2, j3);
 w2c_f1(m);
 }
 
-static void w2c_f253(M *m, u64 p0, u64 p1, u64 p2, u64 p3) {
+static void w2c_f255(M *m, u64 p0, u64 p1, u64 p2, u64 p3) {
 u64 l4 = 0;
 u32 i0, i1;
 u64 j0, j1, j2, j3, j4, j5;
@@ -109037,14 +109080,14 @@ j5 = p5;
 j6 = p6;
 j7 = p7;
 j8 = p8;
-i0 = w2c_f255(m, j0, j1, j2, j3, j4, j5, j6, j7, j8);
+i0 = w2c_f257(m, j0, j1, j2, j3, j4, j5, j6, j7, j8);
 l9 = i0;
 w2c_f1(m);
 i0 = l9;
 return i0;
 }
 
-static u32 w2c_f255(M *m, u64 p0, u64 p1, u64 p2, u64 p3, u64 p4, u64 p5, u64 p6, u64 p7,
+static u32 w2c_f257(M *m, u64 p0, u64 p1, u64 p2, u64 p3, u64 p4, u64 p5, u64 p6, u64 p7,
 u64 p8) {
 u32 l23 = 0, l24 = 0, l25 = 0, l26 = 0, l27 = 0, l28 = 0, l29 = 0, l30 = 0,
 l31 = 0, l32 = 0, l33 = 0, l34 = 0, l35 = 0, l36 = 0, l37 = 0, l38 = 0,
@@ -111583,14 +111626,14 @@ j2 = p2;
 j3 = p3;
 j4 = p4;
 j5 = p5;
-i0 = w2c_f257(m, j0, j1, j2, j3, j4, j5);
+i0 = w2c_f259(m, j0, j1, j2, j3, j4, j5);
 l6 = i0;
 w2c_f1(m);
 i0 = l6;
 return i0;
 }
 
-static u32 w2c_f257(M *m, u64 p0, u64 p1, u64 p2, u64 p3, u64 p4, u64 p5) {
+static u32 w2c_f259(M *m, u64 p0, u64 p1, u64 p2, u64 p3, u64 p4, u64 p5) {
 u32 l29 = 0, l30 = 0, l31 = 0, l32 = 0, l33 = 0, l34 = 0, l35 = 0, l36 = 0,
 l37 = 0, l38 = 0, l39 = 0, l40 = 0;
 u64 l6 = 0, l7 = 0, l8 = 0, l9 = 0, l10 = 0, l11 = 0, l12 = 0, l13 = 0,
@@ -113866,11 +113909,11 @@ j5 = p5;
 j6 = p6;
 i7 = p7;
 j8 = p8;
-w2c_f259(m, j0, j1, j2, j3, j4, j5, j6, i7, j8);
+w2c_f261(m, j0, j1, j2, j3, j4, j5, j6, i7, j8);
 w2c_f1(m);
 }
 
-static void w2c_f259(M *m, u64 p0, u64 p1, u64 p2, u64 p3, u64 p4, u64 p5, u64 p6, u32 p7,
+static void w2c_f261(M *m, u64 p0, u64 p1, u64 p2, u64 p3, u64 p4, u64 p5, u64 p6, u32 p7,
 u64 p8) {
 u32 l17 = 0, l18 = 0, l19 = 0, l20 = 0, l21 = 0, l22 = 0, l23 = 0, l24 = 0,
 l25 = 0, l26 = 0, l27 = 0, l28 = 0, l29 = 0, l30 = 0, l31 = 0, l32 = 0,
@@ -115651,14 +115694,14 @@ B0:;
 j0 = p0;
 j1 = p1;
 j2 = p2;
-i0 = w2c_f261(m, j0, j1, j2);
+i0 = w2c_f263(m, j0, j1, j2);
 l3 = i0;
 w2c_f1(m);
 i0 = l3;
 return i0;
 }
 
-static u32 w2c_f261(M *m, u64 p0, u64 p1, u64 p2) {
+static u32 w2c_f263(M *m, u64 p0, u64 p1, u64 p2) {
 u32 i0, i1, i3;
 u64 j0, j1, j2, j3;
 j0 = p0;
@@ -115692,14 +115735,14 @@ j2 = p2;
 j3 = p3;
 j4 = p4;
 j5 = p5;
-i0 = w2c_f263(m, j0, j1, j2, j3, j4, j5);
+i0 = w2c_f265(m, j0, j1, j2, j3, j4, j5);
 l6 = i0;
 w2c_f1(m);
 i0 = l6;
 return i0;
 }
 
-static u32 w2c_f263(M *m, u64 p0, u64 p1, u64 p2, u64 p3, u64 p4, u64 p5) {
+static u32 w2c_f265(M *m, u64 p0, u64 p1, u64 p2, u64 p3, u64 p4, u64 p5) {
 u32 l8 = 0;
 u64 l6 = 0, l7 = 0;
 u32 i0, i1, i2, i3;
@@ -115806,14 +115849,14 @@ j3 = p3;
 j4 = p4;
 i5 = p5;
 j6 = p6;
-i0 = w2c_f265(m, j0, j1, j2, j3, j4, i5, j6);
+i0 = w2c_f267(m, j0, j1, j2, j3, j4, i5, j6);
 p5 = i0;
 w2c_f1(m);
 i0 = p5;
 return i0;
 }
 
-static u32 w2c_f265(M *m, u64 p0, u64 p1, u64 p2, u64 p3, u64 p4, u32 p5, u64 p6) {
+static u32 w2c_f267(M *m, u64 p0, u64 p1, u64 p2, u64 p3, u64 p4, u32 p5, u64 p6) {
 u32 l10 = 0;
 u64 l7 = 0, l8 = 0, l9 = 0;
 u32 i0, i1, i2, i4, i6;
@@ -116021,14 +116064,14 @@ j2 = p2;
 j3 = p3;
 j4 = p4;
 j5 = p5;
-i0 = w2c_f267(m, j0, j1, j2, j3, j4, j5);
+i0 = w2c_f269(m, j0, j1, j2, j3, j4, j5);
 l6 = i0;
 w2c_f1(m);
 i0 = l6;
 return i0;
 }
 
-static u32 w2c_f267(M *m, u64 p0, u64 p1, u64 p2, u64 p3, u64 p4, u64 p5) {
+static u32 w2c_f269(M *m, u64 p0, u64 p1, u64 p2, u64 p3, u64 p4, u64 p5) {
 u32 l9 = 0, l10 = 0;
 u64 l6 = 0, l7 = 0, l8 = 0;
 u32 i0, i1, i2, i4, i6;
@@ -116234,11 +116277,11 @@ j2 = p2;
 j3 = p3;
 i4 = p4;
 j5 = p5;
-w2c_f269(m, j0, j1, j2, j3, i4, j5);
+w2c_f271(m, j0, j1, j2, j3, i4, j5);
 w2c_f1(m);
 }
 
-static void w2c_f269(M *m, u64 p0, u64 p1, u64 p2, u64 p3, u32 p4, u64 p5) {
+static void w2c_f271(M *m, u64 p0, u64 p1, u64 p2, u64 p3, u32 p4, u64 p5) {
 u32 l62 = 0, l63 = 0, l64 = 0, l65 = 0, l66 = 0, l67 = 0, l68 = 0, l69 = 0,
 l70 = 0, l71 = 0, l72 = 0, l73 = 0, l74 = 0, l75 = 0, l76 = 0, l77 = 0,
 l78 = 0, l79 = 0, l80 = 0, l81 = 0, l82 = 0, l83 = 0, l84 = 0, l85 = 0,
@@ -117481,14 +117524,14 @@ j2 = p2;
 j3 = p3;
 j4 = p4;
 j5 = p5;
-i0 = w2c_f271(m, j0, j1, j2, j3, j4, j5);
+i0 = w2c_f273(m, j0, j1, j2, j3, j4, j5);
 l6 = i0;
 w2c_f1(m);
 i0 = l6;
 return i0;
 }
 
-static u32 w2c_f271(M *m, u64 p0, u64 p1, u64 p2, u64 p3, u64 p4, u64 p5) {
+static u32 w2c_f273(M *m, u64 p0, u64 p1, u64 p2, u64 p3, u64 p4, u64 p5) {
 u32 l21 = 0, l22 = 0, l23 = 0, l24 = 0, l25 = 0, l26 = 0, l27 = 0, l28 = 0,
 l29 = 0, l30 = 0, l31 = 0, l32 = 0, l33 = 0, l34 = 0, l35 = 0, l36 = 0,
 l37 = 0;
@@ -119507,14 +119550,14 @@ j1 = p1;
 j2 = p2;
 j3 = p3;
 j4 = p4;
-i0 = w2c_f273(m, j0, j1, j2, j3, j4);
+i0 = w2c_f275(m, j0, j1, j2, j3, j4);
 l5 = i0;
 w2c_f1(m);
 i0 = l5;
 return i0;
 }
 
-static u32 w2c_f273(M *m, u64 p0, u64 p1, u64 p2, u64 p3, u64 p4) {
+static u32 w2c_f275(M *m, u64 p0, u64 p1, u64 p2, u64 p3, u64 p4) {
 u32 l12 = 0;
 u64 l5 = 0, l6 = 0, l7 = 0, l8 = 0, l9 = 0, l10 = 0, l11 = 0;
 u32 i0, i1, i2, i3, i4;
@@ -120036,14 +120079,14 @@ j1 = p1;
 j2 = p2;
 j3 = p3;
 j4 = p4;
-i0 = w2c_f275(m, j0, j1, j2, j3, j4);
+i0 = w2c_f277(m, j0, j1, j2, j3, j4);
 l5 = i0;
 w2c_f1(m);
 i0 = l5;
 return i0;
 }
 
-static u32 w2c_f275(M *m, u64 p0, u64 p1, u64 p2, u64 p3, u64 p4) {
+static u32 w2c_f277(M *m, u64 p0, u64 p1, u64 p2, u64 p3, u64 p4) {
 u32 l13 = 0;
 u64 l5 = 0, l6 = 0, l7 = 0, l8 = 0, l9 = 0, l10 = 0, l11 = 0, l12 = 0;
 u32 i0, i1, i2, i3, i4;
@@ -120493,14 +120536,14 @@ j2 = p2;
 j3 = p3;
 j4 = p4;
 j5 = p5;
-i0 = w2c_f277(m, j0, j1, j2, j3, j4, j5);
+i0 = w2c_f279(m, j0, j1, j2, j3, j4, j5);
 l6 = i0;
 w2c_f1(m);
 i0 = l6;
 return i0;
 }
 
-static u32 w2c_f277(M *m, u64 p0, u64 p1, u64 p2, u64 p3, u64 p4, u64 p5) {
+static u32 w2c_f279(M *m, u64 p0, u64 p1, u64 p2, u64 p3, u64 p4, u64 p5) {
 u32 l16 = 0, l17 = 0, l18 = 0, l19 = 0, l20 = 0, l21 = 0, l22 = 0;
 u64 l6 = 0, l7 = 0, l8 = 0, l9 = 0, l10 = 0, l11 = 0, l12 = 0, l13 = 0,
 l14 = 0, l15 = 0;
@@ -122783,14 +122826,14 @@ j2 = p2;
 j3 = p3;
 j4 = p4;
 j5 = p5;
-i0 = w2c_f279(m, j0, j1, j2, j3, j4, j5);
+i0 = w2c_f281(m, j0, j1, j2, j3, j4, j5);
 l6 = i0;
 w2c_f1(m);
 i0 = l6;
 return i0;
 }
 
-static u32 w2c_f279(M *m, u64 p0, u64 p1, u64 p2, u64 p3, u64 p4, u64 p5) {
+static u32 w2c_f281(M *m, u64 p0, u64 p1, u64 p2, u64 p3, u64 p4, u64 p5) {
 u32 l14 = 0, l15 = 0, l16 = 0, l17 = 0;
 u64 l6 = 0, l7 = 0, l8 = 0, l9 = 0, l10 = 0, l11 = 0, l12 = 0, l13 = 0;
 u32 i0, i1, i2, i3, i4, i5, i6, i7,
@@ -124914,14 +124957,14 @@ j5 = p5;
 j6 = p6;
 j7 = p7;
 j8 = p8;
-i0 = w2c_f281(m, j0, j1, j2, j3, j4, j5, j6, j7, j8);
+i0 = w2c_f283(m, j0, j1, j2, j3, j4, j5, j6, j7, j8);
 l9 = i0;
 w2c_f1(m);
 i0 = l9;
 return i0;
 }
 
-static u32 w2c_f281(M *m, u64 p0, u64 p1, u64 p2, u64 p3, u64 p4, u64 p5, u64 p6, u64 p7,
+static u32 w2c_f283(M *m, u64 p0, u64 p1, u64 p2, u64 p3, u64 p4, u64 p5, u64 p6, u64 p7,
 u64 p8) {
 u32 l11 = 0, l12 = 0, l13 = 0, l14 = 0, l15 = 0;
 u64 l9 = 0, l10 = 0;
@@ -125327,14 +125370,14 @@ j3 = p3;
 j4 = p4;
 j5 = p5;
 j6 = p6;
-i0 = w2c_f283(m, j0, j1, j2, j3, j4, j5, j6);
+i0 = w2c_f285(m, j0, j1, j2, j3, j4, j5, j6);
 l7 = i0;
 w2c_f1(m);
 i0 = l7;
 return i0;
 }
 
-static u32 w2c_f283(M *m, u64 p0, u64 p1, u64 p2, u64 p3, u64 p4, u64 p5, u64 p6) {
+static u32 w2c_f285(M *m, u64 p0, u64 p1, u64 p2, u64 p3, u64 p4, u64 p5, u64 p6) {
 u32 l10 = 0, l11 = 0, l12 = 0, l13 = 0, l14 = 0, l15 = 0;
 u64 l7 = 0, l8 = 0, l9 = 0;
 u32 i0, i1, i2, i3, i4, i5, i8;
@@ -126044,14 +126087,14 @@ j0 = p0;
 j1 = p1;
 j2 = p2;
 j3 = p3;
-i0 = w2c_f285(m, j0, j1, j2, j3);
+i0 = w2c_f287(m, j0, j1, j2, j3);
 l4 = i0;
 w2c_f1(m);
 i0 = l4;
 return i0;
 }
 
-static u32 w2c_f285(M *m, u64 p0, u64 p1, u64 p2, u64 p3) {
+static u32 w2c_f287(M *m, u64 p0, u64 p1, u64 p2, u64 p3) {
 u32 l14 = 0, l15 = 0, l16 = 0, l17 = 0;
 u64 l4 = 0, l5 = 0, l6 = 0, l7 = 0, l8 = 0, l9 = 0, l10 = 0, l11 = 0,
 l12 = 0, l13 = 0;
@@ -126575,14 +126618,14 @@ j3 = p3;
 j4 = p4;
 j5 = p5;
 j6 = p6;
-i0 = w2c_f287(m, j0, j1, j2, j3, j4, j5, j6);
+i0 = w2c_f289(m, j0, j1, j2, j3, j4, j5, j6);
 l7 = i0;
 w2c_f1(m);
 i0 = l7;
 return i0;
 }
 
-static u32 w2c_f287(M *m, u64 p0, u64 p1, u64 p2, u64 p3, u64 p4, u64 p5, u64 p6) {
+static u32 w2c_f289(M *m, u64 p0, u64 p1, u64 p2, u64 p3, u64 p4, u64 p5, u64 p6) {
 u32 l9 = 0, l10 = 0, l11 = 0, l12 = 0, l13 = 0;
 u64 l7 = 0, l8 = 0;
 u32 i0, i1, i2, i4, i6, i8;
@@ -126930,14 +126973,14 @@ j3 = p3;
 j4 = p4;
 j5 = p5;
 j6 = p6;
-i0 = w2c_f289(m, j0, j1, j2, j3, j4, j5, j6);
+i0 = w2c_f291(m, j0, j1, j2, j3, j4, j5, j6);
 l7 = i0;
 w2c_f1(m);
 i0 = l7;
 return i0;
 }
 
-static u32 w2c_f289(M *m, u64 p0, u64 p1, u64 p2, u64 p3, u64 p4, u64 p5, u64 p6) {
+static u32 w2c_f291(M *m, u64 p0, u64 p1, u64 p2, u64 p3, u64 p4, u64 p5, u64 p6) {
 u32 l23 = 0, l24 = 0, l25 = 0, l26 = 0, l27 = 0, l28 = 0, l29 = 0, l30 = 0,
 l31 = 0, l32 = 0, l33 = 0, l34 = 0, l35 = 0, l36 = 0;
 u64 l7 = 0, l8 = 0, l9 = 0, l10 = 0, l11 = 0, l12 = 0, l13 = 0, l14 = 0,
@@ -129509,14 +129552,14 @@ j1 = p1;
 j2 = p2;
 j3 = p3;
 j4 = p4;
-i0 = w2c_f291(m, j0, j1, j2, j3, j4);
+i0 = w2c_f293(m, j0, j1, j2, j3, j4);
 l5 = i0;
 w2c_f1(m);
 i0 = l5;
 return i0;
 }
 
-static u32 w2c_f291(M *m, u64 p0, u64 p1, u64 p2, u64 p3, u64 p4) {
+static u32 w2c_f293(M *m, u64 p0, u64 p1, u64 p2, u64 p3, u64 p4) {
 u32 l11 = 0, l12 = 0, l13 = 0;
 u64 l5 = 0, l6 = 0, l7 = 0, l8 = 0, l9 = 0, l10 = 0;
 u32 i0, i1, i2, i3, i4;
@@ -129924,14 +129967,14 @@ j9 = p9;
 j10 = p10;
 j11 = p11;
 j12 = p12;
-i0 = w2c_f293(m, j0, j1, i2, i3, j4, j5, j6, j7, j8, j9, j10, j11, j12);
+i0 = w2c_f295(m, j0, j1, i2, i3, j4, j5, j6, j7, j8, j9, j10, j11, j12);
 p3 = i0;
 w2c_f1(m);
 i0 = p3;
 return i0;
 }
 
-static u32 w2c_f293(M *m, u64 p0, u64 p1, u32 p2, u32 p3, u64 p4, u64 p5, u64 p6, u64 p7,
+static u32 w2c_f295(M *m, u64 p0, u64 p1, u32 p2, u32 p3, u64 p4, u64 p5, u64 p6, u64 p7,
 u64 p8, u64 p9, u64 p10, u64 p11, u64 p12) {
 u32 l22 = 0, l23 = 0;
 u64 l13 = 0, l14 = 0, l15 = 0, l16 = 0, l17 = 0, l18 = 0, l19 = 0, l20 = 0,
@@ -130518,14 +130561,14 @@ j1 = p1;
 j2 = p2;
 j3 = p3;
 j4 = p4;
-i0 = w2c_f295(m, j0, j1, j2, j3, j4);
+i0 = w2c_f297(m, j0, j1, j2, j3, j4);
 l5 = i0;
 w2c_f1(m);
 i0 = l5;
 return i0;
 }
 
-static u32 w2c_f295(M *m, u64 p0, u64 p1, u64 p2, u64 p3, u64 p4) {
+static u32 w2c_f297(M *m, u64 p0, u64 p1, u64 p2, u64 p3, u64 p4) {
 u32 l15 = 0, l16 = 0;
 u64 l5 = 0, l6 = 0, l7 = 0, l8 = 0, l9 = 0, l10 = 0, l11 = 0, l12 = 0,
 l13 = 0, l14 = 0;
@@ -130983,14 +131026,14 @@ j5 = p5;
 j6 = p6;
 j7 = p7;
 j8 = p8;
-i0 = w2c_f297(m, j0, j1, j2, j3, j4, j5, j6, j7, j8);
+i0 = w2c_f299(m, j0, j1, j2, j3, j4, j5, j6, j7, j8);
 l9 = i0;
 w2c_f1(m);
 i0 = l9;
 return i0;
 }
 
-static u32 w2c_f297(M *m, u64 p0, u64 p1, u64 p2, u64 p3, u64 p4, u64 p5, u64 p6, u64 p7,
+static u32 w2c_f299(M *m, u64 p0, u64 p1, u64 p2, u64 p3, u64 p4, u64 p5, u64 p6, u64 p7,
 u64 p8) {
 u32 l15 = 0, l16 = 0, l17 = 0, l18 = 0, l19 = 0, l20 = 0, l21 = 0, l22 = 0;
 u64 l9 = 0, l10 = 0, l11 = 0, l12 = 0, l13 = 0, l14 = 0;
@@ -131599,14 +131642,14 @@ j10 = p10;
 j11 = p11;
 j12 = p12;
 j13 = p13;
-i0 = w2c_f299(m, j0, j1, j2, j3, j4, j5, j6, j7, j8, j9, j10, j11, j12, j13);
+i0 = w2c_f301(m, j0, j1, j2, j3, j4, j5, j6, j7, j8, j9, j10, j11, j12, j13);
 l14 = i0;
 w2c_f1(m);
 i0 = l14;
 return i0;
 }
 
-static u32 w2c_f299(M *m, u64 p0, u64 p1, u64 p2, u64 p3, u64 p4, u64 p5, u64 p6, u64 p7,
+static u32 w2c_f301(M *m, u64 p0, u64 p1, u64 p2, u64 p3, u64 p4, u64 p5, u64 p6, u64 p7,
 u64 p8, u64 p9, u64 p10, u64 p11, u64 p12, u64 p13) {
 u32 l20 = 0, l21 = 0, l22 = 0, l23 = 0, l24 = 0, l25 = 0, l26 = 0, l27 = 0,
 l28 = 0, l29 = 0, l30 = 0, l31 = 0;
@@ -133592,6 +133635,14 @@ bool rtr_group_best(const struct rtr_group *group, size_t *member)
     LEND(member, size_t);
     bool result = (bool)w2c_rtr_group_best(&m, group_at, member_at);
     TAKE(member, size_t);
+    return result;
+}
+
+bool rtr_group_counts(const struct rtr_group *group, size_t payloads)
+{
+    START(0);
+    LEND(group, rtr_group);
+    bool result = (bool)w2c_rtr_group_counts(&m, group_at, payloads);
     return result;
 }
 
