@@ -7,12 +7,11 @@ ghost use Rattle.session_cache.specs.CacheSteps.{IsCacheStep, cache_wakes_at, ha
 ghost use Rattle.session_cache.specs.Serving.{Serves, ServesTick, ServesUnit};
 ghost use Rattle.session_cache.specs.declared.event.CacheEvent.TheVariants as events;
 
-use crate::closing::{
-    CORRUPT_DATA, HIGHEST, INTERNAL_ERROR, INVALID_REQUEST, NO_VERSION, OTHER_VERSION,
-};
 use crate::event::{Answer, CacheEvent, Present, Reason};
 use crate::settings::CacheSettings;
+use rtr_base::error_code::ErrorCode;
 use session_router::head::{Head, Kind};
+use session_router::settings::HIGHEST;
 
 /// The cache's end of one connection. It holds which data the router knows of, and no data.
 ///
@@ -82,7 +81,7 @@ impl Cache {
         }
         match event {
             CacheEvent::Tick => self.tick(now, &present),
-            CacheEvent::Full => self.report(HIGHEST, INTERNAL_ERROR, Reason::Full),
+            CacheEvent::Full => self.report(HIGHEST, ErrorCode::INTERNAL_ERROR.0, Reason::Full),
             CacheEvent::Came(unit, kept) => self.came(now, &present, &unit, kept),
             CacheEvent::Faulty(fault) => self.faulty(&fault),
             CacheEvent::Lost => self.close(None, Reason::Lost),
@@ -179,13 +178,21 @@ impl Cache {
         match unit.kind {
             Kind::ErrorReport => self.close(None, Reason::Reported),
             _ if self.asked && unit.version != self.version => {
-                self.report(unit.version, OTHER_VERSION, Reason::OtherVersion)
+                self.report(
+                    unit.version,
+                    ErrorCode::UNEXPECTED_PROTOCOL_VERSION.0,
+                    Reason::OtherVersion,
+                )
             }
             _ if unit.version > HIGHEST => {
-                self.report(unit.version, NO_VERSION, Reason::NoVersion)
+                self.report(
+                    unit.version,
+                    ErrorCode::UNSUPPORTED_PROTOCOL_VERSION.0,
+                    Reason::NoVersion,
+                )
             }
             Kind::ResetQuery | Kind::SerialQuery => self.queried(now, present, unit, kept),
-            _ => self.report(unit.version, INVALID_REQUEST, Reason::NoQuery),
+            _ => self.report(unit.version, ErrorCode::INVALID_REQUEST.0, Reason::NoQuery),
         }
     }
 
@@ -212,7 +219,7 @@ impl Cache {
             Kind::ResetQuery => Answer::All,
             _ if known => Answer::Changes(unit.serial),
             _ if self.settings.refuses => {
-                return self.report(unit.version, CORRUPT_DATA, Reason::Unknown);
+                return self.report(unit.version, ErrorCode::CORRUPT_DATA.0, Reason::Unknown);
             }
             _ => {
                 self.hear(now, unit.version);

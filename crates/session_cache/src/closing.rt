@@ -8,21 +8,9 @@ ghost use Rattle.session_cache.specs.declared.event.Present.{Present};
 
 use crate::cache::Cache;
 use crate::event::{Answer, Closing, OwedReport, Reason};
+use rtr_base::error_code::ErrorCode;
 use session_router::head::Fault;
-
-/// The highest version that there is.
-pub(crate) const HIGHEST: u8 = 2;
-
-/// The codes of reports (RFC 8210 section 12).
-pub(crate) const CORRUPT_DATA: u16 = 0;
-
-pub(crate) const INTERNAL_ERROR: u16 = 1;
-
-pub(crate) const INVALID_REQUEST: u16 = 3;
-
-pub(crate) const NO_VERSION: u16 = 4;
-
-pub(crate) const OTHER_VERSION: u16 = 8;
+use session_router::settings::HIGHEST;
 
 impl Cache {
     /// Ends the connection.
@@ -59,10 +47,18 @@ impl Cache {
         match fault.code {
             None => self.close(None, Reason::Faulty),
             Some(_) if self.asked && fault.version != self.version => {
-                self.report(fault.version, OTHER_VERSION, Reason::OtherVersion)
+                self.report(
+                    fault.version,
+                    ErrorCode::UNEXPECTED_PROTOCOL_VERSION.0,
+                    Reason::OtherVersion,
+                )
             }
             Some(_) if !self.asked && fault.version > HIGHEST => {
-                self.report(fault.version, NO_VERSION, Reason::NoVersion)
+                self.report(
+                    fault.version,
+                    ErrorCode::UNSUPPORTED_PROTOCOL_VERSION.0,
+                    Reason::NoVersion,
+                )
             }
             Some(code) => self.report(fault.version, code, Reason::Faulty),
         }

@@ -20,10 +20,10 @@ ghost use Rattle.session_router.specs.declared.event.Event.TheVariants as events
 ghost use Rattle.session_router.specs.declared.head.Kind.TheVariants as kinds;
 ghost use Rattle.session_router.specs.declared.router.Phase.TheVariants as phases;
 
-use crate::ending::{CORRUPT_DATA, NO_DATA, NO_TYPE, NO_VERSION, OTHER_VERSION};
 use crate::event::{Action, Cause};
 use crate::head::{Head, Kind, Known};
 use crate::router::{FIRST_WAIT, Phase, Router};
+use rtr_base::error_code::ErrorCode;
 use rtr_base::state::Serial;
 use std::cmp::Ordering;
 
@@ -65,16 +65,28 @@ impl Router {
             Kind::ErrorReport => self.reported(now, unit),
             Kind::SerialNotify if !self.agreed => Action::Wait,
             _ if self.agreed && unit.version != self.version => {
-                self.end(now, Some(OTHER_VERSION), Cause::OtherVersion)
+                self.end(
+                    now,
+                    Some(ErrorCode::UNEXPECTED_PROTOCOL_VERSION.0),
+                    Cause::OtherVersion,
+                )
             }
             _ if unit.version > self.version => {
-                self.end(now, Some(NO_VERSION), Cause::HigherVersion)
+                self.end(
+                    now,
+                    Some(ErrorCode::UNSUPPORTED_PROTOCOL_VERSION.0),
+                    Cause::HigherVersion,
+                )
             }
             Kind::SerialNotify => self.note_serial(unit),
             Kind::CacheResponse if self.changes => self.begin_changes(now, unit),
             Kind::CacheResponse => self.begin(unit),
             Kind::CacheReset if self.changes => self.reset(now, unit),
-            _ => self.end(now, Some(NO_TYPE), Cause::OutOfPlace),
+            _ => self.end(
+                now,
+                Some(ErrorCode::UNSUPPORTED_PDU_TYPE.0),
+                Cause::OutOfPlace,
+            ),
         }
     }
 
@@ -90,8 +102,9 @@ impl Router {
         ensures becomes { self.new ≡ router_after self.old now (events.Came unit.now) result }
         ensures heeds { HeedsAsked self.old unit.now result }
     {
-        let lower = unit.version < self.version || unit.code == NO_VERSION;
-        if unit.code == NO_DATA && unit.version == self.version {
+        let lower = unit.version < self.version
+            || unit.code == ErrorCode::UNSUPPORTED_PROTOCOL_VERSION.0;
+        if unit.code == ErrorCode::NO_DATA_AVAILABLE.0 && unit.version == self.version {
             self.has_none(now)
         } else if lower && !self.agreed && self.version > 0 {
             self.fall(now, self.version - 1)
@@ -204,21 +217,34 @@ impl Router {
         ensures heeds { HeedsReading self.old unit.now result }
     {
         match unit.kind {
-            Kind::ErrorReport if unit.code == NO_DATA && unit.version == self.version => {
+            Kind::ErrorReport
+                if unit.code == ErrorCode::NO_DATA_AVAILABLE.0 && unit.version == self.version => {
                 self.has_none(now)
             }
             Kind::ErrorReport => self.end(now, None, Cause::Reported),
             _ if unit.version != self.version => {
-                self.end(now, Some(OTHER_VERSION), Cause::OtherVersion)
+                self.end(
+                    now,
+                    Some(ErrorCode::UNEXPECTED_PROTOCOL_VERSION.0),
+                    Cause::OtherVersion,
+                )
             }
             Kind::Prefix => self.keep(now, unit),
             Kind::RouterKey if self.version >= 1 => self.keep(now, unit),
             Kind::Aspa if self.version >= 2 => self.keep(now, unit),
-            Kind::RouterKey | Kind::Aspa => self.end(now, Some(NO_TYPE), Cause::NoSuchPayload),
+            Kind::RouterKey | Kind::Aspa => self.end(
+                now,
+                Some(ErrorCode::UNSUPPORTED_PDU_TYPE.0),
+                Cause::NoSuchPayload,
+            ),
             Kind::SerialNotify => self.note(now, unit),
             Kind::EndOfData => self.finish(now, unit),
             Kind::SerialQuery | Kind::ResetQuery | Kind::CacheResponse | Kind::CacheReset => {
-                self.end(now, Some(NO_TYPE), Cause::OutOfPlace)
+                self.end(
+                    now,
+                    Some(ErrorCode::UNSUPPORTED_PDU_TYPE.0),
+                    Cause::OutOfPlace,
+                )
             }
         }
     }
@@ -296,10 +322,10 @@ impl Router {
             return self.other_session(now);
         }
         if self.changes && is_before(unit.serial, self.known.serial) {
-            return self.end(now, Some(CORRUPT_DATA), Cause::OldSerial);
+            return self.end(now, Some(ErrorCode::CORRUPT_DATA.0), Cause::OldSerial);
         }
         if self.changes && unit.serial == self.known.serial && self.units > 0 {
-            return self.end(now, Some(CORRUPT_DATA), Cause::OtherData);
+            return self.end(now, Some(ErrorCode::CORRUPT_DATA.0), Cause::OtherData);
         }
         self.answer = Known {
             version: unit.version,
@@ -407,7 +433,11 @@ impl Router {
         match unit.kind {
             Kind::ErrorReport => self.end(now, None, Cause::Reported),
             _ if unit.version != self.version => {
-                self.end(now, Some(OTHER_VERSION), Cause::OtherVersion)
+                self.end(
+                    now,
+                    Some(ErrorCode::UNEXPECTED_PROTOCOL_VERSION.0),
+                    Cause::OtherVersion,
+                )
             }
             Kind::SerialNotify if self.has_data && unit.session != self.known.session => {
                 self.other_session(now)
@@ -418,7 +448,11 @@ impl Router {
                 }
                 Action::Wait
             }
-            _ => self.end(now, Some(NO_TYPE), Cause::OutOfPlace),
+            _ => self.end(
+                now,
+                Some(ErrorCode::UNSUPPORTED_PDU_TYPE.0),
+                Cause::OutOfPlace,
+            ),
         }
     }
 }

@@ -21,17 +21,7 @@ ghost use Rattle.session_router.specs.declared.router.Phase.TheVariants as phase
 use crate::event::{Action, Cause, Ending};
 use crate::head::Fault;
 use crate::router::{FIRST_WAIT, Phase, Router};
-
-/// The codes of reports (RFC 8210 section 12).
-pub(crate) const CORRUPT_DATA: u16 = 0;
-
-pub(crate) const NO_DATA: u16 = 2;
-
-pub(crate) const NO_VERSION: u16 = 4;
-
-pub(crate) const NO_TYPE: u16 = 5;
-
-pub(crate) const OTHER_VERSION: u16 = 8;
+use rtr_base::error_code::ErrorCode;
 
 /// The longest time for which a version isn't tried: a day, in milliseconds.
 const LONGEST_RISE: u32 = 86_400_000;
@@ -119,9 +109,9 @@ impl Router {
         ensures paces { PacesFailure self.old now self.old.has_data self.new }
     {
         if self.has_data {
-            self.drop_all(now, Some(CORRUPT_DATA), Cause::OtherSession)
+            self.drop_all(now, Some(ErrorCode::CORRUPT_DATA.0), Cause::OtherSession)
         } else {
-            self.end(now, Some(CORRUPT_DATA), Cause::OtherSession)
+            self.end(now, Some(ErrorCode::CORRUPT_DATA.0), Cause::OtherSession)
         }
     }
 
@@ -259,11 +249,19 @@ impl Router {
             Phase::Offline | Phase::Connecting => Action::Wait,
             _ if fault.code.is_none() => self.end(now, None, Cause::Faulty),
             Phase::Asked if !self.agreed && fault.version > self.version => {
-                self.end(now, Some(NO_VERSION), Cause::HigherVersion)
+                self.end(
+                    now,
+                    Some(ErrorCode::UNSUPPORTED_PROTOCOL_VERSION.0),
+                    Cause::HigherVersion,
+                )
             }
             Phase::Asked if !self.agreed => self.end(now, fault.code, Cause::Faulty),
             _ if fault.version != self.version => {
-                self.end(now, Some(OTHER_VERSION), Cause::OtherVersion)
+                self.end(
+                    now,
+                    Some(ErrorCode::UNEXPECTED_PROTOCOL_VERSION.0),
+                    Cause::OtherVersion,
+                )
             }
             _ => self.end(now, fault.code, Cause::Faulty),
         }

@@ -13,7 +13,7 @@ ghost use Rattle.session_router.specs.declared.router.Phase.TheVariants as phase
 
 use crate::event::{Action, Cause, Event};
 use crate::head::{Head, Known, Query};
-use crate::settings::Settings;
+use crate::settings::{HIGHEST, Settings};
 
 /// Where a router is.
 #[derive(Clone, Copy)]
@@ -101,7 +101,7 @@ impl Router {
         };
         Router {
             settings: Settings {
-                highest: settings.highest.min(2),
+                highest: settings.highest.min(HIGHEST),
                 ..settings
             },
             phase: Phase::Offline,

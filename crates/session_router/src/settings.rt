@@ -5,6 +5,9 @@ ghost use Rattle.session_router.specs.Times.{expire_ms, refresh_ms, retry_ms, se
 
 use crate::head::Known;
 
+/// The highest version of the protocol that a router or a cache speaks.
+pub const HIGHEST: u8 = 2;
+
 /// What a caller sets. Times are in milliseconds.
 #[derive(Clone, Copy)]
 pub struct Settings {
@@ -43,7 +46,7 @@ impl Settings {
         ensures chance { result.chance ≡ 0 }
     {
         Settings {
-            highest: highest.min(2),
+            highest: highest.min(HIGHEST),
             pause: 1000,
             connect_limit: 30_000,
             response_limit: 120_000,
