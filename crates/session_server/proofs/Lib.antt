@@ -1,2 +1,3 @@
 mod Doors
+mod Examples
 mod Paces

@@ -1,6 +1,6 @@
 //! What holds of a server's door, whoever comes and leaves, and of its connections.
 
-ghost use Rattle.std.specs.Prelude.{◌≡◌, ◌≢◌, ◌<◌, ◌^◌, ◌++◌, ◌∷◌, ℕ, List, true};
+ghost use Rattle.std.specs.Prelude.{◌≡◌, ◌≢◌, ◌<◌, ◌^◌, ◌++◌, ◌∷◌, ℕ, List, [], true};
 ghost use Rattle.session_cache.specs.CacheSteps.{IsCacheStep};
 ghost use Rattle.session_cache.specs.declared.cache.Cache.{Cache};
 ghost use Rattle.session_cache.specs.declared.event.Answer.{Answer};
@@ -8,7 +8,8 @@ ghost use Rattle.session_cache.specs.declared.event.Answer.TheVariants as answer
 ghost use Rattle.session_cache.specs.declared.event.CacheEvent.TheVariants as events;
 ghost use Rattle.session_cache.specs.declared.event.Present.{Present};
 ghost use Rattle.session_server.specs.Doors.{IsHeld, KeepsLimits, entry_at, has_inside};
-ghost use Rattle.session_server.specs.Paces.{IsServed, SendsWhole, next_at, connection_wakes_at};
+ghost use Rattle.session_server.specs.Paces.{IsServed, SendsWhole, connection_wakes_at, is_free};
+ghost use Rattle.session_server.specs.Paces.{next_at};
 ghost use Rattle.session_server.specs.declared.connection.Connection.{Connection};
 ghost use Rattle.session_server.specs.declared.connection.Next.TheVariants as nexts;
 ghost use Rattle.session_server.specs.declared.door.Door.{Door};
@@ -55,4 +56,24 @@ pub fn ticks_act()
     ensures { (k : Connection) (n number : ℕ) (c c' : Cache) (p : Present) (a : Answer)
         → n < 2 ^ 63 → next_at k n c p number ≡ nexts.Tick
         → IsCacheStep c n p events.Tick a c' → a ≢ answers.Wait }
+{}
+
+/// There is a connection that is sent an answer of 52 bytes in two parts, and behind it a notify of
+/// 12 bytes, which doesn't begin while a part is unsent, and a report: it meets the premises of
+/// `answers_are_sent_whole`, `no_limit_is_passed` and `ticks_act`.
+pub fn notify_follows_an_answer()
+    ensures whole { (s : ServerSettings) × (k : Connection) × IsServed s k (12 ∷ 52 ∷ []) 64
+        × (is_free k ≡ true) }
+    ensures waits { (s : ServerSettings) × (k : Connection) × (c : Cache) × (p : Present)
+        × IsServed s k (52 ∷ []) 52 × (next_at k 100 c p 1 ≡ nexts.Wait)
+        × (connection_wakes_at k c p ≡ 90000010) }
+    ensures sends { (s : ServerSettings) × (k : Connection) × (c : Cache) × (p : Present)
+        × IsServed s k (52 ∷ []) 20 × (next_at k 25 c p 1 ≡ nexts.Send)
+        × (connection_wakes_at k c p ≡ 30020) }
+    ensures finishes { (s : ServerSettings) × (k : Connection) × (c : Cache) × (p : Present)
+        × IsServed s k (16 ∷ 12 ∷ 52 ∷ []) 80 × (next_at k 420 c p 2 ≡ nexts.Finish)
+        × (connection_wakes_at k c p ≡ 10400) }
+    ensures ticks { (s : ServerSettings) × (k : Connection) × (c c' : Cache) × (p : Present)
+        × IsServed s k (52 ∷ []) 52 × (next_at k 300 c p 2 ≡ nexts.Tick)
+        × IsCacheStep c 300 p events.Tick answers.Notify c' }
 {}
