@@ -47,6 +47,8 @@ LAWS = {
     "NAME_ROOM": ("rtr_c/src/laws.rt", "length (unit_name f) ≤ N"),
     "FINDING_ROOM": ("rtr_c/src/laws.rt", "length (told_line offset (numbered_finding f)) ≤ N"),
     "MOST_MEMBERS": ("rtr_c/specs/GroupsShown.antt", "if nat_lt N count"),
+    "LAST_REPORT_LIMIT": ("rtr_c/src/closing.rt", "ensures limit { result.0 ≡ N }"),
+    "LAST_REPORT_BYTES": ("rtr_c/src/closing.rt", "ensures bytes { result.1 ≡ N }"),
     **{f"{least}_{time.upper()}": ("session_router/specs/Times.antt", f"k.{time} {numbers})")
        for time in ("refresh", "retry", "expire")
        for least, numbers in (("USUAL", "N _ _"), ("LEAST", "_ N _"), ("MOST", "_ _ N"))}}

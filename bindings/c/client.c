@@ -196,26 +196,32 @@ static void receive_some(struct member *m)
         rtr_client_lost(&m->client, count < 0 ? strerror(errno) : NULL);
 }
 
-/* Closes the connection so that the bytes sent last still arrive: unread bytes of the peer would
- * reset it, so they are read for a fifth of a second. */
+/* Reads and drops what the peer sends, until it closes or the time is over: closing with unread
+ * bytes would reset the connection, and the bytes sent last might not arrive. */
+static void discard(int socket, int64_t until)
+{
+    uint8_t read[4096];
+    struct pollfd ready = {.fd = socket, .events = POLLIN};
+    for (ssize_t rest = RTR_LAST_REPORT_BYTES, count = 1; count > 0 && rest > 0; rest -= count)
+        count =
+            poll(&ready, 1, left(until)) == 1 ? recv(socket, read, sizeof read, MSG_DONTWAIT) : 0;
+}
+
+/* Sends the last bytes, if there are any, and closes the connection so that they arrive. */
 static void hang_up(struct member *m)
 {
-    size_t length;
-    uint8_t read[4096];
+    size_t length = 0;
+    int64_t until = now() + m->client.report_limit;
     struct pollfd ready = {.fd = m->socket, .events = POLLOUT};
-    if (m->socket == NONE || m->tried) {
-        close_socket(m);
-        return;
-    }
-    do {
+    if (m->socket != NONE && !m->tried)
         rtr_client_output(&m->client, &length);
-    } while (length && poll(&ready, 1, left(m->client.wakes)) == 1 && send_some(m));
-    shutdown(m->socket, SHUT_WR);
-    ready.events = POLLIN;
-    for (int64_t until = now() + 200; now() < until;)
-        if (poll(&ready, 1, left(until)) != 1
-            || recv(m->socket, read, sizeof read, MSG_DONTWAIT) <= 0)
-            break;
+    bool last = length > 0;
+    while (length && poll(&ready, 1, left(until)) == 1 && send_some(m))
+        rtr_client_output(&m->client, &length);
+    if (last) {
+        shutdown(m->socket, SHUT_WR);
+        discard(m->socket, until);
+    }
     close_socket(m);
 }
 

@@ -140,22 +140,33 @@ static void close_connection(struct member *m)
     m->open = false;
 }
 
-/* Closes the connection so that an error report still arrives: unread bytes would reset it, so
- * they are read for a fifth of a second. */
-static void hang_up(struct member *m)
+/* Reads and drops what the peer sends, until it closes or the time is over: closing with unread
+ * bytes would reset the connection, and the bytes sent last might not arrive. */
+static void discard(int socket, int64_t until)
 {
     uint8_t read[4096];
+    struct pollfd ready = {.fd = socket, .events = POLLIN};
+    for (ssize_t rest = RTR_LAST_REPORT_BYTES, count = 1; count > 0 && rest > 0; rest -= count)
+        count =
+            poll(&ready, 1, left(until)) == 1 ? recv(socket, read, sizeof read, MSG_DONTWAIT) : 0;
+}
+
+/* Sends the last bytes, if there are any, and closes the connection so that they arrive. */
+static void hang_up(struct member *m)
+{
     size_t length = 0;
+    int64_t until = now() + m->client.report_limit;
     struct pollfd ready = {m->open ? (int)BIO_get_fd(m->connection, NULL) : -1, POLLOUT, 0};
-    while (m->open && rtr_client_output(&m->client, &length) && length
-           && poll(&ready, 1, left(m->client.wakes)) == 1 && send_some(m)) {
-    }
+    if (m->open)
+        rtr_client_output(&m->client, &length);
+    bool last = length > 0;
+    while (m->open && length && poll(&ready, 1, left(until)) == 1 && send_some(m))
+        rtr_client_output(&m->client, &length);
     if (m->open)
         BIO_ssl_shutdown(m->connection);
-    shutdown(ready.fd, SHUT_WR);
-    ready.events = POLLIN;
-    for (int64_t until = now() + 200; ready.fd >= 0 && poll(&ready, 1, left(until)) == 1
-                                      && recv(ready.fd, read, sizeof read, MSG_DONTWAIT) > 0;) {
+    if (last) {
+        shutdown(ready.fd, SHUT_WR);
+        discard(ready.fd, until);
     }
     close_connection(m);
 }

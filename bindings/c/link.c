@@ -158,20 +158,23 @@ static void wait_until(uint64_t wakes)
     }
 }
 
-/* Sends the last bytes, for at most two seconds, and closes the connection so that they arrive:
- * unread bytes of the peer would reset it. */
+/* Sends the last bytes, if there are any, and closes the connection so that they arrive: unread
+ * bytes of the peer would reset it. */
 static void finish(void)
 {
     uint8_t read[4096];
-    uint64_t until = now() + 2000;
+    bool last = state().unsent > 0;
+    uint64_t until = now() + RTR_LAST_REPORT_LIMIT;
     struct pollfd ready = {.fd = address ? -1 : connection, .events = POLLOUT};
     while (ready.fd >= 0 && state().unsent && poll(&ready, 1, left(until)) == 1 && send_some()) {
     }
     shutdown(ready.fd, SHUT_WR);
     ready.events = POLLIN;
-    for (until = now() + 200; ready.fd >= 0 && poll(&ready, 1, left(until)) == 1;)
-        if (recv(connection, read, sizeof read, MSG_DONTWAIT) <= 0)
-            break;
+    ssize_t count = last ? 1 : 0;
+    for (ssize_t rest = RTR_LAST_REPORT_BYTES; count > 0 && rest > 0; rest -= count)
+        count = ready.fd >= 0 && poll(&ready, 1, left(until)) == 1
+                    ? recv(connection, read, sizeof read, MSG_DONTWAIT)
+                    : 0;
     hang_up();
 }
 

@@ -75,6 +75,12 @@
 /* The most members of a group. */
 #define RTR_MOST_MEMBERS 16
 
+/* Before a client closes a connection to which it sent a report: the default time for the report to
+ * be sent and for the cache to read it, in milliseconds; and the most bytes that it reads meanwhile
+ * and ignores. A connection that is closed with unread bytes is reset, and the report may be lost. */
+#define RTR_LAST_REPORT_LIMIT 2000
+#define RTR_LAST_REPORT_BYTES 1048576
+
 /* Buffer sizes that suffice for what calls write; tests check them. */
 #define RTR_TEXT_ROOM 64     /* for rtr_text and rtr_name, with a 0 after the text */
 #define RTR_NAME_ROOM 65528  /* for rtr_check_name */

@@ -372,7 +372,7 @@ void rtr_client_init(struct rtr_client *c, uint8_t version)
 #ifdef RTR_CLIENT_MOST_BYTES
     c->settings.most_bytes = RTR_CLIENT_MOST_BYTES;
 #endif
-    c->report_limit = 2000;
+    c->report_limit = RTR_LAST_REPORT_LIMIT;
 }
 
 /* Frees the changes of an earlier event. */

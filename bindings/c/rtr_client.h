@@ -13,8 +13,10 @@
  *                       `wakes`. Between connections there is nothing to send or read
  *   RTR_CLIENT_CONNECT  open a connection, until `wakes`; then call rtr_client_connected, or
  *                       rtr_client_lost
- *   RTR_CLIENT_CLOSE    send what rtr_client_output still returns, but not after `wakes`, and close
- *                       the connection. Each RTR_CLIENT_CONNECT is followed by one RTR_CLIENT_CLOSE
+ *   RTR_CLIENT_CLOSE    send what rtr_client_output still returns, and then read and ignore at most
+ *                       RTR_LAST_REPORT_BYTES until the cache closes, but not after `wakes`; and
+ *                       close the connection. Each RTR_CLIENT_CONNECT is followed by one
+ *                       RTR_CLIENT_CLOSE
  *   RTR_CLIENT_DATA     `data` is the cache's data at the serial number of `end`. `changes` lead
  *                       to them from the former data; there may be none
  *   RTR_CLIENT_DROPPED  there are no data any more; `changes` withdraw the former data
@@ -68,7 +70,8 @@ struct rtr_client {
      * -DRTR_CLIENT_MOST_BYTES=.. change when rtr_client.c is compiled. A program may change them
      * before its first rtr_client_next. */
     struct rtr_settings settings;
-    int64_t report_limit; /* to send a report before closing; default 2 seconds */
+    int64_t report_limit; /* for a report to be sent, and to be read by the cache, before closing;
+                             default 2 seconds */
 
     /* For the program to read. Pointers are valid until the next call of rtr_client_next or
      * rtr_client_free. */

@@ -223,11 +223,8 @@ func isTimeout(err error) bool {
 	return errors.Is(err, os.ErrDeadlineExceeded)
 }
 
-// The most bytes to read from a peer after a report: closing a connection with unread bytes resets
-// it, and the report may be lost.
-const lingerBytes = 1 << 20
-
-// sendLast writes a last unit to a connection, if there is one, and gives the peer time to read it.
+// sendLast writes a last unit to a connection, if there is one, and gives the peer time to read it:
+// closing a connection with unread bytes resets it, and the unit may be lost.
 func sendLast(connection net.Conn, last []byte, patience time.Duration) {
 	if len(last) == 0 {
 		return
@@ -241,7 +238,7 @@ func sendLast(connection net.Conn, last []byte, patience time.Duration) {
 	if half, ok := connection.(interface{ CloseWrite() error }); !ok || half.CloseWrite() != nil {
 		return
 	}
-	discard(connection, lingerBytes)
+	discard(connection, lastReportBytes)
 }
 
 // discard reads and drops bytes until the end of the connection, at most this number.

@@ -25,7 +25,7 @@ func usualClientLimits() ClientLimits {
 		Bytes:    int(usual.most_bytes),
 		Units:    uint64(usual.most_units) + 1,
 		Pause:    span(usual.pause),
-		Report:   2 * time.Second,
+		Report:   lastReportLimit * time.Millisecond,
 	}
 }
 

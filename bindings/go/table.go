@@ -48,6 +48,8 @@ const (
 	leastExpire     = 600
 	mostExpire      = 172800
 	mostMembers     = 16
+	lastReportLimit = 2000
+	lastReportBytes = 1048576
 	// For rtr_text and rtr_name, with a 0 after the text.
 	textRoom = 64
 	// For rtr_check_name.

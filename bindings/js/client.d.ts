@@ -43,7 +43,8 @@ export interface ClientOptions {
     /** Limits and times, in milliseconds. Missing ones have the defaults of rtr.h; `highest` is 1
      * by default. ASPAs need version 2, for which caches in use have several layouts. */
     settings?: Partial<Settings>;
-    /** The milliseconds that a cache gets to read a last report (default 2000). */
+    /** The milliseconds for a last report to be sent, and to be read by the cache (default
+     * 2000). */
     reportLimit?: number;
     /** Stops the client. */
     signal?: AbortSignal;

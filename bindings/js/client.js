@@ -8,7 +8,7 @@
 import { randomInt } from "node:crypto";
 import { EventEmitter } from "node:events";
 import { SessionError, load } from "./rtr_wire.js";
-import { Cause, STRUCTS } from "./rtr_table.js";
+import { Cause, LAST_REPORT_LIMIT, STRUCTS } from "./rtr_table.js";
 import { fieldsOf, numberOf, objectOf, textOf } from "./given.js";
 import { opened } from "./connection.js";
 import { EVENTS, SESSION, iterated } from "./iterated.js";
@@ -19,9 +19,6 @@ export { follow } from "./following.js";
 
 // The version of RFC 8210. ASPAs need version 2, for which caches in use have several layouts.
 const VERSION = 1;
-
-// The milliseconds that a cache gets to read a last report.
-const REPORT_LIMIT = 2000;
 
 // The number of random values that spread the waits of clients.
 const CHANCES = 1 << 16;
@@ -40,7 +37,7 @@ const OPTIONS = {
 
 /** Checks options, and returns them with defaults for missing ones. */
 function clientOptionsOf(value) {
-    const options = { reportLimit: REPORT_LIMIT, settings: {}, ...optionsOf(value, OPTIONS) };
+    const options = { reportLimit: LAST_REPORT_LIMIT, settings: {}, ...optionsOf(value, OPTIONS) };
     if (options.connect === undefined) {
         textOf(options.host, "host");
         OPTIONS.port(options.port, "port");

@@ -4,9 +4,7 @@ import { lookup } from "node:dns/promises";
 import { once } from "node:events";
 import { connect as connectTcp, isIP } from "node:net";
 import { checkServerIdentity, connect as connectTls } from "node:tls";
-
-// The most bytes of the cache that are read while it gets a last report.
-const LAST_BYTES = 1 << 20;
+import { LAST_REPORT_BYTES } from "./rtr_table.js";
 
 // The most milliseconds that a timer of Node takes: for more it is over at once.
 export const LONGEST_TIMER = 2 ** 31 - 1;
@@ -148,7 +146,7 @@ export class Connection {
 
     #sendLast(last, milliseconds) {
         const stream = this.#stream;
-        let left = LAST_BYTES;
+        let left = LAST_REPORT_BYTES;
         return new Promise((resolve) => {
             const timer = timerOf(resolve, milliseconds);
             const done = () => {

@@ -75,7 +75,8 @@ def constant_lines():
     """Yields the numbers: versions, times in seconds, and sizes in bytes."""
     yield ""
     for name, number, comment in calls.constants():
-        kind = "u8" if name.endswith("_VERSION") else "u32" if calls.is_time(name) else "usize"
+        kind = "u8" if name.endswith("_VERSION") else \
+            "u32" if calls.is_time(name) or name.endswith("_LIMIT") else "usize"
         yield from wrapped(comment, "")
         yield f"pub(crate) const {name[4:]}: {kind} = {number};"
 

@@ -41,6 +41,8 @@ pub(crate) const USUAL_EXPIRE: u32 = 7200;
 pub(crate) const LEAST_EXPIRE: u32 = 600;
 pub(crate) const MOST_EXPIRE: u32 = 172800;
 pub(crate) const MOST_MEMBERS: usize = 16;
+pub(crate) const LAST_REPORT_LIMIT: u32 = 2000;
+pub(crate) const LAST_REPORT_BYTES: usize = 1048576;
 /// For rtr_text and rtr_name, with a 0 after the text.
 pub(crate) const TEXT_ROOM: usize = 64;
 /// For rtr_check_name.

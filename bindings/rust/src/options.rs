@@ -2,7 +2,7 @@
 
 #[cfg(feature = "std")]
 use crate::abi::{CacheSettings, ServerSettings};
-use crate::abi::{Settings, HIGHEST_VERSION};
+use crate::abi::{Settings, HIGHEST_VERSION, LAST_REPORT_BYTES, LAST_REPORT_LIMIT};
 use crate::sys::{self, milliseconds};
 use core::time::Duration;
 
@@ -29,7 +29,7 @@ pub struct ClientOptions {
     pub units: u64,
     /// The least time between two queries, and between two connections (default 1 second).
     pub pause: Duration,
-    /// The time limit for sending a report (default 2 seconds).
+    /// The time for a report to be sent and to be read by the cache (default 2 seconds).
     pub report: Duration,
     /// The refresh time (default: the cache's).
     pub refresh: Option<Duration>,
@@ -49,7 +49,7 @@ impl Default for ClientOptions {
             bytes: usize::try_from(usual.most_bytes).unwrap_or(usize::MAX),
             units: u64::from(usual.most_units) + 1,
             pause: span(usual.pause),
-            report: Duration::from_secs(2),
+            report: span(LAST_REPORT_LIMIT),
             refresh: None,
             retry: None,
             expire: None,
@@ -58,6 +58,11 @@ impl Default for ClientOptions {
 }
 
 impl ClientOptions {
+    /// The most bytes that a client reads from the cache, and ignores, before it closes a connection
+    /// to which it sent a report: one that is closed with unread bytes is reset, and the report may
+    /// be lost.
+    pub const LAST_BYTES: usize = LAST_REPORT_BYTES;
+
     /// The settings of a router's machine with these options and this random number.
     pub(crate) fn settings(&self, chance: u16) -> Settings {
         let span = |time: Option<Duration>| time.map_or(0, milliseconds);

@@ -1,5 +1,6 @@
 //! A client's connections; every wait has a deadline.
 
+use crate::abi::LAST_REPORT_BYTES;
 use crate::cache::locked;
 use crate::socket::Socket;
 use crate::waiting::{wait, Awaited};
@@ -95,7 +96,7 @@ pub(crate) fn write(socket: &mut impl Socket, bytes: &[u8]) -> io::Result<usize>
     }
 }
 
-/// Sends the last bytes of a connection until a deadline, and closes it so that they arrive.
+/// Sends the last bytes of a connection, and closes it so that they arrive, both until a deadline.
 pub(crate) fn send_last(mut socket: impl Socket, bytes: &[u8], until: Instant, stop: &Stop) {
     let (mut rest, mut is_flushed) = (bytes, false);
     while !is_flushed {
@@ -114,24 +115,20 @@ pub(crate) fn send_last(mut socket: impl Socket, bytes: &[u8], until: Instant, s
             Ok(()) => {}
         }
     }
-    close(socket);
+    close(socket, until, stop);
 }
 
 /// Closes the connection so that written bytes still arrive: closing with unread bytes would reset
-/// it. It reads a few bytes before, for a short time.
-fn close(mut socket: impl Socket) {
-    const MOST_BYTES: usize = 1 << 18;
-    const MOST_TIME: Duration = Duration::from_millis(200);
-    let deadline = after(Instant::now(), MOST_TIME);
+/// it, so it reads what the peer sends until that closes.
+fn close(mut socket: impl Socket, until: Instant, stop: &Stop) {
     let _ = socket.finish();
     let (mut bytes, mut buffer) = (0, [0; 4096]);
-    while bytes < MOST_BYTES && !left(deadline).is_zero() {
+    while bytes < LAST_REPORT_BYTES && !stop.is_set() && !left(until).is_zero() {
         match socket.read(&mut buffer) {
             Ok(0) => return,
             Ok(count) => bytes += count,
             Err(error) if has_to_wait(&error) => {
-                let awaited = Awaited::to_read(&socket.socket());
-                wait(&mut [awaited], in_milliseconds(left(deadline)));
+                stop.wait(Some(Awaited::to_read(&socket.socket())), left(until));
             }
             Err(_) => return,
         }

@@ -10,6 +10,7 @@ mod cache;
 mod cache_calls;
 mod check;
 mod check_calls;
+mod closing;
 mod compare;
 mod connection_calls;
 mod data_answer;

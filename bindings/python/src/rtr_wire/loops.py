@@ -6,14 +6,16 @@ import ssl as tls
 import time
 from typing import Any, Callable, Optional
 
+from . import _rtr
 from .router import Router, Settings
 
 # A function that is called with each error.
 OnFailure = Callable[[Exception], Any]
 
 CHUNK = 1 << 16  # the most bytes of one read
-REPORT_SECONDS = 2.0  # to send a last report, and for the cache to read it
-LAST_BYTES = 1 << 20  # the most bytes that are read from the cache meanwhile
+# For a last report to be sent, and read by the cache; the most bytes that are read meanwhile.
+REPORT_SECONDS = _rtr.LAST_REPORT_LIMIT / 1000
+LAST_BYTES = _rtr.LAST_REPORT_BYTES
 LOOK = 0.25  # seconds between two checks whether the caller requests data, or stops the loop
 _LONGEST_WAIT = 3600.0
 

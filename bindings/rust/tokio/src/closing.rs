@@ -1,17 +1,12 @@
 //! Closes a client's connection.
 
+use rtr_wire::ClientOptions;
 use std::future::Future;
 use std::pin::Pin;
 use std::task::{Context, Poll};
 use std::time::Duration;
 use tokio::io::{AsyncRead, AsyncWrite, ReadBuf};
 use tokio::time::{sleep, Sleep};
-
-/// How long to read what the peer still sends: closing with unread bytes would reset the
-/// connection, and the peer might lose what was sent last.
-const LINGER: Duration = Duration::from_millis(200);
-/// The most bytes that are read so.
-const MOST_BYTES: usize = 1 << 18;
 
 /// A connection that sends its last bytes and is then closed.
 pub(crate) struct Closing<S> {
@@ -25,7 +20,9 @@ pub(crate) struct Closing<S> {
 }
 
 impl<S: AsyncRead + AsyncWrite + Unpin> Closing<S> {
-    /// Sends these bytes, for at most this time.
+    /// Sends these bytes, and reads what the peer sends until that closes, for at most this time:
+    /// closing with unread bytes would reset the connection, and the peer might lose what was sent
+    /// last.
     pub(crate) fn new(stream: S, rest: &[u8], time: Duration) -> Self {
         Closing {
             stream,
@@ -41,10 +38,7 @@ impl<S: AsyncRead + AsyncWrite + Unpin> Closing<S> {
     pub(crate) fn poll(&mut self, cx: &mut Context<'_>) -> Poll<()> {
         if !self.is_shut {
             match self.poll_send(cx) {
-                Poll::Ready(true) => {
-                    self.is_shut = true;
-                    self.time = Box::pin(sleep(LINGER));
-                }
+                Poll::Ready(true) => self.is_shut = true,
                 Poll::Ready(false) => return Poll::Ready(()),
                 Poll::Pending => {}
             }
@@ -71,7 +65,7 @@ impl<S: AsyncRead + AsyncWrite + Unpin> Closing<S> {
 
     /// Reads and discards what still comes.
     fn poll_discard(&mut self, cx: &mut Context<'_>) -> Poll<()> {
-        while self.discarded < MOST_BYTES {
+        while self.discarded < ClientOptions::LAST_BYTES {
             let mut bytes = [0; 4096];
             let mut buffer = ReadBuf::new(&mut bytes);
             match Pin::new(&mut self.stream).poll_read(cx, &mut buffer) {
