@@ -74,6 +74,7 @@ ENUMS = {
     "rtr_link_status": [("link_status.rt", "OK", "TOO_LONG")],
     "rtr_todo_kind": [("link_todo.rt", "NOTHING", "OUTPUT_ROOM")],
     "rtr_group_shown": [("group.rt", "shown_to")],
+    "rtr_group_status": [("group_telling.rt", "TOLD", "NO_MEMBER")],
     "rtr_serving_kind": [("serving.rt", "WAIT", "END")],
     "rtr_reason": [("serving.rt", "reason_to")],
     "rtr_stores_status": [("stores.rt", "OK", "SHORT_BUFFER"),
@@ -88,6 +89,7 @@ ENUMS = {
 PREFIXES = {"rtr_code": "CODE_", "rtr_order": "SERIAL_", "rtr_named": "NAMED_",
             "rtr_rule": "RULE_", "rtr_phase": "PHASE_", "rtr_cause": "CAUSE_",
             "rtr_link_status": "LINK_", "rtr_todo_kind": "TODO_", "rtr_group_shown": "GROUP_",
+            "rtr_group_status": "GROUP_",
             "rtr_serving_kind": "SERVE_", "rtr_reason": "REASON_", "rtr_stores_status": "STORES_",
             "rtr_room": "ROOM_", "rtr_entry": "ENTRY_",
             "rtr_step": "STEP_", "rtr_cut": "CUT_", "rtr_time_rule": "TIME_RULE_"}

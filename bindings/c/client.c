@@ -320,17 +320,11 @@ static void obey(const struct rtr_group_answer *answer, size_t number)
         start(answer->start, version);
 }
 
-/* Tells the group what happened to a client, if that is an event of the group. */
+/* Tells the group what happened to a client, and records whether that is a failure. */
 static void tell(size_t number, enum rtr_client_event event, struct rtr_group_answer *answer)
 {
     struct member *m = &members[number];
-    uint64_t time = (uint64_t)now();
-    if (event == RTR_CLIENT_DATA)
-        rtr_group_shows(&group, time, number, m->client.payloads, answer);
-    if (event == RTR_CLIENT_DROPPED)
-        rtr_group_drops(&group, time, number, answer);
-    if (event == RTR_CLIENT_NO_DATA || event == RTR_CLIENT_FAILED)
-        rtr_group_fails(&group, time, number, answer);
+    rtr_client_tell(&m->client, &group, number, answer);
     bool empty = event == RTR_CLIENT_DATA && !rtr_group_counts(&group, m->client.payloads);
     if (empty)
         fprintf(stderr, "%s:%s: " RTR_FAILURE_EMPTY "\n", m->host, m->port);

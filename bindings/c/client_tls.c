@@ -237,12 +237,7 @@ static void act(size_t number, enum rtr_client_event event)
         fprintf(stderr, "%s: %s\n", m->address, m->client.text);
     if ((event == RTR_CLIENT_DATA || event == RTR_CLIENT_DROPPED) && source == &m->client)
         print_changes(source);
-    if (event == RTR_CLIENT_DATA)
-        rtr_group_shows(&group, (uint64_t)now(), number, m->client.payloads, &answer);
-    else if (event == RTR_CLIENT_DROPPED)
-        rtr_group_drops(&group, (uint64_t)now(), number, &answer);
-    else if (event >= RTR_CLIENT_NO_DATA)
-        rtr_group_fails(&group, (uint64_t)now(), number, &answer);
+    rtr_client_tell(&m->client, &group, number, &answer);
     obey(&answer);
 }
 

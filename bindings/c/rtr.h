@@ -77,7 +77,7 @@
 
 /* Before a client closes a connection to which it sent a report: the default time for the report to
  * be sent and for the cache to read it, in milliseconds; and the most bytes that it reads meanwhile
- * and ignores. A connection that is closed with unread bytes is reset, and the report may be lost. */
+ * and ignores. A connection that is closed with unread bytes is reset: the report may be lost. */
 #define RTR_LAST_REPORT_LIMIT 2000
 #define RTR_LAST_REPORT_BYTES 1048576
 
@@ -1426,21 +1426,22 @@ static inline const uint8_t *rtr_link_data(const struct rtr_link_buffers *buffer
 
 /* Caches in order of preference (RFC 8210 section 10): which cache's data are shown, and which are
  * asked, without sockets, a clock or memory. A group has up to 16 members, each a router with its
- * cache; member 0 is the most preferred. The group holds no data. A program starts member 0,
- * reports what happens to a member by one of three calls, calls rtr_group_tick when the time is
- * rtr_group_wakes, and carries out each answer, in this order:
+ * cache; member 0 is the most preferred. The group holds no data. A program starts member 0, passes
+ * each rtr_todo of a member's struct rtr_link to rtr_group_tell, calls rtr_group_tick when the time
+ * is rtr_group_wakes, and carries out each answer, in this order:
  *
  *   shown   RTR_GROUP_DATA: show the present data of `member` in place of those before (rtr_delta
  *           computes the difference). RTR_GROUP_NOTHING: no data are shown any more
  *   stops   stop the members from `stop` on that run, and drop their data. Keep their routers
  *   starts  start the member `start` without data: the first time with a new router, later with
- *           rtr_router_again, so that the waits for its cache aren't reset
+ *           rtr_link_again or rtr_router_again, so that the waits for its cache aren't reset
  *
- * An action of a router is at most one event of the group: RTR_SHOW is rtr_group_shows; RTR_DROP,
- * and RTR_END with `drops`, is rtr_group_drops; RTR_NO_DATA, and RTR_END without `drops`, is
- * rtr_group_fails, unless its cause is RTR_CAUSE_LOWER or RTR_CAUSE_HIGHER; other actions are no
- * event. A program may report the failure that caused a loss of data after it, by rtr_group_fails:
- * then that changes nothing.
+ * A program with a struct rtr_router, or with none, calls one of three functions for each event. An
+ * action of a router is at most one: RTR_SHOW is rtr_group_shows; RTR_DROP, and RTR_END with
+ * `drops`, is rtr_group_drops; RTR_NO_DATA, and RTR_END without `drops`, is rtr_group_fails, unless
+ * its cause is RTR_CAUSE_LOWER or RTR_CAUSE_HIGHER; other actions are no event. A program may
+ * report the failure that caused a loss of data after it, by rtr_group_fails: then that changes
+ * nothing.
  *
  * A member is current from a whole answer until its next failure. The data of the most preferred
  * current member are shown; while none is current, those of the member with the latest whole
@@ -1454,6 +1455,13 @@ enum rtr_group_shown {
     RTR_GROUP_SAME = 0,
     RTR_GROUP_DATA = 1,
     RTR_GROUP_NOTHING = 2
+};
+
+/* How rtr_group_tell ended. */
+enum rtr_group_status {
+    RTR_GROUP_TOLD = 0,
+    RTR_GROUP_NO_TODO = 1,  /* no call for a router's end leaves such a todo, but a refused one */
+    RTR_GROUP_NO_MEMBER = 2 /* the group has no such member */
 };
 
 /* What a program may set. */
@@ -1504,6 +1512,18 @@ uint64_t rtr_group_wakes(const struct rtr_group *group);
 
 /* Time passed. */
 void rtr_group_tick(struct rtr_group *group, uint64_t now, struct rtr_group_answer *answer);
+
+/* A member has to do this next, as rtr_link_next, rtr_link_ask_now or rtr_link_give_up told; its
+ * data have this number of payloads, which counts after RTR_TODO_DATA alone. Pass each todo once:
+ * it is at most one event. Data come with RTR_TODO_DATA; they are lost by RTR_TODO_DROPPED, and by
+ * RTR_TODO_CLOSE with `drops`; RTR_TODO_NO_DATA is a failure, and so is each other RTR_TODO_CLOSE,
+ * unless its cause is RTR_CAUSE_LOWER or RTR_CAUSE_HIGHER; no other todo is an event.
+ *
+ * RTR_GROUP_TOLD; or another rtr_group_status, checked in the order of that enum, and nothing
+ * changes. */
+uint8_t rtr_group_tell(struct rtr_group *group, uint64_t now, size_t member,
+                       const struct rtr_todo *todo, size_t payloads,
+                       struct rtr_group_answer *answer);
 
 /* A member has the data of a whole answer, with this number of payloads (RTR_SHOW). They may be
  * unchanged. */

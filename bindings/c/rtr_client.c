@@ -353,11 +353,11 @@ static void ask_link(struct rtr_client *c, const struct rtr_link_state *held, st
 /* Takes a step; returns whether the link may have another one now. */
 static bool step(struct rtr_client *c)
 {
-    struct rtr_todo todo;
     struct rtr_link_state held = state(c);
-    ask_link(c, &held, &todo);
-    act(c, &todo, held.filled);
-    return todo.kind != RTR_TODO_WAIT;
+    ask_link(c, &held, &c->todo);
+    c->untold = true;
+    act(c, &c->todo, held.filled);
+    return c->todo.kind != RTR_TODO_WAIT;
 }
 
 /* ---- calls */
@@ -424,6 +424,7 @@ static bool begin(struct rtr_client *c)
         && resize(&b->output, &b->output_length, OUTPUT))
         return true;
     c->tries = c->now + c->settings.pause + 1;
+    c->unmade = true;
     fail(c, RTR_CLIENT_MEMORY, RTR_FAILURE_NO_MEMORY);
     return false;
 }
@@ -449,6 +450,18 @@ enum rtr_client_event rtr_client_next(struct rtr_client *c, int64_t now)
     if (event == RTR_CLIENT_CLOSE)
         c->wakes = c->now + c->report_limit;
     return event;
+}
+
+void rtr_client_tell(struct rtr_client *c, struct rtr_group *group, size_t member,
+                     struct rtr_group_answer *answer)
+{
+    uint64_t now = (uint64_t)c->now;
+    *answer = (struct rtr_group_answer){.shown = RTR_GROUP_SAME};
+    if (c->unmade)
+        rtr_group_fails(group, now, member, answer);
+    else if (c->untold)
+        must(rtr_group_tell(group, now, member, &c->todo, c->payloads, answer));
+    c->unmade = c->untold = false;
 }
 
 void rtr_client_ask_now(struct rtr_client *c)

@@ -93,6 +93,7 @@ struct rtr_client {
 
     /* Private. */
     struct rtr_link link;
+    struct rtr_todo todo; /* what the link asked for last */
     struct rtr_link_buffers buffers;
     uint8_t *room; /* the buffer of the changes */
     size_t room_length;
@@ -100,6 +101,7 @@ struct rtr_client {
     uint64_t received; /* bytes on the connection */
     uint8_t events[4], count;
     bool begun, wished, broken, closing, starved, unread;
+    bool untold, unmade; /* a group wasn't told of `todo`; or of a failure without a link's todo */
     char reason[200];
 };
 
@@ -116,6 +118,12 @@ void rtr_client_again(struct rtr_client *client);
 
 /* Returns what to do next; `now` is the time. */
 enum rtr_client_event rtr_client_next(struct rtr_client *client, int64_t now);
+
+/* Tells a group (rtr.h) what the last event of rtr_client_next means to it, and sets what the
+ * program has to do. The client is this member. Several events may be one of the group, which the
+ * first call tells. */
+void rtr_client_tell(struct rtr_client *client, struct rtr_group *group, size_t member,
+                     struct rtr_group_answer *answer);
 
 /* Requests current data: the next call of rtr_client_next asks, or connects, unless it did less
  * than a pause ago (docs/SESSIONS.md); then that happens after the pause. No-op while the client

@@ -594,33 +594,6 @@ static void check_serials(void)
         CHECK(rtr_serial_order(rows[i].left, rows[i].right) == rows[i].order);
 }
 
-/* A loss of data and the failure that caused it are one event of a group, also if the next member
- * answers between them. */
-static void check_loss(void)
-{
-    struct rtr_group_settings settings;
-    struct rtr_group_answer answer;
-    struct rtr_group group;
-    rtr_group_usual(&settings);
-    CHECK(rtr_group_init(&group, &settings, 3, 0) == RTR_OK);
-    CHECK(!rtr_group_counts(&group, 0) && rtr_group_counts(&group, 1));
-    rtr_group_shows(&group, 1, 0, 1, &answer);
-    CHECK(answer.shown == RTR_GROUP_DATA && answer.member == 0);
-    rtr_group_drops(&group, 2, 0, &answer);
-    CHECK(answer.shown == RTR_GROUP_NOTHING && answer.starts && answer.start == 1);
-    rtr_group_shows(&group, 3, 1, 1, &answer);
-    CHECK(answer.shown == RTR_GROUP_DATA && answer.member == 1);
-    rtr_group_fails(&group, 4, 0, &answer);
-    CHECK(answer.shown == RTR_GROUP_SAME && !answer.stops && !answer.starts);
-    rtr_group_drops(&group, 5, 1, &answer);
-    CHECK(answer.starts && answer.start == 2);
-    rtr_group_fails(&group, 6, 1, &answer);
-    CHECK(answer.shown == RTR_GROUP_SAME && !answer.stops && !answer.starts);
-    settings.empty_is_data = true;
-    CHECK(rtr_group_init(&group, &settings, 1, 0) == RTR_OK);
-    CHECK(rtr_group_counts(&group, 0));
-}
-
 /* The kinds of each version: those of RFC 6810, router keys from 1 on, ASPAs in 2. */
 static void check_versions(void)
 {
@@ -711,7 +684,6 @@ int main(int count, char **words)
         check_sessions(&arena, sessions.bytes, sessions.bytes + sessions.length);
     }
     check_serials();
-    check_loss();
     check_causes();
     check_versions();
     pthread_t threads[THREADS];

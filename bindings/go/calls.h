@@ -493,6 +493,20 @@ static inline struct rtr_group_answer group_tick(
 	return answer;
 }
 
+struct group_tell_result {
+	struct rtr_group_answer answer;
+	uint8_t result;
+};
+
+static inline struct group_tell_result group_tell(
+	struct rtr_group *group, uint64_t now, size_t member, struct rtr_todo todo,
+	size_t payloads)
+{
+	struct group_tell_result all;
+	all.result = rtr_group_tell(group, now, member, &todo, payloads, &all.answer);
+	return all;
+}
+
 static inline struct rtr_group_answer group_shows(
 	struct rtr_group *group, uint64_t now, size_t member, size_t payloads)
 {

@@ -20,6 +20,7 @@ type follower struct {
 	connected bool
 	received  int64 // bytes from the present connection
 	logged    int   // how many of the unsent bytes are in the log
+	todo      *todo // the link's last action, until a caller takes it; nil then
 	err       error // why there is no connection, or no memory for an answer
 	stopped   error // why the follower ends
 }
@@ -41,8 +42,16 @@ func (f *follower) next() todo {
 	return f.link.next(f.peer.now())
 }
 
+// takeTodo returns the link's last action, once; then nil.
+func (f *follower) takeTodo() *todo {
+	taken := f.todo
+	f.todo = nil
+	return taken
+}
+
 // perform performs an action.
 func (f *follower) perform(t todo) {
+	f.todo = &t
 	switch t.kind {
 	case todoGrow:
 		f.giveUp()

@@ -48,7 +48,8 @@ type member struct {
 
 // sourceEvent is new data of a source, or a failure.
 type sourceEvent struct {
-	index, run int // of the source, and of its run
+	index, run int   // of the source, and of its run
+	todo       *todo // of its link, for the group; nil if an earlier event had it
 	data       Data
 	failed     error
 }
@@ -138,19 +139,17 @@ func (c *chooser) handle(ctx context.Context, e sourceEvent) error {
 // report reports an event to the group. It returns the decision, and the failure that the event is,
 // or nil.
 func (c *chooser) report(e sourceEvent) (Decision, error) {
-	now := c.now()
-	if e.failed != nil {
-		return c.group.Fails(now, e.index), e.failed
+	failed, payloads := e.failed, e.data.Len()
+	if failed == nil {
+		c.members[e.index].data = e.data
+		if !e.data.IsZero() && !c.group.Counts(payloads) {
+			failed = ErrEmpty
+		}
 	}
-	c.members[e.index].data = e.data
-	if e.data.IsZero() {
-		return c.group.Drops(now, e.index), nil
+	if e.todo == nil {
+		return Decision{Stop: -1, Start: -1}, failed
 	}
-	var failed error
-	if !c.group.Counts(e.data.Len()) {
-		failed = ErrEmpty
-	}
-	return c.group.Shows(now, e.index, e.data.Len()), failed
+	return c.group.tell(c.now(), e.index, *e.todo, payloads), failed
 }
 
 // obey carries out a decision of the group about an event of the member at this index.
@@ -188,8 +187,9 @@ func (c *chooser) start(ctx context.Context, index int) {
 	before, ended := m.ended, make(chan *link, 1)
 	m.ended = ended
 	run, client := m.run, c.sources[index].Client
+	var f *follower
 	send := func(e sourceEvent) {
-		e.index, e.run = index, run
+		e.index, e.run, e.todo = index, run, f.takeTodo()
 		select {
 		case c.events <- e:
 		case <-ctx.Done():
@@ -198,7 +198,7 @@ func (c *chooser) start(ctx context.Context, index int) {
 	c.running.Add(1)
 	go func() {
 		defer c.running.Done()
-		f := client.follower(ctx, c.clock, func(update Update) error {
+		f = client.follower(ctx, c.clock, func(update Update) error {
 			send(sourceEvent{data: update.Data})
 			return ctx.Err()
 		})

@@ -1,6 +1,6 @@
 // Follows several caches by preference (RFC 8210 section 10): a Group decides.
 
-import { GroupShown, MOST_MEMBERS, STRUCTS } from "./rtr_table.js";
+import { GroupShown, MOST_MEMBERS, STRUCTS, TodoKind } from "./rtr_table.js";
 import { Empty } from "./fault.js";
 import { fieldsOf, objectOf } from "./given.js";
 import { EVENTS, SESSION, iterated } from "./iterated.js";
@@ -113,28 +113,17 @@ class Chooser {
     }
 
     /** Reports an event of a member to the group, and carries out its decision. */
-    #happens(index, member, { name, value }) {
-        switch (name) {
-            case "data":
-                return this.#has(index, member, value.data);
-            case "dropped":
-                member.data = null;
-                return this.#obeys(index, this.#group.drops(now(), index));
-            case "noData":
-            case "failed":
-                return this.#obeys(index, this.#group.fails(now(), index));
-            default:
-                return null;
+    #happens(index, member, { value, todo }) {
+        if (value instanceof Update) {
+            member.data = value.data;
         }
-    }
-
-    #has(index, member, data) {
-        member.data = data;
-        const payloads = data.isEmpty ? 0 : 1; // the group only checks whether there are any
-        if (!this.#group.counts(payloads)) {
+        // The group only checks whether there are any.
+        const payloads = member.data?.isEmpty === false ? 1 : 0;
+        if (todo?.kind === TodoKind.DATA && !this.#group.counts(payloads)) {
             member.client.emit("failed", new Empty());
         }
-        return this.#obeys(index, this.#group.shows(now(), index, payloads));
+        return todo === undefined ? null
+            : this.#obeys(index, this.#group.tells(now(), index, todo, payloads));
     }
 
     /** Carries out the group's decision after an event of a member. */

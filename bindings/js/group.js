@@ -1,7 +1,7 @@
 // Caches by preference: which cache's data are used, and which caches are asked.
 
-import { GroupShown, MOST_MEMBERS, STRUCTS } from "./rtr_table.js";
-import { fieldsOf, numberOf } from "./given.js";
+import { GroupShown, GroupStatus, MOST_MEMBERS, STRUCTS } from "./rtr_table.js";
+import { fieldsOf, numberOf, objectOf } from "./given.js";
 import { readStruct, writeStruct } from "./memory.js";
 
 /** A struct rtr_group: it takes events of its members, and returns what to do, as an object. The
@@ -68,6 +68,17 @@ export class Group {
         return this.#call("rtr_group_fails", now, memberOf(member));
     }
 
+    /** Reports what a member's link told it to do, once; its data have this number of payloads. */
+    tells(now, member, todo, payloads) {
+        const told = { ...objectOf(todo, "todo") };
+        delete told.error; // the link's own field
+        fieldsOf(told, "todo", STRUCTS.todo.fields);
+        const at = this.#session.frame("todo");
+        writeStruct(this.#session.heap.view, "todo", at, told);
+        return this.#call("rtr_group_tell", now, memberOf(member), at,
+            numberOf(payloads, "payloads"));
+    }
+
     /** Writes the struct into the memory, and returns its address. */
     #put() {
         const at = this.#session.frame("group");
@@ -77,7 +88,11 @@ export class Group {
 
     #call(name, now, ...values) {
         const [at, answer] = [this.#put(), this.#session.frame("groupAnswer")];
-        this.#session.call(name, at, numberOf(now, "now"), ...values, answer);
+        const status = this.#session.call(name, at, numberOf(now, "now"), ...values, answer);
+        if (status) {
+            const [text] = Object.entries(GroupStatus).find(([, number]) => number === status);
+            throw new RangeError(`${name}: ${text}`);
+        }
         this.#state = this.#session.copy(at, STRUCTS.group.size);
         const { member, stop, start, shown, stops, starts } = this.#session.answer("groupAnswer");
         return {

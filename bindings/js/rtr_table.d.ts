@@ -362,6 +362,16 @@ export const GroupShown: {
 };
 export type GroupShown = (typeof GroupShown)[keyof typeof GroupShown];
 
+/** How rtr_group_tell ended. */
+export const GroupStatus: {
+    readonly TOLD: 0;
+    /** No call for a router's end leaves such a todo, but a refused one. */
+    readonly NO_TODO: 1;
+    /** The group has no such member. */
+    readonly NO_MEMBER: 2;
+};
+export type GroupStatus = (typeof GroupStatus)[keyof typeof GroupStatus];
+
 export const ServingKind: {
     readonly WAIT: 0;
     readonly ALL: 1;

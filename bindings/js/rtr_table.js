@@ -252,6 +252,12 @@ export const GroupShown = Object.freeze({
     NOTHING: 2,
 });
 
+export const GroupStatus = Object.freeze({
+    TOLD: 0,
+    NO_TODO: 1,
+    NO_MEMBER: 2,
+});
+
 export const ServingKind = Object.freeze({
     WAIT: 0,
     ALL: 1,
@@ -762,6 +768,7 @@ export const FUNCTIONS = Object.freeze({
     rtr_group_counts: ["bool", "*", "size"],
     rtr_group_wakes: ["uint64", "*"],
     rtr_group_tick: ["void", "*", "uint64", "*"],
+    rtr_group_tell: ["uint8", "*", "uint64", "size", "*", "size", "*"],
     rtr_group_shows: ["void", "*", "uint64", "size", "size", "*"],
     rtr_group_drops: ["void", "*", "uint64", "size", "*"],
     rtr_group_fails: ["void", "*", "uint64", "size", "*"],

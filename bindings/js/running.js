@@ -78,7 +78,8 @@ export class Run {
         this.#bell.ring();
     }
 
-    /** Iterates over the events: each has a name and a value. */
+    /** Iterates over the events: each has a name and a value, and the first of those of a todo has
+     * the todo. */
     async * events() {
         const signals = [this.#stop, this.#options.signal].filter((signal) => signal !== undefined);
         const aborted = () => this.#abort();
@@ -120,10 +121,10 @@ export class Run {
                 this.#dial(todo.wakes);
                 return;
             case TodoKind.DATA:
-                yield { name: "data", value: this.#update(this.#link.data(time)) };
+                yield { name: "data", value: this.#update(this.#link.data(time)), todo };
                 return;
             case TodoKind.NO_DATA:
-                yield { name: "noData", value: todo.error };
+                yield { name: "noData", value: todo.error, todo };
                 return;
             default:
                 yield* this.#ends(todo);
@@ -131,14 +132,16 @@ export class Run {
     }
 
     /** Ends the connection, or drops the data, or both. */
-    async * #ends({ kind, drops, error }) {
+    async * #ends(todo) {
+        const { kind, drops, error } = todo;
         const closed = kind === TodoKind.CLOSE ? this.#closes() : null;
-        if (drops || kind === TodoKind.DROPPED) {
-            yield { name: "dropped", value: this.#update(null) };
+        const loses = drops || kind === TodoKind.DROPPED;
+        if (loses) {
+            yield { name: "dropped", value: this.#update(null), todo };
         }
         await closed;
         if (error !== null) {
-            yield { name: "failed", value: error };
+            yield loses ? { name: "failed", value: error } : { name: "failed", value: error, todo };
         }
     }
 

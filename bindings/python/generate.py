@@ -30,6 +30,7 @@ ENUMS = {"rtr_status": ("Status", "RTR_"), "rtr_prefix_rule": ("PrefixRule", "RT
          "rtr_covers": ("Covers", "RTR_COVERS_"),
          "rtr_rule": ("Rule", "RTR_RULE_"), "rtr_phase": ("Phase", "RTR_PHASE_"),
          "rtr_action_kind": ("ActionKind", "RTR_"), "rtr_group_shown": ("GroupShown", "RTR_GROUP_"),
+         "rtr_group_status": ("GroupStatus", "RTR_GROUP_"),
          "rtr_cause": ("Cause", "RTR_CAUSE_"), "rtr_serving_kind": ("ServingKind", "RTR_SERVE_"),
          "rtr_reason": ("Reason", "RTR_REASON_"), "rtr_entry": ("Entry", "RTR_ENTRY_"),
          "rtr_step": ("Step", "RTR_STEP_"), "rtr_cut": ("Cut", "RTR_CUT_"),

@@ -28,6 +28,7 @@ ENUMS = {"rtr_status": ("status", "RTR_"), "rtr_prefix_rule": ("prefix_rule", "R
          "rtr_link_status": ("link_status", "RTR_LINK_"),
          "rtr_todo_kind": ("todo_kind", "RTR_TODO_"),
          "rtr_cause": ("cause", "RTR_CAUSE_"), "rtr_group_shown": ("group_shown", "RTR_GROUP_"),
+         "rtr_group_status": ("group_status", "RTR_GROUP_"),
          "rtr_serving_kind": ("serving", "RTR_SERVE_"), "rtr_reason": ("reason", "RTR_REASON_"),
          "rtr_stores_status": ("stores_status", "RTR_STORES_"), "rtr_room": ("room", "RTR_ROOM_"),
          "rtr_time_rule": ("time_rule", "RTR_TIME_RULE_")}

@@ -3,8 +3,8 @@
 import assert from "node:assert/strict";
 import { readFileSync } from "node:fs";
 import vm from "node:vm";
-import { Data, Dropped, Group, Held, Kind, Link, Router, Session, Validity, addressOf, addressText,
-    load, prefixOf } from "../rtr_wire.js";
+import { Data, Dropped, Group, Held, Kind, Link, Router, Session, TodoKind, Validity, addressOf,
+    addressText, load, prefixOf } from "../rtr_wire.js";
 
 /** An end of data of version 1 (RFC 8210 section 5.8). */
 const END = Uint8Array.from([1, 7, 0x12, 0x34, 0, 0, 0, 24, 0, 0, 0, 9,
@@ -336,6 +336,17 @@ const CALLS = {
         now((now) => rtr.group(1, 0).shows(now, 0, 1));
         number("member", BEYOND, (member) => rtr.group(1, 0).shows(0, member, 1));
         number("payloads", BEYOND, (payloads) => rtr.group(1, 0).shows(0, 0, payloads));
+    },
+    "Group.tells": (rtr) => {
+        const [group, todo] = [rtr.group(1, 0), { kind: TodoKind.DATA }];
+        now((now) => rtr.group(1, 0).tells(now, 0, todo, 1));
+        number("member", BEYOND, (member) => rtr.group(1, 0).tells(0, member, todo, 1));
+        number("payloads", BEYOND, (payloads) => rtr.group(1, 0).tells(0, 0, todo, payloads));
+        wrong("TypeError", "todo must be an object, not undefined", () => group.tells(0, 0));
+        wrong("TypeError", "todo has no field cost", () => group.tells(0, 0, { cost: 1 }, 0));
+        wrong("RangeError", "rtr_group_tell: NO_TODO", () => group.tells(0, 0, {}, 0));
+        wrong("RangeError", "rtr_group_tell: NO_MEMBER", () => group.tells(0, 1, todo, 0));
+        number("todo.kind", BYTE, (kind) => group.tells(0, 0, { ...todo, kind }, 0));
     },
     "Group.drops": (rtr) => {
         now((now) => rtr.group(1, 0).drops(now, 0));

@@ -5,6 +5,7 @@ import contextlib
 import unittest
 
 from rtr_wire import AsyncClient, CacheResponse, Data, EndOfData, Failed, NoPayloads, Update
+from rtr_wire._rtr import Cause, TodoKind, rtr_todo
 from rtr_wire.group import Group
 from rtr_wire.loops import Asking
 
@@ -12,6 +13,11 @@ from .test_client import FIRST, SECOND, SOON
 
 # How many turns of the event loop a test lets pass at most between two things.
 TURNS = 8
+
+# What a client does at new data, at their loss, and at a lost connection that has none.
+DATA = rtr_todo(kind=TodoKind.DATA)
+LOSS = rtr_todo(kind=TodoKind.CLOSE, cause=Cause.LOST, drops=True)
+FAILURE = rtr_todo(kind=TodoKind.CLOSE, cause=Cause.LOST)
 
 
 class Streams:
@@ -119,31 +125,31 @@ class Groups(unittest.TestCase):
         """An empty answer of the cache that is used is its failure, also if the data of another one
         are shown then."""
         group, error = Group(2, None, None), ConnectionResetError()
-        self.assertEqual(group.happens(0, 0, Update(FIRST, None)).update.data, FIRST)
-        self.assertEqual(group.happens(1, 0, Failed(error))[:2], (error, 0))
-        decision = group.happens(2, 1, Update(SECOND, None))
+        self.assertEqual(group.happens(0, 0, Update(FIRST, None), DATA).update.data, FIRST)
+        self.assertEqual(group.happens(1, 0, Failed(error), FAILURE)[:2], (error, 0))
+        decision = group.happens(2, 1, Update(SECOND, None), DATA)
         self.assertEqual((decision.source, decision.update.data), (1, SECOND))
-        decision = group.happens(3, 1, Update(Data((), EndOfData(7, 3)), None))
+        decision = group.happens(3, 1, Update(Data((), EndOfData(7, 3)), None), DATA)
         self.assertEqual((type(decision.error), decision.member), (NoPayloads, 1))
         self.assertEqual((decision.source, decision.update.data), (0, FIRST))
 
     def test_whose_loss(self):
         """The failure that comes with a loss of data is that of the cache which had them."""
         group, error, lost = Group(2, None, None), ConnectionResetError(), ConnectionAbortedError()
-        group.happens(0, 0, Failed(error))
-        group.happens(1, 1, Update(FIRST, None))
-        decision = group.happens(2, 1, Update(None, None))
+        group.happens(0, 0, Failed(error), FAILURE)
+        group.happens(1, 1, Update(FIRST, None), DATA)
+        decision = group.happens(2, 1, Update(None, None), LOSS)
         self.assertEqual((decision.source, decision.update.data), (1, None))
-        self.changes_nothing(group.happens(2, 1, Failed(lost)), lost, 1)
+        self.changes_nothing(group.happens(2, 1, Failed(lost), None), lost, 1)
 
     def test_failure_after_an_answer(self):
         """The failure that comes with a loss of data stops and starts nobody, also if the next
         client answers between them."""
         group, lost = Group(3, None, None), ConnectionAbortedError()
-        group.happens(0, 0, Update(FIRST, None))
-        self.assertEqual(group.happens(1, 0, Update(None, None)).start, 1)
-        self.assertEqual(group.happens(2, 1, Update(SECOND, None)).update.data, SECOND)
-        self.changes_nothing(group.happens(3, 0, Failed(lost)), lost, 0)
+        group.happens(0, 0, Update(FIRST, None), DATA)
+        self.assertEqual(group.happens(1, 0, Update(None, None), LOSS).start, 1)
+        self.assertEqual(group.happens(2, 1, Update(SECOND, None), DATA).update.data, SECOND)
+        self.changes_nothing(group.happens(3, 0, Failed(lost), None), lost, 0)
 
 
 if __name__ == "__main__":

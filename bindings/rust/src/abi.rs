@@ -415,6 +415,15 @@ pub(crate) mod group_shown {
     pub(crate) const NOTHING: u8 = 2;
 }
 
+/// How rtr_group_tell ended.
+pub(crate) mod group_status {
+    pub(crate) const TOLD: u8 = 0;
+    /// No call for a router's end leaves such a todo, but a refused one.
+    pub(crate) const NO_TODO: u8 = 1;
+    /// The group has no such member.
+    pub(crate) const NO_MEMBER: u8 = 2;
+}
+
 /// The numbers of enum rtr_serving_kind.
 pub(crate) mod serving {
     pub(crate) const WAIT: u8 = 0;
@@ -1655,6 +1664,14 @@ extern "C" {
         now: u64,
         answer: *mut GroupAnswer,
     );
+    pub(crate) fn rtr_group_tell(
+        group: *mut Group,
+        now: u64,
+        member: usize,
+        todo: *const Todo,
+        payloads: usize,
+        answer: *mut GroupAnswer,
+    ) -> u8;
     pub(crate) fn rtr_group_shows(
         group: *mut Group,
         now: u64,

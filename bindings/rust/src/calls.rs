@@ -663,6 +663,20 @@ pub(crate) fn group_tick(group: &mut abi::Group, now: u64) -> abi::GroupAnswer {
 }
 
 #[inline]
+pub(crate) fn group_tell(
+    group: &mut abi::Group,
+    now: u64,
+    member: usize,
+    todo: &abi::Todo,
+    payloads: usize,
+) -> (abi::GroupAnswer, u8) {
+    let mut answer = abi::GroupAnswer::default();
+    // SAFETY: as at the head of this file.
+    let result = unsafe { abi::rtr_group_tell(group, now, member, todo, payloads, &mut answer) };
+    (answer, result)
+}
+
+#[inline]
 pub(crate) fn group_shows(
     group: &mut abi::Group,
     now: u64,

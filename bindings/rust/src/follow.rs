@@ -2,7 +2,7 @@
 
 use crate::client::Client;
 use crate::following::{Follower, Timed};
-use crate::group::{Decision, GroupSettings};
+use crate::group::{Decision, GroupSettings, News};
 use crate::owned_data::Data;
 use crate::preferred::Preferred;
 use crate::router::{Event, Step};
@@ -120,9 +120,12 @@ type SavedRouter = Arc<Mutex<Option<Timed>>>;
 struct Message {
     member: usize,
     turn: u64,
-    /// The step and the data after it; none if the client has ended.
-    step: Option<(Step, Option<Data>)>,
+    /// The step, what it means to the group, and the data after it; none if the client has ended.
+    step: Option<Told>,
 }
+
+/// A step, what it means to the group, and the data after it.
+type Told = ((Step, News), Option<Data>);
 
 /// The sending end of a member's thread. Dropping it reports that the client has ended.
 struct Outlet {
@@ -133,7 +136,7 @@ struct Outlet {
 
 impl Outlet {
     /// Sends a message; breaks off if nobody receives any more.
-    fn tell(&self, step: Option<(Step, Option<Data>)>) -> ControlFlow<()> {
+    fn tell(&self, step: Option<Told>) -> ControlFlow<()> {
         let (member, turn) = (self.member, self.turn);
         match self.sender.send(Message { member, turn, step }) {
             Ok(()) => ControlFlow::Continue(()),

@@ -3,6 +3,7 @@
 use crate::asking::Asking;
 use crate::client::Client;
 use crate::client_error::ClientError;
+use crate::group::News;
 use crate::log::LogLevel;
 use crate::options::ClientOptions;
 use crate::owned_data::Data;
@@ -102,14 +103,16 @@ impl<'c> Follower<'c> {
         self.router.into_data().filter(|_| has_data)
     }
 
-    /// Runs until the client is stopped or the caller breaks off, and calls it with each step and
-    /// the data after it. Returns the router, without data, to continue with.
+    /// Runs until the client is stopped or the caller breaks off, and calls it with each step, what
+    /// it means to a group, and the data after it. Returns the router, without data, to continue
+    /// with.
     pub(crate) fn steps(
         mut self,
-        mut on: impl FnMut(Step, Option<&Data>) -> ControlFlow<()>,
+        mut on: impl FnMut((Step, News), Option<&Data>) -> ControlFlow<()>,
     ) -> Timed {
         while let Some(step) = self.next() {
-            if on(step, self.router.data()).is_break() {
+            let news = self.router.take_news();
+            if on((step, news), self.router.data()).is_break() {
                 break;
             }
         }

@@ -1,6 +1,6 @@
 //! Caches by preference.
 
-use crate::abi::{self, group_shown, status, GroupAnswer, MOST_MEMBERS};
+use crate::abi::{self, group_shown, group_status, status, GroupAnswer, Todo, MOST_MEMBERS};
 use crate::calls;
 use crate::sys::{self, milliseconds};
 use core::fmt;
@@ -139,6 +139,26 @@ impl Group {
         calls::group_counts(&self.0, payloads)
     }
 
+    /// Reports what a member's router did; its data have this number of payloads.
+    pub(crate) fn tell(
+        &mut self,
+        now: u64,
+        member: usize,
+        news: News,
+        payloads: usize,
+    ) -> Decision {
+        let todo = match news.0 {
+            Some(todo) => todo,
+            None => return Decision::NONE,
+        };
+        let (answer, status) = calls::group_tell(&mut self.0, now, member, &todo, payloads);
+        assert!(
+            status == group_status::TOLD,
+            "a group refuses a todo: status {status}"
+        );
+        Decision::of(&answer)
+    }
+
     /// Reports that a member has the data of a whole answer, with this number of payloads; they may
     /// be the same as before.
     pub fn shows(&mut self, now: u64, member: usize, payloads: usize) -> Decision {
@@ -157,7 +177,20 @@ impl Group {
     }
 }
 
+/// What a step of a [`Router`](crate::Router) means to a group, for
+/// [`Preferred::tell`](crate::Preferred::tell): at most one event. A router returns it by
+/// [`Router::take_news`](crate::Router::take_news).
+#[derive(Clone, Copy, Debug, Default)]
+pub struct News(pub(crate) Option<Todo>);
+
 impl Decision {
+    /// Nothing to do.
+    const NONE: Decision = Decision {
+        shown: Shown::Same,
+        stop: None,
+        start: None,
+    };
+
     fn of(answer: &GroupAnswer) -> Decision {
         Decision {
             shown: match answer.shown {

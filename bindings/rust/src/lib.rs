@@ -192,7 +192,7 @@ pub use door::{Door, Entry};
 pub use fault::{ErrorCode, Fault, PrefixRule};
 #[cfg(feature = "std")]
 pub use follow::{follow, follow_with};
-pub use group::{Decision, Group, GroupSettings, Shown, TooManyMembers};
+pub use group::{Decision, Group, GroupSettings, News, Shown, TooManyMembers};
 pub use kind::{Kind, UnknownKind};
 #[cfg(feature = "alloc")]
 pub use lines::{change_json, change_line, unit_json, unit_line};

@@ -2,7 +2,7 @@
 
 use crate::changes::Changes;
 use crate::client_error::ClientError;
-use crate::group::{Decision, Group, GroupSettings, Shown, TooManyMembers};
+use crate::group::{Decision, Group, GroupSettings, News, Shown, TooManyMembers};
 use crate::owned_data::Data;
 use crate::router::{Event, Step};
 use alloc::collections::VecDeque;
@@ -76,16 +76,22 @@ impl Preferred {
         decided
     }
 
-    /// Reports a step of a running member, and its data after it. Steps without an event change
-    /// nothing.
+    /// Reports a step of a running member, what it means to the group
+    /// ([`Router::take_news`](crate::Router::take_news)), and the member's data after it.
     ///
     /// # Panics
     ///
     /// If there is no such member.
-    pub fn tell(&mut self, now: u64, member: usize, step: Step, data: Option<&Data>) -> Decision {
+    pub fn tell(
+        &mut self,
+        now: u64,
+        member: usize,
+        (step, news): (Step, News),
+        data: Option<&Data>,
+    ) -> Decision {
         self.members[member] = data.cloned();
         let payloads = data.map_or(0, Data::len);
-        let decided = self.decide(now, member, payloads, &step);
+        let decided = self.group.tell(now, member, news, payloads);
         if matches!(step, Step::Data(_)) && !self.group.counts(payloads) {
             self.push(member, Step::Failed(ClientError::Empty), None);
         }
@@ -134,20 +140,6 @@ impl Preferred {
     #[must_use]
     pub fn into_shown(self) -> Option<Data> {
         self.shown.map(|(_, data)| data)
-    }
-
-    /// Returns the group's decision on a step.
-    fn decide(&mut self, now: u64, member: usize, payloads: usize, step: &Step) -> Decision {
-        match step {
-            Step::Data(_) => self.group.shows(now, member, payloads),
-            Step::Dropped(_) => self.group.drops(now, member),
-            Step::Failed(_) => self.group.fails(now, member),
-            _ => Decision {
-                shown: Shown::Same,
-                stop: None,
-                start: None,
-            },
-        }
     }
 
     /// Drops the data of members that stop or start.

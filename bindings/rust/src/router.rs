@@ -3,6 +3,7 @@
 use crate::abi::{cause, status, todo_kind, Todo};
 use crate::changes::Changes;
 use crate::client_error::ClientError;
+use crate::group::News;
 use crate::link::Link;
 use crate::options::ClientOptions;
 use crate::owned_data::Data;
@@ -64,6 +65,8 @@ pub struct Router {
     error: Option<ClientError>,
     /// Whether a request for current data is pending.
     asks: bool,
+    /// What the link did last, unless it was taken.
+    news: News,
 }
 
 /// The connection of a router.
@@ -88,6 +91,7 @@ impl Router {
             connection: Connection::None,
             error: None,
             asks: false,
+            news: News::default(),
         }
     }
 
@@ -99,6 +103,7 @@ impl Router {
         self.connection = Connection::None;
         self.error = None;
         self.asks = false;
+        self.news = News::default();
     }
 
     /// Requests current data: at the next call of [`Router::next`] the router asks the cache, or
@@ -138,6 +143,13 @@ impl Router {
             (Step::Failed(error), _) => Some(Event::Failed(error)),
             _ => None,
         }
+    }
+
+    /// Takes what the last step means to a group: call it after each [`Step::Data`],
+    /// [`Step::Dropped`] and [`Step::Failed`], before the next call of another method. Several steps
+    /// may be one event of a group, which comes with the first of them.
+    pub fn take_news(&mut self) -> News {
+        take(&mut self.news)
     }
 
     /// When to call [`Router::next`] if nothing happens before.
@@ -241,6 +253,7 @@ impl Router {
         if todo.kind == todo_kind::WAIT && take(&mut self.asks) {
             todo = self.link.ask_now(now);
         }
+        self.news = News(Some(todo));
         match todo.kind {
             todo_kind::WAIT => return false,
             todo_kind::CONNECT => {

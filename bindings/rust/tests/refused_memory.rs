@@ -57,8 +57,8 @@ fn data(serial: u32) -> Data {
     data_of(SESSION, serial, 10_000)
 }
 
-/// A router that has data, and has asked for the changes since them.
-fn asked() -> Router {
+/// A router that has got these data, which its next step reports.
+fn answered(data: &Data) -> Router {
     let options = ClientOptions {
         version: 2,
         ..ClientOptions::default()
@@ -66,7 +66,13 @@ fn asked() -> Router {
     let mut router = Router::new(&options, 0);
     assert!(matches!(router.next(0), Step::Connect));
     router.connected(0);
-    router.received(&answer(&data(1), 2));
+    router.received(&answer(data, 2));
+    router
+}
+
+/// A router that has data, and has asked for the changes since them.
+fn asked() -> Router {
+    let mut router = answered(&data(1));
     assert!(matches!(router.next(0), Step::Data(_)));
     router.ask_now();
     assert!(matches!(router.next(5000), Step::Wait));
@@ -212,7 +218,10 @@ fn dropped_without_memory() {
 fn others_without_memory() {
     let others = data_of(9, 7, 10_000);
     let (first, second) = (data(1), others.clone());
-    let shown = |data: &Data| Step::Data(data.delta_to(data).unwrap());
+    let shown = |data: &Data| {
+        let mut router = answered(data);
+        (router.next(0), router.take_news())
+    };
     let (one, two) = (shown(&first), shown(&second));
     let mut preferred = Preferred::new(2, None, 0).unwrap();
     preferred.tick(5000);

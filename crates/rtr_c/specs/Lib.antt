@@ -17,6 +17,7 @@ pub mod Routes
 pub mod Routers
 pub mod RouterActions
 pub mod GroupsShown
+pub mod GroupsTold
 pub mod Caches
 pub mod Checks
 pub mod Servings

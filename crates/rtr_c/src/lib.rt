@@ -17,6 +17,7 @@ mod data_answer;
 mod delta;
 mod group;
 mod group_calls;
+mod group_telling;
 mod history_calls;
 mod in_order;
 mod laws;

@@ -15,19 +15,19 @@ use session_router::event::Ending;
 
 const NOTHING: u8 = 0;
 
-const GO: u8 = 1;
+pub(crate) const GO: u8 = 1;
 
 const WAIT: u8 = 2;
 
 const CONNECT: u8 = 3;
 
-const CLOSE: u8 = 4;
+pub(crate) const CLOSE: u8 = 4;
 
-const DATA: u8 = 5;
+pub(crate) const DATA: u8 = 5;
 
-const DROPPED: u8 = 6;
+pub(crate) const DROPPED: u8 = 6;
 
-const NO_DATA: u8 = 7;
+pub(crate) const NO_DATA: u8 = 7;
 
 const INPUT_ROOM: u8 = 8;
 
@@ -37,7 +37,7 @@ const SECOND_ROOM: u8 = 10;
 
 const INDEX_ROOM: u8 = 11;
 
-const OUTPUT_ROOM: u8 = 12;
+pub(crate) const OUTPUT_ROOM: u8 = 12;
 
 /// What a caller has to do next: as `session_client::Todo`. Fields that it doesn't have are zero.
 #[repr(C)]

@@ -411,6 +411,16 @@ class GroupShown(enum.IntEnum):
     NOTHING = 2
 
 
+class GroupStatus(enum.IntEnum):
+    """How rtr_group_tell ended."""
+
+    TOLD = 0
+    # No call for a router's end leaves such a todo, but a refused one.
+    NO_TODO = 1
+    # The group has no such member.
+    NO_MEMBER = 2
+
+
 class ServingKind(enum.IntEnum):
     """enum rtr_serving_kind of rtr.h."""
 
@@ -1697,6 +1707,8 @@ PROTOTYPES: dict[str, tuple[Any, list[Any]]] = {
     "rtr_group_counts": (c_bool, [POINTER(rtr_group), c_size_t]),
     "rtr_group_wakes": (c_uint64, [POINTER(rtr_group)]),
     "rtr_group_tick": (None, [POINTER(rtr_group), c_uint64, POINTER(rtr_group_answer)]),
+    "rtr_group_tell": (c_uint8, [POINTER(rtr_group), c_uint64, c_size_t, POINTER(rtr_todo),
+        c_size_t, POINTER(rtr_group_answer)]),
     "rtr_group_shows": (None, [POINTER(rtr_group), c_uint64, c_size_t, c_size_t,
         POINTER(rtr_group_answer)]),
     "rtr_group_drops": (None, [POINTER(rtr_group), c_uint64, c_size_t, POINTER(rtr_group_answer)]),

@@ -8,7 +8,7 @@ from typing import (Any, AsyncGenerator, AsyncIterator, Awaitable, Callable, Lis
                     Optional, Sequence, Tuple, TypeVar, Union)
 
 from ._library import number
-from ._rtr import Cause
+from ._rtr import Cause, rtr_todo
 from .data import Data
 from .group import Decision, Group
 from .loops import (CHUNK, LAST_BYTES, LOOK, REPORT_SECONDS, Asking, Clock, OnFailure, new_router,
@@ -229,6 +229,7 @@ class _News(NamedTuple):
     member: int
     run: _Run
     step: Union[Update, Failed, Exception]
+    todo: Optional[rtr_todo] = None
 
 
 class _Following:
@@ -274,7 +275,7 @@ class _Following:
             return Decision()
         if isinstance(news.step, Exception):
             raise news.step
-        return self._group.happens(self._clock.now(), news.member, news.step)
+        return self._group.happens(self._clock.now(), news.member, news.step, news.todo)
 
     def _start(self, member: int) -> None:
         """Starts a client after its last run has ended."""
@@ -297,7 +298,7 @@ class _Following:
             steps = client.run(router, self._clock)
             try:
                 async for step in steps:
-                    await self._news.put(_News(member, run, step))
+                    await self._news.put(_News(member, run, step, router.take_todo()))
             finally:
                 await steps.aclose()
         except Exception as error:

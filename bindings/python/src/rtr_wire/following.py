@@ -6,6 +6,7 @@ import queue
 import threading
 from typing import Any, Callable, Iterator, List, NamedTuple, Optional, Sequence, Tuple, Union
 
+from ._rtr import rtr_todo
 from .client import Client
 from .group import Decision, Group
 from .loops import LOOK, Clock, new_router
@@ -58,6 +59,7 @@ class _News(NamedTuple):
     member: int
     stopped: threading.Event
     step: Union[Update, Failed, BaseException]
+    todo: Optional[rtr_todo] = None
 
 
 class _Following:
@@ -101,7 +103,7 @@ class _Following:
             return Decision()
         if isinstance(news.step, BaseException):
             raise news.step
-        return self._group.happens(self._clock.now(), news.member, news.step)
+        return self._group.happens(self._clock.now(), news.member, news.step, news.todo)
 
     def _start(self, member: int) -> None:
         """Starts a client after its last run has ended."""
@@ -125,7 +127,7 @@ class _Following:
             steps = client.run(router, self._clock, stopped.is_set)
             with contextlib.closing(steps):
                 for step in steps:
-                    self._publish(_News(member, stopped, step))
+                    self._publish(_News(member, stopped, step, router.take_todo()))
         except BaseException as error:
             self._publish(_News(member, stopped, error))
 

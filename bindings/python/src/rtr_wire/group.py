@@ -5,7 +5,7 @@ from typing import List, NamedTuple, Optional, Sequence, Union
 
 from . import _library, _rtr
 from ._library import CALLS
-from ._rtr import GroupShown, Status
+from ._rtr import GroupShown, GroupStatus, Status
 from .data import Data, difference
 from .router import Failed, Update, milliseconds
 
@@ -81,20 +81,24 @@ class Group:
         CALLS.rtr_group_tick(self._group, now, self._answer)
         return self._decided(0, None)
 
-    def happens(self, now: int, member: int, step: Union[Update, Failed]) -> Decision:
-        """Reports a step of a running member."""
-        group, answer, error = self._group, self._answer, None
+    def happens(self, now: int, member: int, step: Union[Update, Failed],
+                todo: Optional[_rtr.rtr_todo]) -> Decision:
+        """Reports a step of a running member, and what its router was told to do then
+        (`Router.take_todo`)."""
+        error, payloads = None, 0
         if isinstance(step, Failed):
             error = step.error
-            CALLS.rtr_group_fails(group, now, member, answer)
-        elif step.data is None:
-            self._data[member] = None
-            CALLS.rtr_group_drops(group, now, member, answer)
         else:
-            self._data[member], payloads = step.data, len(step.data)
-            if not CALLS.rtr_group_counts(group, payloads):
-                error = NoPayloads()
-            CALLS.rtr_group_shows(group, now, member, payloads, answer)
+            self._data[member] = step.data
+            if step.data is not None:
+                payloads = len(step.data)
+                if not CALLS.rtr_group_counts(self._group, payloads):
+                    error = NoPayloads()
+        if todo is None:
+            return Decision(error, member)
+        status = CALLS.rtr_group_tell(self._group, now, member, todo, payloads, self._answer)
+        if status != GroupStatus.TOLD:
+            raise RuntimeError(f"a group refuses a todo: {GroupStatus(status).name}")
         return self._decided(member, error)
 
     def _decided(self, member: int, error: Optional[Exception]) -> Decision:

@@ -178,6 +178,7 @@ class Router:
         self._link = Link(_settings(settings).for_library(chance))
         self._steps: Deque[Step] = deque()
         self._asked = False  # whether the caller requests current data
+        self._todo: Optional[_rtr.rtr_todo] = None  # for a group, until it is taken
         self._begin(is_wanted=False)
 
     def _begin(self, is_wanted: bool) -> None:
@@ -192,7 +193,7 @@ class Router:
         continue to grow. The caller closes the connection, if there is one."""
         self._link.again()
         self._steps.clear()
-        self._asked = False
+        self._asked, self._todo = False, None
         self._begin(is_wanted=False)
 
     def data(self, now: int) -> Optional[Data]:
@@ -253,6 +254,12 @@ class Router:
                 return None
         return self._steps.popleft()
 
+    def take_todo(self) -> Optional[_rtr.rtr_todo]:
+        """Returns what the link asked for last, once, for a group: the first of several steps of
+        one todo gets it; then None."""
+        taken, self._todo = self._todo, None
+        return taken
+
     def _feed(self) -> bool:
         """Passes received bytes to the link, or that the connection ended; returns whether there
         was either."""
@@ -268,6 +275,7 @@ class Router:
     def _perform(self, todo: _rtr.rtr_todo, before: Optional[Data]) -> None:
         """Queues the steps for what the link asks for. `before` are its data before."""
         kind, link = todo.kind, self._link
+        self._todo = _rtr.rtr_todo.from_buffer_copy(todo)
         if kind == TodoKind.CONNECT:
             self._begin(is_wanted=True)
             self._steps.append(Connect())

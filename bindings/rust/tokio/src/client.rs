@@ -2,7 +2,7 @@
 
 use crate::closing::Closing;
 use crate::timer::Timer;
-use rtr_wire::{ClientError, ClientOptions, Data, Event, Router, Step};
+use rtr_wire::{ClientError, ClientOptions, Data, Event, News, Router, Step};
 use rtr_wire::{Log, LogFields, LogLevel};
 use std::collections::hash_map::RandomState;
 use std::fmt;
@@ -180,10 +180,11 @@ impl<S: AsyncRead + AsyncWrite + Unpin> AsyncClient<S> {
         self.router.again();
     }
 
-    /// Takes the last step with an event, and the data after it.
-    pub(crate) fn take_told(&mut self) -> Option<(Step, Option<&Data>)> {
+    /// Takes the last step with an event, what it means to a group, and the data after it.
+    pub(crate) fn take_told(&mut self) -> Option<((Step, News), Option<&Data>)> {
         let step = self.last.take()?;
-        Some((step, self.router.data()))
+        let news = self.router.take_news();
+        Some(((step, news), self.router.data()))
     }
 
     /// Runs until a step has an event.
