@@ -111,7 +111,8 @@ TEXTS = {"rtr_status": ["rtr_c/src/texts.rt:text_of_status", "session_bytes/src/
          "rtr_time_rule": ["session_times/src/times.rt:text"]}
 
 # Calls of rtr.h whose bodies are written by hand, since they return a pointer or keep one.
-BY_HAND = ("rtr_check_data", "rtr_validate", "rtr_covering", "rtr_history_data")
+BY_HAND = ("rtr_check_data", "rtr_validate", "rtr_validate_many", "rtr_covering",
+           "rtr_history_data")
 
 # Structs of rtr.h that hold slices which calls of this name take, by the names of their parameters;
 # and the place of these parameters, unless they stand where the first of the slices is.

@@ -813,6 +813,8 @@ static inline uint8_t rtr_load(const uint8_t *input, size_t input_length,
  *       say rtr_status_text(answer.status) at answer.offset
  *   for each route:
  *       rtr_validate(&data, &route)
+ *   or, for many routes in one call:
+ *       rtr_validate_many(&data, routes, count, validities)
  *
  * Any number of threads may look up routes at once. A struct rtr_data that rtr_check_data didn't
  * fill, such as a zeroed one, is refused. It is only for the bytes that were checked: after they
@@ -841,6 +843,21 @@ static inline uint8_t rtr_validate(const struct rtr_data *data, const struct rtr
 {
     return rtr_validate_nonnull(rtr_readable(data->bytes), data->lookup.length, &data->lookup,
                                 route);
+}
+
+/* Validates many routes: writes what rtr_validate returns for each to `validities`, in the same
+ * order, and returns how many these are: `count`, the length of both arrays. Only the file for other
+ * platforms may return fewer, where it has no memory to copy routes to: call it again for the rest.
+ * The routes may come in any order; it is fastest if those of each family are in the order of their
+ * addresses, as in a routing table. */
+static inline size_t rtr_validate_many(const struct rtr_data *data,
+                                       const struct rtr_route *routes, size_t count,
+                                       uint8_t *validities)
+{
+    static const struct rtr_route nowhere = {0};
+    return rtr_validate_many_nonnull(rtr_readable(data->bytes), data->lookup.length, &data->lookup,
+                                     routes ? routes : &nowhere, count,
+                                     rtr_writable(validities), count);
 }
 
 /* Finds the first VRP that covers the route among the payloads from index `from` on, counted from

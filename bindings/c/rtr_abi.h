@@ -99,6 +99,10 @@ uint8_t rtr_check_data_nonnull(const uint8_t *data, size_t data_length, struct r
                                struct rtr_data_answer *answer);
 uint8_t rtr_validate_nonnull(const uint8_t *data, size_t data_length,
                              const struct rtr_lookup *lookup, const struct rtr_route *route);
+size_t rtr_validate_many_nonnull(const uint8_t *data, size_t data_length,
+                                 const struct rtr_lookup *lookup,
+                                 const struct rtr_route *routes, size_t routes_length,
+                                 uint8_t *validities, size_t validities_length);
 uint8_t rtr_covering_nonnull(const uint8_t *data, size_t data_length,
                              const struct rtr_lookup *lookup, const struct rtr_route *route,
                              size_t from, struct rtr_covering *covering);

@@ -6,6 +6,13 @@
 
 static const struct rtr_route anywhere = {1, 4, 0, {0}};
 
+/* The routes of a table at most, each with its validity; those of one table. */
+#define MOST_ROUTES 1000
+static struct asked {
+    struct rtr_route route;
+    uint8_t validity;
+} table[2 * MOST_ROUTES];
+
 /* Reads the next number, of four bytes, little-endian. */
 static uint32_t number32(const uint8_t **at)
 {
@@ -45,6 +52,57 @@ static void check_covering(const struct arena *arena, const struct rtr_data *dat
     check_nothing(arena, data, route, from, RTR_COVERS_NONE);
 }
 
+/* rtr_validate_many returns the validities of the first routes of the table. */
+static void check_many(const struct arena *arena, const struct rtr_data *data, size_t count)
+{
+    struct rtr_route *routes = lie(arena, arena->index, count * sizeof *routes);
+    uint8_t *validities = memset(lie(arena, arena->output, count), 0xa5, count);
+    for (size_t i = 0; i < count; i++)
+        routes[i] = table[i].route;
+    CHECK(rtr_validate_many(data, routes, count, validities) == count);
+    for (size_t i = 0; i < count; i++)
+        CHECK(validities[i] == table[i].validity);
+}
+
+static int by_address(const void *left, const void *right)
+{
+    const struct rtr_route *one = &((const struct asked *)left)->route,
+                           *other = &((const struct asked *)right)->route;
+    int order = one->family - other->family;
+    return order ? order : memcmp(one->address, other->address, sizeof one->address);
+}
+
+static int from_the_last(const void *left, const void *right)
+{
+    return by_address(right, left);
+}
+
+/* The same in other orders: by address, each route twice; from the last address to the first; and
+ * from there on twice. */
+static void check_orders(const struct arena *arena, const struct rtr_data *data, size_t count)
+{
+    check_many(arena, data, count);
+    memcpy(table + count, table, count * sizeof *table);
+    qsort(table, 2 * count, sizeof *table, by_address);
+    check_many(arena, data, 2 * count);
+    qsort(table, 2 * count, sizeof *table, from_the_last);
+    check_many(arena, data, 2 * count);
+    qsort(table, count, sizeof *table, by_address);
+    qsort(table + count, count, sizeof *table, by_address);
+    check_many(arena, data, 2 * count);
+}
+
+/* Each route is answered by this: no route, or no data. */
+static void check_each(const struct arena *arena, const struct rtr_data *data,
+                       const struct rtr_route *routes, size_t count, uint8_t why)
+{
+    uint8_t *validities = memset(lie(arena, arena->output, count), 0xa5, count);
+    CHECK(rtr_validate_many(data, routes, count, validities) == count);
+    for (size_t i = 0; i < count; i++)
+        CHECK(validities[i] == why);
+    CHECK(rtr_validate_many(data, NULL, 0, NULL) == 0);
+}
+
 /* Returns the checked data, which have to be valid. */
 static struct rtr_data *checked(const struct arena *arena, const uint8_t *bytes, size_t length)
 {
@@ -63,6 +121,7 @@ static void check_table(const struct arena *arena, const uint8_t **at, size_t *s
     uint32_t routes = number32(at);
     const struct rtr_data *data = checked(arena, copied(arena, arena->input, *at, length), length);
     *at += length;
+    CHECK(routes <= MOST_ROUTES);
     for (uint32_t i = 0; i < routes; i++) {
         struct rtr_route *route = FILLED(arena->unit, struct rtr_route);
         uint8_t validity = (*at)[2], count = (*at)[3];
@@ -73,9 +132,11 @@ static void check_table(const struct arena *arena, const uint8_t **at, size_t *s
         memcpy(route->address, *at, sizeof route->address);
         *at += sizeof route->address;
         CHECK(rtr_validate(data, route) == validity);
+        table[i] = (struct asked){*route, validity};
         seen[validity]++;
         check_covering(arena, data, route, count, at);
     }
+    check_orders(arena, data, routes);
 }
 
 /* Invalid routes, over data without payloads. */
@@ -91,7 +152,9 @@ static void check_none(const struct arena *arena)
         CHECK(rtr_validate(data, none + i) == RTR_NO_ROUTE);
         check_nothing(arena, data, none + i, 0, RTR_COVERS_NO_ROUTE);
     }
+    check_each(arena, data, none, sizeof none / sizeof none[0], RTR_NO_ROUTE);
     CHECK(rtr_validate(data, &anywhere) == RTR_NOT_FOUND);
+    check_each(arena, data, &anywhere, 1, RTR_NOT_FOUND);
     check_nothing(arena, data, &anywhere, 0, RTR_COVERS_NONE);
 }
 
@@ -136,13 +199,16 @@ static void check_refused(const struct arena *arena)
         check(answer->offset == row->offset, row->what, __FILE__, __LINE__);
         CHECK(answer->detail == row->detail && answer->side == 1 && answer->written == 0);
         CHECK(rtr_validate(data, &anywhere) == RTR_UNCHECKED);
+        check_each(arena, data, &anywhere, 1, RTR_UNCHECKED);
         check_nothing(arena, data, &anywhere, 0, RTR_COVERS_UNCHECKED);
     }
     static const struct rtr_data zeros;
     CHECK(rtr_validate(&zeros, &anywhere) == RTR_UNCHECKED);
+    check_each(arena, &zeros, &anywhere, 1, RTR_UNCHECKED);
     check_nothing(arena, &zeros, &anywhere, 0, RTR_COVERS_UNCHECKED);
     const struct rtr_data *filled = FILLED(arena->other, struct rtr_data);
     CHECK(rtr_validate(filled, &anywhere) == RTR_UNCHECKED);
+    check_each(arena, filled, &anywhere, 1, RTR_UNCHECKED);
     check_nothing(arena, filled, &anywhere, 0, RTR_COVERS_UNCHECKED);
 }
 
@@ -163,6 +229,30 @@ static void check_foreign(const struct arena *arena)
     }
 }
 
+/* The archive's call validates as many routes as there are places, or all, and writes only to the
+ * places of these. */
+static void check_places(const struct arena *arena)
+{
+    static const uint8_t bytes[] = {V4(1, 1), END};
+    static const struct rtr_route routes[] = {
+        {7, 4, 24, {10, 0, 1}}, {8, 4, 24, {10, 0, 1}}, {7, 4, 33, {0}},
+    };
+    static const uint8_t wanted[] = {RTR_VALID, RTR_INVALID, RTR_NO_ROUTE, 0xa5};
+    const struct rtr_data *data = checked(arena, copied(arena, arena->input, bytes, sizeof bytes),
+                                          sizeof bytes);
+    for (size_t count = 0; count <= 3; count++) {
+        for (size_t places = 0; places <= 4; places++) {
+            uint8_t *validities = memset(lie(arena, arena->output, places), 0xa5, places);
+            size_t done = count < places ? count : places;
+            CHECK(rtr_validate_many_nonnull(data->bytes, sizeof bytes, &data->lookup, routes, count,
+                                            validities, places) == done);
+            CHECK(memcmp(validities, wanted, done) == 0);
+            for (size_t i = done; i < places; i++)
+                CHECK(validities[i] == wanted[3]);
+        }
+    }
+}
+
 int main(int count, char **words)
 {
     CHECK(count == 2);
@@ -174,6 +264,7 @@ int main(int count, char **words)
         check_none(&arena);
         check_refused(&arena);
         check_foreign(&arena);
+        check_places(&arena);
         for (const uint8_t *at = cases.bytes; at < cases.bytes + cases.length;)
             check_table(&arena, &at, seen);
     }

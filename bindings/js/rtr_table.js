@@ -733,6 +733,7 @@ export const FUNCTIONS = Object.freeze({
     rtr_load_nonnull: ["uint8", "*", "size", "*", "size", "*", "size", "*", "size", "*"],
     rtr_check_data_nonnull: ["uint8", "*", "size", "*", "*"],
     rtr_validate_nonnull: ["uint8", "*", "size", "*", "*"],
+    rtr_validate_many_nonnull: ["size", "*", "size", "*", "*", "size", "*", "size"],
     rtr_covering_nonnull: ["uint8", "*", "size", "*", "*", "size", "*"],
     rtr_check_name_nonnull: ["uint8", "*", "size", "*", "size", "*"],
     rtr_check_unit_nonnull: ["uint8", "*", "*", "size", "bool", "*"],

@@ -1470,6 +1470,15 @@ extern "C" {
         lookup: *const Lookup,
         route: *const Route,
     ) -> u8;
+    pub(crate) fn rtr_validate_many_nonnull(
+        data: *const u8,
+        data_length: usize,
+        lookup: *const Lookup,
+        routes: *const Route,
+        routes_length: usize,
+        validities: *mut u8,
+        validities_length: usize,
+    ) -> usize;
     pub(crate) fn rtr_covering_nonnull(
         data: *const u8,
         data_length: usize,

@@ -318,6 +318,22 @@ pub(crate) fn validate(data: &[u8], lookup: &abi::Lookup, route: &abi::Route) ->
 }
 
 #[inline]
+pub(crate) fn validate_many(
+    data: &[u8],
+    lookup: &abi::Lookup,
+    routes: &[abi::Route],
+    validities: &mut [u8],
+) -> usize {
+    // SAFETY: as at the head of this file.
+    unsafe { abi::rtr_validate_many_nonnull(
+        data.as_ptr(), data.len(),
+        lookup,
+        routes.as_ptr(), routes.len(),
+        validities.as_mut_ptr(), validities.len(),
+    ) }
+}
+
+#[inline]
 pub(crate) fn covering(
     data: &[u8],
     lookup: &abi::Lookup,

@@ -20,6 +20,7 @@ mod Sides
 mod OrderRoom
 mod RoomInOrder
 mod Routes
+mod ManyTold
 mod Looked
 mod Rooms
 mod LoadRoom

@@ -14,6 +14,7 @@ pub mod PrivateRanges
 pub mod LoadAnswers
 pub mod Lookups
 pub mod Routes
+pub mod ManyValidated
 pub mod Routers
 pub mod RouterActions
 pub mod GroupsShown

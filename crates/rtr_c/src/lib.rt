@@ -49,4 +49,5 @@ mod texts;
 mod times;
 mod unit;
 mod validation;
+mod validation_many;
 mod write;

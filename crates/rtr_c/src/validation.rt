@@ -12,9 +12,9 @@ use rtr_units::numbers::{u32_at, u128_at};
 use rtr_wire::base::{Asn, Prefix};
 
 /// The family or the prefix length of a route is none.
-const NO_ROUTE: u8 = 3;
+pub(crate) const NO_ROUTE: u8 = 3;
 /// The data weren't checked.
-const UNCHECKED: u8 = 4;
+pub(crate) const UNCHECKED: u8 = 4;
 
 /// No VRP covers the route.
 const COVERS_NONE: u8 = 0;
@@ -155,7 +155,7 @@ fn show_none(code: u8, covering: &mut RtrCovering) -> u8
 
 /// The route, unless its family or its prefix length is none.
 #[inline(always)]
-fn route_of(route: &RtrRoute) -> Option<Route>
+pub(crate) fn route_of(route: &RtrRoute) -> Option<Route>
     ensures { result ≡ option_map (λ p. record { prefix = p; asn = route.now.asn })
         (route_prefix route.now) }
 {
@@ -173,7 +173,7 @@ fn route_of(route: &RtrRoute) -> Option<Route>
 
 /// The number of an answer.
 #[inline(always)]
-fn validity_number(validity: Validity) -> u8
+pub(crate) fn validity_number(validity: Validity) -> u8
     ensures { result ≡ validity_number validity }
 {
     match validity {

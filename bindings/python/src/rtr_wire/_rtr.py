@@ -1662,6 +1662,8 @@ PROTOTYPES: dict[str, tuple[Any, list[Any]]] = {
         POINTER(rtr_data_answer)]),
     "rtr_validate_nonnull": (c_uint8, [c_void_p, c_size_t, POINTER(rtr_lookup),
         POINTER(rtr_route)]),
+    "rtr_validate_many_nonnull": (c_size_t, [c_void_p, c_size_t, POINTER(rtr_lookup),
+        POINTER(rtr_route), c_size_t, c_void_p, c_size_t]),
     "rtr_covering_nonnull": (c_uint8, [c_void_p, c_size_t, POINTER(rtr_lookup), POINTER(rtr_route),
         c_size_t, POINTER(rtr_covering)]),
     "rtr_check_name_nonnull": (c_uint8, [c_void_p, c_size_t, c_void_p, c_size_t,
