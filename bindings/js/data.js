@@ -1,7 +1,7 @@
 // The data of a cache or a router.
 
 import { Covers, Kind, LONGEST_END, SHORTEST_END, STRUCTS } from "./rtr_table.js";
-import { byteOf, bytesOf, objectOf, textOf, wordOf } from "./given.js";
+import { arrayOf, byteOf, bytesOf, objectOf, textOf, wordOf } from "./given.js";
 import { readStruct, writeStruct } from "./memory.js";
 import { prefixOf } from "./addresses.js";
 
@@ -91,6 +91,22 @@ export class Data {
         const [data, lookup] = this.#lookup();
         return this.#session.call("rtr_validate_nonnull", data, this.#bytes.length, lookup,
             this.#route(fields));
+    }
+
+    /** Returns the Validity of each of the routes, as `validate` does, in the same order. They may
+     * come in any order; it is fastest if those of a family are in the order of their addresses. */
+    validateAll(routes) {
+        const fields = Array.from(arrayOf(routes, "routes"), (each) => routeOf(each));
+        const { size } = STRUCTS.route;
+        const [data, lookup] = this.#lookup();
+        return this.#session.within([size * fields.length, fields.length], (first, validities) => {
+            const { view } = this.#session.heap;
+            fields.forEach((each, index) => (
+                writeStruct(view, "route", first + size * index, each)));
+            this.#session.call("rtr_validate_many_nonnull", data, this.#bytes.length, lookup,
+                first, fields.length, validities, fields.length);
+            return [...this.#session.copy(validities, fields.length)];
+        });
     }
 
     /** Iterates over the VRPs that cover a route, in the order of payloads: each has its index

@@ -95,6 +95,13 @@ export function objectOf(value, name) {
     return value;
 }
 
+export function arrayOf(value, name) {
+    if (!Array.isArray(value)) {
+        throw mustBe(name, "an array", value);
+    }
+    return value;
+}
+
 /** Checks that an object has only fields of a struct, of the right types, and returns it. `fields`
  * are those of a row of STRUCTS. */
 export function fieldsOf(value, name, fields) {

@@ -191,6 +191,9 @@ export class Data {
     apply(changes: Bytes): Data;
     /** Returns the validity of a route (RFC 6811 section 2). */
     validate(route: Route): Validity;
+    /** Returns the validity of each route, in the same order. The routes may come in any order; it
+     * is fastest if those of a family are in the order of their addresses. */
+    validateAll(routes: readonly Route[]): Validity[];
     /** Returns the VRPs that cover a route, in the order of payloads. */
     covering(route: Route): Generator<Covering, void, undefined>;
     /** Frees the memory of lookups. */
@@ -391,6 +394,7 @@ export class Session {
      * REPORT_INSIDE for a cache reset or an error report inside an answer. */
     loadData(recording: Bytes): Loaded;
     validate(data: Data, route: Route): Validity;
+    validateAll(data: Data, routes: readonly Route[]): Validity[];
     covering(data: Data, route: Route): Generator<Covering, void, undefined>;
 
     /** Returns the line that rtr_list prints for the unit at the start of the bytes, with this

@@ -542,6 +542,11 @@ export class Session {
         return dataOf(data).validate(route);
     }
 
+    /** Returns the validity of each route by data, in the same order. */
+    validateAll(data, routes) {
+        return dataOf(data).validateAll(routes);
+    }
+
     /** Returns the VRPs of data that cover a route, each with the reason why it doesn't match. */
     covering(data, route) {
         return dataOf(data).covering(route);

@@ -234,6 +234,11 @@ const CALLS = {
             () => rtr.validate(DATA, ROUTE));
         route((value) => rtr.validate(data, value));
     },
+    "Session.validateAll": (rtr, data) => {
+        wrong("TypeError", "data must be a Data, which session.data makes",
+            () => rtr.validateAll(DATA, [ROUTE]));
+        route((value) => rtr.validateAll(data, [ROUTE, value]));
+    },
     "Session.covering": (rtr, data) => {
         wrong("TypeError", "data must be a Data, which session.data makes",
             () => rtr.covering(DATA, ROUTE));
@@ -290,6 +295,11 @@ const CALLS = {
     "Data.apply": (rtr, data) => bytes("changes", (value) => data.apply(value)),
     "Data.applyInOrder": (rtr, data) => bytes("changes", (value) => data.applyInOrder(value)),
     "Data.validate": (rtr, data) => route((value) => data.validate(value)),
+    "Data.validateAll": (rtr, data) => {
+        wrong("TypeError", "routes must be an array, not undefined", () => data.validateAll());
+        wrong("TypeError", "routes must be an array, not Object", () => data.validateAll(ROUTE));
+        route((value) => data.validateAll([ROUTE, value]));
+    },
     "Data.covering": (rtr, data) => route((value) => data.covering(value)),
     "Router.hasData": (rtr) => now((now) => rtr.router().hasData(now)),
     "Router.tick": (rtr) => now((now) => rtr.router().tick(now)),

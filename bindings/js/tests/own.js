@@ -162,6 +162,7 @@ export const TESTS = {
         session.drop();
         assert.throws(() => session.next(END), Dropped);
         assert.throws(() => data.validate({ prefix: "0.0.0.3/32", asn: 1 }), Dropped);
+        assert.throws(() => data.validateAll([{ prefix: "0.0.0.3/32", asn: 1 }]), Dropped);
         data.drop();
         assert.equal(rtr.next(END).kind, Kind.END_OF_DATA);
     },
@@ -182,6 +183,10 @@ export const TESTS = {
         assert.throws(() => rtr.data(many(3).subarray(20)).apply(END.subarray(1)), Fault);
         assert.equal(next.validate({ prefix: "0.0.0.4/33", asn: 1 }), Validity.NO_ROUTE);
         assert.equal(next.validate({ prefix: "no prefix", asn: 1 }), Validity.NO_ROUTE);
+        assert.deepEqual(next.validateAll([{ prefix: "no prefix", asn: 1 },
+            { prefix: "0.0.0.3/32", asn: 1 }, { prefix: "0.0.0.3/32", asn: 2 }]),
+        [Validity.NO_ROUTE, Validity.VALID, Validity.INVALID]);
+        assert.deepEqual(next.validateAll([]), []);
     },
 
     /** JSON that doesn't fit the first buffer, and no line for a truncated unit. */

@@ -188,6 +188,17 @@ export function deltas(rtr, bytes) {
     return count;
 }
 
+/** The validities of routes don't depend on their order, nor on how often each comes. */
+function validatesAll(rtr, data, table) {
+    const byAddress = [...table, ...table].sort((left, right) => (
+        left.route.address.length - right.route.address.length
+        || Buffer.compare(left.route.address, right.route.address)));
+    for (const order of [table, byAddress, [...byAddress].reverse()]) {
+        assert.deepEqual(rtr.validateAll(data, order.map(({ route }) => route)),
+            order.map(({ validity }) => validity));
+    }
+}
+
 /** Routes, and the VRPs that cover each. */
 export function validity(rtr, bytes) {
     const rows = new Rows(bytes);
@@ -195,6 +206,7 @@ export function validity(rtr, bytes) {
     while (rows.hasMore) {
         const [length, many] = [rows.word(), rows.word()];
         const data = rtr.data(rows.piece(length));
+        const table = [];
         for (let index = 0; index < many; index += 1, count += 1) {
             const [family, prefixLength] = [rows.byte(), rows.byte()];
             const [validity, covers] = [rows.byte(), rows.byte()];
@@ -202,6 +214,7 @@ export function validity(rtr, bytes) {
             const address = rows.piece(16).slice(0, family === 4 ? 4 : 16);
             const route = { address, prefixLength, asn };
             assert.equal(rtr.validate(data, route), validity, `route ${count}`);
+            table.push({ route, validity });
             const found = [...rtr.covering(data, route)].slice(0, covers);
             for (let each = 0; each < covers; each += 1) {
                 const vrp = { place: rows.word(), asn: rows.word(), prefixLength: rows.byte(),
@@ -211,6 +224,7 @@ export function validity(rtr, bytes) {
             }
             assert.equal(found.length, covers);
         }
+        validatesAll(rtr, data, table);
         data.drop();
     }
     return count;

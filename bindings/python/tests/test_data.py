@@ -242,6 +242,19 @@ class Routes(unittest.TestCase):
                 self.assertEqual([(tuple(vrp), mismatch) for vrp, mismatch in covering], expected)
         self.assertGreater(min(seen[validity] for validity in list(seen)[:3]), 100)
 
+    def test_all(self):
+        """The validities of routes don't depend on their order, nor on how often each comes."""
+        for sequence, routes in rows.tables():
+            data = Data.from_bytes(sequence)
+            given = [((route.prefix, route.asn), route.validity) for route in routes]
+            by_address = sorted(2 * given, key=lambda each: ipaddress.ip_network(
+                each[0][0], strict=False).network_address.packed)
+            for order in (given, by_address, by_address[::-1]):
+                got = data.validate_all(route for route, _ in order)
+                self.assertEqual(got, [validity for _, validity in order])
+                self.assertIs(type(got[0]), rtr_wire.Validity)
+        self.assertEqual(data.validate_all([]), [])
+
 
 if __name__ == "__main__":
     unittest.main()

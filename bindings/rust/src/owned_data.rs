@@ -181,6 +181,14 @@ impl Data {
         sys::validate(self.as_bytes(), &self.1, route)
     }
 
+    /// The validity of each route, as [`Data::validate`] returns it, in the same order. The routes
+    /// may come in any order; it is fastest if those of a family are in the order of their
+    /// addresses, as in a routing table.
+    #[must_use]
+    pub fn validate_all(&self, routes: &[Route]) -> Vec<Validity> {
+        sys::validate_all(self.as_bytes(), &self.1, routes)
+    }
+
     /// The VRPs of the data that cover the route, in order, each with the reason why it doesn't
     /// match.
     #[must_use]

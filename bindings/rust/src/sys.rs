@@ -14,9 +14,15 @@ use crate::net::{IpAddr, Ipv4Addr, Ipv6Addr};
 use crate::sequence::{NotCompared, Progress, Stopped};
 use crate::unit::{self, ErrorReport, Providers, ReportParts, Timing, UnitRef};
 use crate::validation::{Route, Validity};
+#[cfg(feature = "alloc")]
+use alloc::{vec, vec::Vec};
 use core::ops::Deref;
 use core::str;
 use core::time::Duration;
+
+/// The number of routes that are validated in one call.
+#[cfg(feature = "alloc")]
+const ROUTES_AT_ONCE: usize = 4096;
 
 /// The default settings of a router's machine, with this version, or 2 if it is higher.
 #[cfg(feature = "alloc")]
@@ -226,11 +232,7 @@ pub(crate) fn delta(old: &[u8], new: &[u8], output: &mut [u8]) -> Result<usize, 
 
 /// Writes the delta to the capacity of an empty vector.
 #[cfg(feature = "alloc")]
-pub(crate) fn append_delta(
-    old: &[u8],
-    new: &[u8],
-    output: &mut alloc::vec::Vec<u8>,
-) -> Result<(), DataError> {
+pub(crate) fn append_delta(old: &[u8], new: &[u8], output: &mut Vec<u8>) -> Result<(), DataError> {
     let mut answer = DataAnswer::default();
     // SAFETY: as in `normalise`; the call writes to the output, and as many bytes as it says.
     unsafe {
@@ -296,11 +298,29 @@ fn route_numbers(route: &Route) -> RouteNumbers {
 
 /// The validity of a route, whose length is in range, by the data of the lookup.
 pub(crate) fn validate(data: &[u8], lookup: &Lookup, route: &Route) -> Validity {
-    match calls::validate(data, lookup, &route_numbers(route)) {
+    validity_of(calls::validate(data, lookup, &route_numbers(route)))
+}
+
+/// The validity with this number. The other numbers are those of no route and of no data.
+fn validity_of(number: u8) -> Validity {
+    match number {
         validity::VALID => Validity::Valid,
         validity::INVALID => Validity::Invalid,
         _ => Validity::NotFound,
     }
+}
+
+/// The validity of each route, as `validate` returns it.
+#[cfg(feature = "alloc")]
+pub(crate) fn validate_all(data: &[u8], lookup: &Lookup, routes: &[Route]) -> Vec<Validity> {
+    let mut validities = Vec::with_capacity(routes.len());
+    let mut found = vec![0; routes.len().min(ROUTES_AT_ONCE)];
+    for batch in routes.chunks(ROUTES_AT_ONCE) {
+        let batch: Vec<RouteNumbers> = batch.iter().map(route_numbers).collect();
+        let count = calls::validate_many(data, lookup, &batch, &mut found);
+        validities.extend(found[..count].iter().map(|number| validity_of(*number)));
+    }
+    validities
 }
 
 /// The first VRP from this index on that covers a route.

@@ -5,6 +5,8 @@ use crate::data::DataError;
 use crate::error::Error;
 use crate::net::{IpAddr, Ipv4Addr, Ipv6Addr};
 use crate::sys;
+#[cfg(feature = "alloc")]
+use alloc::vec::Vec;
 use core::fmt;
 use core::iter::FusedIterator;
 
@@ -200,6 +202,15 @@ impl<'a> Tables<'a> {
     #[must_use]
     pub fn validate(&self, route: &Route) -> Validity {
         sys::validate(self.data, &self.lookup, route)
+    }
+
+    /// The validity of each route, as [`Tables::validate`] returns it, in the same order. The routes
+    /// may come in any order; it is fastest if those of a family are in the order of their
+    /// addresses, as in a routing table.
+    #[cfg(feature = "alloc")]
+    #[must_use]
+    pub fn validate_all(&self, routes: &[Route]) -> Vec<Validity> {
+        sys::validate_all(self.data, &self.lookup, routes)
     }
 
     /// The VRPs of the data that cover the route, in the order of payloads.

@@ -174,6 +174,34 @@ fn slices() {
     });
 }
 
+/// `validate_all` of data and of tables returns the validities of these rows.
+fn check_all(data: &Data, rows: &[&Row]) {
+    let routes: Vec<Route> = rows.iter().map(|row| row.route).collect();
+    let wanted: Vec<Validity> = rows.iter().map(|row| row.validity).collect();
+    assert_eq!(data.validate_all(&routes), wanted);
+    let tables = Tables::of(data.as_bytes()).expect("they are data");
+    assert_eq!(tables.validate_all(&routes), wanted);
+}
+
+/// The validities of routes don't depend on their order, on how often each comes, nor on how many
+/// there are.
+#[test]
+fn routes_at_once() {
+    for_each_table(|data, _, rows| {
+        let mut order: Vec<&Row> = rows.iter().collect();
+        check_all(data, &order);
+        order.extend(rows);
+        order.sort_by_key(|row| row.route.address());
+        check_all(data, &order);
+        order.reverse();
+        check_all(data, &order);
+        for count in [0, 1, 4095, 4096, 4097, 10_000] {
+            let many: Vec<&Row> = rows.iter().cycle().take(count).collect();
+            check_all(data, &many);
+        }
+    });
+}
+
 /// Bytes that aren't data have no tables: the fault is that of `Data::parse`.
 #[test]
 fn no_data() {

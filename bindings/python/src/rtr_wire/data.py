@@ -4,8 +4,8 @@ from __future__ import annotations
 import ctypes
 import ipaddress
 from dataclasses import replace
-from typing import (Any, Collection, FrozenSet, Iterable, Iterator, NamedTuple, Optional, Tuple,
-                    Type, TypeVar, Union)
+from typing import (Any, Collection, FrozenSet, Iterable, Iterator, List, NamedTuple, Optional,
+                    Tuple, Type, TypeVar, Union)
 
 from . import _library, _rtr
 from ._library import CALLS, HEADER, ROUTE, Buffer, front, memory, number, whole
@@ -354,6 +354,22 @@ class Data(_Canonical):
         """
         route, (memory, length) = _route(prefix, asn), self._part
         return Validity(CALLS.rtr_validate_nonnull(memory, length, self._lookup_index(), route))
+
+    def validate_all(self, routes: Iterable[Tuple[Union[Network, str], int]]) -> List[Validity]:
+        """Returns the validity of each route, a prefix and an AS, as `validate` does, in one call
+        and in the same order. The routes may come in any order; it is fastest if those of a family
+        are in the order of their addresses, as in a routing table.
+
+            data.validate_all([("192.0.2.0/24", 65551), ("2001:db8::/32", 65551)])
+
+        Raises as `validate`, for the first route that it refuses.
+        """
+        given = bytearray().join(_route(prefix, asn) for prefix, asn in routes)
+        count, (memory, length) = len(given) // ROUTE.size, self._part
+        packed, found = (_rtr.rtr_route * count).from_buffer(given), bytearray(count)
+        CALLS.rtr_validate_many_nonnull(memory, length, self._lookup_index(), packed, count,
+                                        (ctypes.c_uint8 * count).from_buffer(found), count)
+        return [Validity(each) for each in found]
 
     def covering(self, prefix: Union[Network, str], asn: int) -> Iterator[Covering]:
         """Returns the VRPs that cover such a route, in the order of payloads, and why each doesn't
