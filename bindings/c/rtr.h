@@ -100,6 +100,7 @@
 #define RTR_FAILURE_OTHER_TIMES "only the times differ from those of the present data"
 #define RTR_FAILURE_SESSION_LEFT "the cache left this session: the data need a new one"
 #define RTR_FAILURE_OTHER_SESSION "a cache that doesn't save has one session"
+#define RTR_FAILURE_UNSAVED "the cache serves data that it didn't save"
 #define RTR_FAILURE_HIGHER_VERSION "the saved data are of a lower version: the data need a new session"
 #define RTR_FAILURE_DAMAGED "the saved file is damaged: the data need a new session"
 #define RTR_MOST_QUOTED 100 /* the most bytes of a report's text that a failure shows */

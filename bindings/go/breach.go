@@ -97,6 +97,10 @@ var (
 	ErrNewTiming = errors.New("rtr: " + failureOtherTimes)
 	// ErrSessionLeft: the data are of another session, which the server had before the present one.
 	ErrSessionLeft = errors.New("rtr: " + failureSessionLeft)
+	// ErrOneSession: the server doesn't save, and its data are of another session.
+	ErrOneSession = errors.New("rtr: " + failureOtherSession)
+	// ErrUnsaved: the server has data that it didn't save, so it doesn't save these.
+	ErrUnsaved = errors.New("rtr: " + failureUnsaved)
 )
 
 // endings maps reasons to errors.

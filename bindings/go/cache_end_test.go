@@ -172,13 +172,14 @@ func (p *cacheEnd) next() error {
 	return nil
 }
 
-// update gives the server data. For a scene that goes back to a session, the server forgets which
-// ones it left.
+// update gives the server data, which it saves nowhere. For a scene that goes back to a session, the
+// server forgets which ones it left.
 func (p *cacheEnd) update(data Data) error {
-	err := p.server.Update(data)
+	nowhere := func([]byte) error { return nil }
+	err := p.server.update(data, nowhere, func() {})
 	if err == ErrSessionLeft {
 		p.server.store = newStore()
-		err = p.server.Update(data)
+		err = p.server.update(data, nowhere, func() {})
 	}
 	return err
 }

@@ -74,6 +74,8 @@ func (e *edition) refused(data Data, answer C.struct_rtr_stores_answer) error {
 		return &serialError{e.data.Serial(), data.Serial()}
 	case C.RTR_STORES_SESSION_LEFT:
 		return ErrSessionLeft
+	case C.RTR_STORES_OTHER_SESSION:
+		return ErrOneSession
 	case C.RTR_STORES_OTHER_VERSION:
 		return &Fault{Status: UnitVersion, Detail: uint8(answer.detail), Offset: -1}
 	}

@@ -32,16 +32,25 @@ func (u unsynced) Unwrap() error { return u.error }
 // file.
 //
 // Errors: those of the file; then no new file is left, and the old one is unchanged, unless the
-// error is ErrUnsynced too.
+// error is ErrUnsynced too; ErrUnsaved if the server doesn't save its data before it serves them,
+// since a restart from the file wouldn't know all of them.
 func (s *Server) Save(path string) error {
 	s.ready()
 	s.updating.Lock()
 	defer s.updating.Unlock()
+	if err := s.checkSaved(); err != nil {
+		return err
+	}
 	store, _ := s.store.served()
 	if store == nil {
 		return nil
 	}
 	return saveStore(store, path)
+}
+
+// saverTo returns the saver to a file.
+func saverTo(path string) saver {
+	return func(store []byte) error { return saveStore(store, path) }
 }
 
 // saveStore saves a store to a file, as Save does.
@@ -92,8 +101,9 @@ func syncFolder(path string) error {
 }
 
 // Restore loads what Save wrote, if the server has no data yet, and returns the data. With the
-// saved session and serial number, clients get deltas after a restart. Call it before Serve. It
-// syncs the folder, since the process that saved may have ended before that.
+// saved session and serial number, clients get deltas after a restart; later data are saved to this
+// file before they are served. Call it before Serve. It syncs the folder, since the process that
+// saved may have ended before that.
 //
 // Errors: those of the file; ErrTorn; ErrTiming for times that RFC 8210 section 6 doesn't allow;
 // ErrServerClosed after Close or Shutdown.
@@ -122,7 +132,7 @@ func (s *Server) Restore(path string) (Data, error) {
 		return Data{}, ErrServerClosed
 	}
 	if s.Data().IsZero() {
-		s.store = restored
+		s.store, s.saver = restored, saverTo(path)
 		s.present.Store(s.edition(0))
 		s.wake()
 	}

@@ -27,12 +27,9 @@ func restarted(t *testing.T, path string, all ...[]byte) (*Server, string) {
 	t.Helper()
 	first := NewServer()
 	for _, sequence := range all {
-		if err := first.Update(parsed(t, sequence)); err != nil {
+		if err := first.UpdateSaved(parsed(t, sequence), path); err != nil {
 			t.Fatal(err)
 		}
-	}
-	if err := first.Save(path); err != nil {
-		t.Fatal(err)
 	}
 	server, address := started(t, nil)
 	data, err := server.Restore(path)
@@ -144,7 +141,7 @@ func TestRenameFails(t *testing.T) {
 			t.Fatal(err)
 		}
 		server := NewServer()
-		if err := server.Update(parsed(t, all[0])); err != nil {
+		if err := server.UpdateSaved(parsed(t, all[0]), t.TempDir()+"/kept"); err != nil {
 			t.Fatal(err)
 		}
 		if err := server.Save(path); !errors.As(err, new(*os.LinkError)) {
@@ -249,9 +246,11 @@ func TestWatchFull(t *testing.T) {
 	if *last != nil || w.server.Data().Serial() != 1 {
 		t.Fatal(*last)
 	}
+	if err := w.server.Update(parsed(t, all[1])); err != nil {
+		t.Fatal(err)
+	}
 	release = withoutDescriptors(t)
 	os.Chtimes(w.path, time.Unix(2, 0), time.Unix(2, 0))
-	w.server.Update(parsed(t, all[1]))
 	w.check()
 	release()
 	if !errors.Is(*last, ErrSameSerial) {

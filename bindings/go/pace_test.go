@@ -228,6 +228,9 @@ func TestNewDataDuringAWrite(t *testing.T) {
 			if conn.toWrite.Equal(passed) {
 				t.Fatal(reason, "it writes on")
 			}
+			if updates > 0 && row.sessions[updates] != row.sessions[updates-1] {
+				server.ChangeSession()
+			}
 			data := parsed(t, ending(1, row.sessions[updates], uint32(updates+2)))
 			if err := server.Update(data); err != nil {
 				t.Fatal(err)

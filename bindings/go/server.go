@@ -51,8 +51,10 @@ type Server struct {
 	once     sync.Once
 	clock    clock
 	present  atomic.Pointer[edition]
-	updating sync.Mutex // guards the store
+	updating sync.Mutex // guards the fields below
 	store    store
+	saver    saver // nil as long as no file is named
+	changes  bool  // the next data may be of another session, though it doesn't save
 
 	lock      sync.Mutex
 	listeners map[net.Listener]bool
@@ -84,7 +86,6 @@ func (s *Server) ready() {
 		s.clock = newClock()
 		s.listeners, s.clients = map[net.Listener]bool{}, map[*served]bool{}
 		s.left.L = &s.lock
-		s.store = newStore()
 		s.present.Store(new(edition))
 	})
 }
@@ -95,30 +96,45 @@ func (l ServerLimits) areUnset() bool {
 	return l == ServerLimits{}
 }
 
+// saver saves a store, so that a restart has it.
+type saver func(store []byte) error
+
 // Update gives the server new data, and notifies its clients. Connections of clients that have data
 // of another session are closed. If the data are the present ones, nothing happens.
+//
+// A server with a file, which Restore or UpdateSaved named, first saves the data to it, as
+// UpdateSaved does. One without a file doesn't save: all its data are of one session, under which it
+// never served data, at no earlier start either (RFC 8210 section 5.1).
 //
 // Serial number 0 is logged as a warning: after a cut in the first answer BIRD 2.0 asks for the
 // changes since serial number 0, and keeps the part of the data that it has.
 //
-// Errors: ErrSameSerial, ErrNewTiming or ErrSessionLeft; ErrTiming for times that RFC 8210 section 6
-// doesn't allow; a Fault with Short for the zero Data, or with UnitVersion for data of a version
-// above that of the file that Restore loaded; ErrServerClosed after Close or Shutdown.
+// Errors: ErrSameSerial, ErrNewTiming, ErrSessionLeft or ErrOneSession; ErrTiming for times that
+// RFC 8210 section 6 doesn't allow; a Fault with Short for the zero Data, or with UnitVersion for
+// data of a version above that of the file that Restore loaded; those of the file;
+// ErrServerClosed after Close or Shutdown. Then nothing changes.
 func (s *Server) Update(data Data) error {
-	return s.update(data, nothingSaved, func() {})
+	return s.update(data, nil, func() {})
 }
 
-// UpdateSaved is Update, but first saves the new data to a file, as Save does. So whenever the
-// process ends, the file has every serial number that a client may have data of, and after a
-// restart none of them is used for other data.
+// UpdateSaved is Update, but first saves the new data to this file, as Save does, and lets later
+// calls of Update save to it. So whenever the process ends, the file has every serial number that a
+// client may have data of, and after a restart none of them is used for other data. Restore the
+// file first, if there is one, and use one file.
 //
-// Errors: those of Update, and those of the file; then nothing changes.
+// Errors: those of Update; ErrUnsaved if the server has data that it didn't save.
 func (s *Server) UpdateSaved(data Data, path string) error {
-	return s.update(data, func(store []byte) error { return saveStore(store, path) }, func() {})
+	return s.update(data, saverTo(path), func() {})
 }
 
-// nothingSaved saves nothing.
-func nothingSaved([]byte) error { return nil }
+// ChangeSession lets the next data of a server that doesn't save be of another session, under which
+// it never served data, at no earlier start either (RFC 8210 section 5.1). The present data are
+// served until then. A server that saves knows the sessions that it left, and ignores this call.
+func (s *Server) ChangeSession() {
+	s.updating.Lock()
+	defer s.updating.Unlock()
+	s.changes = true
+}
 
 // Data returns the data that are served; the zero Data before the first.
 func (s *Server) Data() Data {
@@ -140,9 +156,9 @@ func (s *Server) Changes(data Data) ([]byte, error) {
 	return changes, err
 }
 
-// update is Update with two hooks: save runs with the store of the new data before they are served,
-// and before runs when the old data aren't served any more, before clients are notified.
-func (s *Server) update(data Data, save func(store []byte) error, before func()) error {
+// update is Update with two hooks: save, if it isn't nil, names the file, and before runs when the
+// old data aren't served any more, before clients are notified.
+func (s *Server) update(data Data, save saver, before func()) error {
 	if data.IsZero() {
 		return &Fault{Status: Short, Offset: -1}
 	}
@@ -155,19 +171,17 @@ func (s *Server) update(data Data, save func(store []byte) error, before func())
 	if s.closed.Load() {
 		return ErrServerClosed
 	}
+	if err := s.begin(save); err != nil {
+		return err
+	}
 	present := s.present.Load()
 	form, err := present.alike(data)
 	if err != nil {
 		return err
 	}
-	if answer := s.store.take(form, s.Limits); answer.status != C.RTR_STORES_OK {
-		return present.refused(form, answer)
-	}
-	if err := save(s.store.toSave()); err != nil {
-		s.store.giveUp()
+	if taken, err := s.keep(form); !taken || err != nil {
 		return err
 	}
-	s.store.saved()
 	next := s.edition(present.number + 1)
 	if changes := form.lookup.changesFrom(present.data.lookup); len(next.known) > 0 {
 		next.keep(question{form.Version(), present.data.Serial()}, changes)
@@ -178,6 +192,51 @@ func (s *Server) update(data Data, save func(store []byte) error, before func())
 	s.logs(data)
 	s.wake()
 	return nil
+}
+
+// begin sets how the server saves, if save isn't nil. It does so even if saving then fails, since the
+// file may have the data all the same.
+func (s *Server) begin(save saver) error {
+	if save == nil {
+		return nil
+	}
+	if err := s.checkSaved(); err != nil {
+		return err
+	}
+	if s.saver == nil {
+		s.store = newStore()
+	}
+	s.saver = save
+	return nil
+}
+
+// checkSaved returns an error if data are served that weren't saved.
+func (s *Server) checkSaved() error {
+	if s.saver == nil && !s.present.Load().data.IsZero() {
+		return ErrUnsaved
+	}
+	return nil
+}
+
+// keep lets the store take new data, first saves them if there is a file, and reports whether they
+// differ from what was served. After an error the store serves what it served.
+func (s *Server) keep(data Data) (taken bool, err error) {
+	taking, present := s.store, s.present.Load()
+	changes := s.changes && data.Session() != present.data.Session()
+	if s.saver == nil && (present.data.IsZero() || changes) {
+		taking = unsavedStore(data.Session())
+	}
+	if answer := taking.take(data, s.Limits); answer.status != C.RTR_STORES_OK {
+		return false, present.refused(data, answer)
+	}
+	if s.saver != nil {
+		if err := s.saver(taking.toSave()); err != nil {
+			return false, err
+		}
+	}
+	taking.saved()
+	s.store, s.changes = taking, false
+	return true, nil
 }
 
 // edition returns the edition of what the store serves.

@@ -219,6 +219,10 @@ func TestServerUpdate(t *testing.T) {
 		}
 	}
 	expect(t, connection, numbered(1, 0, 7, 0))
+	if err := server.Update(parsed(t, ending(1, 8, 0))); err != ErrOneSession {
+		t.Fatal(err)
+	}
+	server.ChangeSession()
 	if err := server.Update(parsed(t, ending(1, 8, 0))); err != nil {
 		t.Fatal(err)
 	}
@@ -313,6 +317,9 @@ func TestServerBehind(t *testing.T) {
 			time.Sleep(50 * time.Millisecond)
 			if len(errs) > 0 {
 				t.Fatal(i, <-errs)
+			}
+			if session != 7 {
+				server.ChangeSession()
 			}
 			if err := server.Update(parsed(t, ending(1, session, uint32(i+2)))); err != nil {
 				t.Fatal(err)

@@ -24,9 +24,16 @@ type store struct {
 	buffers [2][]byte
 }
 
-// newStore returns the store of a server that never had data.
+// newStore returns the store of a server that saves, and never had data.
 func newStore() (s store) {
 	C.rtr_stores_new(&s.stores)
+	return s
+}
+
+// unsavedStore returns the store of a server that doesn't save: it takes only data of this session,
+// and serves them at once.
+func unsavedStore(session uint16) (s store) {
+	C.rtr_stores_unsaved(&s.stores, C.uint16_t(session))
 	return s
 }
 
@@ -119,7 +126,7 @@ func (s *store) takeIn(
 	return answer
 }
 
-// saved makes the store that waited the served one.
+// saved makes the store that waited the served one, if one waited.
 func (s *store) saved() {
 	C.rtr_stores_saved(&s.stores)
 	_, _, other := s.state()

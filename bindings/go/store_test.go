@@ -47,6 +47,121 @@ func TestSessionLeft(t *testing.T) {
 	}
 }
 
+// A server without a file has one session, until the program says that another one is new. So a
+// program that starts again with another session never takes up the former one.
+func TestOneSession(t *testing.T) {
+	server := NewServer()
+	for _, serial := range []uint32{5, 6} {
+		if err := server.Update(ofSession(t, 7, serial)); err != nil {
+			t.Fatal(err)
+		}
+	}
+	refuses := func(session uint16, serial uint32, reason error) {
+		t.Helper()
+		before := server.Data()
+		if err := server.Update(ofSession(t, session, serial)); !errors.Is(err, reason) {
+			t.Error(session, serial, err)
+		}
+		if !server.Data().Equal(before) {
+			t.Error("the data changed:", session, serial)
+		}
+	}
+	refuses(8, 9, ErrOneSession)
+	if known := server.present.Load().known; len(known) != 1 || known[0] != 5 {
+		t.Error(known)
+	}
+	server.ChangeSession()
+	refuses(7, 6, nil) // the same data
+	refuses(7, 4, ErrSameSerial)
+	if err := server.Update(ofSession(t, 8, 1)); err != nil {
+		t.Fatal(err)
+	}
+	refuses(7, 9, ErrOneSession)
+	if e := server.present.Load(); e.number != 3 || len(e.known) != 0 || e.data.Session() != 8 {
+		t.Error(e.number, e.known, e.data.Session())
+	}
+}
+
+// A server that didn't save its data before it served them doesn't save: a restart from its file
+// wouldn't know what it serves later.
+func TestUnsaved(t *testing.T) {
+	folder := t.TempDir()
+	server := NewServer()
+	if err := server.Update(ofSession(t, 7, 1)); err != nil {
+		t.Fatal(err)
+	}
+	if err := server.Save(folder + "/kept"); err != ErrUnsaved {
+		t.Error(err)
+	}
+	if err := server.UpdateSaved(ofSession(t, 7, 2), folder+"/kept"); err != ErrUnsaved {
+		t.Error(err)
+	}
+	if err := server.Update(ofSession(t, 7, 2)); err != nil || server.Data().Serial() != 2 {
+		t.Error(err, server.Data().Serial())
+	}
+	if names, err := os.ReadDir(folder); err != nil || len(names) != 0 {
+		t.Error(names, err)
+	}
+}
+
+// Update of a server with a file saves the data before it serves them.
+func TestUpdateOfServerWithFile(t *testing.T) {
+	path := t.TempDir() + "/kept"
+	named, restored := NewServer(), NewServer()
+	if err := named.UpdateSaved(ofSession(t, 7, 1), path); err != nil {
+		t.Fatal(err)
+	}
+	if _, err := restored.Restore(path); err != nil {
+		t.Fatal(err)
+	}
+	for _, server := range []*Server{named, restored} {
+		if err := server.Update(ofSession(t, 7, 2)); err != nil {
+			t.Fatal(err)
+		}
+		if data, err := NewServer().Restore(path); err != nil || !data.Equal(server.Data()) {
+			t.Error(data, err)
+		}
+		if err := os.Mkdir(path+".new", 0o700); err != nil {
+			t.Fatal(err)
+		}
+		err := server.Update(ofSession(t, 7, 3))
+		if !errors.As(err, new(*os.PathError)) || server.Data().Serial() != 2 {
+			t.Error(err, server.Data().Serial())
+		}
+		if err := os.Remove(path + ".new"); err != nil {
+			t.Fatal(err)
+		}
+	}
+}
+
+// If the first data can't be saved, the file may have them all the same: nothing is served before
+// it is saved to that file.
+func TestFirstSaveFails(t *testing.T) {
+	path := t.TempDir() + "/kept"
+	server := NewServer()
+	if err := os.Mkdir(path+".new", 0o700); err != nil {
+		t.Fatal(err)
+	}
+	calls := []func() error{
+		func() error { return server.UpdateSaved(ofSession(t, 7, 1), path) },
+		func() error { return server.Update(ofSession(t, 7, 1)) },
+	}
+	for i, call := range calls {
+		if err := call(); !errors.As(err, new(*os.PathError)) || !server.Data().IsZero() {
+			t.Error(i, err, server.Data())
+		}
+	}
+	if err := os.Remove(path + ".new"); err != nil {
+		t.Fatal(err)
+	}
+	if err := calls[1](); err != nil {
+		t.Fatal(err)
+	}
+	if data, err := NewServer().Restore(path); err != nil || !data.Equal(server.Data()) {
+		t.Error(data, err)
+	}
+}
+
 // oldPart is a part of a file of the form before: a sequence, after its time and its length.
 func oldPart(at time.Time, sequence []byte) []byte {
 	head := binary.BigEndian.AppendUint64(nil, uint64(at.UnixMilli()))
@@ -103,6 +218,7 @@ func TestOldFile(t *testing.T) {
 func TestFileOfLowerVersion(t *testing.T) {
 	path := t.TempDir() + "/kept"
 	server := NewServer()
+	server.store = newStore()
 	form, err := (&edition{}).alike(ofSession(t, 7, 1))
 	if err != nil || form.Version() != highestVersion {
 		t.Fatal(form, err)
@@ -181,7 +297,7 @@ func TestFailedSave(t *testing.T) {
 	folder := t.TempDir()
 	path := folder + "/kept"
 	server := NewServer()
-	if err := server.Update(ofSession(t, 7, 1)); err != nil {
+	if err := server.UpdateSaved(ofSession(t, 7, 1), t.TempDir()+"/kept"); err != nil {
 		t.Fatal(err)
 	}
 	if err := os.MkdirAll(path+"/full", 0o700); err != nil {

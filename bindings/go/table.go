@@ -73,6 +73,7 @@ const (
 	failureOtherTimes    = "only the times differ from those of the present data"
 	failureSessionLeft   = "the cache left this session: the data need a new one"
 	failureOtherSession  = "a cache that doesn't save has one session"
+	failureUnsaved       = "the cache serves data that it didn't save"
 	failureHigherVersion = "the saved data are of a lower version: the data need a new session"
 	failureDamaged       = "the saved file is damaged: the data need a new session"
 )

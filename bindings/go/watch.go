@@ -133,15 +133,10 @@ func (w *watcher) load() error {
 		return err
 	}
 	debug.FreeOSMemory() // of the file's bytes
-	if err := w.server.update(data, w.save, debug.FreeOSMemory); err != nil {
+	if err := w.server.update(data, saverTo(w.path+KeptSuffix), debug.FreeOSMemory); err != nil {
 		return fmt.Errorf("%s: %w", w.path, err)
 	}
 	return nil
-}
-
-// save saves a store beside the file. After an error its data aren't served.
-func (w *watcher) save(store []byte) error {
-	return saveStore(store, w.path+KeptSuffix)
 }
 
 // stamp identifies the state of a file.

@@ -43,6 +43,7 @@ export const FAILURE_OLD_SERIAL = "the serial number isn't later than that of th
 export const FAILURE_OTHER_TIMES = "only the times differ from those of the present data";
 export const FAILURE_SESSION_LEFT = "the cache left this session: the data need a new one";
 export const FAILURE_OTHER_SESSION = "a cache that doesn't save has one session";
+export const FAILURE_UNSAVED = "the cache serves data that it didn't save";
 export const FAILURE_HIGHER_VERSION = "the saved data are of a lower version: the data need a new session";
 export const FAILURE_DAMAGED = "the saved file is damaged: the data need a new session";
 

@@ -26,9 +26,10 @@ export class Behind extends Error {}
 export class Closed extends Error {}
 
 /** A server refuses data: they have the serial number of other ones, or their session was left, or
- * their times aren't allowed (RFC 8210 section 6), or a saved file is damaged. */
+ * is another one of a server that doesn't save, or their times aren't allowed (RFC 8210 section 6),
+ * or a saved file is damaged, or the server has data that it didn't save. */
 export class UpdateError extends Error {
-    /** Null if the times aren't allowed. */
+    /** Null if the times aren't allowed, or the server has data that it didn't save. */
     readonly status: StoresStatus | null;
 }
 
@@ -85,26 +86,40 @@ export class Server {
      * another session are closed. If the data are the present ones, nothing happens. Calls that
      * change or save data run one after the other.
      *
-     * Throws UpdateError, OutOfMemory, or Closed after `close` or `shutdown`; then nothing
-     * changes. */
-    update(data: Data): Promise<void>;
-    /** The same, but first saves the new data to a file, as `save` does. So whenever the process
-     * ends, the file has every serial number that a router may have data of, and after a restart
-     * none of them is used for other data.
+     * A server with a file, which `restore` or `updateSaved` named, first saves the data to it, as
+     * `updateSaved` does. One without a file doesn't save: all its data are of one session, under
+     * which it never served data, at no earlier start either (RFC 8210 section 5.1).
      *
-     * Throws what `update` throws, and errors of the file; then the data before are served. */
+     * Throws UpdateError, OutOfMemory, errors of the file, or Closed after `close` or `shutdown`;
+     * then the data before are served. */
+    update(data: Data): Promise<void>;
+    /** The same, but first saves the new data to this file, as `save` does, and lets later calls of
+     * `update` save to it. So whenever the process ends, the file has every serial number that a
+     * router may have data of, and after a restart none of them is used for other data. Restore the
+     * file first, if there is one, and use one file.
+     *
+     * Throws what `update` throws; UpdateError if the server has data that it didn't save. */
     updateSaved(data: Data, path: string): Promise<void>;
+    /** Lets the next data of a server that doesn't save be of another session, under which it never
+     * served data, at no earlier start either. The present data are served until then. A server
+     * that saves knows the sessions that it left, and ignores this call.
+     *
+     * Throws Closed after `close` or `shutdown`. */
+    changeSession(): Promise<void>;
     /** Saves what a restart needs to a file: the sessions that the server left, the present data,
      * and the changes from earlier data. It writes and syncs a file beside it, whose name ends in
      * .new, renames that, and syncs the folder. Without data it writes nothing. Servers of each
      * language of this library read the file.
      *
      * Throws an error of the file; no file stays beside it then, and it has what it had, unless the
-     * error is Unsynced. Throws Closed after `close` or `shutdown`. */
+     * error is Unsynced. Throws UpdateError if the server doesn't save its data before it serves
+     * them, since a restart from the file wouldn't know all of them; Closed after `close` or
+     * `shutdown`. */
     save(path: string): Promise<void>;
     /** Loads what `save` wrote, if the server has no data yet, and returns the data of the file.
-     * With the saved session and serial number, routers get changes after a restart. Call it before
-     * `listen`. Files of a form that other versions of this library wrote are damaged for it.
+     * With the saved session and serial number, routers get changes after a restart; later data are
+     * saved to this file before they are served. Call it before `listen`. It reads files of versions
+     * before 0.3.0, too.
      *
      * Throws an error of the file, with the code ENOENT if there is none; UpdateError if it is
      * damaged or has invalid times; OutOfMemory; Closed after `close` or `shutdown`. */

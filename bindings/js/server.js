@@ -12,7 +12,7 @@ import { closeSync, openSync } from "node:fs";
 import { createServer } from "node:net";
 import { devNull } from "node:os";
 import { createServer as createTlsServer } from "node:tls";
-import { Entry, STRUCTS } from "./rtr_table.js";
+import { Entry, FAILURE_UNSAVED, STRUCTS } from "./rtr_table.js";
 import { Data } from "./data.js";
 import { Closed } from "./fault.js";
 import { fieldsOf, numberOf, objectOf, textOf } from "./given.js";
@@ -24,7 +24,7 @@ import { now } from "./running.js";
 import { replace, restored } from "./saving.js";
 import { Served } from "./served.js";
 import { RouterSocket } from "./socket.js";
-import { Store } from "./store.js";
+import { Store, UpdateError } from "./store.js";
 
 export { Reason, StoresStatus } from "./rtr_table.js";
 export { Behind, Closed, ServerError } from "./fault.js";
@@ -106,6 +106,8 @@ export class Server extends EventEmitter {
     #rtr = null;
     #settings; // a struct rtr_server_settings
     #store;
+    #path = null; // of the file; null as long as none is named
+    #mayChange = false; // the next data may be of another session, though there is no file
     #door;
     #kept = { edition: null }; // the newest edition, for connections
     #updating = Promise.resolve(); // the last call on the store
@@ -123,23 +125,35 @@ export class Server extends EventEmitter {
         return this.#kept.edition?.data ?? null;
     }
 
-    /** Gives the server new data, and notifies routers. */
+    /** Gives the server new data, once they are saved if it has a file, and notifies routers. */
     async update(data) {
         dataOf(data);
-        await this.#inTurn(() => this.#takes(data, null));
+        await this.#inTurn(() => this.#takes(data));
     }
 
-    /** Gives the server new data, once a file has what a restart needs. */
+    /** Gives the server new data, once this file has what a restart needs. */
     async updateSaved(data, path) {
         dataOf(data);
         textOf(path, "path");
-        await this.#inTurn(() => this.#takes(data, path));
+        await this.#inTurn(() => {
+            this.#checkSaved();
+            this.#path = path; // also if it fails: the file may have the data all the same
+            return this.#takes(data);
+        });
+    }
+
+    /** Lets the next data of a server without a file be of another session. */
+    async changeSession() {
+        await this.#inTurn(() => {
+            this.#mayChange = true;
+        });
     }
 
     /** Saves what a restart needs to a file; nothing without data. */
     async save(path) {
         textOf(path, "path");
         await this.#inTurn(async () => {
+            this.#checkSaved();
             const pieces = this.#store.file;
             if (pieces !== null) {
                 await replace(path, pieces);
@@ -220,9 +234,29 @@ export class Server extends EventEmitter {
         this.#door.call("rtr_door_init", at);
     }
 
-    #newStore() {
+    #newStore(number) {
         const { keep: time, keepBytes: bytes } = this.#settings;
-        return new Store(this.#rtr, { time, bytes });
+        return new Store(this.#rtr, { time, bytes }, number);
+    }
+
+    /** Returns the store that takes new data: another one for the first data of a session of a
+     * server without a file. */
+    #storeFor({ end: { session } }) {
+        const { edition } = this.#kept;
+        const changes = this.#mayChange && session !== this.data?.end.session;
+        if (this.#path !== null || (edition !== null && !changes)) {
+            return this.#store;
+        }
+        const store = this.#newStore(edition?.number);
+        store.beginUnsaved(session);
+        return store;
+    }
+
+    /** Throws an UpdateError if data are served that weren't saved. */
+    #checkSaved() {
+        if (this.#path === null && this.data !== null) {
+            throw new UpdateError(null, FAILURE_UNSAVED);
+        }
     }
 
     #checkOpen() {
@@ -242,21 +276,23 @@ export class Server extends EventEmitter {
         return done;
     }
 
-    /** Takes new data, and serves them, once they are saved if there is a path. */
-    async #takes(data, path) {
-        if (!this.#store.take(data, Date.now())) {
+    /** Takes new data, and serves them, once they are saved if there is a file. */
+    async #takes(data) {
+        const store = this.#storeFor(data);
+        if (!store.take(data, Date.now())) {
             return;
         }
-        if (path !== null) {
+        if (this.#path !== null) {
             try {
-                await replace(path, this.#store.file);
+                await replace(this.#path, store.file);
             } catch (error) {
-                this.#store.giveUp();
+                store.giveUp();
                 throw error;
             }
         }
-        this.#store.saved();
-        this.#serves();
+        store.saved();
+        this.#mayChange = false;
+        this.#uses(store);
     }
 
     async #restores(path) {
@@ -273,9 +309,19 @@ export class Server extends EventEmitter {
             store.drop();
             return data;
         }
+        this.#path = path;
+        this.#uses(store);
+        return data;
+    }
+
+    /** Serves what this store has. */
+    #uses(store) {
+        const before = this.#store;
         this.#store = store;
         this.#serves();
-        return data;
+        if (before !== store) {
+            before.drop();
+        }
     }
 
     /** Serves what the store has from now on. */

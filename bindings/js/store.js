@@ -71,13 +71,21 @@ export class Store {
     #stores;
     #buffers = [null, null]; // their addresses and lengths
     #edition = null;
+    #number; // of the edition before the first one
 
     /** `limits` are a struct rtr_history_limits. */
-    constructor(session, limits) {
+    constructor(session, limits, number = 0) {
         this.#session = session;
         this.#limits = limits;
+        this.#number = number;
         this.#stores = new Kept(session, "stores");
         this.#stores.call("rtr_stores_new");
+    }
+
+    /** Lets a new store not be saved: it takes data of one session of the protocol, and serves them
+     * at once. */
+    beginUnsaved(session) {
+        this.#stores.call("rtr_stores_unsaved", session);
     }
 
     /** The edition that is served, or null. */
@@ -129,35 +137,36 @@ export class Store {
     }
 
     /** Takes new data at this time since 1970 in milliseconds. Returns false if they are those that
-     * are served. They wait for `saved`, or `giveUp`.
+     * are served. They wait for `saved`, or `giveUp`; call `saved` also if the store isn't saved.
      *
      * Throws an UpdateError if they are refused, and OutOfMemory; then nothing changes. */
     take(data, now) {
         checkTimes(this.#session, data);
         const bytes = this.#form(data);
+        const other = this.#other;
         try {
             const { status, length } = withRoom(this.#firstRoom(bytes.length), (room) => (
-                this.#taken(bytes, now, room)));
+                this.#taken(bytes, now, room, other)));
             if (status === StoresStatus.OK) {
-                this.#shrink(this.#other, length);
+                this.#shrink(other, length);
                 return true;
             }
             if (status !== StoresStatus.SAME_DATA) {
                 throw new UpdateError(status);
             }
         } catch (error) {
-            this.#release(this.#other);
+            this.#release(other);
             throw error;
         }
-        this.#release(this.#other);
+        this.#release(other);
         return false;
     }
 
-    #taken(bytes, now, { buffer, spare, output }) {
+    #taken(bytes, now, { buffer, spare, output }, other) {
         const session = this.#session;
-        this.#release(this.#other);
+        this.#release(other);
         return session.within([bytes, buffer, spare], (at, bufferAt, spareAt) => {
-            this.#buffers[this.#other] = this.#allocated(output);
+            this.#buffers[other] = this.#allocated(output);
             const limits = session.frame("historyLimits");
             writeStruct(session.heap.view, "historyLimits", limits, this.#limits);
             this.#stores.call("rtr_stores_take_nonnull", at, bytes.length, now, limits, bufferAt,
@@ -196,12 +205,11 @@ export class Store {
         return [session.answer("storeHead").bytes, session.copy(start, size)];
     }
 
-    /** Serves the store that waited. */
+    /** Serves the store that was taken. */
     saved() {
-        const before = this.#served;
         this.#stores.call("rtr_stores_saved");
-        this.#release(before);
-        this.#serve((this.#edition?.number ?? 0) + 1);
+        this.#release(this.#other);
+        this.#serve((this.#edition?.number ?? this.#number) + 1);
     }
 
     /** Drops the store that waits. */

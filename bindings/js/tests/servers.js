@@ -414,14 +414,21 @@ export const TESTS = {
         }
     },
 
-    /** Data of another session end the connections of routers that have data (section 5.1), and a
-     * session that was left isn't served again. */
+    /** Data of another session end the connections of routers that have data (section 5.1). Without
+     * a file the server has one session, until the caller says that another one is new. */
     async changesSession(rtr) {
         await withServer(rtr, {}, async (server, port, ended) => {
             await server.update(dataOf(rtr, 1, 1));
             const [has, asks] = [await router(port), await router(port)];
             await getsAll(has, 1, 1);
             const other = rtr.loadData(Buffer.concat([prefix(1), end(1, 8)])).data;
+            const oneSession = { name: "UpdateError", status: StoresStatus.OTHER_SESSION,
+                message: "a cache that doesn't save has one session" };
+            await assert.rejects(server.update(other), oneSession);
+            assert.equal(server.data.serial, 1);
+            await server.changeSession();
+            await assert.rejects(server.update(dataOf(rtr, 1, 2)),
+                { status: StoresStatus.OLD_SERIAL });
             await server.update(other);
             assert.equal(await has.next(), null);
             has.close();
@@ -430,8 +437,7 @@ export const TESTS = {
             asks.send(serialQuery(1));
             assert.deepEqual(await asks.next(), cacheReset());
             asks.close();
-            await assert.rejects(server.update(dataOf(rtr, 9, 1)), (error) => (
-                error instanceof UpdateError && error.status === StoresStatus.SESSION_LEFT));
+            await assert.rejects(server.update(dataOf(rtr, 9, 1)), oneSession);
         });
     },
 
@@ -560,8 +566,9 @@ export const TESTS = {
                 await assert.rejects(server.restore(path), { code: "ENOENT" });
                 await server.save(path);
                 assert.ok(!existsSync(path));
-                await server.update(rtr.loadData(Buffer.concat([prefix(1), end(1, 8)])).data);
-                await server.updateSaved(dataOf(rtr, 1, 1, 2), path);
+                const before = rtr.loadData(Buffer.concat([prefix(1), end(1, 8)])).data;
+                await server.updateSaved(before, path);
+                await server.update(dataOf(rtr, 1, 1, 2));
                 await server.updateSaved(dataOf(rtr, 2, 2, 3), path);
             });
             assert.equal(readFileSync(path).subarray(0, 8).toString(), "rtrkept2");
@@ -577,7 +584,7 @@ export const TESTS = {
                     prefix(3)]);
                 assert.deepEqual(await unitsOf(peer, 3), [prefix(2, false)]);
                 peer.close();
-                assert.equal((await server.restore(path)).serial, 2); // it has data: they stay
+                assert.equal((await server.restore(path)).serial, 3); // it has data: they stay
                 assert.equal(server.data.serial, 3);
                 await assert.rejects(server.update(
                     rtr.loadData(Buffer.concat([prefix(1), end(9, 8)])).data),
@@ -664,19 +671,44 @@ export const TESTS = {
         });
     },
 
-    /** Data that can't be saved aren't served; the next try may succeed. */
+    /** Data that can't be saved aren't served, and routers get those before; the next try may
+     * succeed. */
     async savesFirst(rtr) {
         await withFolder(async (folder) => {
-            await withServer(rtr, {}, async (server) => {
-                await server.update(dataOf(rtr, 1, 1));
-                await assert.rejects(
-                    server.updateSaved(dataOf(rtr, 2, 2), join(folder, "none", "state")),
-                    { code: "ENOENT" });
+            await withServer(rtr, {}, async (server, port) => {
+                const [path, none] = [join(folder, "state"), join(folder, "none", "state")];
+                const missing = { code: "ENOENT" };
+                await assert.rejects(server.updateSaved(dataOf(rtr, 1, 1), none), missing);
+                await assert.rejects(server.update(dataOf(rtr, 1, 1)), missing);
+                assert.equal(server.data, null);
+                await server.updateSaved(dataOf(rtr, 1, 1), path);
+                const peer = await router(port);
+                await getsAll(peer, 1, 1);
+                await assert.rejects(server.updateSaved(dataOf(rtr, 2, 2), none), missing);
                 assert.equal(server.data.serial, 1);
-                const path = join(folder, "state");
+                await getsAll(peer, 1, 1);
+                peer.close();
                 await Promise.all([server.updateSaved(dataOf(rtr, 2, 2), path),
                     server.updateSaved(dataOf(rtr, 3, 3), path)]);
                 assert.equal(server.data.serial, 3);
+            });
+        });
+    },
+
+    /** A file of a server that didn't save before would lack what it serves later. */
+    async servesUnsaved(rtr) {
+        await withFolder(async (folder) => {
+            const path = join(folder, "state");
+            await withServer(rtr, {}, async (server) => {
+                await server.update(dataOf(rtr, 1, 1));
+                for (const call of [() => server.save(path),
+                    () => server.updateSaved(dataOf(rtr, 2, 2), path)]) {
+                    await assert.rejects(call(), { name: "UpdateError", status: null,
+                        message: "the cache serves data that it didn't save" });
+                }
+                await server.update(dataOf(rtr, 2, 2));
+                assert.equal(server.data.serial, 2);
+                assert.ok(!existsSync(path));
             });
         });
     },

@@ -155,13 +155,16 @@ class End:
     def updates(self, data):
         """Gives the server data. For a scene that goes back to a session, the server forgets which
         ones it left."""
+        def nowhere(_):
+            """Saves nothing."""
+
         try:
-            self.server.update(data)
+            self.server._update(data, nowhere)
         except UpdateError as error:
             if error.status != server_module.StoresStatus.SESSION_LEFT:
                 raise
             self.server._store = Store()
-            self.server.update(data)
+            self.server._update(data, nowhere)
 
     def forgets(self, serial):
         """Drops the changes from a serial number and those before."""

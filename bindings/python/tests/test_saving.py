@@ -82,8 +82,9 @@ class Saving(Case):
         server = Server()
         server.save(self.path)
         self.assertFalse(self.path.exists())
-        server.update(data(1, [1]))
+        server.update_saved(data(1, [1]), self.folder / "first")
         server.update(data(5, [5]))
+        self.assertEqual(Server().restore(self.folder / "first"), data(5, [5]))
         server.save(self.path)
         after = Server()
         after.restore(self.path)
@@ -92,11 +93,74 @@ class Saving(Case):
     def test_a_large_restart(self):
         first, second = many(1, 50_000), many(2, 49_000)
         server = Server()
-        server.update(first)
+        server.update_saved(first, self.path)
         server.update_saved(second, self.path)
         after = Server()
         after.restore(self.path)
         self.has_changes(after, 1, first, second)
+
+    def refuses(self, server, new, status, text):
+        """Checks that a server doesn't take data, and keeps those that it has."""
+        before = server.end
+        with self.assertRaises(UpdateError) as caught:
+            server.update(new)
+        self.assertEqual((caught.exception.status, str(caught.exception)), (status, text))
+        self.assertEqual(server.end, before)
+
+    def test_one_session_without_a_file(self):
+        server, text = Server(), "a cache that doesn't save has one session"
+        for serial in (5, 6):
+            server.update(data(serial, [serial]))
+        self.refuses(server, data(9, [1], session=7), StoresStatus.OTHER_SESSION, text)
+        self.has_changes(server, 5, data(5, [5]), data(6, [6]))
+        server.change_session()
+        self.assertEqual(server.end.session, SESSION)
+        self.refuses(server, data(6, [7]), StoresStatus.OLD_SERIAL,
+                     "the serial number isn't later than that of the present data: new 6, present 6")
+        server.update(data(1, [1], session=7))
+        self.refuses(server, data(9, [1]), StoresStatus.OTHER_SESSION, text)
+        self.assertEqual(answer(server, SerialQuery(7, 1, version=2)),
+                         response(session=7) + bytes(data(1, [1], session=7).end))
+
+    def test_data_that_were_not_saved(self):
+        """A file of a server that didn't save before would lack what it serves later."""
+        server = Server()
+        server.update(data(1, [1]))
+        for call in (lambda: server.save(self.path),
+                     lambda: server.update_saved(data(2, [2]), self.path)):
+            with self.assertRaisesRegex(RuntimeError, "^the cache serves data that it didn't save$"):
+                call()
+        self.assertEqual((os.listdir(self.folder), server.end.serial), ([], 1))
+        self.assertTrue(server.update(data(2, [2])))
+        self.assertEqual(os.listdir(self.folder), [])
+
+    def test_updates_of_a_server_with_a_file(self):
+        """They are saved first, and served only then."""
+        server = Server()
+        server.update_saved(data(1, [1]), self.path)
+        after = Server()
+        after.restore(self.path)
+        for serial, one in enumerate((server, after), 2):
+            one.update(data(serial, [serial]))
+            self.assertEqual(Server().restore(self.path), data(serial, [serial]))
+            with mock.patch("os.fsync", side_effect=OSError(errno.EIO, "failed")):
+                with self.assertRaises(OSError):
+                    one.update(data(serial + 1, [7]))
+            self.assertEqual(one.end.serial, serial)
+            if one is server:
+                after.update(data(2, [2]))
+
+    def test_first_data_that_cannot_be_saved(self):
+        """The file may have them, so that later data are saved, too."""
+        server = Server()
+        failing = [None, OSError(errno.EIO, "failed")]
+        with mock.patch("os.fsync", side_effect=failing):
+            with self.assertRaises(UnsyncedError):
+                server.update_saved(data(1, [1]), self.path)
+        self.assertIsNone(server.end)
+        self.assertEqual(Server().restore(self.path), data(1, [1]))
+        server.update(data(1, [2]))
+        self.assertEqual(Server().restore(self.path), data(1, [2]))
 
     def test_sessions_that_were_left(self):
         server = Server()

@@ -374,6 +374,7 @@ class Ends(Servers):
         router = await self.router()
         router.asks_all()
         await router.answer()
+        server.change_session()
         server.update(data(1, [2], session=7))
         await self.ends(router, ServerError, "the data are of a new session")
 
@@ -383,6 +384,7 @@ class Ends(Servers):
         router = await self.router(buffer=1 << 12)
         router.asks_all()
         await asyncio.sleep(0.2)
+        server.change_session()
         server.update(data(1, [2], session=7))
         error = await self.reason()
         self.assertEqual((type(error), error.reason), (ServerError, Reason.NEW_SESSION))

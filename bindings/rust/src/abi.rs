@@ -74,6 +74,8 @@ pub(crate) mod failure {
         "the cache left this session: the data need a new one";
     pub(crate) const OTHER_SESSION: &str =
         "a cache that doesn't save has one session";
+    pub(crate) const UNSAVED: &str =
+        "the cache serves data that it didn't save";
     pub(crate) const HIGHER_VERSION: &str =
         "the saved data are of a lower version: the data need a new session";
     pub(crate) const DAMAGED: &str =

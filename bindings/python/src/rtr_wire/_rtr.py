@@ -49,6 +49,7 @@ FAILURE_OLD_SERIAL = "the serial number isn't later than that of the present dat
 FAILURE_OTHER_TIMES = "only the times differ from those of the present data"
 FAILURE_SESSION_LEFT = "the cache left this session: the data need a new one"
 FAILURE_OTHER_SESSION = "a cache that doesn't save has one session"
+FAILURE_UNSAVED = "the cache serves data that it didn't save"
 FAILURE_HIGHER_VERSION = "the saved data are of a lower version: the data need a new session"
 FAILURE_DAMAGED = "the saved file is damaged: the data need a new session"
 

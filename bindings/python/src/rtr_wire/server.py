@@ -24,6 +24,9 @@ from .units import EndOfData
 # A function that is called with the address of a router, and why its connection ended.
 OnEnd = Callable[[Any, Exception], Any]
 
+# A function that saves a store.
+Keep = Callable[[Span], None]
+
 # The size of a connection's send buffer: the system buffers no more for a slow router.
 _SEND_BUFFER = 1 << 17
 
@@ -52,7 +55,7 @@ class UpdateError(ValueError):
 
     Attributes:
         status: why the store refuses them: `StoresStatus.OLD_SERIAL`, `OTHER_TIMES`,
-            `SESSION_LEFT` or `OTHER_VERSION`; OK if `rule` is broken
+            `SESSION_LEFT`, `OTHER_SESSION` or `OTHER_VERSION`; OK if `rule` is broken
         rule: the rule for times that they break (RFC 8210 section 6), or `TimeRule.NONE`
     """
 
@@ -64,6 +67,7 @@ class UpdateError(ValueError):
 _TEXTS = {StoresStatus.OLD_SERIAL: _rtr.FAILURE_OLD_SERIAL,
           StoresStatus.OTHER_TIMES: _rtr.FAILURE_OTHER_TIMES,
           StoresStatus.SESSION_LEFT: _rtr.FAILURE_SESSION_LEFT,
+          StoresStatus.OTHER_SESSION: _rtr.FAILURE_OTHER_SESSION,
           StoresStatus.OTHER_VERSION: _rtr.FAILURE_HIGHER_VERSION}
 
 
@@ -94,6 +98,8 @@ class Server:
         CALLS.rtr_door_init(self._door, self._settings)
         self._updating = threading.Lock()  # guards the store
         self._store, self._edition = Store(), Edition()
+        self._keep: Optional[Keep] = None  # None as long as no file is named
+        self._may_change = False
         self._runs: Set[_Run] = set()
         self._is_closed = False
 
@@ -111,7 +117,9 @@ class Server:
         and notifies routers. Connections of routers that have data of another session are closed.
         Returns whether they differ from the present data.
 
-        The data aren't saved: after a restart a server needs a session that it never used. Any
+        A server with a file, which `restore` or `update_saved` named, first saves the data to it,
+        as `update_saved` does. One without a file doesn't save: all its data are of one session,
+        under which it never served data, at no earlier start either (RFC 8210 section 5.1). Any
         thread may call it, so that the event loop doesn't wait:
 
             await asyncio.to_thread(server.update, data)
@@ -119,18 +127,28 @@ class Server:
         Serial number 0 isn't recommended: after a cut in the first answer BIRD 2.0 asks for the
         changes since serial number 0, and keeps the part of the data that it has.
 
-        Raises UpdateError, or ServerClosed after `close`.
+        Raises UpdateError, the OSError of the file, or ServerClosed after `close`; then the present
+        data are still served.
         """
-        return self._update(data, lambda store: None)
+        return self._update(data, None)
 
     def update_saved(self, data: Data, path: Path) -> bool:
-        """`update` that first saves the new data to a file, as `save` does. If all data are saved
-        so, the file has every serial number that a router may have data of, whenever the process
-        ends, and after a restart none of them is used for other data. It blocks on the file system.
+        """`update` that first saves the new data to this file, as `save` does, and lets later calls
+        of `update` save to it. So the file has every serial number that a router may have data of,
+        whenever the process ends, and after a restart none of them is used for other data. Restore
+        the file first, if there is one, and use one file. It blocks on the file system.
 
-        Raises as `update`, and the OSError of the file; then the present data are still served.
+        Raises as `update`; a RuntimeError if the server has data that it didn't save.
         """
         return self._update(data, lambda store: save(store, path))
+
+    def change_session(self) -> None:
+        """Lets the next data of a server that doesn't save be of another session, under which it
+        never served data, at no earlier start either (RFC 8210 section 5.1). The present data are
+        served until then. A server that saves knows the sessions that it left, and ignores this
+        call."""
+        with self._updating:
+            self._may_change = True
 
     def save(self, path: Path) -> None:
         """Writes what a restart needs to a file: the sessions that the server left, the present
@@ -139,17 +157,20 @@ class Server:
         of this library read the file.
 
         Raises the OSError of the file; then no new file is left, and the old one is unchanged,
-        unless the error is an `UnsyncedError`.
+        unless the error is an `UnsyncedError`. Raises a RuntimeError if the server doesn't save its
+        data before it serves them, since a restart from the file wouldn't know all of them.
         """
         with self._updating:
+            self._check_saved()
             store = self._store.served()
             if store is not None:
                 save(store, path)
 
     def restore(self, path: Path) -> Data:
         """Serves what `save` wrote, and returns the data. With the saved session and serial number
-        routers get changes after a restart. Call it before the first data. It syncs the folder,
-        since the process that saved may have ended before that.
+        routers get changes after a restart; later data are saved to this file before they are
+        served. Call it before the first data. It syncs the folder, since the process that saved may
+        have ended before that.
 
         Raises the OSError of the file; DamagedError; UpdateError for times that RFC 8210 section 6
         doesn't allow; ServerClosed after `close`; a RuntimeError if the server has data. Then
@@ -161,31 +182,52 @@ class Server:
                 raise RuntimeError("the server has data")
             store, history = load(path)
             _check_times(history.end)
-            self._store = store
+            self._store, self._keep = store, lambda taken: save(taken, path)
             self._begin_edition()
         return history.data()
 
-    def _update(self, data: Data, keep: Callable[[Span], None]) -> bool:
-        """Takes new data, keeps their store, and serves them."""
+    def _update(self, data: Data, keep: Optional[Keep]) -> bool:
+        """Takes new data, keeps their store by this function from now on, if there is one, and
+        serves them."""
         if not isinstance(data, Data):
             raise TypeError(f"data must be Data, not {type(data).__name__}")
         _check_times(data.end)
         with self._updating:
             self._check_open()
+            if keep is not None:
+                self._check_saved()
+                self._keep = keep  # also if it fails: the file may have the data all the same
+            store = self._store_for(data)
             limits = _rtr.rtr_history_limits(self._settings.keep, self._settings.keep_bytes)
-            answer = self._store.take(self._as_kept(data), _date(), limits)
+            answer = store.take(self._as_kept(data), _date(), limits)
             if answer.status == StoresStatus.SAME_DATA:
                 return False
             if answer.status != StoresStatus.OK:
                 raise self._refusal(StoresStatus(answer.status), data)
-            try:
-                keep(self._store.to_save())
-            except BaseException:
-                self._store.give_up()
-                raise
-            self._store.saved()
+            if self._keep is not None:
+                try:
+                    self._keep(store.to_save())
+                except BaseException:
+                    store.give_up()
+                    raise
+            store.saved()
+            self._store, self._may_change = store, False
             self._begin_edition()
         return True
+
+    def _store_for(self, data: Data) -> Store:
+        """Returns the store that takes new data: another one for the first data of a session of a
+        server that doesn't save."""
+        if self._keep is None:
+            end = self.end
+            if end is None or self._may_change and data.session != end.session:
+                return Store.unsaved(data.session)
+        return self._store
+
+    def _check_saved(self) -> None:
+        """Raises a RuntimeError if data are served that weren't saved."""
+        if self._keep is None and self._edition.history is not None:
+            raise RuntimeError(_rtr.FAILURE_UNSAVED)
 
     def _as_kept(self, data: Data) -> Data:
         """Returns data in the version in which they are kept: in the highest one, which has all

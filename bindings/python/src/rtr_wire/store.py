@@ -150,6 +150,14 @@ class Store:
         CALLS.rtr_stores_new(self._stores)
 
     @classmethod
+    def unsaved(cls, session: int) -> Store:
+        """Returns the store of a cache that doesn't save: it takes data of this session only, and
+        serves them at once."""
+        made = cls()
+        CALLS.rtr_stores_unsaved(made._stores, session)
+        return made
+
+    @classmethod
     def start(cls, store: bytes) -> Optional[Store]:
         """Returns the store with which a cache starts that saved these bytes; None if they aren't
         a store."""
@@ -163,7 +171,8 @@ class Store:
 
     def take(self, data: Data, now: int, limits: _rtr.rtr_history_limits) -> _rtr.rtr_stores_answer:
         """Takes new data at this time, in milliseconds since 1970. If the answer's status is OK,
-        their store waits until `saved` or `give_up` is called; else nothing changes."""
+        their store waits until `saved` or `give_up` is called, unless the cache doesn't save; else
+        nothing changes."""
         part, answer = part_of(data), _rtr.rtr_stores_answer()
         state = self._state()
         other = 0 if state.second else 1
@@ -194,7 +203,7 @@ class Store:
         return Span(self._buffers[0 if state.second else 1].memory, 0, state.taken)
 
     def saved(self) -> None:
-        """Serves the store that waited."""
+        """Serves the store that waited, if one did, and frees the one before."""
         CALLS.rtr_stores_saved(self._stores)
         self._drop_other()
 
