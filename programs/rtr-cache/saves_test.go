@@ -25,13 +25,19 @@ var saveCalls = []struct {
 	{"fsync", "", 1},
 }
 
-// injected starts a cache by strace, which injects something into the calls about a path. It knows
-// them by the absolute path.
+// injected starts a cache by strace, which injects something into the calls about a path below the
+// state folder. It knows them by the absolute path.
 func injected(t *testing.T, folder, path, injection string) *trial.Process {
+	t.Helper()
+	return injectedAt(t, folder, folder+"/state"+path, injection)
+}
+
+// injectedAt is injected with any path.
+func injectedAt(t *testing.T, folder, path, injection string) *trial.Process {
 	t.Helper()
 	// As a grandchild, so that the cache is the process that the test kills.
 	run := exec.Command("strace", "-D", "-f", "-qq", "-o", folder+"/trace",
-		"-P", folder+"/state"+path, "-e", "inject="+injection,
+		"-P", path, "-e", "inject="+injection,
 		os.Args[0], "--csv", "f", "--state", folder+"/state", "--listen", "127.0.0.1:0")
 	return trial.StartBy(t, folder, nil, run)
 }
@@ -129,6 +135,26 @@ func TestStartNeedsSync(t *testing.T) {
 	}
 }
 
+// A cache that creates its state folder, but can't sync the folder above, serves nothing: a power cut
+// could take the state away. It syncs that again at a start as long as nothing is saved.
+func TestNewFolderIsSynced(t *testing.T) {
+	withStrace(t)
+	folder := t.TempDir()
+	trial.Write(t, folder+"/f", rows(3))
+	for i := 0; i < 2; i++ {
+		process := injectedAt(t, folder, folder, "fsync:error=EIO")
+		if status := process.Status(); status != 3 || process.Lines("payloads") > 0 ||
+			process.Lines("input/output error") != 1 {
+			t.Error(status, process.Stderr())
+		}
+	}
+	process := injectedAt(t, folder, folder, "fsync:error=EINVAL") // it can't be synced
+	process.Says("serial 1: 3 payloads", 1)
+	process.End()
+	process = injectedAt(t, folder, folder, "fsync:error=EIO") // it was synced before
+	process.Says("serial 1: 3 payloads", 1)
+}
+
 // A cache saves in a folder of a file system that can't sync folders, and a restart has the data.
 func TestFolderCannotBeSynced(t *testing.T) {
 	withStrace(t)
@@ -136,29 +162,29 @@ func TestFolderCannotBeSynced(t *testing.T) {
 	process := injected(t, folder, "", "fsync:error=EINVAL")
 	process.Says("serial 1: 200 payloads", 1)
 	process.Says("serial 2: 201 payloads", 1)
-	if process.Lines("aren't saved") > 0 {
+	if process.Lines("aren't served") > 0 {
 		t.Error(process.Stderr())
 	}
 	process.Kill()
 	continues(t, folder, first, 2)
 }
 
-// If a system call of saving fails in each thread once, the new data are served, and no file stays
-// beside the old one. Saving is retried, and then a restart has the data.
+// If a system call of saving fails in each thread once, the new data aren't served, and no file
+// stays beside the old one. Saving is retried, and then they are served, and a restart has them.
 func TestEachCallFails(t *testing.T) {
 	withStrace(t)
 	for _, call := range saveCalls {
 		call := call
 		if call.path == "" {
-			continue // the folder is synced as well where its old file is removed
+			continue // TestFileMayBeReplaced
 		}
 		t.Run(call.name+" of state"+call.path, func(t *testing.T) {
 			t.Parallel()
 			folder, first := withState(t)
 			process := injected(t, folder, call.path, call.name+":error=EIO:when=1")
-			process.Says("/state: the data aren't saved: ", 1)
-			process.Says("serial 2: 201 payloads", 1)
+			process.Says(refusesUnsaved, 1)
 			process.Says("/state: the data are saved again", 1)
+			process.Says("serial 2: 201 payloads", 1)
 			if _, err := os.Stat(folder + "/state/editions.new"); !os.IsNotExist(err) {
 				t.Error("a file stays:", err)
 			}
@@ -168,32 +194,22 @@ func TestEachCallFails(t *testing.T) {
 	}
 }
 
-// A cache whose folder can't be synced has replaced its file all the same. If the next data can't be
-// saved either, they don't get the session of that file: after a restart their serial number would
-// name other data.
+// A cache whose folder can't be synced has replaced its file all the same, and serves nothing of it.
+// The next start serves what the file has, once the folder is synced, or newer data.
 func TestFileMayBeReplaced(t *testing.T) {
 	withStrace(t)
 	folder := t.TempDir()
 	trial.Write(t, folder+"/f", rows(200))
 	process := injected(t, folder, "", "fsync:error=EIO")
-	process.Says("serial 1: 200 payloads", 1)
-	// No file of this name can be made now.
-	if err := os.Mkdir(folder+"/state/editions.new", 0o700); err != nil {
-		t.Fatal(err)
+	process.Says(refusesUnsaved, 2)
+	if process.Lines("payloads") > 0 {
+		t.Error(process.Stderr())
 	}
-	trial.Write(t, folder+"/f", rows(201))
-	process.Says("201 payloads", 1)
-	second := fetched(t, process.After("listening at "), 2)
 	process.Kill()
-	if err := os.Remove(folder + "/state/editions.new"); err != nil {
-		t.Fatal(err)
-	}
 	trial.Write(t, folder+"/f", rows(202))
 	process, address := started(t, folder, "--csv", "f", "--state", "state")
-	process.Says("202 payloads", 1)
-	last := fetched(t, address, 2)
-	if second.Session() == last.Session() && second.Serial() == last.Serial() {
-		t.Errorf("two data of session %d and serial %d", last.Session(), last.Serial())
-	}
+	process.Says("serial 1: 200 payloads", 1)
+	process.Says("serial 2: 202 payloads", 1)
+	serves(t, address, 2, 202)
 	process.End()
 }

@@ -14,8 +14,42 @@ import (
 	"fishreef/rtr"
 )
 
-// A restarted cache keeps its session and its serial number, and the changes from earlier data;
-// without a state folder another session begins.
+// Without a state folder all data of a start are of one session, and each start draws another one,
+// by chance the same once in 65,536. So a router of the former start gets a cache reset.
+func TestRestartWithoutFolder(t *testing.T) {
+	folder := t.TempDir()
+	sessions := map[uint16]bool{}
+	var before rtr.Data
+	for start := 0; start < 4; start++ {
+		trial.Write(t, folder+"/f", rows(2*start+1))
+		process, address := started(t, folder, "--csv", "f")
+		process.Says("serial 1: ", 1)
+		first := fetched(t, address, 2)
+		if !before.IsZero() && before.Session() != first.Session() {
+			connection := dialed(t, address)
+			query := rtr.Unit{Kind: rtr.SerialQuery, Version: 2, Session: before.Session(), Serial: 1}
+			if err := rtr.NewWriter(connection).Write(&query); err != nil {
+				t.Fatal(err)
+			}
+			if unit, err := rtr.NewReader(connection).Next(); err != nil || unit.Kind != rtr.CacheReset {
+				t.Error(unit, err)
+			}
+		}
+		trial.Write(t, folder+"/f", rows(2*start+2))
+		process.Says("serial 2: ", 1)
+		if before = fetched(t, address, 2); before.Session() != first.Session() {
+			t.Error(first.Session(), before.Session())
+		}
+		leads(t, address, first, before)
+		sessions[first.Session()] = true
+		process.End()
+	}
+	if len(sessions) == 1 { // by chance once in 2^48
+		t.Error("each start took up the session before")
+	}
+}
+
+// A restarted cache keeps its session and its serial number, and the changes from earlier data.
 func TestRestart(t *testing.T) {
 	folder := t.TempDir()
 	file := filepath.Join(folder, "f")

@@ -38,8 +38,7 @@ type Cache struct {
 	lock      sync.Mutex // guards the fields below, and the files
 	present   rtr.Data   // the data that are served
 	had       bool       // the cache has served payloads
-	unsaved   error      // why the data aren't saved; nil if they are
-	retry     retry      // of saving them
+	waits     *waiting   // the data that are served once they are saved; nil for none
 	clock     trust.Clock
 	confirmed bool // a person confirmed the held list
 }
@@ -130,35 +129,40 @@ func (c *Cache) recordServed(data rtr.Data, from string, size *payloads.Size) {
 	c.log.Info(line)
 }
 
+// accepted returns the data that were accepted last: those that wait to be saved, or are served.
+func (c *Cache) accepted() rtr.Data {
+	if c.waits != nil {
+		return c.waits.data
+	}
+	return c.present
+}
+
 // next returns payloads with the next serial number, or with the first one of a random session.
 func (c *Cache) next(merged rtr.Data) (rtr.Data, error) {
-	session := c.present.Session()
-	if c.present.IsZero() {
+	session := c.accepted().Session()
+	if c.accepted().IsZero() {
 		var err error
-		if session, err = anotherSession(nil); err != nil {
+		if session, err = newSession(); err != nil {
 			return rtr.Data{}, err
 		}
 	}
 	return merged.With(session, after(c.present.Serial()), c.settings.Timing)
 }
 
-// update serves new data. If they can't be saved, and the state folder has older data of their
-// session, they get another session; so they do if the cache left their session before.
+// update serves new data, which replace those that wait to be saved. If they can't be saved, they
+// wait, too.
 func (c *Cache) update(next rtr.Data, from string, size payloads.Size) error {
 	err := c.serve(next)
-	for errors.Is(err, state.ErrSession) || errors.Is(err, rtr.ErrSessionLeft) {
-		c.log.Warnf("%s: %s: another session begins", c.settings.State, plainText(err))
-		session := next.Session()
-		if session, err = anotherSession(&session); err != nil {
-			break
-		}
-		if next, err = next.With(session, next.Serial(), next.Timing()); err == nil {
-			err = c.serve(next)
-		}
-	}
-	if !c.recordSaved(err) {
+	var unsaved *state.Unsaved
+	switch {
+	case errors.As(err, &unsaved):
+		c.metrics.Unsaved()
+		c.await(waiting{next, from, size, unsaved.Reason, firstRetry(c.running())})
+		return nil
+	case err != nil:
 		return err
 	}
+	c.recordSaved()
 	c.recordServed(c.server.Data(), from, &size)
 	debug.FreeOSMemory() // of the file's content, and of the former data
 	return nil
@@ -173,18 +177,13 @@ func after(serial uint32) uint32 {
 	return serial + 1
 }
 
-// anotherSession returns a random session that differs from the former one, if there is one.
-func anotherSession(before *uint16) (session uint16, err error) {
-	for {
-		var chance [2]byte
-		if _, err := rand.Read(chance[:]); err != nil {
-			return 0, fmt.Errorf("a new session: %w", err)
-		}
-		session = binary.BigEndian.Uint16(chance[:])
-		if before == nil || session != *before {
-			return session, nil
-		}
+// newSession returns a random session.
+func newSession() (uint16, error) {
+	var chance [2]byte
+	if _, err := rand.Read(chance[:]); err != nil {
+		return 0, fmt.Errorf("a new session: %w", err)
 	}
+	return binary.BigEndian.Uint16(chance[:]), nil
 }
 
 // serve serves data, and first saves them if there is a state folder.
@@ -195,39 +194,58 @@ func (c *Cache) serve(data rtr.Data) error {
 	return c.server.Update(data)
 }
 
-// recordSaved records whether data were saved, and reports whether they are served.
-func (c *Cache) recordSaved(err error) bool {
-	var unsaved *state.Unsaved
-	if err != nil && !errors.As(err, &unsaved) {
-		return false
-	}
-	c.lock.Lock()
-	defer c.lock.Unlock()
-	before := c.unsaved
-	c.unsaved = nil
-	if unsaved != nil {
-		c.unsaved = unsaved.Reason
-		c.retry = firstRetry(c.running())
-		c.metrics.Unsaved()
-		c.log.Errorf("%s: the data aren't saved: %v: a restart now will begin another session",
-			c.settings.State, unsaved)
-	} else if before != nil {
-		c.log.Infof("%s: the data are saved again", c.settings.State)
-	}
-	return true
+// waiting are data that couldn't be saved, and are served once they are.
+type waiting struct {
+	data   rtr.Data
+	from   string
+	size   payloads.Size
+	reason error
+	retry  retry
 }
 
-// save retries to save data that couldn't be saved, if it is time for that.
+// await lets data wait to be saved, and logs why.
+func (c *Cache) await(data waiting) {
+	c.lock.Lock()
+	defer c.lock.Unlock()
+	line := fmt.Sprintf("%s: new data aren't served before they are saved: %v; trying again in %v",
+		c.settings.State, data.reason, data.retry.pause)
+	if c.waits == nil {
+		c.log.Error(line)
+	} else {
+		c.log.Warn(line)
+	}
+	c.waits = &data
+}
+
+// recordSaved records that no data wait to be saved any more.
+func (c *Cache) recordSaved() {
+	c.lock.Lock()
+	defer c.lock.Unlock()
+	if c.waits != nil {
+		c.log.Infof("%s: the data are saved again", c.settings.State)
+	}
+	c.waits = nil
+}
+
+// save retries to save data that couldn't be saved, if it is time for that, and serves them.
 func (c *Cache) save() {
-	if c.unsaved == nil || c.running() < c.retry.at {
+	if c.waits == nil || c.running() < c.waits.retry.at {
 		return
 	}
-	if err := c.folder.Save(c.server, c.present); err != nil {
-		c.retry = c.retry.next(c.running())
-		c.log.Warnf("%s: the data still aren't saved: %v", c.settings.State, err)
+	again := *c.waits
+	err := c.serve(again.data)
+	var unsaved *state.Unsaved
+	if errors.As(err, &unsaved) {
+		again.reason, again.retry = unsaved.Reason, again.retry.next(c.running())
+		c.await(again)
 		return
 	}
-	c.recordSaved(nil)
+	if err != nil { // the server is closed
+		c.log.Warnf("%s: %s", again.from, plainText(err))
+		return
+	}
+	c.recordSaved()
+	c.recordServed(c.server.Data(), again.from, &again.size)
 }
 
 // running returns the time for which the cache has run.
@@ -239,7 +257,7 @@ func (c *Cache) running() time.Duration {
 // The pause before the first retry of saving, and the longest one. Each is twice the one before.
 const (
 	firstPause   = time.Second
-	longestPause = 10 * time.Minute
+	longestPause = time.Minute
 )
 
 // retry is the next retry of saving, by the time for which the cache has run.
@@ -257,8 +275,9 @@ func (r retry) next(now time.Duration) retry {
 	return retry{now + pause, pause}
 }
 
-// same reports whether these payloads are already served, with the same times.
+// same reports whether these payloads were accepted already, with the same times.
 func (c *Cache) same(merged rtr.Data) bool {
-	return !c.present.IsZero() && c.present.Timing() == c.settings.Timing &&
-		payloads.Same(c.present, merged)
+	accepted := c.accepted()
+	return !accepted.IsZero() && accepted.Timing() == c.settings.Timing &&
+		payloads.Same(accepted, merged)
 }

@@ -217,13 +217,26 @@ func (c *Cache) replace(
 		return err
 	}
 	size, err := c.sizeOf(next)
+	judged := size
+	if err == nil && c.waits != nil {
+		judged, err = sizeBetween(c.waits.data, next)
+	}
 	if err == nil {
-		err = c.judge(file, list, size, others, expires, running)
+		err = c.judge(file, list, judged, others, expires, running)
 	}
 	if err == nil {
 		err = c.update(next, file.Path, size)
 	}
 	return err
+}
+
+// sizeBetween returns the size of the change between data of one session.
+func sizeBetween(old, next rtr.Data) (payloads.Size, error) {
+	delta, err := rtr.Delta(old, next)
+	if err != nil {
+		return payloads.Size{}, err
+	}
+	return payloads.SizeOf(old, delta), nil
 }
 
 // sizeOf returns the size of the change to new data.
@@ -335,8 +348,10 @@ func (c *Cache) health() []trust.Fault {
 	c.lock.Lock()
 	defer c.lock.Unlock()
 	known := trust.State{
-		Data: !c.present.IsZero(), Payloads: c.present.Len(), Had: c.had, Unsaved: c.unsaved,
-		Clock: c.clock,
+		Data: !c.present.IsZero(), Payloads: c.present.Len(), Had: c.had, Clock: c.clock,
+	}
+	if c.waits != nil {
+		known.Unsaved = c.waits.reason
 	}
 	for _, file := range c.files {
 		var problem error

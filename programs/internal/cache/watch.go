@@ -19,10 +19,10 @@ const longest = time.Hour
 // untilNext returns the time until the next item of a file expires, or saving is retried.
 func (c *Cache) untilNext() time.Duration {
 	wait := c.untilExpiry()
-	if c.unsaved == nil {
+	if c.waits == nil {
 		return wait
 	}
-	if saving := c.retry.at - c.running(); saving < wait {
+	if saving := c.waits.retry.at - c.running(); saving < wait {
 		wait = saving
 	}
 	if wait < quiet {

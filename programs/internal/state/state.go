@@ -21,18 +21,18 @@ const (
 
 // Folder is the folder of one cache.
 type Folder struct {
-	path     string
-	lock     *os.File
-	sessions map[uint16]bool // the sessions of which the file may have data
+	path string
+	lock *os.File
 }
 
-// Open locks the folder for this process, and creates it if it is missing. The lock is a record
+// Open locks the folder for this process, and creates it if it is missing: then it syncs the folder
+// above, so that a power cut doesn't take it away with what is saved in it. The lock is a record
 // lock of fcntl(2), which ends with the process: one of flock(2) would stay with a child that a
 // killed cache has forked and that hasn't executed its program yet.
 //
 // Errors: those of the system; one if another process has locked the folder.
 func Open(path string) (*Folder, error) {
-	if err := os.Mkdir(path, 0o700); err != nil && !errors.Is(err, os.ErrExist) {
+	if err := create(path); err != nil {
 		return nil, err
 	}
 	lock, err := os.OpenFile(filepath.Join(path, lockName), os.O_RDWR|os.O_CREATE, 0o600)
@@ -41,13 +41,37 @@ func Open(path string) (*Folder, error) {
 	}
 	err = syscall.FcntlFlock(lock.Fd(), syscall.F_SETLK, &syscall.Flock_t{Type: syscall.F_WRLCK})
 	if err == nil {
-		return &Folder{path: path, lock: lock, sessions: map[uint16]bool{}}, nil
+		return &Folder{path, lock}, nil
 	}
 	lock.Close()
 	if errors.Is(err, syscall.EAGAIN) {
 		return nil, fmt.Errorf("%s: another cache uses this folder", path)
 	}
 	return nil, fmt.Errorf("%s: %w", lock.Name(), err)
+}
+
+// create creates a folder, if it is missing, and syncs the one above. It does so also if the folder
+// is there but without data, since the process that created it may have ended before that.
+func create(path string) error {
+	created := os.Mkdir(path, 0o700)
+	if created != nil && !errors.Is(created, os.ErrExist) {
+		return created
+	}
+	if _, missing := os.Stat(filepath.Join(path, editionsName)); missing == nil {
+		return nil
+	}
+	above, err := os.Open(filepath.Dir(filepath.Clean(path)))
+	if errors.Is(err, os.ErrPermission) && created != nil {
+		return nil // another program created it
+	}
+	if err != nil {
+		return err
+	}
+	defer above.Close()
+	if err := above.Sync(); !errors.Is(err, syscall.EINVAL) && !errors.Is(err, syscall.EROFS) {
+		return err
+	}
+	return nil
 }
 
 // Close unlocks the folder.
@@ -74,12 +98,10 @@ func (f *Folder) Restore(server *rtr.Server) (rtr.Data, error) {
 		}
 		err = fmt.Errorf("%w; it is now %s", err, refused)
 	}
-	f.note(data, err)
 	return data, err
 }
 
-// Unsaved is the error of data that are served although they couldn't be saved. Then the folder has
-// no data of their session, so that after a restart no other data get their serial number.
+// Unsaved is the error of data that can't be saved, and so aren't served.
 type Unsaved struct{ Reason error }
 
 // Error returns the reason as text.
@@ -88,65 +110,14 @@ func (u *Unsaved) Error() string { return u.Reason.Error() }
 // Unwrap returns the reason.
 func (u *Unsaved) Unwrap() error { return u.Reason }
 
-// ErrSession is the error of data that can't be saved while the folder has older data of their
-// session that can't be removed: after a restart other data could get their serial number. They
-// aren't served; they can be in another session.
-var ErrSession = errors.New("the folder has older data of this session, which can't be removed")
-
-// Update saves new data, and then passes them to the server, even if they couldn't be saved.
+// Update saves new data, and then passes them to the server: so whenever the process ends, the
+// folder has every serial number that a router may have data of.
 //
-// Errors: an Unsaved; ErrSession; those of rtr.Server.Update, after which nothing has changed.
+// Errors: an Unsaved; those of rtr.Server.Update. The server has the former data then.
 func (f *Folder) Update(server *rtr.Server, data rtr.Data) error {
 	err := server.UpdateSaved(data, f.editions())
-	if err == nil || !errors.As(err, new(syscall.Errno)) {
-		f.note(data, err)
-		return err
+	if errors.As(err, new(syscall.Errno)) {
+		return &Unsaved{err}
 	}
-	if f.sessions[data.Session()] {
-		if f.remove() != nil {
-			return ErrSession
-		}
-		f.sessions = map[uint16]bool{}
-	} else if errors.Is(err, rtr.ErrUnsynced) {
-		f.sessions[data.Session()] = true
-	}
-	if failed := server.Update(data); failed != nil {
-		return failed
-	}
-	return &Unsaved{err}
-}
-
-// remove removes the file, and syncs the folder, if its file system can do that, so that no restart
-// finds it.
-func (f *Folder) remove() error {
-	err := os.Remove(f.editions())
-	if err != nil && !errors.Is(err, os.ErrNotExist) {
-		return err
-	}
-	folder, err := os.Open(f.path)
-	if err != nil {
-		return err
-	}
-	defer folder.Close()
-	if err := folder.Sync(); !errors.Is(err, syscall.EINVAL) {
-		return err
-	}
-	return nil
-}
-
-// Save saves the data of a server that couldn't be saved before.
-func (f *Folder) Save(server *rtr.Server, data rtr.Data) error {
-	err := server.Save(f.editions())
-	if errors.Is(err, rtr.ErrUnsynced) {
-		f.sessions[data.Session()] = true
-	}
-	f.note(data, err)
 	return err
-}
-
-// note records the session of the data in the file, if there is no error.
-func (f *Folder) note(data rtr.Data, err error) {
-	if err == nil {
-		f.sessions = map[uint16]bool{data.Session(): true}
-	}
 }

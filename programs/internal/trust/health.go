@@ -14,7 +14,7 @@ type Reason string
 const (
 	NoData  Reason = "data"    // nothing is served yet
 	Empty   Reason = "empty"   // no payloads are left
-	Unsaved Reason = "unsaved" // the served data aren't saved
+	Unsaved Reason = "unsaved" // new data can't be saved, and aren't served
 	Clocks  Reason = "clock"   // the system's clock was set, and isn't accepted
 	Holding Reason = "held"    // a file would withdraw too much
 	Refused Reason = "refused" // a file is invalid, or can't be read
@@ -43,7 +43,7 @@ type State struct {
 	Data     bool  // there are data
 	Payloads int   // the number of payloads
 	Had      bool  // the cache has served payloads
-	Unsaved  error // why the data aren't saved; nil if they are
+	Unsaved  error // why new data can't be saved; nil if none wait
 	Clock    Clock
 	Files    []File
 }
@@ -67,7 +67,7 @@ func (r Rules) Health(state State) (faults []Fault) {
 		add(Empty, "no payloads are left")
 	}
 	if state.Unsaved != nil {
-		add(Unsaved, fmt.Sprintf("the data aren't saved: %v", state.Unsaved))
+		add(Unsaved, fmt.Sprintf("new data can't be saved, and aren't served: %v", state.Unsaved))
 	}
 	add(Clocks, state.Clock.Fault(r))
 	for _, reason := range []Reason{Holding, Refused, Fetch, Stale, Expired} {

@@ -174,7 +174,7 @@ func TestHealth(t *testing.T) {
 		{"there never were payloads", func(s *State) { s.Payloads, s.Had = 0, false }, nil},
 		{"no payloads are left", func(s *State) { s.Payloads = 0 }, []Fault{{Empty, "no payloads are left"}}},
 		{"it isn't saved", func(s *State) { s.Unsaved = errors.New("no space left on device") },
-			[]Fault{{Unsaved, "the data aren't saved: no space left on device"}}},
+			[]Fault{{Unsaved, "new data can't be saved, and aren't served: no space left on device"}}},
 		{"the clock was set", func(s *State) { s.Clock = ahead }, []Fault{{Clocks, ahead.Fault(rules)}}},
 		{"a file is held", func(s *State) {
 			s.Files = with(func(f *File) { f.Problem, f.Held = errors.New("too much"), true })
@@ -206,7 +206,7 @@ func TestHealth(t *testing.T) {
 				with(func(f *File) { f.Problem, f.Held = errors.New("too much"), true })...)
 			s.Files = append(s.Files, with(func(f *File) { f.Written, f.Taken, f.Expired = now.Add(-3*time.Hour), 0, 3 })...)
 		}, []Fault{
-			{Empty, "no payloads are left"}, {Unsaved, "the data aren't saved: read-only"},
+			{Empty, "no payloads are left"}, {Unsaved, "new data can't be saved, and aren't served: read-only"},
 			{Clocks, ahead.Fault(rules)}, {Holding, "f: too much"}, {Refused, "f: gone"},
 			{Stale, "f: it was written 3h0m0s ago"}, {Expired, "f: of 3 items 3 have expired"},
 		}},
