@@ -23,10 +23,10 @@ type edition struct {
 	known   []C.uint32_t         // the earlier serial numbers that it has, for rtr_cache_read
 
 	lock       sync.Mutex
-	forms      [versions]Data  // for clients without a socket
-	files      [versions]piece // for clients with one
-	sends      int             // the number of clients that are being sent a file
-	old        bool            // there is a newer edition
+	forms      [versions]Data      // for clients without a socket
+	files      map[string][2]piece // answers to clients with one, by their first unit
+	sends      int                 // the number of clients that are being sent a file
+	old        bool                // there is a newer edition
 	deltas     map[question][]byte
 	deltaSpace int // bytes left for more deltas
 }
@@ -48,7 +48,7 @@ func newEdition(number C.uint64_t, history []byte, limits ServerLimits) *edition
 		number: number, present: present,
 		data: data, history: history, known: serialsOf(history),
 		// An answer to a client that has the present data is never computed again.
-		deltas: map[question][]byte{}, deltaSpace: limits.KeepBytes + versions*longestEnd,
+		files: map[string][2]piece{}, deltas: map[question][]byte{}, deltaSpace: limits.KeepBytes + versions*longestEnd,
 	}
 }
 
@@ -102,20 +102,23 @@ func (e *edition) form(version uint8) (piece, error) {
 	return piece{bytes: e.forms[version].Bytes()}, err
 }
 
-// file returns the same as a file in memory, if they are large; it stays open until sent is called.
-func (e *edition) file(version uint8) (piece, error) {
+// file returns an answer that begins with this unit and has all data: as a file in memory, if they
+// are large. All clients of a version get the same, which a socket sends in one call. It stays open
+// until sent is called.
+func (e *edition) file(version uint8, opening []byte) ([2]piece, error) {
 	e.lock.Lock()
 	defer e.lock.Unlock()
 	e.sends++
-	file := &e.files[version]
-	if file.size() > 0 {
-		return *file, nil
+	if parts, ok := e.files[string(opening)]; ok {
+		return parts, nil
 	}
 	data, err := e.data.For(version)
-	if err == nil {
-		*file = filed(data.Bytes())
+	if err != nil {
+		return [2]piece{}, err
 	}
-	return *file, err
+	parts := filed(opening, data.Bytes())
+	e.files[string(opening)] = parts
+	return parts, nil
 }
 
 // sent releases what file returned.
@@ -136,12 +139,15 @@ func (e *edition) replaced() {
 
 // closeUnused closes the files of an old edition that isn't being sent to any client.
 func (e *edition) closeUnused() {
-	for version := range e.files {
-		if p := &e.files[version]; e.old && e.sends == 0 && p.file != nil {
-			p.file.Close()
-			*p = piece{}
+	if !e.old || e.sends > 0 {
+		return
+	}
+	for _, parts := range e.files {
+		if file := parts[0].file; file != nil {
+			file.Close()
 		}
 	}
+	e.files = map[string][2]piece{}
 }
 
 // since returns the changes for clients of a version, from the data of a known serial number, or

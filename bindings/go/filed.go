@@ -25,24 +25,47 @@ type piece struct {
 	left   int   // the size of that rest
 }
 
-// filed returns bytes as a file in memory, if they are large and the system supports it.
-func filed(bytes []byte) piece {
-	usual := piece{bytes: bytes}
-	if len(bytes) < chunk {
-		return usual
+// filed returns an answer: its first unit, and data. Large ones are a file in memory, if the system
+// supports it, and small ones are in one piece.
+func filed(opening, data []byte) [2]piece {
+	size := len(opening) + len(data)
+	if size < chunk {
+		return [2]piece{{bytes: append(append(make([]byte, 0, size), opening...), data...)}}
 	}
+	if file := fileOf(opening, data); file != nil {
+		return [2]piece{{file: file, left: size}}
+	}
+	return [2]piece{{bytes: opening}, {bytes: data}}
+}
+
+// fileOf returns a file in memory with these bytes; nil if the system doesn't support it.
+func fileOf(first, second []byte) *os.File {
+	size := len(first) + len(second)
 	name := [...]C.char{'r', 't', 'r', 0}
 	descriptor, _ := C.memfd_create(&name[0], C.MFD_CLOEXEC)
 	if descriptor < 0 {
-		return usual
+		return nil
 	}
-	beginHuge(int(descriptor), len(bytes))
+	beginHuge(int(descriptor), size)
 	// Once: at a limit of the size of files a second write would end the process.
-	if n, err := syscall.Write(int(descriptor), bytes); err != nil || n < len(bytes) {
+	if n, err := writeBoth(int(descriptor), first, second); err != nil || n < size {
 		syscall.Close(int(descriptor))
-		return usual
+		return nil
 	}
-	return piece{file: os.NewFile(uintptr(descriptor), "rtr"), left: len(bytes)}
+	return os.NewFile(uintptr(descriptor), "rtr")
+}
+
+// writeBoth writes two byte strings, which aren't empty, to a file by one call of the system.
+func writeBoth(file int, first, second []byte) (int, error) {
+	parts := [2]syscall.Iovec{{Base: &first[0]}, {Base: &second[0]}}
+	parts[0].SetLen(len(first))
+	parts[1].SetLen(len(second))
+	n, _, err := syscall.Syscall(syscall.SYS_WRITEV, uintptr(file),
+		uintptr(unsafe.Pointer(&parts[0])), uintptr(len(parts)))
+	if err != 0 {
+		return 0, err
+	}
+	return int(n), nil
 }
 
 // beginHuge allocates huge pages at the front of an empty file in memory for size bytes, and leaves

@@ -45,7 +45,7 @@ func (c *served) begin(e *edition) (err error) {
 	switch version := uint8(c.serving.version); {
 	case c.serving.kind == C.RTR_SERVE_ALL && c.raw != nil:
 		c.reply.filed = true
-		*body, err = e.file(version)
+		c.reply.parts, err = e.file(version, opening)
 	case c.serving.kind == C.RTR_SERVE_ALL:
 		*body, err = e.form(version)
 	case c.serving.kind == C.RTR_SERVE_CHANGES:

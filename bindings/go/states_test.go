@@ -67,11 +67,11 @@ func TestOffsetOfAFault(t *testing.T) {
 	}
 }
 
-// fileOf returns the file of an edition's data in a version; nil if it has none.
-func fileOf(e *edition, version uint8) *os.File {
+// openFile returns the open file of an edition's answer with all data to a version; nil for none.
+func openFile(e *edition, version uint8) *os.File {
 	e.lock.Lock()
 	defer e.lock.Unlock()
-	return e.files[version].file
+	return e.files[string(response(version, e.data.Session()))][0].file
 }
 
 // until waits until a condition holds.
@@ -99,7 +99,7 @@ func TestFileOfAnEdition(t *testing.T) {
 		send(t, client, asked(1, 0))
 		expect(t, client, whole[:row.before])
 		old := server.present.Load()
-		file := fileOf(old, 1)
+		file := openFile(old, 1)
 		if file == nil {
 			t.Skip("the system has no files in memory")
 		}
@@ -114,7 +114,7 @@ func TestFileOfAnEdition(t *testing.T) {
 		} else {
 			client.Close()
 		}
-		until(t, row.name+": the file stays", func() bool { return fileOf(old, 1) == nil })
+		until(t, row.name+": the file stays", func() bool { return openFile(old, 1) == nil })
 		if _, err := file.Stat(); err == nil {
 			t.Fatal(row.name, "the file is open")
 		}

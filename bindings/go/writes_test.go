@@ -63,7 +63,7 @@ func TestWriteTakenInPart(t *testing.T) {
 func TestWriteToASocket(t *testing.T) {
 	noLeaks(t)
 	bytes := piece{bytes: make([]byte, 1<<26)}
-	file := filed(bytes.bytes)
+	file := filed(bytes.bytes[:8], bytes.bytes[8:])[0]
 	if file.file == nil {
 		t.Fatal("no file")
 	}
@@ -97,18 +97,23 @@ func writeToASocket(t *testing.T, part piece) {
 	}
 }
 
-// Many bytes are stored in a file in memory, unless the limit of file sizes is lower.
+// An answer with much data is a file in memory, unless the limit of file sizes is lower, and one
+// with little data is in one piece.
 func TestFiled(t *testing.T) {
 	all := make([]byte, 5*hugePage/2+1)
 	for i := range all {
 		all[i] = byte(i * i >> 8)
 	}
-	for _, length := range []int{0, 24, chunk - 1, chunk, 3*chunk + 1, hugePage / 2, len(all)} {
-		part := filed(all[:length])
-		if part.size() != length || (part.file != nil) != (length >= chunk) {
+	for _, length := range []int{8, 32, chunk - 1, chunk, 3*chunk + 1, hugePage / 2, len(all)} {
+		parts := filed(all[:8], all[8:length])
+		part := parts[0]
+		if part.size() != length || (part.file != nil) != (length >= chunk) || parts[1].size() != 0 {
 			t.Errorf("%d bytes: %d, a file: %t", length, part.size(), part.file != nil)
 		}
 		if part.file == nil {
+			if !bytes.Equal(part.bytes, all[:length]) {
+				t.Errorf("%d bytes: others", length)
+			}
 			continue
 		}
 		part.file.Seek(0, io.SeekStart)
@@ -125,12 +130,12 @@ func TestFiled(t *testing.T) {
 	if err := syscall.Setrlimit(syscall.RLIMIT_FSIZE, &less); err != nil {
 		t.Fatal(err)
 	}
-	part := filed(all)
+	parts := filed(all[:8], all[8:])
 	if err := syscall.Setrlimit(syscall.RLIMIT_FSIZE, &usual); err != nil {
 		t.Fatal(err)
 	}
-	if part.file != nil || len(part.bytes) != len(all) {
-		t.Error(part.file != nil, len(part.bytes))
+	if !bytes.Equal(parts[0].bytes, all[:8]) || !bytes.Equal(parts[1].bytes, all[8:]) {
+		t.Error(parts[0].file != nil, len(parts[0].bytes), len(parts[1].bytes))
 	}
 }
 
@@ -153,12 +158,13 @@ func TestFiledEdition(t *testing.T) {
 		_, err := part.file.Stat()
 		return err == nil
 	}
+	opening := []byte{1, 3, 0x12, 0x34, 0, 0, 0, 8} // the cache response (RFC 8210 section 5.5)
 	file := func() piece {
-		part, err := e.file(1)
-		if err != nil || part.file == nil || !isOpen(part) {
+		parts, err := e.file(1, opening)
+		if err != nil || parts[0].file == nil || !isOpen(parts[0]) {
 			t.Fatal(err, "no file")
 		}
-		return part
+		return parts[0]
 	}
 	part := file()
 	e.sent()
