@@ -68,7 +68,7 @@ func TestClients(t *testing.T) {
 	process.Await("both", func() bool { return len(routers(t, url)) == 2 })
 	process.Await("an answer", func() bool { return line(process, "msg=answered", name) != "" })
 	for _, texts := range [][]string{
-		{"level=info", "msg=connected", name, "transport=tcp"},
+		{"level=debug", "msg=connected", name, "transport=tcp"},
 		{"level=info", "reset query", name, "version=1"},
 		{"level=debug", "msg=answers", name, `unit="cache response"`},
 		{"level=debug", "msg=answered", name, "serial=1"},

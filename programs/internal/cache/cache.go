@@ -15,6 +15,7 @@ import (
 	"github.com/sirupsen/logrus"
 
 	"fishreef/programs/internal/clients"
+	"fishreef/programs/internal/logs"
 	"fishreef/programs/internal/metrics"
 	"fishreef/programs/internal/payloads"
 	"fishreef/programs/internal/state"
@@ -27,6 +28,7 @@ import (
 type Cache struct {
 	settings Settings
 	log      *logrus.Logger
+	lines    *logs.Lines // of the log, about routers
 	metrics  *metrics.Metrics
 	clients  *clients.Clients
 	server   *rtr.Server
@@ -49,7 +51,8 @@ type Cache struct {
 // number.
 func New(settings Settings, log *logrus.Logger) (*Cache, error) {
 	c := &Cache{
-		settings: settings, log: log, metrics: metrics.New(), clients: clients.New(),
+		settings: settings, log: log, lines: logs.NewLines(log),
+		metrics: metrics.New(), clients: clients.New(),
 		server: rtr.NewServer(), time: systemTime(),
 		fetched: make(chan struct{}, 1),
 	}

@@ -33,7 +33,7 @@ func (c *Cache) Run(ctx context.Context, signals Signals) error {
 		c.Close(ctx)
 		return err
 	}
-	seen := observer{c.metrics, c.clients, c.log}
+	seen := observer{c.metrics, c.clients, c.lines}
 	for _, bound := range s.bound {
 		bound := bound
 		c.log.Infof("listening at %v for %s", bound.Listener.Addr(), bound.Kind)

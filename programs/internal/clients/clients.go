@@ -31,16 +31,27 @@ type Client struct {
 	Sent      int64          `json:"bytes_sent"`
 }
 
+// entry is what is known of a connected router, without pointers: at 10,000 routers the collector
+// of garbage would follow them all.
+type entry struct {
+	since   time.Time
+	asked   time.Time // of its last query
+	queries int
+	version uint8 // of its first query
+	has     Serial
+	holds   bool // has is known
+}
+
 // Clients are the connected routers. Safe for concurrent use.
 type Clients struct {
 	lock    sync.Mutex
-	all     map[*transport.Peer]*Client
+	all     map[*transport.Peer]*entry
 	present *Serial // the cache's data; nil before the first
 }
 
 // New returns an empty set of clients.
 func New() *Clients {
-	return &Clients{all: map[*transport.Peer]*Client{}}
+	return &Clients{all: map[*transport.Peer]*entry{}}
 }
 
 // Serves records the cache's present data.
@@ -52,9 +63,10 @@ func (c *Clients) Serves(data rtr.Data) {
 
 // Connected adds a client.
 func (c *Clients) Connected(peer *transport.Peer) {
+	client := &entry{since: time.Now()}
 	c.lock.Lock()
 	defer c.lock.Unlock()
-	c.all[peer] = &Client{Address: peer.String(), Transport: peer.Kind, Since: time.Now()}
+	c.all[peer] = client
 }
 
 // Left removes a client, and returns it.
@@ -63,31 +75,32 @@ func (c *Clients) Left(peer *transport.Peer) Client {
 	defer c.lock.Unlock()
 	client, known := c.all[peer]
 	if !known {
-		return Client{Address: peer.String(), Transport: peer.Kind, Since: time.Now()}
+		client = &entry{since: time.Now()}
 	}
 	delete(c.all, peer)
-	return c.shown(client)
+	return c.shown(peer, client)
 }
 
 // Came records a unit of a client, and reports whether it is a query, and the first one.
 func (c *Clients) Came(peer *transport.Peer, unit *rtr.Unit) (first, query bool) {
+	if unit.Kind != rtr.SerialQuery && unit.Kind != rtr.ResetQuery {
+		return false, false
+	}
+	now := time.Now()
 	c.lock.Lock()
 	defer c.lock.Unlock()
 	client := c.all[peer]
-	if client == nil || unit.Kind != rtr.SerialQuery && unit.Kind != rtr.ResetQuery {
+	if client == nil {
 		return false, false
 	}
-	now, version := time.Now(), unit.Version
-	if client.Version == nil {
-		client.Version = &version
+	if client.queries == 0 {
+		client.version = unit.Version
 	}
-	client.Asked = &now
-	client.Queries++
-	client.Has = nil
-	if unit.Kind == rtr.SerialQuery {
-		client.Has = &Serial{unit.Session, unit.Serial}
-	}
-	return client.Queries == 1, true
+	client.asked = now
+	client.queries++
+	client.holds = unit.Kind == rtr.SerialQuery
+	client.has = Serial{unit.Session, unit.Serial}
+	return client.queries == 1, true
 }
 
 // Answered records the data that a client has now.
@@ -95,47 +108,51 @@ func (c *Clients) Answered(peer *transport.Peer, has Serial) {
 	c.lock.Lock()
 	defer c.lock.Unlock()
 	if client := c.all[peer]; client != nil {
-		client.Has = &has
+		client.has, client.holds = has, true
 	}
 }
 
-// Moved counts bytes.
-func (c *Clients) Moved(peer *transport.Peer, direction transport.Direction, bytes int) {
-	c.lock.Lock()
-	defer c.lock.Unlock()
-	client := c.all[peer]
-	switch {
-	case client == nil:
-	case direction == transport.Sent:
-		client.Sent += int64(bytes)
-	default:
-		client.Received += int64(bytes)
+// shown returns a client as it is listed, with Behind computed.
+func (c *Clients) shown(peer *transport.Peer, client *entry) Client {
+	shown := Client{
+		Address: peer.String(), Transport: peer.Kind, Since: client.since, Queries: client.queries,
+		Received: peer.Bytes(transport.Received), Sent: peer.Bytes(transport.Sent),
 	}
-}
-
-// shown returns a copy of a client, with Behind computed.
-func (c *Clients) shown(client *Client) Client {
-	copied := *client
-	if has := copied.Has; has != nil && c.present != nil && has.Session == c.present.Session {
+	if client.queries > 0 {
+		version, asked := client.version, client.asked
+		shown.Version, shown.Asked = &version, &asked
+	}
+	if !client.holds {
+		return shown
+	}
+	has := client.has
+	shown.Has = &has
+	if c.present != nil && has.Session == c.present.Session {
 		behind := c.present.Serial - has.Serial
-		copied.Behind = &behind
+		shown.Behind = &behind
 	}
-	return copied
+	return shown
 }
 
 // List returns all clients, in the order in which they connected.
 func (c *Clients) List() []Client {
-	c.lock.Lock()
-	defer c.lock.Unlock()
-	list := make([]Client, 0, len(c.all))
-	for _, client := range c.all {
-		list = append(list, c.shown(client))
-	}
+	list := c.unsorted()
 	sort.Slice(list, func(i, j int) bool {
 		if list[i].Since.Equal(list[j].Since) {
 			return list[i].Address < list[j].Address
 		}
 		return list[i].Since.Before(list[j].Since)
 	})
+	return list
+}
+
+// unsorted returns all clients.
+func (c *Clients) unsorted() []Client {
+	c.lock.Lock()
+	defer c.lock.Unlock()
+	list := make([]Client, 0, len(c.all))
+	for peer, client := range c.all {
+		list = append(list, c.shown(peer, client))
+	}
 	return list
 }

@@ -3,6 +3,7 @@ package metrics
 
 import (
 	"strconv"
+	"sync"
 	"time"
 
 	"github.com/prometheus/client_golang/prometheus"
@@ -25,13 +26,39 @@ type Metrics struct {
 	session, serial, changed                                       prometheus.Gauge
 	unsaved                                                        prometheus.Counter
 
+	flows  map[flow]*counted
 	faults func() []trust.Fault
+}
+
+// flow is a direction of the connections of a transport.
+type flow struct {
+	kind      transport.Kind
+	direction transport.Direction
+}
+
+// counted is the counter of the bytes of a flow, made at the first byte: to look it up by its
+// labels each time takes longer than to count.
+type counted struct {
+	once    sync.Once
+	counter prometheus.Counter
+}
+
+// newFlows returns the counters of all flows.
+func newFlows() map[flow]*counted {
+	flows := map[flow]*counted{}
+	for _, kind := range transport.Kinds {
+		for _, direction := range []transport.Direction{transport.Sent, transport.Received} {
+			flows[flow{kind, direction}] = new(counted)
+		}
+	}
+	return flows
 }
 
 // New returns the metrics of a new cache.
 func New() *Metrics {
 	m := &Metrics{
 		registry: prometheus.NewRegistry(),
+		flows:    newFlows(),
 		faults:   func() []trust.Fault { return nil },
 
 		connections: counters("connections_total",
@@ -119,7 +146,11 @@ func (m *Metrics) Leaves(peer *transport.Peer, version uint8) {
 
 // Moved counts bytes.
 func (m *Metrics) Moved(peer *transport.Peer, direction transport.Direction, bytes int) {
-	m.bytes.WithLabelValues(string(peer.Kind), string(direction)).Add(float64(bytes))
+	all := m.flows[flow{peer.Kind, direction}]
+	all.once.Do(func() {
+		all.counter = m.bytes.WithLabelValues(string(peer.Kind), string(direction))
+	})
+	all.counter.Add(float64(bytes))
 }
 
 // Codes from this one upwards are counted together, since a client may send any code.

@@ -20,6 +20,9 @@ const (
 	SSH Kind = "ssh"
 )
 
+// Kinds are all transports.
+var Kinds = []Kind{TCP, TLS, SSH}
+
 // Address is an address at which a cache listens, and its transport.
 type Address struct {
 	Kind    Kind
@@ -30,7 +33,7 @@ type Address struct {
 // it is TCP.
 func ParseAddress(word string) (Address, error) {
 	address := Address{TCP, word}
-	for _, kind := range []Kind{TCP, TLS, SSH} {
+	for _, kind := range Kinds {
 		if rest := strings.TrimPrefix(word, string(kind)+":"); rest != word {
 			address = Address{kind, rest}
 		}

@@ -5,6 +5,7 @@ import (
 	"errors"
 	"net"
 	"sync"
+	"sync/atomic"
 	"syscall"
 
 	"fishreef/rtr"
@@ -24,6 +25,35 @@ const (
 type Peer struct {
 	net.Addr
 	Kind Kind
+
+	text           string // of the address
+	sent, received atomic.Int64
+}
+
+// newPeer returns the other end of a connection.
+func newPeer(connection net.Conn, kind Kind) *Peer {
+	address := connection.RemoteAddr()
+	return &Peer{Addr: address, Kind: kind, text: address.String()}
+}
+
+// String returns the address as text.
+func (p *Peer) String() string { return p.text }
+
+// Bytes returns the number of bytes that the cache sent to the peer, or received from it.
+func (p *Peer) Bytes(direction Direction) int64 {
+	if direction == Sent {
+		return p.sent.Load()
+	}
+	return p.received.Load()
+}
+
+// moved counts bytes.
+func (p *Peer) moved(direction Direction, bytes int) {
+	if direction == Sent {
+		p.sent.Add(int64(bytes))
+		return
+	}
+	p.received.Add(int64(bytes))
 }
 
 // Observer gets the events of connections. Its methods are called concurrently.
@@ -33,7 +63,7 @@ type Observer interface {
 	// Speaks is called once the version of a client is known, Leaves at its end.
 	Speaks(*Peer, uint8)
 	Leaves(*Peer, uint8)
-	// Came is called for each unit of the client.
+	// Came is called for each unit of the client, which is valid until it returns.
 	Came(*Peer, *rtr.Unit)
 	// Moved is called with counts of bytes.
 	Moved(*Peer, Direction, int)
@@ -59,7 +89,7 @@ type conn struct {
 
 // newConn wraps a connection to count its traffic. leave is called once when it is closed.
 func newConn(connection net.Conn, kind Kind, observer Observer, leave func()) *conn {
-	peer := &Peer{connection.RemoteAddr(), kind}
+	peer := newPeer(connection, kind)
 	observer.Opened(peer)
 	return &conn{
 		Conn: connection, peer: peer, observer: observer, leave: leave, partial: make([]byte, 0, 64),
@@ -72,7 +102,7 @@ func (c *conn) RemoteAddr() net.Addr { return c.peer }
 // Read reads, and counts.
 func (c *conn) Read(buffer []byte) (int, error) {
 	n, err := c.Conn.Read(buffer)
-	c.observer.Moved(c.peer, Received, n)
+	c.moved(Received, n)
 	if n > 0 && c.partial != nil {
 		c.partial = append(c.partial, buffer[:n]...)
 		c.follow()
@@ -80,13 +110,29 @@ func (c *conn) Read(buffer []byte) (int, error) {
 	return n, err
 }
 
+// moved counts bytes, if there are any.
+func (c *conn) moved(direction Direction, bytes int) {
+	if bytes == 0 {
+		return
+	}
+	c.peer.moved(direction, bytes)
+	c.observer.Moved(c.peer, direction, bytes)
+}
+
 // mostFollowed limits the bytes of an incomplete unit.
 const mostFollowed = 1 << 16
 
+// units has units that no observer reads any more.
+var units = sync.Pool{New: func() any { return new(rtr.Unit) }}
+
 // follow reads the complete units.
 func (c *conn) follow() {
+	unit := units.Get().(*rtr.Unit)
+	defer units.Put(unit)
 	for len(c.partial) > 0 {
-		unit, rest, err := rtr.Next(c.partial)
+		var rest []byte
+		var err error
+		*unit, rest, err = rtr.Next(c.partial)
 		if errors.Is(err, rtr.Short) && len(c.partial) < mostFollowed {
 			return // the rest is still to come
 		}
@@ -95,7 +141,7 @@ func (c *conn) follow() {
 			return
 		}
 		c.speaks(unit.Version)
-		c.observer.Came(c.peer, &unit)
+		c.observer.Came(c.peer, unit)
 		if unit.Kind == rtr.ErrorReport {
 			c.observer.Reported(c.peer, Received, unit.Code)
 		}
@@ -131,11 +177,14 @@ func (c *conn) SyscallConn() (syscall.RawConn, error) {
 // Wrote counts written bytes, and an error report in the bytes to write.
 func (c *conn) Wrote(bytes []byte, taken int) {
 	// A report is written alone. Long answers are written in chunks, which may begin inside a unit.
+	c.moved(Sent, taken)
+	if len(bytes) == 0 {
+		return
+	}
 	unit, rest, failed := rtr.Next(bytes)
 	if failed == nil && unit.Kind == rtr.ErrorReport && len(rest) == 0 {
 		c.observer.Reported(c.peer, Sent, unit.Code)
 	}
-	c.observer.Moved(c.peer, Sent, taken)
 }
 
 // HandshakeContext runs the handshake, if the transport has one before the first read.

@@ -54,13 +54,13 @@ func (g *Gate) leave(address netip.Addr) {
 	}
 }
 
-// addressOf returns the address of a peer, without its port.
+// addressOf returns the address of a peer, without its port; the zero Addr if it isn't one of IP.
 func addressOf(connection net.Conn) netip.Addr {
-	peer, err := netip.ParseAddrPort(connection.RemoteAddr().String())
-	if err != nil {
+	peer, ok := connection.RemoteAddr().(*net.TCPAddr)
+	if !ok {
 		return netip.Addr{}
 	}
-	return peer.Addr().Unmap().WithZone("")
+	return peer.AddrPort().Addr().Unmap().WithZone("")
 }
 
 // Secured wraps a connection in TLS or SSH.
