@@ -10,6 +10,9 @@ import (
 	"syscall"
 )
 
+// besideSuffix is the suffix of the file that is written before it replaces the old one.
+const besideSuffix = ".new"
+
 // ErrTorn: a file isn't as Save wrote it.
 var ErrTorn = errors.New("rtr: " + failureDamaged)
 
@@ -55,7 +58,7 @@ func saverTo(path string) saver {
 
 // saveStore saves a store to a file, as Save does.
 func saveStore(store []byte, path string) error {
-	beside := path + ".new"
+	beside := path + besideSuffix
 	file, err := os.Create(beside)
 	if err != nil {
 		return err
@@ -102,8 +105,8 @@ func syncFolder(path string) error {
 
 // Restore loads what Save wrote, if the server has no data yet, and returns the data. With the
 // saved session and serial number, clients get deltas after a restart; later data are saved to this
-// file before they are served. Call it before Serve. It syncs the folder, since the process that
-// saved may have ended before that.
+// file before they are served. Call it before Serve. It syncs the folder, and removes the file that
+// saving writes at first, since the process that saved may have ended before it did.
 //
 // Errors: those of the file; ErrTorn; ErrTiming for times that RFC 8210 section 6 doesn't allow;
 // ErrServerClosed after Close or Shutdown.
@@ -125,6 +128,7 @@ func (s *Server) Restore(path string) (Data, error) {
 	if err := syncFolder(filepath.Dir(path)); err != nil {
 		return Data{}, err
 	}
+	os.Remove(path + besideSuffix)
 	s.ready()
 	s.updating.Lock()
 	defer s.updating.Unlock()

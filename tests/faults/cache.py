@@ -15,24 +15,30 @@ from units import Wrong, end, prefix, size_of, unit
 # Errors that end the connection on whose call they are injected.
 ENDING = {"EPIPE", "ECONNRESET", "ETIMEDOUT", "EHOSTUNREACH", "EIO"}
 
+STATE = "STATE"  # the word of a command for the folder that rtr-cache saves in
+
 
 class Lost(Exception):
     """The connection of a router ended."""
 
 
 class Cache:
-    """The program; what it serves is in `path`."""
+    """The program; what it serves is in `path`, and what it saves in `kept`. rtr-cache has a folder
+    for that, and a session of its own, all others that of the data."""
 
     def __init__(self, command, faults, library, folder):
         self.path = os.path.join(folder, "data")
+        self.kept = kept(command, folder)
+        self.session = None if STATE in command else SESSION
         self.seen, self.log = os.path.join(folder, "seen"), os.path.join(folder, "log")
         self.state = os.path.join(folder, "state")
         with open(self.log, "wb") as log:
+            words = [word.replace(STATE, os.path.dirname(self.kept)) for word in command]
             self.process = subprocess.Popen(
-                [*command, self.path, "--listen", "127.0.0.1:0"], stdout=log, stderr=log,
+                [*words, self.path, "--listen", "127.0.0.1:0"], stdout=log, stderr=log,
                 env={**os.environ, "LD_PRELOAD": library, "FAULTS": faults,
                      "FAULTS_SEEN": self.seen, "FAULTS_STATE": self.state})
-        self.port = int(self.says(r"listening on 127\.0\.0\.1:(\d+)")[1])
+        self.port = int(self.says(r"listening (?:on|at) 127\.0\.0\.1:(\d+).*")[1])
 
     def said(self):
         with open(self.log, encoding="utf-8") as log:
@@ -56,7 +62,8 @@ class Cache:
     def serves(self, serial):
         """Waits until it has taken the data of this serial number, or restored them. In Go it then
         opens /dev/null, to have a descriptor for the next file."""
-        self.says(rf"session {SESSION} serial {serial}: \d+ payloads?")
+        session = self.session or r"\d+"
+        self.session = int(self.says(rf"session ({session}) serial {serial}: \d+ payloads?.*")[1])
         if os.path.exists(self.state):
             self.waits(lambda: "/dev/null" in self.links()[3:], "it has loaded the data")
 
@@ -121,6 +128,11 @@ class Cache:
         self.process.wait()
 
 
+def kept(command, folder):
+    """Returns the path of the file that a cache saves in a folder."""
+    return os.path.join(folder, "saved/editions" if STATE in command else "data.kept")
+
+
 def put(path, content):
     """Replaces a file by renaming another one."""
     with open(path + ".other", "wb") as file:
@@ -132,7 +144,7 @@ class Router:
     """A connection to a cache, in a version of the protocol."""
 
     def __init__(self, cache, version=2, buffer=None):
-        self.version, self.held, self.offset = version, b"", 0
+        self.version, self.session, self.held, self.offset = version, cache.session, b"", 0
         self.is_notified = False
         self.socket = socket.socket()
         if buffer:
@@ -161,7 +173,7 @@ class Router:
         self.sends(self.unit(RESET_QUERY))
 
     def asks_after(self, serial):
-        self.sends(self.unit(SERIAL_QUERY, SESSION, struct.pack(">I", serial)))
+        self.sends(self.unit(SERIAL_QUERY, self.session, struct.pack(">I", serial)))
 
     def reads(self):
         """Reads one unit."""
@@ -199,7 +211,7 @@ class Router:
             raise Wrong(f"a router got {got.hex()}, not {wanted.hex()}")
 
     def notify(self, serial):
-        return self.unit(NOTIFY, SESSION, struct.pack(">I", serial))
+        return self.unit(NOTIFY, self.session, struct.pack(">I", serial))
 
     def gets_notify(self, serial):
         self.gets(self.notify(serial))
@@ -229,13 +241,14 @@ class Router:
         if first == self.notify(serial) and not self.is_notified:
             self.is_notified = True
             first = self.reads()
-        if first != self.unit(RESPONSE, SESSION):
+        if first != self.unit(RESPONSE, self.session):
             raise Wrong(f"a router got {first.hex()}, not a response")
         got = collections.Counter()
         while (came := self.reads())[1] != END:
             got[came] += 1
-        if came != end(serial, self.version):
-            raise Wrong(f"a router got the end {came.hex()}, not {end(serial, self.version).hex()}")
+        wanted_end = end(serial, self.version, self.session)
+        if came != wanted_end:
+            raise Wrong(f"a router got the end {came.hex()}, not {wanted_end.hex()}")
         if got != wanted:
             more, less = list(got - wanted), list(wanted - got)
             raise Wrong(f"a router got {[one.hex() for one in more[:3]]} of {len(more)} too many, "

@@ -1,13 +1,14 @@
-/* Decides which calls of a program get a fault, for `tests/faults/run.py`, which preloads it.
+/* Decides which calls of a program get a fault, for `tests/faults/run.py`, which preloads it, or
+ * traces the program.
  *
  * FAULTS is a list of words CALL:FIRST:LAST:FAULT or CALL:FIRST:LAST:FAULT:STEP. CALL is connect,
  * accept, send, receive or wait, counted over all sockets from 1, or open, write, sync, close,
- * rename or save, counted over calls on files whose names end with `.kept.new`, and syncs of
- * folders; save is any of these. The calls from FIRST to LAST get the fault, to the end if LAST is 0; with a STEP only each
- * STEP-th of them. FAULT is the name of an error, a number, the most bytes that the call moves, or
- * KILL, which kills the process before the call, or in the middle of a write. EAGAIN is injected
- * only where the socket doesn't block. FAULTS_SEEN is a file that gets a line for each of the first
- * faults that were injected. */
+ * rename or save, counted over calls on files that a cache saves before it renames them, and syncs
+ * of folders; save is any of these. The calls from FIRST to LAST get the fault, to the end if LAST
+ * is 0; with a STEP only each STEP-th of them. FAULT is the name of an error, a number, the most
+ * bytes that the call moves, or KILL, which kills the process before the call, or in the middle of
+ * a write. EAGAIN is injected only where the socket doesn't block. FAULTS_SEEN is a file that gets
+ * a line for each of the first faults that were injected. */
 #define _GNU_SOURCE
 #include <dlfcn.h>
 #include <errno.h>
@@ -57,6 +58,23 @@ struct word {
 void *real(const char *name)
 {
     return dlsym(RTLD_NEXT, name);
+}
+
+const char *name_of(enum call call)
+{
+    return names[call];
+}
+
+int is_saved_path(const char *path)
+{
+    static const char *const suffixes[] = {".kept.new", "/editions.new"};
+    size_t length = strlen(path);
+    for (size_t i = 0; i < sizeof suffixes / sizeof suffixes[0]; i++) {
+        size_t end = strlen(suffixes[i]);
+        if (length >= end && !strcmp(path + length - end, suffixes[i]))
+            return 1;
+    }
+    return 0;
 }
 
 /* Writes which fault was injected, so that a test sees that it was. */

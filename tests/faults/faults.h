@@ -1,4 +1,5 @@
-/* What the parts of the preloaded library share: sockets.c and files.c inject, faults.c decides. */
+/* What those share that inject faults, and faults.c, which decides: sockets.c and files.c of the
+ * preloaded library, and the program of traced.c. */
 #ifndef FAULTS_H
 #define FAULTS_H
 
@@ -19,6 +20,12 @@ void *real(const char *name);
 /* Counts a call, and returns the error to inject, with errno set, or KILLED, or 0; sets `most` to
  * the most bytes that the call may move. EAGAIN is injected only where `can_block` is 0. */
 int fault_of(enum call call, int can_block, size_t *most);
+
+/* The name of a call in FAULTS. */
+const char *name_of(enum call call);
+
+/* Reports whether a file of this path is one that a cache writes, and renames once it is whole. */
+int is_saved_path(const char *path);
 
 /* Writes to something else than a socket. */
 ssize_t write_file(int fd, const void *bytes, size_t size);

@@ -17,13 +17,6 @@
 static FILE *stream;
 static int stream_fd = -1;
 
-static int is_saved_path(const char *path)
-{
-    static const char suffix[] = ".kept.new";
-    size_t length = strlen(path), end = sizeof suffix - 1;
-    return length >= end && !strcmp(path + length - end, suffix);
-}
-
 static int is_saved(int fd)
 {
     char name[64], path[PATH_MAX];

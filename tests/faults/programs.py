@@ -4,6 +4,7 @@ Each function that builds some yields the name of each, and its command.
 """
 import glob
 import os
+import platform
 import shlex
 import shutil
 import subprocess
@@ -67,6 +68,17 @@ def library(work):
     path = os.path.join(work, "faults.so")
     in_c(path, ["faults.c", "sockets.c", "files.c"], HERE, "-Werror", "-shared", "-fPIC", "-ldl")
     return path
+
+
+def tracer(work):
+    """Returns the path of the program that injects faults into system calls; nothing, where a
+    program may not trace another, or that isn't made for this machine."""
+    path = os.path.join(work, "traced")
+    if platform.machine() != "x86_64":
+        return None
+    if not os.path.exists(path):
+        in_c(path, ["traced.c", "faults.c"], HERE, "-Werror", "-ldl")
+    return None if subprocess.run([path, "true"]).returncode else path
 
 
 def c_program(name, sources, archives, work):
@@ -173,6 +185,26 @@ def go_caches(archives, work):
         program = go_programs(archives, work)
     if program:
         yield "Go cache", [program]
+
+
+def traced_go_caches(archives, work):
+    """The same cache, traced, since its calls on files aren't those of the C library; and
+    rtr-cache, which programs/build builds."""
+    if not shutil.which("go"):
+        return
+    traced = tracer(work)
+    if not traced:
+        return skipped("leave to trace by ptrace", "savings of the caches in Go")
+    for _, [program] in go_caches(archives, work):
+        yield "Go cache that saves", [traced, program]
+    build = os.path.join(TOP, "programs", "build")
+    missing = subprocess.run([build, "--missing"], text=True, stdout=subprocess.PIPE).stdout.split()
+    if missing:
+        return skipped(f"packages {' '.join(missing)}", "savings of rtr-cache")
+    program = os.path.join(work, "rtr-cache")
+    run([build, "--go", "build", "-trimpath", "-o", program, "./rtr-cache"], TOP,
+        CGO_LDFLAGS=f"-L{archives} -g -O2", PATH=f"{archives}:{os.environ['PATH']}")
+    yield "rtr-cache", [traced, program, "--state", "STATE", "--look", "1s", "--sequence"]
 
 
 def tokio_caches(archives, work):

@@ -3,8 +3,9 @@
 loopback interface, and caches of the same languages, in Rust also that over tokio, beside routers,
 with faults in their system calls: short reads and writes, interrupted calls, spurious wakes, broken
 connections, addresses that refuse, no descriptors left, failing files, kills. A preloaded library
-(`faults.c`) injects them; in Go, which makes its system calls itself, connections that a program
-wraps (`go/faults.go`). `clients.py`, `caches.py` and `saves.py` say what must happen, and
+(`faults.c`) injects them. A program in Go makes its system calls itself: its connections are
+wrapped (`go/faults.go`), and a tracer (`traced.c`) injects faults into calls on files.
+`clients.py`, `caches.py` and `saves.py` say what must happen, and
 `waits.py` how the waits of clients differ.
 
 usage: run.py [FOLDER] [PROGRAM [FAULT]]  the folder has the archive; bindings/lib/x86_64 if not
@@ -35,7 +36,8 @@ PLAYS = (
     (["C cache"], programs.c_caches, (caches, saves)),
     (["Rust"], programs.rust_clients, (clients, waits)),
     (["Go"], programs.go_clients, (clients, waits)),
-    (["Go cache"], programs.go_caches, (caches, saves)),
+    (["Go cache"], programs.go_caches, (caches,)),
+    (["Go cache that saves", "rtr-cache"], programs.traced_go_caches, (saves,)),
     (["Rust cache"], programs.rust_caches, (caches, saves)),
     (["tokio cache"], programs.tokio_caches, (caches,)),
     (["Python cache"], programs.python_caches, (caches, saves)),

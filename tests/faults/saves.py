@@ -9,7 +9,7 @@ import shutil
 import signal
 import time
 
-from cache import Cache, Lost, Router, put
+from cache import Cache, Lost, Router, kept, put
 from caches import NEW, content
 from units import LONG, Wrong
 
@@ -45,6 +45,7 @@ START = "a start with a failing sync of the folder"
 MINUTE = "savings that fail for a minute"
 PAUSES = (1, 2, 4, 8, 16, 32, 60)  # seconds between two of them
 FULL = "a saving to a full disk"  # the system's own: what is written there has no space
+NAMED = r"\.kept(?:\.new)?|: sync /.*"  # what an error of the system is about
 LEAST_CALLS = 5  # of a saving: open, write, sync, rename, and sync of the folder
 
 # The data of each serial number: enough for several writes of a stream.
@@ -53,10 +54,10 @@ DATA = {1: OLD, 2: [NEW[0], *OLD[1:]], 3: [*NEW, *OLD[1:]]}
 
 
 def names(program):
-    """Returns the names of the runs of a cache. A program in Go makes the calls on files itself, so
-    that its faults are those of the system; Node makes that to close a file itself."""
-    if program == "Go cache":
-        return [FULL, "a saving"]
+    """Returns the names of the runs of a cache. rtr-cache serves also data that it can't save: its
+    own tests have the faults, but for kills. Node makes the call to close a file itself."""
+    if program == "rtr-cache":
+        return [KILLS]
     every = [KILLS, START, *LASTING, FULL, *FAULTS]
     if program == "C cache":
         every.insert(0, MINUTE)  # it says how long it pauses
@@ -75,25 +76,25 @@ class Saved:
     def __init__(self, command, library, folder):
         self.command, self.library, self.folder = command, library, folder
         self.count = 0
-        self.kept = os.path.join(folder, "kept")
         first = self.started("", 1)
         try:
             first.serves(1)
-            first.waits(lambda: os.path.exists(f"{first.path}.kept"), "it saves its data")
+            first.waits(lambda: os.path.exists(first.kept), "it saves its data")
             first.ends()
         finally:
             first.kill()
-        shutil.copy(f"{first.path}.kept", self.kept)
+        self.first = first
 
     def started(self, faults, serial=None):
         """Starts a cache, over a file with these data, or over none after what was saved."""
         self.count += 1
         folder = os.path.join(self.folder, str(self.count))
         os.mkdir(folder)
+        os.makedirs(os.path.dirname(kept(self.command, folder)), exist_ok=True)
         if serial:
             put(f"{folder}/data", content(serial, DATA[serial]))
         else:
-            shutil.copy(self.kept, f"{folder}/data.kept")
+            shutil.copy(self.first.kept, kept(self.command, folder))
         return Cache(self.command, faults, self.library, folder)
 
     def finds(self, cache, serials):
@@ -107,9 +108,12 @@ class Saved:
                 os.remove(f"{folder}/{name}")
         after = Cache(self.command, "", self.library, folder)
         try:
-            after.waits(lambda: re.search(r"(?i)No such file", after.said()), "it looks for its file")
-            found = re.search(r"serial (\d+): \d+ payload", after.said())
-            serial = found and int(found[1])
+            after.waits(lambda: re.search(r"(?i)No such file", after.said()),
+                        "it looks for its file")
+            found = re.search(r"session (\d+) serial (\d+): \d+ payload", after.said())
+            if found and int(found[1]) != self.first.session:
+                raise Wrong(f"a restart found another session: {after.said()}")
+            serial, after.session = found and int(found[2]), self.first.session
             if serial not in serials:
                 raise Wrong(f"a restart found serial {serial}, not one of {serials}: "
                             + after.said())
@@ -120,7 +124,7 @@ class Saved:
             new, old = DATA[serial], DATA[1]
             router.gets_answer(serial, [one for one in new if one not in old],
                                [one for one in old if one not in new])
-            if os.path.exists(f"{after.path}.kept.new"):
+            if os.path.exists(f"{after.kept}.new"):
                 raise Wrong("a file that a killed cache left stays beside")
             router.close()
             after.ends()
@@ -129,7 +133,7 @@ class Saved:
 
 
 def inode(cache):
-    return os.stat(f"{cache.path}.kept").st_ino
+    return os.stat(cache.kept).st_ino
 
 
 def answers_changes(router, old, new):
@@ -158,10 +162,10 @@ def play_fault(saved, faults, number):
         first = cache.holds()
         router = Router(cache)
         if faults == FULL:
-            os.symlink("/dev/full", f"{cache.path}.kept.new")
+            os.symlink("/dev/full", f"{cache.kept}.new")
         takes(cache, router, 2)
         if number:
-            cache.says(rf"(?i)\.kept(\.new)?: {text_of(number)}.*")
+            cache.says(rf"(?i)({NAMED}): {text_of(number)}.*")
         saved.finds(cache, (2,))
         takes(cache, router, 3)
         if faults not in ("", FULL) and not cache.injected():
@@ -175,8 +179,10 @@ def play_fault(saved, faults, number):
 
 
 def failures(cache, number):
-    """Returns how often it logged that a saving failed for this error."""
-    return len(re.findall(rf"\.kept: {text_of(number)}", cache.said()))
+    """Returns how often it logged that a saving failed for this error. A cache in Go logs the same
+    error once: how often it failed then."""
+    logged = len(re.findall(rf"(?i)({NAMED}): {text_of(number)}", cache.said()))
+    return len(cache.injected()) if logged and os.path.exists(cache.state) else logged
 
 
 def play_lasting(saved, faults, number, replaces):
@@ -191,7 +197,7 @@ def play_lasting(saved, faults, number, replaces):
         for count in 1, 2:
             cache.waits(lambda wanted=count: failures(cache, number) >= wanted, "it tries again")
             answers_changes(router, 1, 1)
-        cache.waits(lambda: not os.path.exists(f"{cache.path}.kept.new"), "it removes its file")
+        cache.waits(lambda: not os.path.exists(f"{cache.kept}.new"), "it removes its file")
         saved.finds(cache, (2,) if replaces else (1,))
         router.close()
         cache.settles(first, 1)
@@ -226,7 +232,7 @@ def play_start(saved):
         raise Wrong("it listens")
     with open(os.path.join(saved.folder, str(saved.count), "log"), encoding="utf-8") as log:
         said = log.read()
-    if not re.search(text_of(errno.EIO), said) or "serial 1" in said:
+    if not re.search(f"(?i){text_of(errno.EIO)}", said) or "serial 1" in said:
         raise Wrong(said)
 
 

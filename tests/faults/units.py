@@ -30,10 +30,10 @@ def prefix(text, announce, version=2):
                 head + net.network_address.packed + struct.pack(">I", AS), version)
 
 
-def end(serial, version=2):
+def end(serial, version=2, session=SESSION):
     """An end of data; that of version 0 has no timings (RFC 6810 section 5.8)."""
     timings = struct.pack(">III", *TIMINGS) if version else b""
-    return unit(END, SESSION, struct.pack(">I", serial) + timings, version)
+    return unit(END, session, struct.pack(">I", serial) + timings, version)
 
 
 def size_of(head):

@@ -108,7 +108,7 @@ func serve(ctx context.Context, injected *faults, words []string) error {
 	if data, err := server.Restore(words[0] + rtr.KeptSuffix); err == nil {
 		sayServed(data)
 	} else if !errors.Is(err, os.ErrNotExist) {
-		say(err)
+		return err
 	}
 	accepting, err := net.Listen("tcp", words[2])
 	if err != nil {
