@@ -26,8 +26,10 @@ class Cache:
     """The program; what it serves is in `path`, and what it saves in `kept`. rtr-cache has a folder
     for that, and a session of its own, all others that of the data."""
 
-    def __init__(self, command, faults, library, folder):
+    def __init__(self, command, faults, library, folder, calls=None):
+        """Starts it. `calls` is the name of a file for the tracer's list of calls."""
         self.path = os.path.join(folder, "data")
+        self.calls = calls and os.path.join(folder, calls)
         self.kept = kept(command, folder)
         self.session = None if STATE in command else SESSION
         self.seen, self.log = os.path.join(folder, "seen"), os.path.join(folder, "log")
@@ -37,7 +39,8 @@ class Cache:
             self.process = subprocess.Popen(
                 [*words, self.path, "--listen", "127.0.0.1:0"], stdout=log, stderr=log,
                 env={**os.environ, "LD_PRELOAD": library, "FAULTS": faults,
-                     "FAULTS_SEEN": self.seen, "FAULTS_STATE": self.state})
+                     "FAULTS_SEEN": self.seen, "FAULTS_STATE": self.state,
+                     **({"FAULTS_CALLS": self.calls} if calls else {})})
         self.port = int(self.says(r"listening (?:on|at) 127\.0\.0\.1:(\d+).*")[1])
 
     def said(self):

@@ -5,8 +5,8 @@ with faults in their system calls: short reads and writes, interrupted calls, sp
 connections, addresses that refuse, no descriptors left, failing files, kills. A preloaded library
 (`faults.c`) injects them. A program in Go makes its system calls itself: its connections are
 wrapped (`go/faults.go`), and a tracer (`traced.c`) injects faults into calls on files.
-`clients.py`, `caches.py` and `saves.py` say what must happen, and
-`waits.py` how the waits of clients differ.
+`clients.py`, `caches.py` and `saves.py` say what must happen, `cuts.py` what a cut of the power may
+leave, and `waits.py` how the waits of clients differ.
 
 usage: run.py [FOLDER] [PROGRAM [FAULT]]  the folder has the archive; bindings/lib/x86_64 if not
                                           said, or else prebuilt/x86_64. PROGRAM and FAULT are names
@@ -21,6 +21,7 @@ from concurrent.futures import ThreadPoolExecutor
 
 import caches
 import clients
+import cuts
 import programs
 import saves
 import waits
@@ -32,15 +33,15 @@ PLAYS = (
     (["C client", "C link"], programs.c_clients, (clients, waits)),
     (["Python", "asyncio"], programs.python_clients, (clients, waits)),
     (["Node"], programs.node_clients, (clients, waits)),
-    (["Node cache"], programs.node_caches, (caches, saves)),
-    (["C cache"], programs.c_caches, (caches, saves)),
+    (["Node cache"], programs.node_caches, (caches, saves, cuts)),
+    (["C cache"], programs.c_caches, (caches, saves, cuts)),
     (["Rust"], programs.rust_clients, (clients, waits)),
     (["Go"], programs.go_clients, (clients, waits)),
     (["Go cache"], programs.go_caches, (caches,)),
-    (["Go cache that saves", "rtr-cache"], programs.traced_go_caches, (saves,)),
-    (["Rust cache"], programs.rust_caches, (caches, saves)),
+    (["Go cache that saves", "rtr-cache"], programs.traced_go_caches, (saves, cuts)),
+    (["Rust cache"], programs.rust_caches, (caches, saves, cuts)),
     (["tokio cache"], programs.tokio_caches, (caches,)),
-    (["Python cache"], programs.python_caches, (caches, saves)),
+    (["Python cache"], programs.python_caches, (caches, saves, cuts)),
 )
 
 
@@ -59,6 +60,9 @@ def main():
     runs, count = [], 0
     with tempfile.TemporaryDirectory() as work, ThreadPoolExecutor(AT_ONCE) as pool:
         library = programs.library(work)
+        cuts.TRACER = programs.tracer(work)
+        if not cuts.TRACER:
+            programs.skipped("leave to trace by ptrace", "cuts of the power")
         for names, builds, parts in PLAYS:
             if words and words[0] not in names:
                 continue

@@ -50,6 +50,7 @@ LEAST_CALLS = 5  # of a saving: open, write, sync, rename, and sync of the folde
 
 # The data of each serial number: enough for several writes of a stream.
 OLD = [f"10.{i >> 8}.{i & 255}.0/24" for i in range(1_000)]
+OTHERS = OLD[5:]  # of none of these serial numbers
 DATA = {1: OLD, 2: [NEW[0], *OLD[1:]], 3: [*NEW, *OLD[1:]]}
 
 
@@ -85,7 +86,7 @@ class Saved:
             first.kill()
         self.first = first
 
-    def started(self, faults, serial=None):
+    def started(self, faults, serial=None, calls=None):
         """Starts a cache, over a file with these data, or over none after what was saved."""
         self.count += 1
         folder = os.path.join(self.folder, str(self.count))
@@ -95,7 +96,7 @@ class Saved:
             put(f"{folder}/data", content(serial, DATA[serial]))
         else:
             shutil.copy(self.first.kept, kept(self.command, folder))
-        return Cache(self.command, faults, self.library, folder)
+        return Cache(self.command, faults, self.library, folder, calls)
 
     def finds(self, cache, serials):
         """A cache that is started over what this one has left has the data of one of these serial
@@ -106,6 +107,25 @@ class Saved:
         for name in "data", "log", "seen":
             if os.path.exists(f"{folder}/{name}"):
                 os.remove(f"{folder}/{name}")
+        self.restarts(folder, serials)
+
+    def goes_on(self, saved, beside, serial):
+        """A cache that is started over a file of these bytes, and one beside it, if these aren't
+        None, has the data of this serial number, and goes on with others."""
+        self.count += 1
+        folder = os.path.join(self.folder, str(self.count))
+        os.mkdir(folder)
+        path = kept(self.command, folder)
+        os.makedirs(os.path.dirname(path), exist_ok=True)
+        for name, content_of in (path, saved), (f"{path}.new", beside):
+            if content_of is not None:
+                with open(name, "wb") as file:
+                    file.write(content_of)
+        self.restarts(folder, (serial,), goes_on=True)
+
+    def restarts(self, folder, serials, goes_on=False):
+        """Checks what a cache has that is started over this folder, and whether it serves others
+        afterwards."""
         after = Cache(self.command, "", self.library, folder)
         try:
             after.waits(lambda: re.search(r"(?i)No such file", after.said()),
@@ -126,6 +146,12 @@ class Saved:
                                [one for one in old if one not in new])
             if os.path.exists(f"{after.kept}.new"):
                 raise Wrong("a file that a killed cache left stays beside")
+            if goes_on:
+                after.puts(content(serial + 1, OTHERS))
+                after.serves(serial + 1)
+                router.asks_after(serial)
+                router.gets_answer(serial + 1, [one for one in OTHERS if one not in new],
+                                   [one for one in new if one not in OTHERS])
             router.close()
             after.ends()
         finally:
