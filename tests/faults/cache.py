@@ -18,6 +18,13 @@ ENDING = {"EPIPE", "ECONNRESET", "ETIMEDOUT", "EHOSTUNREACH", "EIO"}
 STATE = "STATE"  # the word of a command for the folder that rtr-cache saves in
 
 
+def is_of_edges(faults):
+    """Reports whether the faults are possible where a program waits for edges, as tokio does."""
+    words = [word.split(":") for word in faults.split()]
+    return all(call in ("connect", "wait", "accept") and fault != "EAGAIN" or fault in ENDING
+               for call, _, _, fault, *_ in words)
+
+
 class Lost(Exception):
     """The connection of a router ended."""
 

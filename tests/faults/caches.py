@@ -7,7 +7,7 @@ import os
 import threading
 import time
 
-from cache import ENDING, Cache, Lost, Router, put
+from cache import ENDING, Cache, Lost, Router, is_of_edges, put
 from units import INVALID_REQUEST, RESPONSE, SESSION, Wrong, end, prefix, unit
 
 FEW = ["10.0.0.0/8", "192.0.2.0/24", "198.51.100.0/24", "2001:db8::/32"]
@@ -77,13 +77,6 @@ NO_ACCEPT = {"no descriptors for long": "accept:2:0:EMFILE"}
 # bindings/js/tests/servers.js has the routers that leave.
 NODE_ONLY = "all but accepts at once"
 OF_ACCEPT = {"EMFILE", "ENFILE"}
-
-
-def is_of_edges(faults):
-    """Reports whether the faults are possible where a program waits for edges, as tokio does."""
-    words = [word.split(":") for word in faults.split()]
-    return all(call in ("wait", "accept") and fault != "EAGAIN" or fault in ENDING
-               for call, _, _, fault, *_ in words)
 
 
 def names(program):

@@ -15,6 +15,7 @@ import threading
 import time
 
 import held
+from cache import is_of_edges
 from units import AS, LONG, NOTIFY, REPORT, RESET_QUERY, RESPONSE, SERIAL_QUERY, SESSION, Wrong
 from units import end, prefix, size_of, unit
 
@@ -256,7 +257,10 @@ def play(command, name, library, folder):
 
 def names(program):
     """Returns the names of the runs of a client. In Go only calls of connections get faults, and a
-    short write is one whose time is over, after which no more of a report is sent."""
+    short write is one whose time is over, after which no more of a report is sent. The crate tokio
+    waits for edges."""
+    if program == "tokio":
+        return [name for name in FAULTS if is_of_edges(FAULTS[name])]
     if program != "Go":
         return list(FAULTS)
     return [*(name for name in FAULTS if name not in ("interrupted waits", REFUSED)), CONNECTS]

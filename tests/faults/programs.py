@@ -15,15 +15,19 @@ TOP = os.path.dirname(os.path.dirname(HERE))
 BINDINGS = os.path.join(TOP, "bindings")
 REGISTRY = "/usr/share/cargo/registry"  # of Debian's crates
 
-# The project of the cache over tokio.
+# The project of the client and the cache over tokio.
 CARGO_TOML = """[package]
-name = "tokio_cache"
+name = "over_tokio"
 version = "0.0.0"
 edition = "2021"
 
 [[bin]]
+name = "tokio_client"
+path = "{here}/tokio_client.rs"
+
+[[bin]]
 name = "tokio_cache"
-path = "{source}"
+path = "{here}/tokio_cache.rs"
 
 [dependencies]
 rtr-wire = {{ path = "{rust}" }}
@@ -207,19 +211,32 @@ def traced_go_caches(archives, work):
     yield "rtr-cache", [traced, program, "--state", "STATE", "--look", "1s", "--sequence"]
 
 
-def tokio_caches(archives, work):
-    """A cache over the crate for tokio, which is built in a project of its own."""
+def tokio_programs(archives, work):
+    """Builds a client and a cache over the crate for tokio, in a project of their own; returns the
+    folder of both."""
     cargo = shutil.which("cargo")
     if not cargo or not glob.glob(f"{REGISTRY}/tokio-[0-9]*"):
-        return skipped("crate tokio (librust-tokio-dev)", "the cache with tokio")
-    project = os.path.join(work, "tokio_cache")
+        return skipped("crate tokio (librust-tokio-dev)", "the client and the cache with tokio")
+    project, target = os.path.join(work, "over_tokio"), os.path.join(work, "rust")
     rust = os.path.join(project, "rust")
     shutil.copytree(os.path.join(BINDINGS, "rust"), rust, ignore=shutil.ignore_patterns("target"))
     os.mkdir(os.path.join(project, ".cargo"))
     for path, text in ((".cargo/config.toml", CARGO_CONFIG), ("Cargo.toml", CARGO_TOML)):
         with open(os.path.join(project, path), "w", encoding="utf-8") as file:
-            file.write(text.format(source=os.path.join(HERE, "tokio_cache.rs"), rust=rust))
-    target = os.path.join(work, "rust")
+            file.write(text.format(here=HERE, rust=rust))
     run([cargo, "build", "--offline", "--quiet", "--target-dir", target], project,
         RTR_LIB_DIR=archives, CARGO_PROFILE_DEV_DEBUG="0")
-    yield "tokio cache", [os.path.join(target, "debug", "tokio_cache")]
+    return os.path.join(target, "debug")
+
+
+def tokio_clients(archives, work):
+    folder = tokio_programs(archives, work)
+    if folder:
+        yield "tokio", [os.path.join(folder, "tokio_client"), "ADDRESS", "--version", "2"]
+
+
+def tokio_caches(archives, work):
+    program = os.path.join(work, "rust", "debug", "tokio_cache")
+    if not os.path.exists(program) and not tokio_programs(archives, work):
+        return
+    yield "tokio cache", [program]

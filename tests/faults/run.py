@@ -1,6 +1,6 @@
 #!/usr/bin/env python3
-"""Runs clients of C, Rust, Go, Python, there also that for asyncio, and Node beside a cache on the
-loopback interface, and caches of the same languages, in Rust also that over tokio, beside routers,
+"""Runs clients of C, Rust, Go, Python and Node, in Rust also that over tokio, in Python that for
+asyncio, beside a cache on the loopback interface, and caches of the same languages beside routers,
 with faults in their system calls: short reads and writes, interrupted calls, spurious wakes, broken
 connections, addresses that refuse, no descriptors left, failing files, kills. A preloaded library
 (`faults.c`) injects them. A program in Go makes its system calls itself: its connections are
@@ -40,6 +40,7 @@ PLAYS = (
     (["Go cache"], programs.go_caches, (caches,)),
     (["Go cache that saves", "rtr-cache"], programs.traced_go_caches, (saves, cuts)),
     (["Rust cache"], programs.rust_caches, (caches, saves, cuts)),
+    (["tokio"], programs.tokio_clients, (clients, waits)),
     (["tokio cache"], programs.tokio_caches, (caches,)),
     (["Python cache"], programs.python_caches, (caches, saves, cuts)),
 )
