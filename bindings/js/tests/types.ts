@@ -83,6 +83,7 @@ export async function served(rtr: Session, data: Data, signal: AbortSignal): Pro
     try {
         await server.restore("state");
         await server.updateSaved(data, "state");
+        await server.changeSession();
     } catch (error) {
         console.log(error instanceof UpdateError && error.status === StoresStatus.OLD_SERIAL);
     }
