@@ -1,4 +1,4 @@
-/* Looks up routes in made-up VRPs, by rtr_validate and by rtrlib's table.
+/* Looks up routes in made-up VRPs, by rtr_validate, rtr_validate_many and rtrlib's table.
  *
  * usage: routes VRPS ROUTES ROUNDS
  *
@@ -7,7 +7,9 @@
  * up all of them, by rtr_validate and then by rtrlib. The last line has, separated by spaces: how
  * many VRPs and bytes of data there are; the milliseconds in which our tables and rtrlib's are
  * made; the median nanoseconds of a lookup of IPv4, of IPv6 and of both, by rtr_validate and by
- * rtrlib; and how many routes are not found, valid, invalid, and of another state by rtrlib.
+ * rtrlib; those of IPv4, and those of IPv6, in the order of addresses, by rtr_validate,
+ * rtr_validate_many and rtrlib; and how many routes are not found, valid, invalid, and of another
+ * state by rtrlib or in that order.
  * Without rtrlib (WITH_RTRLIB isn't defined) its numbers are 0. */
 #include <stdio.h>
 #include <stdlib.h>
@@ -230,6 +232,53 @@ static double median(double *times, int rounds)
     return times[rounds / 2];
 }
 
+/* The order of families, and of addresses in each. */
+static int by_address(const void *left, const void *right)
+{
+    const struct rtr_route *one = left, *other = right;
+    int order = one->family - other->family;
+    return order ? order : memcmp(one->address, other->address, sizeof one->address);
+}
+
+/* How routes in order are looked up. */
+enum way { SINGLY, AT_ONCE, THEIRS, WAYS };
+
+static void look_up(enum way way, const struct rtr_data *data, const struct rtr_route *routes,
+                    size_t count, uint8_t *answers)
+{
+    if (way == AT_ONCE)
+        rtr_validate_many(data, routes, count, answers);
+    for (size_t i = 0; way == SINGLY && i < count; i++)
+        answers[i] = rtr_validate(data, routes + i);
+#ifdef WITH_RTRLIB
+    for (size_t i = 0; way == THEIRS && i < count; i++)
+        answers[i] = their_validity(routes + i);
+#endif
+}
+
+/* Looks up routes of one family in order, and prints the median time of each way. Returns how many
+ * answers differ from those of rtr_validate. */
+static size_t print_in_order(const struct rtr_data *data, const struct rtr_route *routes,
+                             size_t count, uint8_t *answers, uint8_t *others, int rounds)
+{
+    double times[WAYS][MOST_ROUNDS] = {{0}};
+    size_t differ = 0;
+    for (int round = 0; round < rounds; round++) {
+        look_up(SINGLY, data, routes, count, answers);
+        for (int way = 0; way < WAYS; way++) {
+            memcpy(others, answers, count);
+            double start = now();
+            look_up((enum way)way, data, routes, count, others);
+            times[way][round] = now() - start;
+            for (size_t i = 0; i < count; i++)
+                differ += answers[i] != others[i];
+        }
+    }
+    for (int way = 0; way < WAYS; way++)
+        printf(" %.1f", median(times[way], rounds) / (double)count);
+    return differ;
+}
+
 /* Allocates this much, or exits. */
 static void *room(size_t size)
 {
@@ -299,6 +348,9 @@ int main(int argc, char **argv)
     for (int who = 0; who < 2; who++)
         for (int family = 0; family < 3; family++)
             printf(" %.1f", median(times[who][family], rounds) / (double)of_family[family]);
+    qsort(routes, count, sizeof *routes, by_address);
+    differ += print_in_order(&data, routes, of_family[0], answers, others, rounds);
+    differ += print_in_order(&data, routes + of_family[0], of_family[1], answers, others, rounds);
     printf(" %zu %zu %zu %zu\n", seen[0], seen[1], seen[2], differ);
     return differ != 0;
 }

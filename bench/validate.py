@@ -1,14 +1,15 @@
 #!/usr/bin/env python3
-"""Measures lookups of routes by `rtr_validate` beside those in rtrlib's table.
+"""Measures lookups of routes by `rtr_validate` and `rtr_validate_many`, and in rtrlib's table.
 
 usage: bench/validate.py [--check | --write] [--rounds N]
 
 Prints a table: for made-up lists of VRPs how long our tables and rtrlib's take to make, and how
 long a lookup takes by each, as the median of N rounds, 7 by default, over a million routes, a third
-of each state. All runs are of one program, routes.c, over the archive of .ci/built.py. The exit
-status is 1 if a result differs from rtrlib's.
+of each state; and a table of the same routes in the order of their addresses. All runs are of one
+program, routes.c, over the archive of .ci/built.py. The exit status is 1 if a result differs from
+rtrlib's, or one of `rtr_validate_many` from those of `rtr_validate`.
 
---write renews the table of docs/SPEED.md. With --check only the results for a short list are
+--write renews the tables of docs/SPEED.md. With --check only the results for a short list are
 compared. If rtrlib (librtr-dev) isn't installed, its columns are left out, with a loud message.
 """
 import argparse
@@ -24,7 +25,7 @@ sys.path.insert(0, os.path.join(TOP, ".ci"))
 import built  # noqa: E402  (it lies in another folder)
 
 PAGE = os.path.join(TOP, "docs", "SPEED.md")
-MARKER = "<!-- measured: validate -->"
+MARKER, IN_ORDER = "<!-- measured: validate -->", "<!-- measured: validate_many -->"
 
 # How many VRPs the lists have, how many routes are looked up, and the same for --check.
 LISTS, ROUTES = [1_000, 500_000, 1_000_000], 1_000_000
@@ -32,6 +33,8 @@ CHECKED, CHECKED_ROUTES = 20_000, 60_000
 
 HEAD = ["| VRPs | Tables, ms | rtrlib's, ms | IPv4, ns | rtrlib, ns | IPv6, ns | rtrlib, ns | both, ns "
         "| rtrlib, ns | as a share |", "|" + "---|" * 10]
+HEAD_IN_ORDER = ["| VRPs | IPv4, ns | many, ns | rtrlib, ns | IPv6, ns | many, ns | rtrlib, ns |",
+                 "|" + "---|" * 7]
 
 
 def warn(text):
@@ -54,9 +57,9 @@ def has_rtrlib(by):
 
 
 def has_call(archive):
-    """Whether the archive has the call: a prebuilt one may be older than it."""
+    """Whether the archive has the calls: a prebuilt one may be older than it."""
     with open(archive, "rb") as file:
-        return b"rtr_check_data_nonnull" in file.read()
+        return b"rtr_validate_many_nonnull" in file.read()
 
 
 def compiled(by, folder, archive, theirs):
@@ -88,11 +91,19 @@ def row(numbers, theirs):
             f"{ours6:.0f} | {of_theirs[2]} | {ours:.0f} | {of_theirs[3]} | {of_theirs[4]} |")
 
 
-def write(lines_of_table):
-    """Renews the table of the page."""
+def row_in_order(numbers, theirs):
+    """The line of the table of routes in order for a run."""
+    columns = [f"{number:.0f}" for number in numbers[10:16]]
+    if not theirs:
+        columns[2] = columns[5] = "-"
+    return f"| {numbers[0]:,.0f} | " + " | ".join(columns) + " |"
+
+
+def write(marker, lines_of_table):
+    """Renews a table of the page."""
     with open(PAGE, encoding="utf-8") as file:
         lines = file.read().splitlines()
-    begin = end = lines.index(MARKER) + 1
+    begin = end = lines.index(marker) + 1
     while end < len(lines) and lines[end].startswith("|"):
         end += 1
     lines[begin:end] = lines_of_table
@@ -112,7 +123,7 @@ def main():
         return 0 if asked.check else 1
     archive = built.program("rtr_c")
     if not has_call(archive):
-        warn("the prebuilt archive is older than rtr_check_data: nothing is measured")
+        warn("the prebuilt archive is older than rtr_validate_many: nothing is measured")
         return 0 if asked.check else 1
     theirs = has_rtrlib(by)
     if not theirs:
@@ -129,10 +140,12 @@ def main():
               f"invalid; {differ:.0f} answers differ")
         wrong += differ
     if not asked.check:
-        lines = HEAD + [row(numbers, theirs) for numbers in runs]
-        if asked.write:
-            write(lines)
-        print(*lines, sep="\n")
+        for marker, lines in (
+                (MARKER, HEAD + [row(numbers, theirs) for numbers in runs]),
+                (IN_ORDER, HEAD_IN_ORDER + [row_in_order(numbers, theirs) for numbers in runs])):
+            if asked.write:
+                write(marker, lines)
+            print(*lines, sep="\n")
     return 1 if wrong else 0
 
 
