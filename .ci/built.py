@@ -48,7 +48,7 @@ def crates(name):
 def last_change(name):
     """Returns when the newest source of the program, or of a library below it, was changed."""
     folders = [os.path.join(TOP, "crates", crate, "src") for crate in crates(name)]
-    files = [os.path.join(place, file) for top in folders for place, _, names in os.walk(top)
+    files = [os.path.join(folder, file) for top in folders for folder, _, names in os.walk(top)
              for file in names]
     return max(os.path.getmtime(file) for file in files)
 
@@ -73,7 +73,7 @@ def fresh(name):
 @functools.cache
 def prebuilt(name):
     """Returns the path of the prebuilt program, or archive for x86-64, if nothing was built."""
-    if any(os.path.isfile(place) for place in places(name)):
+    if any(os.path.isfile(path) for path in places(name)):
         return []
     return kept(name, os.path.join("x86_64", ARCHIVE if name == "rtr_c" else name))
 

@@ -42,15 +42,15 @@ NUMBERS = 1000000
 
 # The cost of a command: its processor seconds; those of its sampled processes, and how many fixed
 # jobs they are, by crate and part; its output, and whether it succeeded.
-Spent = namedtuple("Spent", "seconds by_part in_jobs said well")
+Spent = namedtuple("Spent", "seconds by_part in_jobs output well")
 
 
 @contextlib.contextmanager
 def worktree(commit):
     """Makes a worktree of the commit in a temporary folder, which is removed afterwards, so that
     later checks reuse nothing of it."""
-    with tempfile.TemporaryDirectory() as made:
-        folder = os.path.join(made, "tree")
+    with tempfile.TemporaryDirectory() as parent:
+        folder = os.path.join(parent, "tree")
         words = ["git", "worktree", "add", "-q", "--detach", folder, commit]
         subprocess.run(words, cwd=TOP, check=True)
         try:
@@ -124,14 +124,14 @@ def job():
     return time.process_time() - began
 
 
-def looks(run):
+def samples(run):
     """Samples the processes of a run until it ends. Each sample has, for each process, its id and
     start, its processor seconds so far, and those of the latest fixed job."""
-    place = 0
+    sample = 0
     while run.poll() is None:
-        if place % JOBS == 0:
+        if sample % JOBS == 0:
             last = job()
-        place += 1
+        sample += 1
         found = processes()
         for pid in below(run.pid, found):
             _, start, seconds = found[pid]
@@ -146,22 +146,22 @@ def spent(command, folder):
     by_part, in_jobs = defaultdict(float), defaultdict(float)
     with tempfile.TemporaryFile("w+", errors="replace") as out:
         run = subprocess.Popen(command, cwd=folder, stdout=out, stderr=subprocess.STDOUT)
-        for key, seconds, last in looks(run):
+        for key, seconds, last in samples(run):
             part = parts[key] = parts.get(key) or part_of(key[0])
             by_part[part] += seconds - seen[key]
             in_jobs[part] += (seconds - seen[key]) / last
             seen[key] = seconds
         out.seek(0)
-        said = out.read()
+        output = out.read()
     after = resource.getrusage(resource.RUSAGE_CHILDREN)
     seconds = after.ru_utime - before.ru_utime + after.ru_stime - before.ru_stime
-    return Spent(seconds, by_part, in_jobs, said, run.returncode == 0)
+    return Spent(seconds, by_part, in_jobs, output, run.returncode == 0)
 
 
 def demand_well(took, what):
     """Exits if the command failed."""
     if not took.well:
-        sys.exit(f"{took.said[-4000:]}cost: {what} FAILED")
+        sys.exit(f"{took.output[-4000:]}cost: {what} FAILED")
 
 
 def yardstick(low="rtr_base", name="rtr_units"):
@@ -170,13 +170,13 @@ def yardstick(low="rtr_base", name="rtr_units"):
         demand_well(spent(["rt", "lib"], os.path.join(folder, "crates", low)), low)
         took = spent(["rt", "check"], os.path.join(folder, "crates", name))
     demand_well(took, name)
-    if KEPT in took.said:
+    if KEPT in took.output:
         sys.exit(f"cost: {name} {KEPT} in another checkout: move the kept work away")
     print(f"rt check of {name} in {YARDSTICK}: {took.seconds:.0f} s", flush=True)
     return took
 
 
-def told(gate):
+def print_parts(gate):
     """Prints the parts, the most expensive first, and the sum of each kind of parts."""
     kinds = defaultdict(float)
     named = {key: seconds for key, seconds in gate.by_part.items() if key}
@@ -210,9 +210,9 @@ def main():
     units = [] if names else [yardstick()]
     with worktree("HEAD") as folder:
         gate = spent(["rt", "ci", "--anew", *names], folder)
-    told(gate)
+    print_parts(gate)
     demand_well(gate, "rt ci")
-    print(*re.findall(r"^\d+ passed, \d+ failed", gate.said, re.M)[-1:], flush=True)
+    print(*re.findall(r"^\d+ passed, \d+ failed", gate.output, re.M)[-1:], flush=True)
     if not names:
         times(gate, [*units, yardstick()])
 

@@ -82,9 +82,9 @@ def is_there(path, page):
     parts = path.rstrip("/").split("/")
     if BUILT & set(parts) or "bindings/lib" in path or any(part.isupper() for part in parts):
         return True
-    places = [TOP / "crates" / path] if first in CRATES else [TOP / path, page.parent / path]
-    return any(place.exists() or "*" in path and list(place.parent.parent.glob("/".join(parts[-2:])))
-               or place.with_name(place.name + ".antt").exists() for place in places)
+    files = [TOP / "crates" / path] if first in CRATES else [TOP / path, page.parent / path]
+    return any(file.exists() or "*" in path and list(file.parent.parent.glob("/".join(parts[-2:])))
+               or file.with_name(file.name + ".antt").exists() for file in files)
 
 
 def wrong_paths(page):
@@ -116,7 +116,8 @@ def is_script(name, file):
     """Reports whether a script or a folder of this name exists where the file can mean it."""
     if BUILT & set(name.split("/")):
         return True
-    return any((place / name).exists() for place in (*file.parents, *(TOP / "bindings").iterdir()))
+    folders = (*file.parents, *(TOP / "bindings").iterdir())
+    return any((folder / name).exists() for folder in folders)
 
 
 def wrong_mentions(found):
@@ -157,11 +158,11 @@ def main():
         print(__doc__)
         return 2
     found = pages()
-    wrong = [(page, said) for page in found for check in (wrong_links, wrong_paths)
-             for said in check(page)]
+    wrong = [(page, problem) for page in found for check in (wrong_links, wrong_paths)
+             for problem in check(page)]
     wrong += [*reached(found), *wrong_heads(found), *wrong_mentions(found)]
-    for page, said in wrong:
-        print(f"{name_of(page)}: {said}")
+    for page, problem in wrong:
+        print(f"{name_of(page)}: {problem}")
     print(f"{len(found)} pages, {sum(len(list(links(page))) for page in found)} links, "
           f"{len(wrong)} wrong")
     return 1 if wrong else 0

@@ -87,9 +87,10 @@ def preconditions(crate):
     lines = (TOP / "crates.txt").read_text(encoding="utf-8").splitlines()
     below = next(line for line in lines if line.startswith(f"{crate}:")).split(":")[1].split()
     names = set().union(*map(exported, below))
-    return {made.name for each in sources.crates() for path in sources.files(each)
-            for made in sources.functions(path)
-            if made.kind == "public" and made.needs and made.name.split("::")[0] in names}
+    return {function.name for each in sources.crates() for path in sources.files(each)
+            for function in sources.functions(path)
+            if function.kind == "public" and function.needs
+            and function.name.split("::")[0] in names}
 
 
 def requirements():
@@ -100,9 +101,9 @@ def requirements():
         for crate, table in re.findall(r"<!-- requires: (\w+) -->\n((?:\|.*\n)+)", text):
             listed = {name for row in table.splitlines()[2:]
                       for name in re.findall(r"`([\w:]+)`", row.split("|")[1])}
-            wanted, found = preconditions(crate), found + 1
-            for name in sorted(listed ^ wanted):
-                lacks = "lacks" if name in wanted else "has, without a precondition,"
+            expected, found = preconditions(crate), found + 1
+            for name in sorted(listed ^ expected):
+                lacks = "lacks" if name in expected else "has, without a precondition,"
                 print(f"names: {page.relative_to(TOP)} {lacks} {name}")
                 good = False
     return good and found > 0

@@ -57,8 +57,8 @@ def copied(top):
     listed = ["git", "ls-files", "-z"] + folders
     names = subprocess.run(listed, cwd=TOP, stdout=subprocess.PIPE, check=True)
     archive = ["tar", "cf", "-", "--null", "-T", "-"]
-    made = subprocess.run(archive, cwd=TOP, input=names.stdout, stdout=subprocess.PIPE, check=True)
-    subprocess.run(["tar", "xf", "-", "-C", top], input=made.stdout, check=True)
+    tar = subprocess.run(archive, cwd=TOP, input=names.stdout, stdout=subprocess.PIPE, check=True)
+    subprocess.run(["tar", "xf", "-", "-C", top], input=tar.stdout, check=True)
     with open(f"{TOP}/crates.txt") as lines:
         kept = [line for line in lines if line.split(":")[0] in LIBRARIES]
     with open(f"{top}/crates.txt", "w") as out:

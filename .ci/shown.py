@@ -49,22 +49,22 @@ def indent_of(line):
     return len(line) - len(line.lstrip())
 
 
-def item(lines, place, comments):
+def item(lines, index, comments):
     """Returns the lines of the item at this index, from its first comment or attribute to its
     end."""
-    start = end = place
-    indent = indent_of(lines[place])
+    start = end = index
+    indent = indent_of(lines[index])
     while start > 0 and lines[start - 1].strip().startswith((comments, "#[")):
         start -= 1
     if comments == "#":
-        after = [at for at in range(place + 1, len(lines))
+        after = [at for at in range(index + 1, len(lines))
                  if lines[at].strip() and indent_of(lines[at]) <= indent]
         body = "\n".join(lines[start:after[0] if after else None]).rstrip()
         return [line[indent:] for line in body.split("\n")]
     while not (indent_of(lines[end]) == indent and lines[end].endswith(("}", ";"))):
         end += 1
         if end == len(lines):
-            raise LookupError(f"{lines[place].strip()} has no end")
+            raise LookupError(f"{lines[index].strip()} has no end")
     return [line[indent:] for line in lines[start:end + 1]]
 
 
@@ -78,28 +78,28 @@ def source(path, names):
     comments = {".go": "//", ".py": "#"}.get(pathlib.Path(path).suffix, "///")
     for name in names:
         begins = re.compile(f" *{BEFORE_NAME}{name}\\b")
-        places = [place for place, line in enumerate(lines) if begins.match(line)]
-        if not places:
+        indexes = [index for index, line in enumerate(lines) if begins.match(line)]
+        if not indexes:
             raise LookupError(f"{path} has no item {name}")
-        for place in places:
-            shown += ([""] if shown else []) + item(lines, place, comments)
+        for index in indexes:
+            shown += ([""] if shown else []) + item(lines, index, comments)
     return shown
 
 
 def blocks(lines):
     """Returns the line indexes of the two fences of each fenced block, and the marker before it."""
     opened = None
-    for place, line in enumerate(lines):
+    for index, line in enumerate(lines):
         if not line.startswith("```"):
             continue
         if opened is None:
-            opened = place
+            opened = index
         else:
-            yield opened, place, MARKER.match(lines[opened - 1]) if opened else None
+            yield opened, index, MARKER.match(lines[opened - 1]) if opened else None
             opened = None
 
 
-def place_of(path, name, said):
+def line_of(path, name, stated):
     """Returns the line nearest to this one on which a clause, a field or an item of this name
     begins."""
     begins = re.compile(rf" *(?:pub )?(?:(?:ensures|law|fn|record|abbrev|unfoldable) )?(?:pub )?{name}\b")
@@ -107,7 +107,7 @@ def place_of(path, name, said):
     found = [number for number, line in enumerate(lines, 1) if begins.match(line)]
     if not found:
         raise LookupError(f"{path} has no {name}")
-    return min(found, key=lambda number: abs(number - said))
+    return min(found, key=lambda number: abs(number - stated))
 
 
 def check_places(page, lines, write):
@@ -120,12 +120,12 @@ def check_places(page, lines, write):
         if len(names) != len(places):
             print(f"{page.relative_to(TOP)}:{number + 1}: {len(names)} names, {len(places)} places")
             wrong += 1
-        for name, (path, said) in zip(names, places):
+        for name, (path, stated) in zip(names, places):
             named += 1
-            found = place_of(path, name, int(said))
+            found = line_of(path, name, int(stated))
             if write:
-                lines[number] = lines[number].replace(f"`{path}:{said}`", f"`{path}:{found}`")
-            elif found != int(said):
+                lines[number] = lines[number].replace(f"`{path}:{stated}`", f"`{path}:{found}`")
+            elif found != int(stated):
                 print(f"{page.relative_to(TOP)}:{number + 1}: {name} stands in {path}:{found}")
                 wrong += 1
     return named, wrong
@@ -169,8 +169,8 @@ def sample_rows(part):
     yield "| As read | As written |" if written else "| Bytes | As `rtr_list` prints it |"
     yield "|---|---|"
     for sample in found:
-        said = sample.spaced["form"] if written else sample.line.split(" ", 1)[1]
-        yield f"| `{sample.spaced['bytes']}` | `{said}` |"
+        shown = sample.spaced["form"] if written else sample.line.split(" ", 1)[1]
+        yield f"| `{sample.spaced['bytes']}` | `{shown}` |"
 
 
 def check_samples(page, lines, write):
@@ -181,10 +181,10 @@ def check_samples(page, lines, write):
         named += 1
         end = next(at for at in range(number + 1, len(lines) + 1)
                    if at == len(lines) or not lines[at].startswith("|"))
-        wanted = list(sample_rows(part))
+        expected = list(sample_rows(part))
         if write:
-            lines[number + 1:end] = wanted
-        elif lines[number + 1:end] != wanted:
+            lines[number + 1:end] = expected
+        elif lines[number + 1:end] != expected:
             print(f"{page.relative_to(TOP)}:{number + 1}: differs from tests/samples")
             wrong += 1
     return named, wrong
@@ -204,14 +204,14 @@ def check(page, write):
             continue
         shown += 1
         try:
-            wanted = source(marker[1], marker[2].split())
+            expected = source(marker[1], marker[2].split())
         except (LookupError, OSError) as error:
             print(f"{where}: {error}")
             wrong += 1
             continue
         if write:
-            lines[opened + 1:closed] = wanted
-        elif lines[opened + 1:closed] != wanted:
+            lines[opened + 1:closed] = expected
+        elif lines[opened + 1:closed] != expected:
             print(f"{where}: differs from {marker[1]}{marker[2]}")
             wrong += 1
     if write:
