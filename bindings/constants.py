@@ -34,10 +34,10 @@ def typed_again():
         if path.name.endswith(NOT_CODE):
             continue
         code = path.read_text().split("#[cfg(test)]")[0]
-        for place, line in enumerate(code.splitlines(), 1):
+        for count, line in enumerate(code.splitlines(), 1):
             words = re.sub(r"//.*|^ *(?:#|/?\*).*|/\*.*", "", line).replace("_", "")
             if numbers & set(re.findall(r"\d+", words)):
-                yield f"{path.relative_to(HERE)}:{place}: rtr.h has this number: {line.strip()}"
+                yield f"{path.relative_to(HERE)}:{count}: rtr.h has this number: {line.strip()}"
 
 
 def main():

@@ -70,9 +70,9 @@ def translated(module):
     if version.strip() != WABT:
         refuse(f"no wasm2c of wabt {WABT} here (Debian 12's): call apt-get install wabt")
     with tempfile.TemporaryDirectory() as folder:
-        made = pathlib.Path(folder, "made.c")
-        subprocess.run(["wasm2c", module, "-n", "rtr_wire", "-o", made], check=True)
-        return made.read_text()
+        file = pathlib.Path(folder, "made.c")
+        subprocess.run(["wasm2c", module, "-n", "rtr_wire", "-o", file], check=True)
+        return file.read_text()
 
 
 def parts(text):
@@ -176,17 +176,17 @@ def depths(functions):
     """How many bytes of the stack each function needs, with those that it calls."""
     bodies = dict(re.findall(r"^static \w+ (w2c_\w+)\([^)]*\) \{\n(.*?)^\}", functions,
                              re.MULTILINE | re.DOTALL))
-    made = {}
+    known = {}
 
     def depth(name, above):
         if name in above:
             refuse(f"{name} calls itself by way of others")
-        if name not in made:
+        if name not in known:
             called = set(re.findall(r"\b(w2c_\w+)\(instance", bodies[name]))
             times = DEEPEST if name in called else 1
-            made[name] = times * frame(name, bodies[name]) + max(
+            known[name] = times * frame(name, bodies[name]) + max(
                 (depth(other, (*above, name)) for other in called - {name}), default=0)
-        return made[name]
+        return known[name]
     return {name: depth(name, ()) for name in bodies}
 
 
@@ -195,14 +195,14 @@ def depths(functions):
 def fields(name, structs, prefix="", start=0):
     """The numbers of a struct: name, how many bytes each has in the module, where, and how many."""
     for field in structs[name].fields:
-        one, at = f"{prefix}{field.name}", start + field.offset
+        path, at = f"{prefix}{field.name}", start + field.offset
         if field.kind in structs:
             for index in range(field.many or 1):
-                inner = f"{one}[{index}]." if field.many else f"{one}."
+                inner = f"{path}[{index}]." if field.many else f"{path}."
                 yield from fields(field.kind, structs, inner,
                                   at + index * structs[field.kind].size)
         else:
-            yield one, model.TYPES[field.kind][1], at, field.many or 1
+            yield path, model.TYPES[field.kind][1], at, field.many or 1
 
 
 def layouts(structs, used):
@@ -263,11 +263,11 @@ def call(name, answer, taken, depth):
 def in_c(call):
     """A function of the archive in C: its name, its result, and each parameter's type and name."""
     taken = []
-    for one in call.parameters:
-        kind = model.TYPES[one.kind][0] if one.kind in model.TYPES else f"struct {one.kind}"
-        const = "const " if one.pointer == "const" else ""
-        taken.append((f"{const}{kind} {'*' if one.pointer else ''}", one.name))
-        taken += [("size_t ", f"{one.name}_length")] if one.slice else []
+    for param in call.parameters:
+        kind = model.TYPES[param.kind][0] if param.kind in model.TYPES else f"struct {param.kind}"
+        const = "const " if param.pointer == "const" else ""
+        taken.append((f"{const}{kind} {'*' if param.pointer else ''}", param.name))
+        taken += [("size_t ", f"{param.name}_length")] if param.slice else []
     return call.name, model.TYPES[call.result][0] if call.result else "void", taken
 
 
@@ -294,12 +294,12 @@ def portable(module, moved):
     if by == 0:
         refuse("the second module has its data where the first has them")
     depth = depths(functions)
-    made = placed(functions, others, start, by, len(data))
-    made = LEFT.sub(r"\1 = m->lowest + \2;\3", made)
-    made = shortened("\n\n".join(widened(function) for function in made.split("\n\n")))
+    code = placed(functions, others, start, by, len(data))
+    code = LEFT.sub(r"\1 = m->lowest + \2;\3", code)
+    code = shortened("\n\n".join(widened(function) for function in code.split("\n\n")))
     front = (HERE / "c" / "portable_front.h").read_text()
     rows = ",\n".join(cells(data, other_data, start, by))
-    return "\n".join([front.replace("/* rows */", rows), shortened(declared), made,
+    return "\n".join([front.replace("/* rows */", rows), shortened(declared), code,
                       "/* The calls of rtr.h. */\n", *calls(depth)])
 
 

@@ -116,19 +116,19 @@ def filled(front, parts, end):
 def prototype(call):
     """Returns the prototype of a function of the archive."""
     result = calls.TYPES[call.result][0] if call.result else "void"
-    return filled(f"{result} {call.name}(", [declared(one) for one in call.parameters] or ["void"],
-                  ");")
+    taken = [declared(param) for param in call.parameters]
+    return filled(f"{result} {call.name}(", taken or ["void"], ");")
 
 
 # ---- the calls over them
 
-def passed(parameter, owner):
-    """Returns what a call of the page passes on for one parameter: of a struct of buffers a slice,
+def passed(param, owner):
+    """Returns what a call of the page passes on for one param: of a struct of buffers a slice,
     or only its length."""
-    name = f"{owner}->{parameter.name}" if owner else named(parameter)
-    if not parameter.slice:
+    name = f"{owner}->{param.name}" if owner else named(param)
+    if not param.slice:
         return f"{name}_length" if owner else name
-    change = CHANGED.get((parameter.kind, parameter.pointer))
+    change = CHANGED.get((param.kind, param.pointer))
     pointer = f"{change}({name})" if change else f"{name} ? {name} : &nowhere"
     return f"{pointer}, {name}_length"
 
@@ -137,16 +137,16 @@ def inline(call):
     """Returns the call of the page over a function of the archive."""
     groups, _ = calls.buffers_of(call)
     owners = {name: group for group, (_, found) in groups.items() for name in found}
-    taken = [declared(one) for one in calls.page_parameters(call)]
+    taken = [declared(param) for param in calls.page_parameters(call)]
     result = calls.TYPES[call.result][0] if call.result else "void"
     lines = [filled(f"static inline {result} {call.called()}(", taken, ")"), "{"]
-    for one in call.parameters:
-        if one.slice and (one.kind, one.pointer) not in CHANGED:
-            const, start = ("const ", " = {0}" if one.kind not in calls.TYPES else " = 0") \
-                if one.pointer == "const" else ("", "")
-            lines.append(f"    static {const}{in_c(one.kind)} nowhere{start};")
+    for param in call.parameters:
+        if param.slice and (param.kind, param.pointer) not in CHANGED:
+            const, start = ("const ", " = {0}" if param.kind not in calls.TYPES else " = 0") \
+                if param.pointer == "const" else ("", "")
+            lines.append(f"    static {const}{in_c(param.kind)} nowhere{start};")
     front = f"    {'return ' if call.result else ''}{call.name}("
-    lines.append(filled(front, [passed(one, owners.get(one.name)) for one in call.parameters],
+    lines.append(filled(front, [passed(param, owners.get(param.name)) for param in call.parameters],
                         ");"))
     return "\n".join([*lines, "}"])
 
@@ -188,11 +188,11 @@ def words(about):
     return (front + about[len(first):]).removesuffix(".")
 
 
-def struct(one):
+def struct(structure):
     """Returns a struct. Fields of one type without comments stand on one line."""
     lines = []
-    for field in one.fields:
-        about = "" if one.name in PRIVATE else words(field.about)
+    for field in structure.fields:
+        about = "" if structure.name in PRIVATE else words(field.about)
         name = f"{field.name}[{field.many}]" if field.many else field.name
         kind = in_c(field.kind)
         if lines and not about and not lines[-1][1] and lines[-1][0].startswith(f"{kind} ") \
@@ -201,15 +201,15 @@ def struct(one):
         else:
             lines.append((f"{kind} {name}", about))
     body = "\n".join(beside([(f"{line};", about) for line, about in lines], 28))
-    return f"struct {one.name} {{\n{body}\n}};"
+    return f"struct {structure.name} {{\n{body}\n}};"
 
 
-def enum(one):
+def enum(enumeration):
     """Returns an enum."""
-    last = one.members[-1][0]
+    last = enumeration.members[-1][0]
     lines = [(f"{name} = {number}{'' if name == last else ','}", about)
-             for name, number, about in one.members]
-    return f"enum {one.name} {{\n" + "\n".join(beside(lines, 44)) + "\n};"
+             for name, number, about in enumeration.members]
+    return f"enum {enumeration.name} {{\n" + "\n".join(beside(lines, 44)) + "\n};"
 
 
 # ---- the files
@@ -221,10 +221,10 @@ def rtr_h():
     text = re.sub(r"(#define RTR_WIRE_VERSION_NUMBER )\d+", rf"\g<1>{number[1]}", text)
     for name, value, _ in calls.constants():
         text = re.sub(rf"^(#define {name}) \d+", rf"\1 {value}", text, flags=re.MULTILINE)
-    for one in calls.enums():
-        text = placed(text, rf"^enum {one.name}(?: \{{\n.*?\n\}};|;)$", enum(one))
-    for one in calls.structs():
-        text = placed(text, rf"^struct {one.name}(?: \{{\n.*?\n\}};|;)$", struct(one))
+    for enumeration in calls.enums():
+        text = placed(text, rf"^enum {enumeration.name}(?: \{{\n.*?\n\}};|;)$", enum(enumeration))
+    for structure in calls.structs():
+        text = placed(text, rf"^struct {structure.name}(?: \{{\n.*?\n\}};|;)$", struct(structure))
     for call in calls.calls():
         name = call.called()
         if name == call.name:
@@ -249,7 +249,7 @@ def placed(text, pattern, declaration):
 def rtr_abi_h():
     """Returns the functions behind the calls that take slices."""
     behind = [call for call in calls.calls() if call.called() != call.name]
-    names = {one.kind for call in behind for one in call.parameters} - calls.TYPES.keys()
+    names = {param.kind for call in behind for param in call.parameters} - calls.TYPES.keys()
     lines = [ABI_FRONT, *(f"struct {name};" for name in sorted(names)), "",
              *map(prototype, behind)]
     return "\n".join(lines) + "\n" + ABI_END
@@ -258,9 +258,10 @@ def rtr_abi_h():
 def layout():
     """Returns the file that compares the places of fields."""
     lines = [LAYOUT_FRONT]
-    for one in calls.structs():
-        lines.append(f'_Static_assert(sizeof(struct {one.name}) == {one.size}, "{one.name}");')
-        lines += [f"AT({one.name}, {field.name}, {field.offset});" for field in one.fields] + [""]
+    for structure in calls.structs():
+        name = structure.name
+        lines.append(f'_Static_assert(sizeof(struct {name}) == {structure.size}, "{name}");')
+        lines += [f"AT({name}, {field.name}, {field.offset});" for field in structure.fields] + [""]
     return "\n".join(lines + ["#endif"]) + "\n"
 
 

@@ -187,29 +187,30 @@ def call_lines(call):
     outputs, name = call.outputs(), call.called().removeprefix("rtr_")
     by_hand = call.called() in calls.BY_HAND
     taken = call.parameters if by_hand else calls.page_parameters(call)
-    values = [one for one in taken if one not in outputs and by_value(one)]
-    states = [one for one in values if one.pointer == "mut"]
+    values = [param for param in taken if param not in outputs and by_value(param)]
+    states = [param for param in values if param.pointer == "mut"]
     if not outputs and not values:
         return
     result = [(in_c(call.returns()), "result")] if call.returns() else []
-    fields = [(in_c(one.kind), one.name) for one in [*states, *outputs]] + result
+    fields = [(in_c(param.kind), param.name) for param in [*states, *outputs]] + result
     kind = fields[0][0] if len(fields) == 1 else f"struct {name}_result" if fields else "void"
     many = len(fields) > 1
     yield ""
     if many:
-        yield from (f"{kind} {{", *(f"\t{one} {field};" for one, field in fields), "};", "")
+        lines = (f"\t{field_kind} {field};" for field_kind, field in fields)
+        yield from (f"{kind} {{", *lines, "};", "")
     yield f"static inline {kind} {name}("
-    yield from filled("", [declared(one) for one in taken if one not in outputs], ")")
+    yield from filled("", [declared(param) for param in taken if param not in outputs], ")")
     yield "{"
     if many:
         yield f"\t{kind} all;"
-        yield from (f"\tall.{one.name} = {one.name};" for one in states)
+        yield from (f"\tall.{param.name} = {param.name};" for param in states)
     elif outputs:
         yield f"\t{kind} {outputs[0].name};"
-    places = {one.name: f"&{'all.' * many}{one.name}" for one in [*states, *outputs]}
+    places = {param.name: f"&{'all.' * many}{param.name}" for param in [*states, *outputs]}
     front = ("all.result = " if many else "return ") if result else ""
     yield from filled(f"{front}{call.name if by_hand else call.called()}(",
-                      [passed(one, places, by_hand) for one in taken], ");", "\t\t")
+                      [passed(param, places, by_hand) for param in taken], ");", "\t\t")
     if many:
         yield "\treturn all;"
     elif outputs or states:
@@ -221,10 +222,10 @@ def files():
     """Returns the paths and texts of all files."""
     table = [FRONT + UNUSED, *number_lines(), *failure_lines(), *enum_lines()]
     layout = [LAYOUT.rstrip("\n"), *layout_lines()]
-    made = [CALLS.rstrip("\n"), *(line for call in calls.calls() for line in call_lines(call))]
+    header = [CALLS.rstrip("\n"), *(line for call in calls.calls() for line in call_lines(call))]
     return {HERE / "table.go": "\n".join(table) + "\n",
             HERE / "layout.go": "\n".join(layout) + "\n",
-            HERE / "calls.h": "\n".join(made) + "\n"}
+            HERE / "calls.h": "\n".join(header) + "\n"}
 
 
 calls.write(files(), "bindings/go/generate.py")

@@ -148,7 +148,7 @@ def function_lines():
     yield "\nexport const FUNCTIONS = Object.freeze({"
     for call in calls.calls():
         kinds = [in_js(call.result) if call.result else "void"]
-        kinds += [kind for one in call.parameters for kind in taken(one)]
+        kinds += [kind for param in call.parameters for kind in taken(param)]
         yield f"    {call.name}: [{', '.join(map(json.dumps, kinds))}],"
     yield "});"
 

@@ -120,16 +120,17 @@ def module():
     lines += [f'{name} = "{text}"' for name, text in calls.failures()] + [""]
     for enum in calls.enums():
         lines += enum_lines(enum)
-    for one in calls.structs():
-        lines += struct_lines(one)
+    for structure in calls.structs():
+        lines += struct_lines(structure)
     lines += ["", "# The fields of these structs, for the module struct."]
-    lines += [f'{one.name[4:].upper()}_LETTERS = "{letters(one.fields)}"'
-              for one in calls.structs() if one.name in ("rtr_unit", "rtr_route")] + [""]
+    lines += [f'{structure.name[4:].upper()}_LETTERS = "{letters(structure.fields)}"'
+              for structure in calls.structs()
+              if structure.name in ("rtr_unit", "rtr_route")] + [""]
     lines += ["# What each function of the library returns, and what it takes.",
               "PROTOTYPES: dict[str, tuple[Any, list[Any]]] = {"]
     for call in calls.calls():
         result = SCALARS[call.result][0] if call.result else "None"
-        kinds = ", ".join(kind for one in call.parameters for kind in taken(one))
+        kinds = ", ".join(kind for param in call.parameters for kind in taken(param))
         lines += textwrap.wrap(f'"{call.name}": ({result}, [{kinds}]),', 100,
                                initial_indent="    ", subsequent_indent="        ")
     return FRONT + "\n".join(lines + ["}"]) + "\n"

@@ -93,11 +93,11 @@ def failure_lines():
 
 def enum_lines(enum):
     """Yields the module of the members of an enum."""
-    made, prefix = ENUMS.get(enum.name, (enum.name[4:], "RTR_"))
+    module, prefix = ENUMS.get(enum.name, (enum.name[4:], "RTR_"))
     kind = "u16" if enum.name == "rtr_code" else "u8"
     yield ""
     yield from wrapped(enum.about or f"The numbers of enum {enum.name}.", "")
-    yield f"pub(crate) mod {made} {{"
+    yield f"pub(crate) mod {module} {{"
     for member, number, comment in enum.members:
         yield from wrapped(comment, "    ")
         yield f"    pub(crate) const {member[len(prefix):]}: {kind} = {number};"
@@ -111,9 +111,9 @@ def field_type(field):
 
 def empty(field):
     """Returns the value of a field in an empty struct."""
-    one = "false" if field.kind == "bool" else "0" if field.kind in calls.TYPES \
+    value = "false" if field.kind == "bool" else "0" if field.kind in calls.TYPES \
         else f"{in_rust(field.kind)}::default()"
-    return f"[{one}; {field.many}]" if field.many else one
+    return f"[{value}; {field.many}]" if field.many else value
 
 
 def struct_lines(struct):
@@ -157,9 +157,9 @@ def function_lines():
     """Yields the functions of the archive, whose pointers are never null."""
     yield from ("", 'extern "C" {')
     for call in calls.calls():
-        declared = [one for parameter in call.parameters for one in pointers(parameter)]
+        declared = [argument for parameter in call.parameters for argument in pointers(parameter)]
         yield f"    pub(crate) fn {call.name}("
-        yield from (f"        {one}," for one in declared)
+        yield from (f"        {argument}," for argument in declared)
         yield f"    ){result_of(call.result)};"
     yield "}"
 
@@ -174,9 +174,9 @@ def layout_lines():
                 "            addr_of!($value.$field) as usize - addr_of!($value) as usize",
                 "        };", "    }", "", "    #[test]", "    fn layout() {")
     for struct in calls.structs():
-        made = struct_name(struct.name)
-        yield f"        let value = super::{made}::default();"
-        yield f"        assert_eq!(size_of::<super::{made}>(), {struct.size});"
+        name = struct_name(struct.name)
+        yield f"        let value = super::{name}::default();"
+        yield f"        assert_eq!(size_of::<super::{name}>(), {struct.size});"
         for field in struct.fields:
             yield f"        assert_eq!(place!(value.{field.name}), {field.offset});"
     yield from ("    }", "}")
@@ -229,21 +229,21 @@ def call_lines(call):
     """Yields a safe function: what the archive's writes to the last pointers is returned before its
     own result, unless that is a part of it."""
     outputs, result = call.outputs(), call.returns()
-    taken = [safe(one) for one in call.parameters if one not in outputs]
-    kinds = [qualified(one.kind) for one in outputs] + [result] * bool(result)
+    taken = [safe(param) for param in call.parameters if param not in outputs]
+    kinds = [qualified(param.kind) for param in outputs] + [result] * bool(result)
     shown = f" -> {kinds[0] if len(kinds) == 1 else '(' + ', '.join(kinds) + ')'}" if kinds else ""
     yield from ("", "#[inline]")
     yield from listed(f"pub(crate) fn {call.called().removeprefix('rtr_')}(", taken, f"){shown} {{")
-    for one in outputs:
-        start = {"bool": "false"}.get(one.kind, "0") if one.kind in calls.TYPES \
-            else f"{qualified(one.kind)}::default()"
-        yield f"    let mut {one.name} = {start};"
+    for param in outputs:
+        start = {"bool": "false"}.get(param.kind, "0") if param.kind in calls.TYPES \
+            else f"{qualified(param.kind)}::default()"
+        yield f"    let mut {param.name} = {start};"
     end = ") }" + (";" if outputs or not result else "")
     front = f"{'let result = ' if outputs and result else ''}unsafe {{ abi::{call.name}("
     yield "    // SAFETY: as at the head of this file."
-    yield from listed(front, [passed(one, outputs) for one in call.parameters], end, "    ")
+    yield from listed(front, [passed(param, outputs) for param in call.parameters], end, "    ")
     if outputs:
-        names = [one.name for one in outputs] + ["result"] * bool(result)
+        names = [param.name for param in outputs] + ["result"] * bool(result)
         yield f"    {names[0] if len(names) == 1 else '(' + ', '.join(names) + ')'}"
     yield "}"
 
