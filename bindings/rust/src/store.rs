@@ -61,9 +61,11 @@ impl Rooms {
 /// The stores of a cache: the served one, and the one that waits to be saved.
 #[derive(Debug, Default)]
 pub(crate) struct Store {
-    /// None before the first data of a session of a cache that doesn't save.
+    /// None before the first data of a cache that doesn't save.
     stores: Option<Stores>,
     has_begun: bool,
+    /// Whether the next data may be of another session, though they aren't saved.
+    may_change: bool,
     buffers: [Arc<Memory>; 2],
     /// Where stores are saved.
     path: Option<PathBuf>,
@@ -90,6 +92,7 @@ impl Store {
         Ok(Store {
             stores: Some(stores),
             has_begun: true,
+            may_change: false,
             buffers: [first, Arc::default()],
             path: Some(path.to_path_buf()),
             is_retried: false,
@@ -103,9 +106,17 @@ impl Store {
 
     /// Lets a cache that doesn't save have data of another session.
     pub(crate) fn change_session(&mut self) {
-        if self.path.is_none() {
-            self.stores = None;
-            self.buffers = [Arc::default(), Arc::default()];
+        self.may_change = self.path.is_none();
+    }
+
+    /// The stores that take data of this session: new ones for the first data of a session of a
+    /// cache that doesn't save.
+    fn stores_for(&self, session: u16) -> Stores {
+        let present = self.history().map(|history| history.end().session);
+        let changes = self.may_change && present != Some(session);
+        match self.stores {
+            Some(stores) if !changes => stores,
+            _ => unsaved(session),
         }
     }
 
@@ -117,7 +128,7 @@ impl Store {
         limits: &HistoryLimits,
     ) -> Result<bool, UpdateError> {
         let end = data.end();
-        let mut stores = self.stores.unwrap_or_else(|| unsaved(end.session));
+        let mut stores = self.stores_for(end.session);
         calls::stores_give_up(&mut stores);
         let state = self.state(&stores);
         let (served, other) = places(&state);
@@ -130,6 +141,7 @@ impl Store {
         };
         self.stores = Some(stores);
         self.has_begun = true;
+        self.may_change = false;
         self.buffers[other] = Arc::new(taken);
         if answer.status == status::OK && !self.waits() {
             self.buffers[served] = Arc::default();

@@ -380,6 +380,11 @@ fn sessions_that_were_left() {
     client.response();
     unsaved.server.change_session();
     unsaved.serves(2);
+    // The present session isn't new: its serial numbers go on.
+    assert_eq!(
+        unsaved.server.update(data_of(SESSION, 1, 20)),
+        Err(UpdateError::SerialNotAfter { present: 2, new: 1 })
+    );
     assert_eq!(unsaved.server.update(data_of(7, 1, 20)), Ok(true));
     assert!(client.is_closed());
     assert_eq!(unsaved.server.end(), Some(data_of(7, 1, 20).end()));
