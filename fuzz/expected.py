@@ -86,10 +86,10 @@ def end_for(end, version):
     return header + end[8:12] + timings
 
 
-def answer(data, wanted=None):
+def answer(data, to_version=None):
     """Output, status, line on standard error, and the row of the refusal, or 0.
 
-    If `wanted` is a version, the sequence is written for it.
+    If `to_version` is given, the sequence is written for this version.
     """
     output = []
     data = memoryview(data)
@@ -99,8 +99,8 @@ def answer(data, wanted=None):
             return b"".join(output), 1, text + "\n", row
         length = number(data[4:8])
         unit, data = data[:length], data[length:]
-        version = unit[0] if wanted is None else wanted
+        version = unit[0] if to_version is None else to_version
         if unit[1] == 7:
             return b"".join(output) + end_for(unit, version), 0, "", 0
-        if wanted is None or PAYLOAD_TYPES[unit[1]] <= wanted:
+        if to_version is None or PAYLOAD_TYPES[unit[1]] <= to_version:
             output.append(written_form(unit, version))

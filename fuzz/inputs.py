@@ -120,9 +120,9 @@ def stray(rng):
     return rng.choice([b"", b"", rng.randbytes(rng.randint(1, 40)), b"".join(sequence(rng))])
 
 
-def put(data, place, piece):
+def put(data, offset, piece):
     """The bytes, overwritten with a piece at an offset."""
-    return data[:place] + piece + data[place + len(piece) :]
+    return data[:offset] + piece + data[offset + len(piece) :]
 
 
 def length_for(rng, kind):
@@ -130,35 +130,35 @@ def length_for(rng, kind):
     return rng.choice(BOUNDS[kind] if kind in BOUNDS and rng.random() < 0.7 else LENGTHS)
 
 
-def with_length(rng, one):
+def with_length(rng, old):
     """The unit with another length field, and often cut or padded to that length."""
-    near = len(one) + rng.choice([-4, -1, 1, 4])
-    length = near if rng.random() < 0.1 else length_for(rng, one[1])
+    near = len(old) + rng.choice([-4, -1, 1, 4])
+    length = near if rng.random() < 0.1 else length_for(rng, old[1])
     if rng.random() < (0.7 if length < 100 else 0.1 if length < 70000 else 0):
-        one = (one + rng.randbytes(max(0, length - len(one))))[: max(8, length)]
-    return put(one, 4, struct.pack(">I", length))
+        old = (old + rng.randbytes(max(0, length - len(old))))[: max(8, length)]
+    return put(old, 4, struct.pack(">I", length))
 
 
-def with_prefix_lengths(rng, one):
+def with_prefix_lengths(rng, old):
     """The unit with other prefix lengths."""
     length = rng.choice(PREFIX_LENGTHS)
     near = [max(0, length - 1), length, min(255, length + 1)]
-    return put(one, 9, bytes([length, rng.choice([*near, *PREFIX_LENGTHS])]))
+    return put(old, 9, bytes([length, rng.choice([*near, *PREFIX_LENGTHS])]))
 
 
-def with_altered_field(rng, one):
+def with_altered_field(rng, old):
     """The unit with another value in one field."""
     fields = ["version", "type", "session", "length", "length", "length"]
-    if one[1] in WIDTHS:
+    if old[1] in WIDTHS:
         fields = ["version", "type", "session", "length", *["prefix lengths"] * 6]
     field = rng.choice(fields)
     if field == "version":
-        return put(one, 0, bytes([rng.choice(VERSIONS)]))
+        return put(old, 0, bytes([rng.choice(VERSIONS)]))
     if field == "type":
-        return put(one, 1, bytes([rng.choice(TYPES)]))
+        return put(old, 1, bytes([rng.choice(TYPES)]))
     if field == "session":
-        return put(one, 2, rng.randbytes(2))
-    return with_length(rng, one) if field == "length" else with_prefix_lengths(rng, one)
+        return put(old, 2, rng.randbytes(2))
+    return with_length(rng, old) if field == "length" else with_prefix_lengths(rng, old)
 
 
 def whole(rng):
@@ -169,9 +169,9 @@ def whole(rng):
 def altered(rng):
     """A sequence in which one unit has other values in some fields."""
     units = sequence(rng)
-    place = rng.choice([0, 0, rng.randrange(len(units)), len(units) - 1])
+    index = rng.choice([0, 0, rng.randrange(len(units)), len(units) - 1])
     for _ in range(rng.choice([1, 1, 2])):
-        units[place] = with_altered_field(rng, units[place])
+        units[index] = with_altered_field(rng, units[index])
     return b"".join(units) + stray(rng)
 
 
@@ -186,8 +186,8 @@ def joined(rng):
     makers = rng.choices([payload_unit, end_of_data, other_unit], [8, 2, 1], k=rng.randint(1, 6))
     pieces = [maker(rng) for maker in makers]
     if rng.random() < 0.3:
-        place = rng.randrange(len(pieces))
-        pieces[place] = pieces[place][rng.randint(0, 12) :]
+        index = rng.randrange(len(pieces))
+        pieces[index] = pieces[index][rng.randint(0, 12) :]
     return b"".join(pieces)
 
 
@@ -203,13 +203,13 @@ def headers(rng):
 
 def broken(rng, data):
     """The bytes with one bit flipped, or a byte more or less."""
-    place = rng.randrange(len(data))
-    deed = rng.choice(["bit", "more", "less"])
-    if deed == "bit":
-        return put(data, place, bytes([data[place] ^ 1 << rng.randrange(8)]))
-    if deed == "more":
-        return data[:place] + bytes([free(rng, 8)]) + data[place:]
-    return data[:place] + data[place + 1 :]
+    offset = rng.randrange(len(data))
+    change = rng.choice(["bit", "more", "less"])
+    if change == "bit":
+        return put(data, offset, bytes([data[offset] ^ 1 << rng.randrange(8)]))
+    if change == "more":
+        return data[:offset] + bytes([free(rng, 8)]) + data[offset:]
+    return data[:offset] + data[offset + 1 :]
 
 
 def mutated(rng):

@@ -79,10 +79,10 @@ def program_answer(args, data, row):
 def first_difference(left, right):
     """The first offset at which two byte strings differ."""
     shorter = min(len(left), len(right))
-    return next((place for place in range(shorter) if left[place] != right[place]), shorter)
+    return next((offset for offset in range(shorter) if left[offset] != right[offset]), shorter)
 
 
-def difference(args, number, data, got, wanted):
+def difference(args, number, data, got, model):
     """What differs, and the file with the input."""
     path = os.path.join(tempfile.gettempdir(), f"rtr_normalise-{args.seed}-{number}.hex")
     with open(path, "w", encoding="ascii") as file:
@@ -90,22 +90,22 @@ def difference(args, number, data, got, wanted):
     version = "" if args.version is None else f" --version {args.version}"
     call = f"--seed {args.seed} --input {number}{version}"
     lines = [f"{call} differs: {len(data)} bytes, kept in {path}"]
-    if got[0] != wanted[0]:
-        place = first_difference(got[0], wanted[0])
-        lines += [f"output: {len(got[0])} bytes, and not {len(wanted[0])}; at byte {place}"]
-        for output, word in ((got[0], "got"), (wanted[0], "wanted")):
-            lines += [f"  {output[place : place + 16].hex(' ') or 'its end'} ({word})"]
-    if got[1:] != wanted[1:]:
-        lines += [f"status {got[1]} with line {got[2]!r}, and not {wanted[1]} with {wanted[2]!r}"]
+    if got[0] != model[0]:
+        offset = first_difference(got[0], model[0])
+        lines += [f"output: {len(got[0])} bytes, and not {len(model[0])}; at byte {offset}"]
+        for output, word in ((got[0], "got"), (model[0], "wanted")):
+            lines += [f"  {output[offset : offset + 16].hex(' ') or 'its end'} ({word})"]
+    if got[1:] != model[1:]:
+        lines += [f"status {got[1]} with line {got[2]!r}, and not {model[1]} with {model[2]!r}"]
     return "\n".join(lines)
 
 
 def try_input(args, number):
     """The kind of an input, the row that refuses it or 0, and the difference, if there is one."""
     kind, data = input_of(args.seed, number)
-    *wanted, row = expected.answer(data, args.version)
+    *model, row = expected.answer(data, args.version)
     got = program_answer(args, data, row)
-    return kind, row, "" if got == wanted else difference(args, number, data, got, wanted)
+    return kind, row, "" if got == model else difference(args, number, data, got, model)
 
 
 def work(args, number, end):

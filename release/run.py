@@ -43,7 +43,7 @@ TOOLS = ["rt", "valgrind", "gcc", "clang", "rustc", "cargo", "go", "python3", "g
 BENCHES = ["count", "data", "vrps", "validate", "clients", "cache", "scale", "python"]
 
 
-def said(*words):
+def output_of(*words):
     """Returns the output of a command."""
     return subprocess.run(words, cwd=TOP, capture_output=True, text=True, check=True).stdout
 
@@ -97,7 +97,7 @@ def version_faults(version):
         yield f"{version} is before {found[1]}, which is in packages and programs"
     if not found:
         yield f"{CHANGES} has nothing that is unreleased"
-    if said("git", "tag", "--list", f"v{version}").strip():
+    if output_of("git", "tag", "--list", f"v{version}").strip():
         yield f"there is a tag v{version}"
 
 
@@ -119,9 +119,9 @@ def published_faults(module, repository):
 
 def faults(version, steps):
     """Returns why the steps can't run."""
-    if said("git", "status", "--porcelain").strip():
+    if output_of("git", "status", "--porcelain").strip():
         yield "the tree has changes that aren't committed"
-    if said("git", "branch", "--show-current").strip() != "main":
+    if output_of("git", "branch", "--show-current").strip() != "main":
         yield "this isn't the branch main"
     for tool in TOOLS:
         if not shutil.which(tool):
@@ -149,8 +149,8 @@ def tried(version, day):
 
 def arguments():
     """Returns the options and the version that were given."""
-    place = (TOP / PUBLISHED).read_text()
-    usual = dict(re.findall(r"(?m)^(RTR_\w+)=(\S+)$", place)) | dict(os.environ)
+    published = (TOP / PUBLISHED).read_text()
+    usual = dict(re.findall(r"(?m)^(RTR_\w+)=(\S+)$", published)) | dict(os.environ)
     parser = argparse.ArgumentParser(
         description=__doc__, formatter_class=argparse.RawDescriptionHelpFormatter)
     parser.add_argument("--dry-run", action="store_true")

@@ -42,23 +42,23 @@ def sources_at(path):
                      if not line.strip().startswith("//"))
 
 
-def check(kind, said):
+def check(kind, fact):
     """Wrong where the sources don't have, or don't lack, some code."""
-    path, colon, wanted = said.partition(": ")
-    if not colon or not wanted:
-        raise Wrong(f"{said} is no PATH: CODE")
-    if (wanted in sources_at(path)) != (kind == "has"):
-        raise Wrong(f"{path} {'lacks' if kind == 'has' else 'has'} `{wanted}`")
+    path, colon, code = fact.partition(": ")
+    if not colon or not code:
+        raise Wrong(f"{fact} is no PATH: CODE")
+    if (code in sources_at(path)) != (kind == "has"):
+        raise Wrong(f"{path} {'lacks' if kind == 'has' else 'has'} `{code}`")
 
 
 def row(fields):
     """A row of a table, of the lines of one difference."""
-    words = {kind: said for kind, said in fields if kind in ("crate", "here", "why")}
-    facts = [(kind, said) for kind, said in fields if kind in ("has", "lacks")]
+    words = {kind: text for kind, text in fields if kind in ("crate", "here", "why")}
+    facts = [(kind, text) for kind, text in fields if kind in ("has", "lacks")]
     if len(words) != 3 or not facts:
         raise Wrong("not crate, here, why and a has or lacks")
-    for kind, said in facts:
-        check(kind, said)
+    for kind, text in facts:
+        check(kind, text)
     return "| " + " | ".join(words[kind] for kind in ("crate", "here", "why")) + " |\n"
 
 
@@ -66,12 +66,12 @@ def page():
     """The text of DIFFERENCES.md; ends where a row is wrong."""
     text, wrong, line = HEAD, [], 1
     for part in ROWS.read_text(encoding="utf-8").split("\n\n"):
-        lines = [said for said in part.splitlines() if not said.startswith("# ")]
+        lines = [entry for entry in part.splitlines() if not entry.startswith("# ")]
         try:
             if part.startswith("## "):
                 text += f"\n{part.strip()}\n\n| The crate | Here | Why |\n|---|---|---|\n"
             elif not part.startswith("#"):
-                fields = [FIELD.match(said) for said in lines]
+                fields = [FIELD.match(entry) for entry in lines]
                 if not all(fields):
                     raise Wrong("not NAME: WORDS")
                 text += row([found.groups() for found in fields])

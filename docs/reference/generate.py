@@ -41,12 +41,12 @@ def link(path):
     return f"[{'/'.join(inside.parts[1:])}](../../crates/{inside})"
 
 
-def words(made):
+def words(function):
     """What a function promises: what its comment says at first, and of faults."""
-    said = [part for place, part in enumerate(made.words)
-            if place == 0 or REFUSING.search(part)]
-    said += [f"`{name}`: {note}" for name, note in made.notes.items()]
-    return cell(" ".join(said))
+    parts = [part for index, part in enumerate(function.words)
+             if index == 0 or REFUSING.search(part)]
+    parts += [f"`{name}`: {note}" for name, note in function.notes.items()]
+    return cell(" ".join(parts))
 
 
 def clause(label, text):
@@ -60,28 +60,29 @@ def clause(label, text):
     return f"`{label}`" if label else cited or "one"
 
 
-def clauses(made):
+def clauses(function):
     """The clauses of a function, and what it needs."""
-    said = ", ".join(clause(*said) for said in made.clauses)
-    needs = ", ".join(clause(*said) for said in made.needs)
-    return said + (f"; needs {needs}" if needs else "")
+    ensured = ", ".join(clause(*each) for each in function.clauses)
+    needs = ", ".join(clause(*each) for each in function.needs)
+    return ensured + (f"; needs {needs}" if needs else "")
 
 
-def contract_row(made):
-    name = f"`{made.name}`" + ("" if made.kind == "public" else f" ({made.kind})")
-    return f"| {name} | {words(made)} | {clauses(made)} | {code(made.edits)} |"
+def contract_row(function):
+    name = f"`{function.name}`" + ("" if function.kind == "public" else f" ({function.kind})")
+    return f"| {name} | {words(function)} | {clauses(function)} | {code(function.edits)} |"
 
 
 def crate_promises(crate):
     """The part of promises.md on a crate: a table for each file."""
     lines, number = [], 0
     for path, found in functions_of(crate).items():
-        rows = [contract_row(made) for made in found
-                if made.edits or made.kind == "public" and made.clauses]
+        rows = [contract_row(function) for function in found
+                if function.edits or function.kind == "public" and function.clauses]
         if rows:
             lines += ["", f"### {link(path)}", "", "| Function | Promise | Clauses | Seeded bugs |",
                       "|---|---|---|---|", *rows]
-            number += sum(made.kind == "public" for made in found if made.edits or made.clauses)
+            number += sum(function.kind == "public" for function in found
+                          if function.edits or function.clauses)
     return lines, number
 
 
@@ -117,12 +118,12 @@ A clause without a bug of its own is proved as well. Functions of `laws` are the
 SECTIONS = re.compile(r"(?:(RFC \d+),? )?sections? ((?:\d+(?:\.\d+)*(?:, | and | to |, and )?)+)")
 
 
-def expanded(said):
+def expanded(listed):
     """The sections that a list as `5.2 to 5.4 and 8` names."""
-    marks = re.findall(r"\d+(?:\.\d+)*|to", said)
-    for place, mark in enumerate(marks):
+    marks = re.findall(r"\d+(?:\.\d+)*|to", listed)
+    for index, mark in enumerate(marks):
         if mark == "to":
-            first, last = marks[place - 1].split("."), marks[place + 1].split(".")
+            first, last = marks[index - 1].split("."), marks[index + 1].split(".")
             if first[:-1] == last[:-1]:
                 for number in range(int(first[-1]) + 1, int(last[-1])):
                     yield ".".join([*first[:-1], str(number)])
@@ -137,9 +138,9 @@ def sections_of(path):
     named = re.findall(r"RFC \d+", text)
     usual = "RFC 8210" if "RFC 8210" in named or not named else named[0]
     with_sections = set()
-    for rfc, said in SECTIONS.findall(text):
+    for rfc, listed in SECTIONS.findall(text):
         with_sections.add(rfc or usual)
-        for section in expanded(said):
+        for section in expanded(listed):
             yield rfc or usual, section
     for rfc in set(named) - with_sections:
         yield rfc, ""
@@ -191,8 +192,8 @@ def main():
     pages = {"promises.md": promises, "specs.md": specs, "musts.md": musts.page,
              "../DIFFERENCES.md": differences.page, "../PROOF.md": trusted.page,
              "router.svg": states.router, "cache.svg": states.cache}
-    for name, made in pages.items():
-        path, text = (HERE / name).resolve(), made()
+    for name, generate in pages.items():
+        path, text = (HERE / name).resolve(), generate()
         if not sys.argv[1:]:
             path.write_text(text, encoding="utf-8")
         elif not path.exists() or path.read_text(encoding="utf-8") != text:

@@ -40,8 +40,8 @@ class Wrong(Exception):
 
 def file_of(path):
     """The file of the repository that a path without its ending names."""
-    places = [CRATES / f"{path}.antt", CRATES / f"{path}.rt", TOP / path]
-    found = [place for place in places if place.is_file()]
+    files = [CRATES / f"{path}.antt", CRATES / f"{path}.rt", TOP / path]
+    found = [file for file in files if file.is_file()]
     if not found:
         raise Wrong(f"no file {path}")
     return found[0]
@@ -60,9 +60,9 @@ def find(path, name):
             raise Wrong(f"{first} in {path.relative_to(TOP)} has no {field}")
 
 
-def page_link(said):
+def page_link(target):
     """A link to a heading of a page, or to a man page."""
-    name, _, heading = said.partition("#")
+    name, _, heading = target.partition("#")
     path = TOP / name
     if not path.is_file():
         raise Wrong(f"no page {name}")
@@ -74,19 +74,19 @@ def page_link(said):
     return f"[{text}](../../{name}{'#' + heading if heading else ''})"
 
 
-def place(said):
+def link_to(target):
     """A link to where a rule is held, which has to be there, and its kind: proof, test or page."""
-    folder, _, scene = said.partition("/")
-    if folder in SCENES and ":" not in said:
+    folder, _, scene = target.partition("/")
+    if folder in SCENES and ":" not in target:
         path = TOP / "tests/transcripts" / folder / f"{scene}.scene"
         if not path.is_file():
-            raise Wrong(f"no scene {said}")
+            raise Wrong(f"no scene {target}")
         return f"[scene `{scene}`](../../{path.relative_to(TOP)})", "test"
-    if said.startswith("docs/"):
-        return page_link(said), "page"
-    file, colon, name = said.partition(":")
+    if target.startswith("docs/"):
+        return page_link(target), "page"
+    file, colon, name = target.partition(":")
     if not colon or not name:
-        raise Wrong(f"{said} is no PATH:NAME")
+        raise Wrong(f"{target} is no PATH:NAME")
     path = file_of(file)
     find(path, name)
     kind = "proof" if CRATES in path.parents else "test"
@@ -112,14 +112,14 @@ def row(line):
     section, rule, state, where, *remark = [part.strip() for part in line.split(" | ")]
     if not re.fullmatch(r"\d+(\.\d+)*", section) or not rule or len(remark) > 1:
         raise Wrong("not SECTION | RULE | STATE | WHERE | REMARK")
-    places = [place(said.strip()) for said in where.split(",") if said.strip()]
-    said = remark[0] if remark else ""
-    check_state(state, {kind for _, kind in places}, said)
-    links = ", ".join(link for link, _ in places)
+    links_and_kinds = [link_to(target.strip()) for target in where.split(",") if target.strip()]
+    why = remark[0] if remark else ""
+    check_state(state, {kind for _, kind in links_and_kinds}, why)
+    links = ", ".join(link for link, _ in links_and_kinds)
     if state == "caller":
-        held = f"{said} ({links})"
+        held = f"{why} ({links})"
     else:
-        held = ". ".join(part for part in (links, said) if part)
+        held = ". ".join(part for part in (links, why) if part)
     return section, WORD.findall(rule), state, f"| {section} | {rule} | {SHOWN[state]} | {held} |"
 
 
@@ -146,13 +146,13 @@ def page():
                 text += f"\nWithout such a word: sections {line.partition('|')[2].strip()}.\n"
                 text += "\n| Section | Rule | State | Where, or why not |\n|---|---|---|---|\n"
             elif line.strip() and not line.startswith("#"):
-                section, words, state, made = row(line)
+                section, words, state, shown = row(line)
                 if number(section) < last:
                     raise Wrong(f"section {section} isn't in order")
                 if not words and state != "deviates":
                     raise Wrong("a rule without MUST, SHOULD or REQUIRED")
                 last = number(section)
-                text += made + "\n"
+                text += shown + "\n"
                 states[state] += 1
         except (Wrong, ValueError) as error:
             wrong.append(f"docs/reference/musts.txt:{at}: {error}")

@@ -42,38 +42,38 @@ class Function:
         self.edits = []
 
 
-def paragraphs(said):
+def paragraphs(lines):
     """The paragraphs of lines of a comment, without marks of lists."""
     return [" ".join(line.removeprefix("- ") for line in part.split("\n"))
-            for part in "\n".join(said).split("\n\n") if part]
+            for part in "\n".join(lines).split("\n\n") if part]
 
 
-def words_before(lines, place):
+def words_before(lines, index):
     """The paragraphs of the comment with three strokes that stands right before this line."""
-    start = place
+    start = index
     while start and lines[start - 1].strip().startswith(("///", "#[")):
         start -= 1
-    said = [line.strip()[3:].strip() for line in lines[start:place]
-            if line.strip().startswith("///")]
-    return paragraphs(said)
+    words = [line.strip()[3:].strip() for line in lines[start:index]
+             if line.strip().startswith("///")]
+    return paragraphs(words)
 
 
 def owner_of(line):
     """The type and the trait that a block of functions is about, and whether all are public."""
-    kind, said = BLOCK.match(line).group(2, 3)
-    said = without_parameters(said).split("{")[0].split(" where ")[0].strip()
+    kind, subject = BLOCK.match(line).group(2, 3)
+    subject = without_parameters(subject).split("{")[0].split(" where ")[0].strip()
     if kind == "trait":
-        return said.split(":")[0].strip(), line.startswith("pub ")
-    of_trait, _, of_type = said.rpartition(" for ")
+        return subject.split(":")[0].strip(), line.startswith("pub ")
+    of_trait, _, of_type = subject.rpartition(" for ")
     bare = of_type.split("::")[-1].removeprefix("&")
     return (f"{of_trait.split('::')[-1]} for {bare}" if of_trait else bare), bool(of_trait)
 
 
-def head_end(lines, place, indent):
+def head_end(lines, index, indent):
     """The line after the head of the function that begins at this place."""
-    if lines[place].rstrip().endswith(("{", "}", ";")):
-        return place + 1
-    end = place + 1
+    if lines[index].rstrip().endswith(("{", "}", ";")):
+        return index + 1
+    end = index + 1
     while end < len(lines) and lines[end].strip():
         line = lines[end]
         here = len(line) - len(line.lstrip())
@@ -87,7 +87,7 @@ def functions(path):
     """The functions of a file that aren't of its tests, in their order."""
     lines = path.read_text(encoding="utf-8").splitlines()
     owner, all_public = "", False
-    for place, line in enumerate(lines):
+    for index, line in enumerate(lines):
         if line.startswith(("#[cfg(test)]", "mod tests {")):
             return
         if BLOCK.match(line):
@@ -100,19 +100,19 @@ def functions(path):
         public = found[2] == "pub " or all_public and found[2] == ""
         name = f"{owner}::{found[3]}" if owner else found[3]
         kind = "public" if public else "private"
-        made = Function(name, kind, words_before(lines, place), place)
+        function = Function(name, kind, words_before(lines, index), index)
         note = []
-        for said in lines[place + 1:head_end(lines, place, len(found[1]))]:
-            if clause := CLAUSE.match(said):
-                made.clauses.append([clause[1], said])
+        for head in lines[index + 1:head_end(lines, index, len(found[1]))]:
+            if clause := CLAUSE.match(head):
+                function.clauses.append([clause[1], head])
                 if note:
-                    made.notes[clause[1]] = " ".join(note)
-            elif need := NEED.match(said):
-                made.needs.append([need[1], said])
-            elif made.clauses and not made.needs and not NOTE.match(said):
-                made.clauses[-1][1] += said
-            note = [*note, NOTE.match(said)[1]] if NOTE.match(said) else []
-        yield made
+                    function.notes[clause[1]] = " ".join(note)
+            elif need := NEED.match(head):
+                function.needs.append([need[1], head])
+            elif function.clauses and not function.needs and not NOTE.match(head):
+                function.clauses[-1][1] += head
+            note = [*note, NOTE.match(head)[1]] if NOTE.match(head) else []
+        yield function
 
 
 def files(crate):
@@ -144,7 +144,7 @@ def functions_of(crate):
         line = text[:text.index(olds[0].strip("\n"))].count("\n")
         if path not in found:
             found[path] = list(definitions(path))
-        before = [made for made in found[path] if made.begins <= line]
+        before = [function for function in found[path] if function.begins <= line]
         if not before:
             found[path].insert(0, Function("use", "imports", [], 0))
             before = found[path][:1]
@@ -169,9 +169,9 @@ def specifications(crate):
 
 def head_of(path):
     """The comment with which a module begins, as its paragraphs."""
-    said = []
+    lines = []
     for line in path.read_text(encoding="utf-8").splitlines():
         if not line.startswith("--"):
             break
-        said.append(line[2:].strip())
-    return paragraphs(said)
+        lines.append(line[2:].strip())
+    return paragraphs(lines)

@@ -29,11 +29,11 @@ def rules(path):
         yield name, dict(re.findall(r"^  pub (\w+) :\s*(.*\n(?:    .*\n)*)", body, re.MULTILINE))
 
 
-def phases(said):
+def phases(premise):
     """The phases of the router before a rule that a premise allows."""
-    if found := re.findall(r"\br\.phase ≡ phases\.(\w+)", said):
+    if found := re.findall(r"\br\.phase ≡ phases\.(\w+)", premise):
         return found
-    banned = re.findall(r"\br\.phase ≢ phases\.(\w+)", said)
+    banned = re.findall(r"\br\.phase ≢ phases\.(\w+)", premise)
     return [phase for phase in PHASES if phase not in banned] if banned else []
 
 
@@ -44,11 +44,11 @@ def router_arrows():
     for name, fields in rules(path):
         if name not in ROUTER:
             continue
-        said = " ".join(fields.values())
+        premises = " ".join(fields.values())
         if "may" in fields and (cited := re.match(r"(\w+)", fields["may"])[1]) != "MayAnswer":
-            said += " ".join(re.findall(rf"^{cited} .*=(?:\n    .*)*", text, re.MULTILINE))
-        after = re.search(r"r'\.phase ≡ phases\.(\w+)", said)
-        for before in phases(said):
+            premises += " ".join(re.findall(rf"^{cited} .*=(?:\n    .*)*", text, re.MULTILINE))
+        after = re.search(r"r'\.phase ≡ phases\.(\w+)", premises)
+        for before in phases(premises):
             yield name, before, after[1] if after else before
 
 
@@ -99,9 +99,9 @@ class Picture:
 
     def labels(self, x, y, names):
         """Rules and their words, one above the other, with the last line at y."""
-        for place, name in enumerate(reversed(names)):
-            self.text(x, y - 30 * place - 14, name, "rule")
-            self.text(x, y - 30 * place, self.words[name])
+        for index, name in enumerate(reversed(names)):
+            self.text(x, y - 30 * index - 14, name, "rule")
+            self.text(x, y - 30 * index, self.words[name])
 
     def forward(self, before, after, names):
         """To the next state."""

@@ -88,8 +88,8 @@ def check(crate, crates):
 def symbols(file):
     """Returns the functions and variables that a file takes from outside, as nm lists them."""
     words = ["nm", "-u", *(["-D"] if file.suffix != ".a" else []), file]
-    said = subprocess.run(words, capture_output=True, text=True, check=True).stdout
-    return sorted(set(re.findall(r"^ +U (\w+)", said, re.MULTILINE)))
+    output = subprocess.run(words, capture_output=True, text=True, check=True).stdout
+    return sorted(set(re.findall(r"^ +U (\w+)", output, re.MULTILINE)))
 
 
 def imports(module):
