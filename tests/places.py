@@ -16,7 +16,7 @@ def places(scope, table="RUNS"):
     for row in rows:
         count = 1
         if isinstance(row, ast.Starred):
-            made = compile(ast.Expression(row.value), path, "eval")
-            count = len(eval(made, scope))
+            code = compile(ast.Expression(row.value), path, "eval")
+            count = len(eval(code, scope))
         found += [f"{os.path.relpath(os.path.realpath(path), TOP)}:{row.lineno}"] * count
     return found

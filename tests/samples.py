@@ -72,5 +72,5 @@ def withdrawn(announced):
     """The unit that withdraws what this one announces: for an ASPA only its customer."""
     if announced[1] == 11:
         return announced[:2] + bytes.fromhex("00 00 00 00 00 0c") + announced[8:12]
-    place = 2 if announced[1] == 9 else 8
-    return announced[:place] + b"\0" + announced[place + 1:]
+    offset = 2 if announced[1] == 9 else 8
+    return announced[:offset] + b"\0" + announced[offset + 1:]

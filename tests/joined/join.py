@@ -8,8 +8,8 @@ import shlex
 import sys
 import tempfile
 
-sys.path[:0] = [os.path.join(os.path.dirname(os.path.abspath(__file__)), *place)
-                for place in ((), ("..", "transcripts"))]
+sys.path[:0] = [os.path.join(os.path.dirname(os.path.abspath(__file__)), *folders)
+                for folders in ((), ("..", "transcripts"))]
 from ends import End  # noqa: E402
 from simulation import Simulation, Wrong  # noqa: E402
 

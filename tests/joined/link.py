@@ -44,8 +44,8 @@ class Link:
     def sent(self, end, sent):
         """Returns the units that an end has completed with these bytes."""
         self.begun[end], rest = b"", self.begun.get(end, b"") + sent
-        for one in units.split(rest):
-            if len(one) < 8 or len(one) < struct.unpack(">I", one[4:8])[0]:
-                self.begun[end] = one
+        for unit in units.split(rest):
+            if len(unit) < 8 or len(unit) < struct.unpack(">I", unit[4:8])[0]:
+                self.begun[end] = unit
             else:
-                yield one
+                yield unit

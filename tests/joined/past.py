@@ -9,8 +9,8 @@ PAYLOADS = (*(Payload("ipv4", asn) for asn in range(6)),
             *(Payload("ipv6", asn) for asn in range(3)), *(Payload("key", asn) for asn in range(3)),
             *(Payload("aspa", asn, providers) for asn in (1, 2) for providers in ((7,), (7, 8))))
 ASPAS = len(PAYLOADS) - 4
-WRITTEN = [[one.unit(version) for version in range(3)] for one in PAYLOADS]
-LEAST = [one.least() for one in PAYLOADS]
+WRITTEN = [[payload.unit(version) for version in range(3)] for payload in PAYLOADS]
+LEAST = [payload.least() for payload in PAYLOADS]
 MOST_AHEAD = 2**31 - 1  # the range of serial numbers in a session (RFC 1982)
 WRAP = 2**32
 
@@ -26,7 +26,7 @@ class Edition:
 
     def data(self, version):
         """Returns the part of them that a version has (RFC 8210 sections 5.6 to 5.8 and 5.10)."""
-        own = [WRITTEN[place][version] for place in self.chosen if LEAST[place] <= version]
+        own = [WRITTEN[index][version] for index in self.chosen if LEAST[index] <= version]
         return b"".join(own) + units.end(version, self.serial, self.session, self.times)
 
 
@@ -59,8 +59,8 @@ class Past:
         self.ahead += further
         self.serial = (self.serial + further) % WRAP
         for _ in range(self.random.randrange(4)):
-            place = self.random.randrange(len(PAYLOADS))
-            self.chosen[place] = not self.chosen[place]
+            index = self.random.randrange(len(PAYLOADS))
+            self.chosen[index] = not self.chosen[index]
         version = self.random.choice((0, 1, 2, 2, 2, 2))
         edition = Edition(self.session, self.serial, version, self.places(version),
                           units.USUAL if version == 0 else self.times())
@@ -70,9 +70,9 @@ class Past:
     def places(self, version):
         """Returns the chosen payloads, of those that a version has; the longer one of two ASPAs of
         a customer."""
-        def comes(place):
-            doubled = place >= ASPAS and (place - ASPAS) % 2 == 0 and self.chosen[place + 1]
-            return self.chosen[place] and LEAST[place] <= version and not doubled
+        def comes(index):
+            doubled = index >= ASPAS and (index - ASPAS) % 2 == 0 and self.chosen[index + 1]
+            return self.chosen[index] and LEAST[index] <= version and not doubled
         return tuple(filter(comes, range(len(PAYLOADS))))
 
     def times(self):

@@ -75,11 +75,11 @@ def go_ends(archives, work):
 def rust_ends(archives, work):
     if not shutil.which("cargo"):
         return None
-    said = run(["cargo", "test", "--offline", "--quiet", "--no-run", "--lib", "--test",
-                "transcripts", "--message-format=json"], bindings("rust"), RTR_LIB_DIR=archives,
-               CARGO_TARGET_DIR=os.environ.get("CARGO_TARGET_DIR", os.path.join(work, "target")))
+    output = run(["cargo", "test", "--offline", "--quiet", "--no-run", "--lib", "--test",
+                  "transcripts", "--message-format=json"], bindings("rust"), RTR_LIB_DIR=archives,
+                 CARGO_TARGET_DIR=os.environ.get("CARGO_TARGET_DIR", os.path.join(work, "target")))
     programs = {}
-    for line in said.splitlines():
+    for line in output.splitlines():
         message = json.loads(line) if line.startswith("{") else {}
         if message.get("executable"):
             programs[message["target"]["kind"][0]] = message["executable"]
@@ -114,10 +114,10 @@ def main():
         archives = os.path.join(TOP, "prebuilt", "x86_64")
     with tempfile.TemporaryDirectory() as work:
         ends = {}
-        for language, made in zip(LANGUAGES, (c_ends, go_ends, rust_ends, python_ends, js_ends)):
+        for language, build in zip(LANGUAGES, (c_ends, go_ends, rust_ends, python_ends, js_ends)):
             if arguments and language not in arguments:
                 continue
-            ends[language] = made(archives, work)
+            ends[language] = build(archives, work)
             if not ends[language]:
                 tool = {"c": "gcc", "rust": "cargo", "js": "node or module"}.get(language, language)
                 print(f"!!! tests/joined/run.py: no {tool} here: SKIPPED the ends in {language}")
@@ -129,7 +129,7 @@ def main():
                     for seed in seeds("bindings")
                     for pair in itertools.product(here, here) if ends[pair[1]][1]]
         with concurrent.futures.ThreadPoolExecutor(2) as workers:
-            steps = sum(workers.map(lambda one: join(ends, *one), runs))
+            steps = sum(workers.map(lambda words: join(ends, *words), runs))
         print(f"joined: {len(runs)} runs of {steps:,} steps")
 
 

@@ -51,8 +51,8 @@ class Simulation:
 
     def run(self, steps):
         """Takes this many steps, each an event of an end."""
-        for place in range(1, steps + 1):
-            if place % TROUBLE == 0:
+        for number in range(1, steps + 1):
+            if number % TROUBLE == 0:
                 self.recover()
             self.step()
         self.recover()

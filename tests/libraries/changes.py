@@ -70,14 +70,14 @@ def some_unit(picked):
 
 def withdrawn(announced):
     """Returns the unit with the flag of a withdrawal, and all else unchanged."""
-    place = FLAGS[announced[1]]
-    return announced[:place] + bytes([announced[place] & 0xFE]) + announced[place + 1:]
+    offset = FLAGS[announced[1]]
+    return announced[:offset] + bytes([announced[offset] & 0xFE]) + announced[offset + 1:]
 
 
-def said_by(call, types, one):
+def written_by(call, types, unit):
     """Returns the line or the object that a call writes for a unit."""
     output, answer = ctypes.create_string_buffer(ROOM), types.rtr_line()
-    status = call(one, len(one), output, ROOM, answer)
+    status = call(unit, len(unit), output, ROOM, answer)
     return output.raw[:answer.length].decode() if status == 0 else f"status {status}"
 
 
@@ -96,12 +96,12 @@ def printed(program, words, old, new):
 def compare(program, calls, types, seed):
     """Yields the lines that differ."""
     picked = random.Random(seed)
-    units = {name: one for one, name in (some_unit(picked) for _ in range(COUNT))}.values()
+    units = {name: unit for unit, name in (some_unit(picked) for _ in range(COUNT))}.values()
     data, nothing = b"".join(units) + END, END
     forms = ([], calls.rtr_change_line_nonnull), (["--json"], calls.rtr_change_json_nonnull)
     for words, call in forms:
-        for old, new, made in (nothing, data, units), (data, nothing, map(withdrawn, units)):
-            ours = sorted(said_by(call, types, one) for one in made)
+        for old, new, changed in (nothing, data, units), (data, nothing, map(withdrawn, units)):
+            ours = sorted(written_by(call, types, unit) for unit in changed)
             theirs = sorted(printed(os.path.realpath(program), words, old, new))
             assert len(ours) > COUNT // 2
             if ours != theirs:

@@ -142,10 +142,10 @@ def rows(rng, number):
         fields = any_unit(rng, reader, version)
         if left == 0 and rng.random() < 0.8:
             fields = right_end(rng, reader, version)
-        made = encoded(rng, *fields)
-        lines.append(f"unit {made.hex()}")
+        unit = encoded(rng, *fields)
+        lines.append(f"unit {unit.hex()}")
         wrong = wrong or reader.take(*fields)
-        at += 0 if wrong else len(made)
+        at += 0 if wrong else len(unit)
     if not wrong and (reader.answer or not reader.last):
         wrong = "short"
     if wrong:

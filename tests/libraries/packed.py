@@ -42,9 +42,9 @@ IN_EACH_C_LIBRARY = {"memcpy", "memmove", "memset"}  # ISO C, 7.24
 def package():
     """Returns the script bindings/package.py as a module."""
     loader = SourceFileLoader("package", str(TOP / "bindings" / "package.py"))
-    made = module_from_spec(spec_from_loader("package", loader))
-    loader.exec_module(made)
-    return made
+    module = module_from_spec(spec_from_loader("package", loader))
+    loader.exec_module(module)
+    return module
 
 
 def names(*folders):
@@ -78,8 +78,8 @@ def needs(library):
     versions = re.findall(r"Name: GLIBC_(\d+)\.(\d+)", output_of("readelf", "-V", library))
     symbols = re.findall(r"GLOBAL +DEFAULT +UND (\w+)",
                          output_of("readelf", "-W", "--dyn-syms", library))
-    return machine, libraries, max((tuple(map(int, one)) for one in versions), default=(0, 0)), \
-        set(symbols)
+    newest = max((tuple(map(int, version)) for version in versions), default=(0, 0))
+    return machine, libraries, newest, set(symbols)
 
 
 def misfits(tag, machine, libraries, glibc, symbols):
@@ -130,32 +130,32 @@ LIBRARIES = (
 def unfit(folder):
     """Yields which library got a wrong tag, or was refused in other words."""
     platforms = package().platforms
-    for number, (code, flags, wanted) in enumerate(LIBRARIES):
-        source, made = (pathlib.Path(folder, f"library{number}.{kind}") for kind in ("c", "so"))
+    for number, (code, flags, expected) in enumerate(LIBRARIES):
+        source, library = (pathlib.Path(folder, f"library{number}.{kind}") for kind in ("c", "so"))
         source.write_text(code)
         subprocess.run([os.environ.get("CC", "cc"), "-w", "-fno-builtin", "-shared", "-fPIC", "-o",
-                        made, source, *flags], check=True)
+                        library, source, *flags], check=True)
         try:
-            answer = platforms.tag(made)
+            answer = platforms.tag(library)
         except platforms.Unfit as refusal:
             answer = str(refusal)
-        if wanted not in answer:
+        if expected not in answer:
             yield f"{code}: {answer}"
 
 
 def proxy(folder, to):
     """Makes what `go get` asks a proxy for (the GOPROXY protocol)."""
-    made = package()
+    script = package()
     module = re.search(r"^module (\S+)$", (pathlib.Path(folder) / "go.mod").read_text(),
                        re.MULTILINE)[1]
-    version = f"v{made.version()}"
+    version = f"v{script.version()}"
     at = pathlib.Path(to, module, "@v")
     at.mkdir(parents=True)
     (at / "list").write_text(f"{version}\n")
     (at / f"{version}.info").write_text(json.dumps({"Version": version}))
     (at / f"{version}.mod").write_bytes((pathlib.Path(folder) / "go.mod").read_bytes())
     with zipfile.ZipFile(at / f"{version}.zip", "w") as zipped:
-        for name, data in made.packed(pathlib.Path(folder), f"{module}@{version}/").items():
+        for name, data in script.packed(pathlib.Path(folder), f"{module}@{version}/").items():
             zipped.writestr(name, data)
     return []
 
@@ -191,9 +191,9 @@ def npm(folder):
     if listing:
         by_npm = {file["path"] for file in json.loads(listing)[0]["files"]}
         yield from (f"npm and package.json differ in {name}" for name in sorted(by_npm ^ listed))
-    wanted = {name for name in below(folder) if not name.startswith("tests/")}
-    yield from (f"npm leaves out {name}" for name in sorted(wanted - listed))
-    yield from (f"npm packs {name}" for name in sorted(listed - wanted))
+    expected = {name for name in below(folder) if not name.startswith("tests/")}
+    yield from (f"npm leaves out {name}" for name in sorted(expected - listed))
+    yield from (f"npm packs {name}" for name in sorted(listed - expected))
     for name in sorted(name for name in listed if name.endswith((".js", ".d.ts"))):
         text = pathlib.Path(folder, name).read_text()
         for other in re.findall(r'(?:from|import|URL\() ?"(\.[^"]*)"', text):
@@ -240,10 +240,10 @@ def page(folder):
 def crate(folder):
     """Yields what the list of cargo lacks or has beyond what is needed."""
     listed = set(sys.stdin.read().split()) - {"Cargo.toml.orig", "Cargo.lock"}
-    wanted = {name for name in below(folder)
-              if not name.startswith("tokio/") and name != "Cargo.lock"}
-    yield from (f"cargo leaves out {name}" for name in sorted(wanted - listed))
-    yield from (f"cargo packs {name}" for name in sorted(listed - wanted))
+    expected = {name for name in below(folder)
+                if not name.startswith("tokio/") and name != "Cargo.lock"}
+    yield from (f"cargo leaves out {name}" for name in sorted(expected - listed))
+    yield from (f"cargo packs {name}" for name in sorted(listed - expected))
 
 
 def main():

@@ -135,11 +135,11 @@ def answer(data):
 def walk(data):
     """Returns the answers in order, skipping prefixes that are refused."""
     while True:
-        one = answer(data)
-        yield one
-        if one[0].get("status", OK) not in (OK, PREFIX):
+        answered = answer(data)
+        yield answered
+        if answered[0].get("status", OK) not in (OK, PREFIX):
             return
-        data = data[one[0]["size"]:]
+        data = data[answered[0]["size"]:]
 
 
 # ---- sessions
@@ -234,9 +234,9 @@ def the_session():
     ])
 
 
-def line(data, one):
+def line(data, answered):
     """Returns what session.c prints for a unit."""
-    shown, address, _, _ = one
+    shown, address, _, _ = answered
     kind, unit = shown.get("kind"), data[:shown.get("size", 0)]
     if shown.get("status", OK) == PREFIX:
         return f"prefix fields are not allowed, {shown['size']} bytes"
@@ -255,20 +255,20 @@ def line(data, one):
         return text + f": AS{shown['customer']} by" + "".join(f" AS{asn}" for asn in providers)
     if kind == REPORT:
         start, length = shown.get("text_start", 0), shown.get("text_length", 0)
-        said = unit[start:start + length].decode()
-        return text + f": code {shown['code']}, {shown.get('part_length', 0)} bytes, '{said}'"
+        message = unit[start:start + length].decode()
+        return text + f": code {shown['code']}, {shown.get('part_length', 0)} bytes, '{message}'"
     return text
 
 
 def printed(data):
     """Returns what session.c prints for a session, and its last line."""
     at = 0
-    for one in walk(data):
-        if one[0].get("status", OK) == SHORT:
-            yield f"unexpected end of input, {one[0]['wanted']} bytes"
+    for answered in walk(data):
+        if answered[0].get("status", OK) == SHORT:
+            yield f"unexpected end of input, {answered[0]['wanted']} bytes"
             return
-        yield line(data[at:], one)
-        at += one[0]["size"]
+        yield line(data[at:], answered)
+        at += answered[0]["size"]
 
 
 def main():

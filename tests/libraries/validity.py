@@ -127,8 +127,8 @@ ROWS = [
 
 def row_tables():
     """Yields the VRPs of each row in order, its route, and the route's validity."""
-    for texts, prefix, asn, wanted in ROWS:
-        yield sorted(vrp_of(*text) for text in texts), route_of(prefix, asn), wanted
+    for texts, prefix, asn, expected in ROWS:
+        yield sorted(vrp_of(*text) for text in texts), route_of(prefix, asn), expected
 
 
 # ---- random tables
@@ -216,18 +216,18 @@ def tables(seed):
 def written(choice, vrps, asked):
     """Encodes a table with these routes."""
     data = units_of(vrps) + END
-    made = struct.pack("<2I", len(data), len(asked)) + data
-    places = {vrp: place for place, vrp in enumerate(vrps)}
+    content = struct.pack("<2I", len(data), len(asked)) + data
+    places = {vrp: index for index, vrp in enumerate(vrps)}
     for route in asked:
         found = covering(vrps, route)[:255]
         host = choice.choice([0, choice.getrandbits(route.width - route.length)])
         address = (route.prefix | host) << (128 - route.width)
-        made += struct.pack("<4BI", 4 if route.width == 32 else 6, route.length,
-                            VALIDITIES.index(state(found, route)), len(found), route.asn)
-        made += address.to_bytes(16, "big")
-        made += b"".join(struct.pack("<2I4B", places[vrp], vrp.asn, vrp.length, vrp.most,
-                                     mismatch(vrp, route), 0) for vrp in found)
-    return made
+        content += struct.pack("<4BI", 4 if route.width == 32 else 6, route.length,
+                               VALIDITIES.index(state(found, route)), len(found), route.asn)
+        content += address.to_bytes(16, "big")
+        content += b"".join(struct.pack("<2I4B", places[vrp], vrp.asn, vrp.length, vrp.most,
+                                        mismatch(vrp, route), 0) for vrp in found)
+    return content
 
 
 def main():
@@ -235,9 +235,9 @@ def main():
         sys.exit(__doc__)
     seed = sys.argv[1] if len(sys.argv) > 1 else "1"
     choice = random.Random(seed)
-    for vrps, route, wanted in row_tables():
-        if state(covering(vrps, route), route) != wanted:
-            sys.exit(f"validity.py: the model doesn't say {wanted} of {route}")
+    for vrps, route, expected in row_tables():
+        if state(covering(vrps, route), route) != expected:
+            sys.exit(f"validity.py: the model doesn't say {expected} of {route}")
         sys.stdout.buffer.write(written(choice, vrps, [route]))
     for kind, widths, chosen in tables(seed):
         vrps = table(chosen, kind, widths)

@@ -45,7 +45,7 @@ class Browser:
         os.close(answered)
         self.left, self.number, self.events, self.session = b"", 0, [], None
         targets = self.call("Target.getTargets")["targetInfos"]
-        page = next(one for one in targets if one["type"] == "page")
+        page = next(target for target in targets if target["type"] == "page")
         self.session = self.call("Target.attachToTarget", targetId=page["targetId"],
                                  flatten=True)["sessionId"]
         for domain in ("Page", "Runtime", "Log"):
@@ -60,26 +60,26 @@ class Browser:
             if not piece:
                 raise Wrong("the browser ended")
             self.left += piece
-        one, self.left = self.left.split(b"\0", 1)
-        return json.loads(one)
+        content, self.left = self.left.split(b"\0", 1)
+        return json.loads(content)
 
     def call(self, method, **parameters):
         """Sends a command, and returns its result."""
         self.number += 1
-        said = {"id": self.number, "method": method, "params": parameters}
+        request = {"id": self.number, "method": method, "params": parameters}
         if self.session:
-            said["sessionId"] = self.session
-        data = json.dumps(said).encode() + b"\0"
+            request["sessionId"] = self.session
+        data = json.dumps(request).encode() + b"\0"
         while data:
             data = data[os.write(self.written, data):]
         until = time.monotonic() + LIMIT
         while True:
-            one = self.message(until)
-            if one.get("id") == self.number:
-                if "error" in one:
-                    raise Wrong(f"{method}: {one['error']['message']}")
-                return one["result"]
-            self.events.append(one)
+            message = self.message(until)
+            if message.get("id") == self.number:
+                if "error" in message:
+                    raise Wrong(f"{method}: {message['error']['message']}")
+                return message["result"]
+            self.events.append(message)
 
     def run(self, code):
         """Returns the value of an expression of the page, also of a promise."""
@@ -135,11 +135,12 @@ class Browser:
         self.run("1")
         found_wrong = []
         for event in self.events:
-            said = event.get("params", {})
+            details = event.get("params", {})
             if event.get("method") == "Runtime.exceptionThrown":
-                found_wrong.append(said["exceptionDetails"].get("exception", {}).get("description"))
-            if event.get("method") == "Log.entryAdded" and said["entry"]["level"] == "error":
-                found_wrong.append(said["entry"]["text"] + " " + said["entry"].get("url", ""))
+                exception = details["exceptionDetails"].get("exception", {})
+                found_wrong.append(exception.get("description"))
+            if event.get("method") == "Log.entryAdded" and details["entry"]["level"] == "error":
+                found_wrong.append(details["entry"]["text"] + " " + details["entry"].get("url", ""))
         return found_wrong
 
     def close(self):

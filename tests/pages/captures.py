@@ -29,12 +29,12 @@ def segment(source, destination, sequence, payload=b"", flags=ACK, acknowledged=
     (from_host, from_port), (to_host, to_port) = source, destination
     tcp = struct.pack(">HHIIBBHHH", from_port, to_port, sequence % 2 ** 32,
                       acknowledged % 2 ** 32, 5 << 4, flags, 65535, 0, 0) + payload
-    one, other = ipaddress.ip_address(from_host), ipaddress.ip_address(to_host)
-    if one.version == 4:
+    sender, receiver = ipaddress.ip_address(from_host), ipaddress.ip_address(to_host)
+    if sender.version == 4:
         front = struct.pack(">BBHHHBBH", 0x45, 0, 20 + len(tcp), 1, 0x4000, 64, 6, 0)
     else:
         front = struct.pack(">IHBB", 6 << 28, len(tcp), 6, 64)
-    return front + one.packed + other.packed + tcp
+    return front + sender.packed + receiver.packed + tcp
 
 
 def framed(packet, link=ETHERNET, vlan=None):
@@ -52,12 +52,12 @@ def pcap(frames, link=ETHERNET, order="<", ticks=10 ** 6):
     """Returns a pcap file of frames, each with its time in seconds, and optionally with how many of
     its bytes are captured."""
     magic = 0xa1b2c3d4 if ticks == 10 ** 6 else 0xa1b23c4d
-    made = [struct.pack(order + "IHHiIII", magic, 2, 4, 0, 0, 262144, link)]
+    parts = [struct.pack(order + "IHHiIII", magic, 2, 4, 0, 0, 262144, link)]
     for time, frame, *most in frames:
         kept = frame[:most[0]] if most else frame
-        made.append(struct.pack(order + "IIII", int(time), round(time % 1 * ticks) % ticks,
-                                len(kept), len(frame)) + kept)
-    return b"".join(made)
+        parts.append(struct.pack(order + "IIII", int(time), round(time % 1 * ticks) % ticks,
+                                 len(kept), len(frame)) + kept)
+    return b"".join(parts)
 
 
 def pcapng(frames, link=ETHERNET, order="<", resolution=9):
@@ -68,13 +68,13 @@ def pcapng(frames, link=ETHERNET, order="<", resolution=9):
         return struct.pack(order + "I", kind) + size + body + size
 
     option = struct.pack(order + "HHB3xHH", 9, 1, resolution, 0, 0)
-    made = [block(0x0a0d0d0a, struct.pack(order + "IHHq", 0x1a2b3c4d, 1, 0, -1)),
-            block(1, struct.pack(order + "HHI", link, 0, 262144) + option)]
+    blocks = [block(0x0a0d0d0a, struct.pack(order + "IHHq", 0x1a2b3c4d, 1, 0, -1)),
+              block(1, struct.pack(order + "HHI", link, 0, 262144) + option)]
     for time, frame in frames:
         ticks = round(time * 10 ** resolution)
-        made.append(block(6, struct.pack(order + "IIIII", 0, ticks >> 32, ticks % 2 ** 32,
-                                         len(frame), len(frame)) + frame))
-    return b"".join(made)
+        blocks.append(block(6, struct.pack(order + "IIIII", 0, ticks >> 32, ticks % 2 ** 32,
+                                           len(frame), len(frame)) + frame))
+    return b"".join(blocks)
 
 
 def connection(router, cache, exchanged, began=BEGAN, link=ETHERNET, first=(1000, 2 ** 32 - 40)):
@@ -85,10 +85,10 @@ def connection(router, cache, exchanged, began=BEGAN, link=ETHERNET, first=(1000
               (began + 0.001, framed(segment(cache, router, first[1] - 1, flags=SYN | ACK), link))]
     for seconds, is_router, sent in exchanged:
         source, destination = (router, cache) if is_router else (cache, router)
-        for place in range(0, len(sent), 1400):
-            piece = sent[place:place + 1400]
+        for offset in range(0, len(sent), 1400):
+            piece = sent[offset:offset + 1400]
             packet = segment(source, destination, next_byte[source], piece)
-            frames.append((began + seconds + place / 1e7, framed(packet, link)))
+            frames.append((began + seconds + offset / 1e7, framed(packet, link)))
             next_byte[source] += len(piece)
     return frames
 
@@ -126,11 +126,11 @@ def sample():
     query without changes."""
     router, cache, session = ("192.0.2.10", 40000), ("192.0.2.1", 323), 4660
     response = sessions.unit(1, sessions.RESPONSE, session, b"")
-    table = [ipv4(f"198.51.{place}.0/24", 24 + place % 4, 64496 + place % 16)
-             for place in range(100)]
+    table = [ipv4(f"198.51.{index}.0/24", 24 + index % 4, 64496 + index % 16)
+             for index in range(100)]
     table += [ipv4("203.0.113.0/24", 24, 65551), ipv4("192.0.2.0/24", 26, 65536)]
-    table += [ipv6(f"2001:db8:{place:x}::/48", 48 + place % 5, 64496 + place % 16)
-              for place in range(48)]
+    table += [ipv6(f"2001:db8:{index:x}::/48", 48 + index % 5, 64496 + index % 16)
+              for index in range(48)]
     table += [key(64496, bytes(range(20)), bytes(range(91)))]
     changes = [ipv4("203.0.113.0/24", 24, 65551, 0), ipv4("203.0.113.0/24", 25, 65551),
                ipv6("2001:db8:ff::/48", 48, 64511)]
@@ -151,14 +151,14 @@ def sample():
 
 
 def main():
-    made = sample()
+    content = sample()
     if sys.argv[1:] == ["--check"]:
         with open(SAMPLE, "rb") as file:
-            if file.read() != made:
+            if file.read() != content:
                 sys.exit(f"captures.py: {SAMPLE} isn't what this writes")
     else:
         with open(SAMPLE, "wb") as file:
-            file.write(made)
+            file.write(content)
 
 
 if __name__ == "__main__":

@@ -42,20 +42,20 @@ await fetch("/said", { method: "POST", body: said });
 </script>"""
 
 
-class Told(browser.Files):
+class Reports(browser.Files):
     """Serves files, and receives the result of the page."""
 
     heard = threading.Event()
-    said = b""
+    body = b""
 
     def do_POST(self):
-        Told.said = self.rfile.read(int(self.headers["Content-Length"]))
+        Reports.body = self.rfile.read(int(self.headers["Content-Length"]))
         self.send_response(204)
         self.end_headers()
-        Told.heard.set()
+        Reports.heard.set()
 
 
-def said_in(firefox, folder, modules):
+def reported_by(firefox, folder, modules):
     """Returns the result of the page in Firefox."""
     page = os.path.join(folder, "page.html")
     with open(page, "w") as file:
@@ -63,18 +63,18 @@ def said_in(firefox, folder, modules):
     profile = os.path.join(folder, "profile")
     os.mkdir(profile)
     others = {"/page.html": page, **modules}
-    with browser.serving(built.TOP, others, Told) as url:
+    with browser.serving(built.TOP, others, Reports) as url:
         run = subprocess.Popen(
             [firefox, "--headless", "--no-remote", "--profile", profile, url + "/page.html"],
             stdin=subprocess.DEVNULL, stdout=subprocess.DEVNULL, stderr=subprocess.DEVNULL,
             env={**os.environ, "HOME": folder}, start_new_session=True)
         try:
-            if not Told.heard.wait(LIMIT):
+            if not Reports.heard.wait(LIMIT):
                 sys.exit(f"firefox: the page said nothing within {LIMIT} s")
         finally:
             os.killpg(run.pid, 9)
             run.wait()
-    return Told.said
+    return Reports.body
 
 
 def main():
@@ -89,13 +89,13 @@ def main():
         print(f"!!! tests/pages/firefox.py: {missing}: SKIPPED the module in Firefox")
         return
     with open(SAMPLE, "rb") as sample:
-        wanted = subprocess.run([built.program("rtr_list")], stdin=sample, check=True,
-                                stdout=subprocess.PIPE).stdout
+        expected = subprocess.run([built.program("rtr_list")], stdin=sample, check=True,
+                                  stdout=subprocess.PIPE).stdout
     with tempfile.TemporaryDirectory(ignore_cleanup_errors=True) as folder:
-        said = said_in(firefox, folder, modules)
-    wanted += wanted
-    if said != wanted:
-        sys.exit(f"firefox:\n  said   {said!r}\n  wanted {wanted!r}")
+        reported = reported_by(firefox, folder, modules)
+    expected += expected
+    if reported != expected:
+        sys.exit(f"firefox:\n  said   {reported!r}\n  wanted {expected!r}")
     version = subprocess.run([firefox, "--version"], stdout=subprocess.PIPE, text=True).stdout
     print(f"both modules are well in {version.strip()}")
 

@@ -46,9 +46,9 @@ def wrong(text):
     sys.exit(f"inspector: {text}")
 
 
-def same(said, wanted, what):
-    if said != wanted:
-        wrong(f"{what}:\n  shown  {said}\n  wanted {wanted}")
+def same(shown, expected, what):
+    if shown != expected:
+        wrong(f"{what}:\n  shown  {shown}\n  wanted {expected}")
 
 
 def printed(program, *words, given=b""):
@@ -90,8 +90,8 @@ def payload_text(unit):
     if kind == "error_report":
         if unit["erroneous_pdu"] is None:
             return f"code {unit['error_code']}, and its lengths don't fit"
-        said = json.dumps(unit["error_text"], ensure_ascii=False)
-        return f"code {unit['error_code']} about {unit['erroneous_pdu'] or 'no unit'} {said}"
+        text = json.dumps(unit["error_text"], ensure_ascii=False)
+        return f"code {unit['error_code']} about {unit['erroneous_pdu'] or 'no unit'} {text}"
     return ""
 
 
@@ -173,9 +173,9 @@ class Page:
 
     def shown(self):
         """Waits until a filter is applied, and returns how many units match."""
-        return self.said("shown", "shown")
+        return self.text_with("shown", "shown")
 
-    def said(self, name, word):
+    def text_with(self, name, word):
         """Waits until an element has a word, and returns its text."""
         return self.browser.wait(
             f"document.getElementById('{name}').textContent.match(/{word}/)?.input")
@@ -196,10 +196,10 @@ def million():
     six = struct.Struct(">BBHIBBBBQQI")
     count = MANY * 7 // 10
     units = [sessions.unit(1, sessions.RESPONSE, 4660, b"")]
-    units += [four.pack(1, 4, 0, 20, 1, 24, 24 + place % 5, 0, place << 8, 64496 + place % 4000)
-              for place in range(count)]
-    units += [six.pack(1, 6, 0, 32, 1, 48, 48 + place % 3, 0, 0x20010db800000000 + (place << 16), 0,
-                       64496 + place % 900) for place in range(MANY - count)]
+    units += [four.pack(1, 4, 0, 20, 1, 24, 24 + index % 5, 0, index << 8, 64496 + index % 4000)
+              for index in range(count)]
+    units += [six.pack(1, 6, 0, 32, 1, 48, 48 + index % 3, 0, 0x20010db800000000 + (index << 16), 0,
+                       64496 + index % 900) for index in range(MANY - count)]
     units.append(sessions.unit(1, sessions.END, 4660, struct.pack(">IIII", 7, 3600, 600, 7200)))
     return b"".join(units)
 
@@ -210,11 +210,11 @@ def answers(rng, data, session):
     first = deltas.any_data(rng, 8)
     end = [sessions.unit(2, sessions.RESPONSE, session, b"")]
     steps = [(1, payload) for payload in rng.sample(sorted(first), len(first))]
-    made = end + deltas.units_of(rng, 2, steps)
-    made += [deltas.end_form((2, session, 1, [1, 2, 3]))]
-    made += [sessions.unit(2, sessions.NOTIFY, session, struct.pack(">I", 2))] + end
-    made += deltas.units_of(rng, 2, deltas.delta(first, data))
-    return b"".join(made) + deltas.end_form((2, session, 2, [1, 2, 3]))
+    units = end + deltas.units_of(rng, 2, steps)
+    units += [deltas.end_form((2, session, 1, [1, 2, 3]))]
+    units += [sessions.unit(2, sessions.NOTIFY, session, struct.pack(">I", 2))] + end
+    units += deltas.units_of(rng, 2, deltas.delta(first, data))
+    return b"".join(units) + deltas.end_form((2, session, 2, [1, 2, 3]))
 
 
 # ---- checks
@@ -263,16 +263,16 @@ def check_million(page):
     if grew > MOST * len(data):
         wrong(f"a million units in {len(data)} bytes took {grew} bytes of memory")
     units = listed(data)
-    starts = {unit["offset"]: place for place, unit in enumerate(units)}
-    places = [0, 1, len(units) - 1, *random.Random(1).sample(range(len(units)), 20)]
-    for place in places:
-        page.fill("goto", offset=units[place]["offset"] + 3)
+    starts = {unit["offset"]: index for index, unit in enumerate(units)}
+    indexes = [0, 1, len(units) - 1, *random.Random(1).sample(range(len(units)), 20)]
+    for index in indexes:
+        page.fill("goto", offset=units[index]["offset"] + 3)
         rows = dict(page.rows())
-        same(rows.get(place), row_of(units[place]), f"unit {place} of a million")
+        same(rows.get(index), row_of(units[index]), f"unit {index} of a million")
         for number, cells in rows.items():
             same(starts[int(cells[0])], number, "the number of a row")
-    wanted = sum(unit.get("asn") == 64500 for unit in units)
-    same(page.filtered(**{"as": 64500}), f"{wanted:,} units of {len(units):,} are shown.", "by AS")
+    count = sum(unit.get("asn") == 64500 for unit in units)
+    same(page.filtered(**{"as": 64500}), f"{count:,} units of {len(units):,} are shown.", "by AS")
     within = [unit for unit in units if unit["kind"] == "ipv4_prefix"
               and unit["prefix"].startswith("0.7.")]
     same(page.filtered(prefix="0.7.0.0/16"), f"{len(within)} units of {len(units):,} are shown.",
@@ -298,8 +298,8 @@ def renderer_memory(page):
             mine.add(int(pid))
             if "--type=renderer" in args:
                 with open(f"/proc/{pid}/status", encoding="ascii") as status:
-                    sizes += sum(1024 * int(one.split()[1]) for one in status
-                                 if one.startswith(("RssAnon:", "RssShmem:")))
+                    sizes += sum(1024 * int(row.split()[1]) for row in status
+                                 if row.startswith(("RssAnon:", "RssShmem:")))
     return sizes
 
 
@@ -311,11 +311,11 @@ def check_broken(page):
     other_version = session[:148] + b"\x07" + session[149:]
     for data, code in ((session[:100], 0), (strange, 5), (other_version, 4)):
         page.drop(page.file(data))
-        said = printed("rtr_list", given=data)[1]
-        offset, reason = said.removeprefix("rtr_list: offset ").strip().split(": ")
+        stderr = printed("rtr_list", given=data)[1]
+        offset, reason = stderr.removeprefix("rtr_list: offset ").strip().split(": ")
         text = page.text("faults")
         if f" Byte {offset} " not in text or reason[:7] not in text:
-            wrong(f"a fault: {text}, and rtr_list: {said}")
+            wrong(f"a fault: {text}, and rtr_list: {stderr}")
         if f"an error report of code {code} is owed" not in text:
             wrong(f"a fault of code {code}: {text}")
         same(page.all_rows()[:-1], [row_of(unit) for unit in listed(data)], "the units before it")
@@ -341,9 +341,9 @@ def check_rules(page):
         page.drop(page.file(data))
         page.browser.run("document.getElementById('tab-rules').click()")
         page.browser.wait("document.getElementById('panel-rules').dataset.state === 'shown'")
-        said = page.browser.run("[...document.querySelectorAll('#findings button')]"
-                                ".map((link) => link.textContent)")
-        same(said, printed("rtr_list", "--check", given=data)[0].splitlines(), "broken rules")
+        shown = page.browser.run("[...document.querySelectorAll('#findings button')]"
+                                 ".map((link) => link.textContent)")
+        same(shown, printed("rtr_list", "--check", given=data)[0].splitlines(), "broken rules")
     page.drop(page.file(bad))
     page.browser.run("document.getElementById('tab-rules').click()")
     page.browser.wait("document.getElementById('panel-rules').dataset.state === 'shown'")
@@ -366,12 +366,12 @@ def check_compared(page):
     for between, session in ((b"", 2), (sessions.unit(2, sessions.RESET, 0, b""), 1),
                              (sessions.unit(2, sessions.RESET_QUERY, 0, b""), 1)):
         first, second = (
-            answers(rng, frozenset([(sessions.IPV4, bytes([net, 0, 0, 0]), 8, 8, net)]), one)
-            for net, one in ((10, 1), (11, session)))
+            answers(rng, frozenset([(sessions.IPV4, bytes([net, 0, 0, 0]), 8, 8, net)]), own)
+            for net, own in ((10, 1), (11, session)))
         pairs.append((page.file(first + between + second), OLD))
     for old, new in pairs:
         page.drop(old, new)
-        text = page.said("compared", "From ")
+        text = page.text_with("compared", "From ")
         lines = printed("rtr_diff", "--json", old, new)[0].splitlines()
         changes = [json.loads(line) for line in lines]
         announced = sum(change["action"] == "announce" for change in changes)
@@ -381,9 +381,9 @@ def check_compared(page):
         same(page.all_rows("changes"), [row_of(change) for change in changes], f"{old} {new}")
     responses = [sessions.any_unit(rng, sessions.RESPONSE) for _ in range(2)]
     page.drop(page.file(b"".join(responses)), SESSION)
-    said = page.said("compared", "leaves")
-    if "leaves no data: at byte 16, unexpected end of input" not in said:
-        wrong(f"a recording without an end of data: {said}")
+    shown = page.text_with("compared", "leaves")
+    if "leaves no data: at byte 16, unexpected end of input" not in shown:
+        wrong(f"a recording without an end of data: {shown}")
 
 
 def check_routes(page):
@@ -392,13 +392,13 @@ def check_routes(page):
     for vrps in {tuple(row[0]) for row in rows}:
         page.drop(page.file(validity.units_of(vrps) + validity.END))
         page.tab("route")
-        for route, wanted in [row[1:] for row in rows if tuple(row[0]) == vrps]:
+        for route, expected in [row[1:] for row in rows if tuple(row[0]) == vrps]:
             prefix = validity.shown(route.prefix, route.width, route.length)
             page.fill("route", prefix=prefix, **{"as": route.asn})
             found = validity.covering(vrps, route)
             shown = page.browser.run("document.querySelectorAll('#vrps tr').length")
             same([page.text("validity").split(": ", 1)[-1].split(":")[0].rstrip("."), shown],
-                 [wanted, len(found) + 1 if found else 0], f"{prefix} AS{route.asn}")
+                 [expected, len(found) + 1 if found else 0], f"{prefix} AS{route.asn}")
 
 
 ROUTER, CACHE = ("192.0.2.10", 40000), ("192.0.2.1", 323)
@@ -653,7 +653,8 @@ def main():
             took, memory = check_million(page)
             if sys.argv[1:2] == ["--pictures"]:
                 pictures(page, sys.argv[2])
-        complaints = [one for one in driven.complaints() if "127.0.0.1:9/" not in one]
+        complaints = [complaint for complaint in driven.complaints()
+                      if "127.0.0.1:9/" not in complaint]
         same(complaints, [], "what the browser says is wrong")
     finally:
         driven.close()

@@ -43,11 +43,12 @@ cp "$0.session" "$2"
 
 def stand_in(path):
     """Writes a program into a folder that records what the cache sends, as rtr-client does."""
-    place = os.path.join(path, "rtr-client")
-    with open(place, "w", encoding="utf-8") as script, open(f"{place}.session", "wb") as session:
+    program = os.path.join(path, "rtr-client")
+    with open(program, "w", encoding="utf-8") as script, \
+            open(f"{program}.session", "wb") as session:
         script.write(STAND_IN)
         session.write(operators.QUERY + operators.ANSWER)
-    os.chmod(place, 0o755)
+    os.chmod(program, 0o755)
     print("!!! tests/pages/manuals.py: no rtr-client here: SKIPPED it in examples of man pages")
 
 
@@ -71,15 +72,15 @@ def goes_on(command):
 
 def commands(block):
     """Returns the commands of a block, each with its output on the page."""
-    made = []
+    found = []
     for line in block:
-        if made and not made[-1][1] and goes_on(made[-1][0]):
-            made[-1] = (f"{made[-1][0]}\n{line}", [])
+        if found and not found[-1][1] and goes_on(found[-1][0]):
+            found[-1] = (f"{found[-1][0]}\n{line}", [])
         elif line.startswith("$ "):
-            made.append((line[2:], []))
-        elif made:
-            made[-1][1].append(line)
-    return made
+            found.append((line[2:], []))
+        elif found:
+            found[-1][1].append(line)
+    return found
 
 
 def run_block(page, block, shell, cache):
@@ -94,12 +95,12 @@ def run_block(page, block, shell, cache):
               f"{page}")
     if absent or LISTENS in text:
         return 0, 0
-    for command, wanted in commands(block):
-        said = shell.run(command.replace(CACHE, cache))
+    for command, expected in commands(block):
+        lines = shell.run(command.replace(CACHE, cache))
         ran += 1
-        if said != wanted:
+        if lines != expected:
             wrong += 1
-            print(f"{page}: `{command}` prints", *said, sep="\n    ")
+            print(f"{page}: `{command}` prints", *lines, sep="\n    ")
     return ran, wrong
 
 
@@ -108,17 +109,17 @@ def lint(path):
     if not shutil.which("mandoc"):
         return []
     words = ["mandoc", "-T", "lint", path]
-    said = subprocess.run(words, capture_output=True, text=True, check=False)
-    return [line for line in said.stdout.splitlines() if not ALLOWED.search(line)]
+    result = subprocess.run(words, capture_output=True, text=True, check=False)
+    return [line for line in result.stdout.splitlines() if not ALLOWED.search(line)]
 
 
 def check(name, cache, path):
     """Runs the examples of a page; returns how many commands were run, and how many faults there
     are."""
-    place = os.path.join(operators.TOP, "docs", "man", f"{name}.1")
-    with open(place, encoding="utf-8") as file:
+    page = os.path.join(operators.TOP, "docs", "man", f"{name}.1")
+    with open(page, encoding="utf-8") as file:
         blocks = examples(file.read())
-    found = lint(place)
+    found = lint(page)
     if not any(commands(block) for block in blocks):
         found.append(f"{name}: no example")
     print(*found, sep="\n", end="\n" if found else "")

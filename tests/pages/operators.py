@@ -84,8 +84,8 @@ def answer(connection):
     """Answers each query, of at least eight bytes, until the client closes."""
     with connection:
         while len(connection.recv(64)) >= 8:
-            for place in range(0, len(ANSWER), PIECE):
-                connection.sendall(ANSWER[place:place + PIECE])
+            for offset in range(0, len(ANSWER), PIECE):
+                connection.sendall(ANSWER[offset:offset + PIECE])
 
 
 def serve(listener):
@@ -136,12 +136,12 @@ def programs(folder):
 def blocks(lines):
     """Returns the first and last line of each fenced block, its language and the line before it."""
     opened = None
-    for place, line in enumerate(lines):
+    for index, line in enumerate(lines):
         if line.startswith("```"):
             if opened is None:
-                opened = place
+                opened = index
             else:
-                yield opened + 1, place, lines[opened][3:], lines[opened - 1]
+                yield opened + 1, index, lines[opened][3:], lines[opened - 1]
                 opened = None
 
 
@@ -187,32 +187,32 @@ class Shell:
 
     def run(self, command):
         """Returns the lines that a command prints."""
-        with tempfile.TemporaryFile("w+", encoding="utf-8") as said:
+        with tempfile.TemporaryFile("w+", encoding="utf-8") as output:
             ran = subprocess.Popen(["bash", "-c", command], cwd=self.folder, env=self.environment,
-                                   stdin=subprocess.DEVNULL, stdout=said, stderr=said,
+                                   stdin=subprocess.DEVNULL, stdout=output, stderr=output,
                                    start_new_session=True)
             self.groups.append(ran.pid)
             ran.wait(SECONDS)
             for name in PORTS if command.endswith("&") else []:
                 if f"${name}" in command:
                     wait_for(int(self.environment[name]))
-            said.seek(0)
-            return said.read().splitlines()
+            output.seek(0)
+            return output.read().splitlines()
 
 
 def printed(lines, shell):
     """Returns the commands of a block, each with its output; or none if one isn't known yet."""
-    made = []
+    shown = []
     for line in lines:
         if line.startswith(COMMAND):
-            said = shell.run(PREBUILT.sub(r"\1", line[len(COMMAND):]))
-            usage = USAGE.match(said[0]) if said else None
+            output = shell.run(PREBUILT.sub(r"\1", line[len(COMMAND):]))
+            usage = USAGE.match(output[0]) if output else None
             if usage and not built.fresh(usage[1]):
-                warn(f"`{line}` prints {said[0]!r}: the prebuilt program is older than the page, "
+                warn(f"`{line}` prints {output[0]!r}: the prebuilt program is older than the page, "
                      "and the block is left out")
                 return None
-            made += [line, *said]
-    return made
+            shown += [line, *output]
+    return shown
 
 
 def run_blocks(page, lines, shell, write):
@@ -222,25 +222,25 @@ def run_blocks(page, lines, shell, write):
     for begin, end, language, before in blocks(lines):
         file = FILE.match(before)
         if file:
-            with open(os.path.join(shell.folder, file[1]), "w", encoding="utf-8") as made:
-                made.write("\n".join(lines[begin:end]) + "\n")
+            with open(os.path.join(shell.folder, file[1]), "w", encoding="utf-8") as out:
+                out.write("\n".join(lines[begin:end]) + "\n")
         if language != "console":
             continue
         absent = missing(lines[begin:end], shell.environment["PATH"])
         if absent:
             warn(f"no {' and no '.join(absent)} here: SKIPPED `{lines[begin]}`")
             continue
-        made = printed(lines[begin:end], shell)
-        if made is None:
+        output = printed(lines[begin:end], shell)
+        if output is None:
             continue
-        commands += sum(line.startswith(COMMAND) for line in made)
-        if made != lines[begin:end]:
-            changes.append((begin, end, made))
+        commands += sum(line.startswith(COMMAND) for line in output)
+        if output != lines[begin:end]:
+            changes.append((begin, end, output))
             wrong += not write
             if not write:
-                print(f"{page}:{begin + 1}: this is printed:", *made, sep="\n    ")
-    for begin, end, made in reversed(changes):
-        lines[begin:end] = made
+                print(f"{page}:{begin + 1}: this is printed:", *output, sep="\n    ")
+    for begin, end, output in reversed(changes):
+        lines[begin:end] = output
     return commands, wrong
 
 

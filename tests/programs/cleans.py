@@ -253,17 +253,17 @@ def written(unit, form, version):
 
 def expected(data, version):
     """The expected output, line on standard error and status of a run."""
-    output, place = b"", 0
+    output, offset = b"", 0
     while data:
         shown, _, _, form = sessions.answer(data)
         status = shown.get("status", sessions.OK)
         if status != sessions.OK:
             line = FAULTS[status].format(shown.get("detail"))
-            return output, f"rtr_clean: offset {place}: {line}\n", 1
+            return output, f"rtr_clean: offset {offset}: {line}\n", 1
         size = shown["size"]
         output += written(data[:size], form, version)
         data = data[size:]
-        place += size
+        offset += size
     return output, "", 0
 
 
@@ -279,37 +279,37 @@ def compared(program, rows, names=None):
     with ThreadPoolExecutor(os.cpu_count()) as pool:
         got = pool.map(lambda row: run(program, *row[:3]), rows)
         for name, row, seen in zip(names or ["cleans"] * len(rows), rows, got):
-            arguments, redirection, given, *wanted = row
-            if seen != tuple(wanted):
+            arguments, redirection, given, *outcome = row
+            if seen != tuple(outcome):
                 wrong += 1
                 print(f"{name}: {arguments} {redirection} {shown(given)}: {shown(seen[0])} "
-                      f"{seen[1:]}, not {shown(wanted[0])} {wanted[1:]}")
+                      f"{seen[1:]}, not {shown(outcome[0])} {outcome[1:]}")
     return wrong
 
 
-def said(row):
+def error_line(row):
     """The line of a row: after the program's name, and at a fault with the offset of the unit: the
     length of the whole units read before it."""
     *_, given, _, line, status = row
     if not line or status == 2:
         return line + "\n" if line else ""
-    place = f"offset {taken(given)}: " if status == 1 else ""
-    return f"rtr_clean: {place}{line}\n"
+    where = f"offset {taken(given)}: " if status == 1 else ""
+    return f"rtr_clean: {where}{line}\n"
 
 
 def taken(data):
     """The length of the units before the first fault."""
-    place = 0
-    while place < len(data):
-        status = sessions.answer(data[place:])[0]
+    offset = 0
+    while offset < len(data):
+        status = sessions.answer(data[offset:])[0]
         if status.get("status", sessions.OK) != sessions.OK:
-            return place
-        place += status["size"]
-    return place
+            return offset
+        offset += status["size"]
+    return offset
 
 
 def check_rows(program):
-    rows = [(*row[:4], said(row), row[5]) for row in RUNS]
+    rows = [(*row[:4], error_line(row), row[5]) for row in RUNS]
     return compared(program, rows, places(globals()))
 
 
@@ -331,14 +331,14 @@ def check_random(program):
     return compared(program, rows)
 
 
-def arrives(stream, wanted):
+def arrives(stream, content):
     """Whether exactly these bytes come from the stream."""
     came = b""
-    while len(came) < len(wanted):
+    while len(came) < len(content):
         if not select.select([stream], [], [], SECONDS)[0]:
             break
         came += os.read(stream.fileno(), 65536) or b"end"
-    return came == wanted and not select.select([stream], [], [], 0)[0]
+    return came == content and not select.select([stream], [], [], 0)[0]
 
 
 def check_waiting(program):

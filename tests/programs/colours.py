@@ -61,8 +61,8 @@ def with_flags(unit, flags):
     """Returns the payload unit with these flags; of a withdrawn ASPA, only the customer."""
     if unit[1] == 11 and not flags & 1:
         unit = unit[:4] + (12).to_bytes(4, "big") + unit[8:12]
-    place = FLAGS[unit[1]]
-    return unit[:place] + bytes([flags]) + unit[place + 1:]
+    offset = FLAGS[unit[1]]
+    return unit[:offset] + bytes([flags]) + unit[offset + 1:]
 
 
 PAYLOADS = [samples.unit(name) for name in ("IPv4 prefix", "announced IPv6 prefix",
@@ -77,10 +77,10 @@ UNITS += [report(b" IPv4 prefix announce 192.0.2.0/24-24 AS1"), report(b"+\n- wi
 
 def colour_of(unit):
     """Returns the colour of a unit's line."""
-    place = FLAGS.get(unit[1])
-    if place is None:
+    offset = FLAGS.get(unit[1])
+    if offset is None:
         return None
-    return GREEN if unit[place] & 1 else RED
+    return GREEN if unit[offset] & 1 else RED
 
 
 def painted(lines, colours):

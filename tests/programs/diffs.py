@@ -221,32 +221,32 @@ def run(program, arguments, redirection, old, new, given):
 
 def check_rows(program):
     wrong = 0
-    for place, row in zip(places(globals()), RUNS):
+    for where, row in zip(places(globals()), RUNS):
         arguments, redirection, old, new, given, output, line, status = row
-        said = line + "\n" if line else ""
-        if said and line != USAGE:
-            said = "rtr_diff: " + said
+        stderr = line + "\n" if line else ""
+        if stderr and line != USAGE:
+            stderr = "rtr_diff: " + stderr
         got = run(program, arguments, redirection, old, new, given)
-        if got != (output, said, status):
+        if got != (output, stderr, status):
             wrong += 1
-            print(f"{place}: {arguments} {redirection}: {got}, not {(output, said, status)}")
+            print(f"{where}: {arguments} {redirection}: {got}, not {(output, stderr, status)}")
     return wrong
 
 
 def pool():
     """Units that announce, each with its identity and its text."""
     found = []
-    for place in range(24):
-        address = bytes([10, place, 0, 0])
-        found.append((V4[:9] + bytes([16, 16 + place % 3, 0]) + address + V4[16:], ("v4", place),
-                      f"IPv4 prefix 10.{place}.0.0/16-{16 + place % 3} AS65551"))
-        asn = bytes([0, 0, 1, place])
-        found.append((KEY[:28] + asn + KEY[32:], ("key", place),
-                      f"router key {KEY_ID} AS{256 + place} FRYXGA"))
+    for index in range(24):
+        address = bytes([10, index, 0, 0])
+        found.append((V4[:9] + bytes([16, 16 + index % 3, 0]) + address + V4[16:], ("v4", index),
+                      f"IPv4 prefix 10.{index}.0.0/16-{16 + index % 3} AS65551"))
+        asn = bytes([0, 0, 1, index])
+        found.append((KEY[:28] + asn + KEY[32:], ("key", index),
+                      f"router key {KEY_ID} AS{256 + index} FRYXGA"))
         for count in (1, 2):
             size = (12 + 4 * count).to_bytes(4, "big")
-            found.append((ASPA[:4] + size + asn + ASPA[12:12 + 4 * count], ("aspa", place),
-                          f"ASPA AS{256 + place} providers" + "".join(
+            found.append((ASPA[:4] + size + asn + ASPA[12:12 + 4 * count], ("aspa", index),
+                          f"ASPA AS{256 + index} providers" + "".join(
                               f" AS{65549 + which}" for which in range(count))))
     return found
 
@@ -268,21 +268,22 @@ def check_pairs(program, many):
         old, new = picked(choice, units), picked(choice, units)
         files = [b"".join(choice.sample([unit for unit, _ in some.values()], len(some)))
                  for some in (old, new)]
-        made = [words for name, (_, words) in new.items() if old.get(name, ("", ""))[1] != words]
+        come = [words for name, (_, words) in new.items() if old.get(name, ("", ""))[1] != words]
         gone = [words.split(" providers")[0] + " providers" if name[0] == "aspa" else words
                 for name, (_, words) in old.items() if name not in new]
-        text, said, status = run(program, BOTH, "", files[0] + END_2, files[1] + END_2, b"")
+        text, stderr, status = run(program, BOTH, "", files[0] + END_2, files[1] + END_2, b"")
         shown = text.decode().splitlines()
-        wanted = sorted("+ " + words for words in made) + sorted("- " + words for words in gone)
+        expected = sorted("+ " + words for words in come) + sorted("- " + words for words in gone)
         front = [line for line in shown if line.startswith("+")]
-        if sorted(front) + sorted(shown[len(front):]) != wanted or said or status != bool(wanted):
+        in_order = sorted(front) + sorted(shown[len(front):])
+        if in_order != expected or stderr or status != bool(expected):
             wrong += 1
-            print(f"diffs: {shown} is printed, not {wanted}")
+            print(f"diffs: {shown} is printed, not {expected}")
         objects, _, _ = run(program, AS_JSON, "", files[0] + END_2, files[1] + END_2, b"")
         kept = [json.loads(line)["action"] for line in objects.decode().splitlines()]
-        if kept != ["announce"] * len(made) + ["withdraw"] * len(gone):
+        if kept != ["announce"] * len(come) + ["withdraw"] * len(gone):
             wrong += 1
-            print(f"diffs: {kept} as JSON, not {len(made)} and {len(gone)}")
+            print(f"diffs: {kept} as JSON, not {len(come)} and {len(gone)}")
         delta, _, _ = run(program, AS_UNITS, "", files[0] + END_2, files[1] + END_2, b"")
         led = run(program, BOTH, "", files[0] + delta, files[1] + END_2, b"")
         if led != (b"", "", 0) or delta[-24:] != END_2:

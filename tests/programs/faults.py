@@ -158,19 +158,19 @@ def rows():
 
 def problem(shim, program, row):
     """Returns how a run with a fault differs from its row."""
-    _, arguments, given, fault, wanted = row
+    _, arguments, given, fault, expected = row
     *came, _ = run(shim, program, arguments, given, MOST=1, **fault)
-    if tuple(came) != wanted:
-        return f"{program} {arguments} {given.hex(' ')} {fault}: {came}, not {wanted}"
+    if tuple(came) != expected:
+        return f"{program} {arguments} {given.hex(' ')} {fault}: {came}, not {expected}"
     return None
 
 
 def sizes_problem(shim, program, row):
     """Returns the differences in the sizes of the writes."""
-    _, arguments, given, wanted = row
+    _, arguments, given, expected = row
     *_, sizes = run(shim, program, arguments, given)
-    if sizes != wanted:
-        return f"{program} {arguments} {given.hex(' ')}: writes of {sizes} bytes, not {wanted}"
+    if sizes != expected:
+        return f"{program} {arguments} {given.hex(' ')}: writes of {sizes} bytes, not {expected}"
     return None
 
 

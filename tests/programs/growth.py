@@ -213,10 +213,10 @@ def row_problem(shim, names, name, row):
     given = f"{names}\n{row}\n".encode()
     marks = [ran.stdout.decode().split("\n")[0] for ran in runs(shim, command, given, MARK)]
     answers = row.split("=>")[2].strip()
-    wanted = ""
+    pattern = ""
     if answers:
-        wanted = "".join(f"(refused {place}, )+" for place in range(len(answers.split(";"))))
-    if not re.fullmatch(f"{wanted}whole", ", ".join(marks)):
+        pattern = "".join(f"(refused {index}, )+" for index in range(len(answers.split(";"))))
+    if not re.fullmatch(f"{pattern}whole", ", ".join(marks)):
         return f"{name} {row}: {', '.join(marks)}"
     return None
 
@@ -231,7 +231,7 @@ def program_problem(shim, program, arguments, given, pieces, usage, others=()):
     cut = range(max(len(pieces), 1))
     name = b"" if program == "rtr_normalise" else program.encode() + b": "
     counts = re.compile(rb"rtr_list: looked at units \d+, answers \d+\n$")
-    written = [b"".join(pieces[:place]) for place in cut] + list(others)
+    written = [b"".join(pieces[:count]) for count in cut] + list(others)
     memory = [(3, text, name + b"out of memory\n") for text in written]
     called = (2, b"", b"usage: " + program.encode() + b" " + usage + b"\n")
     ended = runs(shim, [built.program(program), *arguments], given, 0)
@@ -253,8 +253,8 @@ def piped_problem(shim, folder, program, arguments, given, pieces, usage):
     path = os.path.join(os.path.realpath(folder), f"{program}.pipe")
     name = program.encode()
     whole = (0, b"".join(pieces), b"")
-    short = {(3, b"".join(pieces[:place]), name + b": out of memory\n")
-             for place in range(len(pieces))}
+    short = {(3, b"".join(pieces[:count]), name + b": out of memory\n")
+             for count in range(len(pieces))}
     short.add((2, b"", b"usage: " + name + b" " + usage + b"\n"))
     unbuffered = False
     for refused in range(1, MOST):
@@ -287,10 +287,11 @@ def diff_problem(shim, folder, arguments, pieces):
     for ran in runs(shim, command, KEY_INPUT, 0):
         results.append((ran.returncode, ran.stdout, ran.stderr.decode()))
     whole = (1, b"".join(pieces), "")
-    texts = {"rtr_diff: out of memory\n": [b"".join(pieces[:place]) for place in range(len(pieces))]}
+    starts = [b"".join(pieces[:count]) for count in range(len(pieces))]
+    texts = {"rtr_diff: out of memory\n": starts}
     for name in ("-", new):
-        texts |= {f"rtr_diff: {name}: {place}out of memory\n": [b""]
-                  for place in ("", "offset 0: ", "offset 36: ")}
+        texts |= {f"rtr_diff: {name}: {where}out of memory\n": [b""]
+                  for where in ("", "offset 0: ", "offset 36: ")}
     called = "usage: rtr_diff [--json | --units] OLD NEW, where one of them may be -\n"
     short = {(2, b"", called)} | {(3, some, text) for text, front in texts.items() for some in front}
     for answer in results:
@@ -316,10 +317,10 @@ def validate_problem(shim, folder, arguments, pieces):
     for ran in runs(shim, command, ROUTES, 0):
         results.append((ran.returncode, ran.stdout, ran.stderr.decode()))
     whole = (0, b"".join(pieces), "")
-    short = {(3, b"".join(pieces[:place]), "rtr_validate: out of memory\n")
-             for place in range(len(pieces))}
-    short |= {(3, b"", f"rtr_validate: {file}: {place}out of memory\n")
-              for place in ("", "offset 0: ", f"offset {len(KEY.bytes)}: ",
+    short = {(3, b"".join(pieces[:count]), "rtr_validate: out of memory\n")
+             for count in range(len(pieces))}
+    short |= {(3, b"", f"rtr_validate: {file}: {where}out of memory\n")
+              for where in ("", "offset 0: ", f"offset {len(KEY.bytes)}: ",
                             f"offset {len(KEY.bytes + ELSEWHERE)}: ")}
     short.add((2, b"", "usage: rtr_validate [--json] [--summary] [--strict] [--format F] "
                        "[--at N] [--slurm FILE].. [--against FILE] FILE [PREFIX ASN]\n"))

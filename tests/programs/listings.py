@@ -489,21 +489,21 @@ def listed(program):
     for cut in range(len(session)):
         whole = max((end for end in ends if end <= cut), default=0)
         text = "" if cut == whole else f"rtr_list: offset {whole}: unexpected end of input\n"
-        wanted = (1 if text else 0, lines(listing(session[:whole])), text)
-        if outcome(program, [], session[:cut]) != wanted:
+        expected = (1 if text else 0, lines(listing(session[:whole])), text)
+        if outcome(program, [], session[:cut]) != expected:
             yield f"a session that is cut after {cut} bytes"
         status, output, error = outcome(program, ["--json"], session[:cut])
         offsets = [dict(fields_of(line) or []).get("offset") for line in output.splitlines()]
         units = [offset for offset, _ in split(session[:whole])]
-        if (status, offsets, error) != (wanted[0], units, text):
+        if (status, offsets, error) != (expected[0], units, text):
             yield f"a session as JSON that is cut after {cut} bytes"
     for unit, text in REFUSED:
         for words, front in (([], ""), ([], END), (["--json"], ""), (["--check"], END)):
             status, output, error = outcome(program, words, unhex(front + unit))
-            said = f"rtr_list: offset {len(unhex(front))}: {text}\n"
+            stderr = f"rtr_list: offset {len(unhex(front))}: {text}\n"
             if words == ["--check"]:
-                said += counted(unhex(front))
-            if (status, error) != (1, said):
+                stderr += counted(unhex(front))
+            if (status, error) != (1, stderr):
                 yield f"{words} {unit}: {status} {error}"
             if output.count("\n") != (1 if front and words != ["--check"] else 0):
                 yield f"{words} {unit}: {output}"
@@ -519,11 +519,11 @@ def written_as_json(program):
     if (status, error, output.count("\n")) != (0, "", len(units)):
         yield f"status {status}, {output.count(chr(10))} lines of {len(units)} units, {error}"
     for line, (offset, unit) in zip(output.split("\n"), split(data)):
-        wanted = object_of(offset, unit)
+        expected = object_of(offset, unit)
         if any("\x7f" <= char <= "\x9f" for char in line):
             yield f"{unit.hex(' ')}: a control character in {line!r}"
         got = fields_of(line)
-        if got is None or [key for key, _ in got] != list(dict(got)) or dict(got) != wanted:
+        if got is None or [key for key, _ in got] != list(dict(got)) or dict(got) != expected:
             yield f"{unit.hex(' ')}: {line}"
 
 
@@ -537,9 +537,9 @@ def checked(program):
             yield f"{data}: {got}"
         for fault, text in (REFUSED[0], REFUSED[-1]):
             got = outcome(program, ["--check"], unhex(data + fault))
-            place = len(unhex(data))
-            said = f"rtr_list: offset {place}: {text}\n{counted(units)}"
-            if got != (1, lines(findings), said):
+            offset = len(unhex(data))
+            stderr = f"rtr_list: offset {offset}: {text}\n{counted(units)}"
+            if got != (1, lines(findings), stderr):
                 yield f"{data}, and then a fault: {got}"
 
 
@@ -551,11 +551,11 @@ def announces(unit):
 
 def answers(units):
     """The expected summary line of each answer in these units."""
-    bounds = [-1] + [place for place, unit in enumerate(units) if unit[1] in (3, 7)]
-    for before, place in zip(bounds, bounds[1:]):
-        if units[place][1] == 7:
-            session, serial = struct.unpack(">HxxxxI", units[place][2:12])
-            flags = [announces(unit) for unit in units[before + 1 : place]
+    bounds = [-1] + [index for index, unit in enumerate(units) if unit[1] in (3, 7)]
+    for before, index in zip(bounds, bounds[1:]):
+        if units[index][1] == 7:
+            session, serial = struct.unpack(">HxxxxI", units[index][2:12])
+            flags = [announces(unit) for unit in units[before + 1 : index]
                      if unit[1] in (4, 6, 9, 11)]
             counts = f"announces {flags.count(True)} withdraws {flags.count(False)}"
             yield f"session {session} serial {serial} {counts}"
@@ -600,7 +600,7 @@ def summarised(program):
     lengths = [unhex(unit)[:9] + bytes([length]) + unhex(unit)[10:]
                for unit in (IPV4, IPV4_GONE, IPV6) for length in range(256)]
     ases = b"".join(unhex(unit)[:-4] + asn.to_bytes(4, "big") for asn, count in ASES
-                    for unit in [(IPV4, IPV6)[place % 2] for place in range(count)])
+                    for unit in [(IPV4, IPV6)[index % 2] for index in range(count)])
     ases += (unhex(IPV4_GONE)[:-4] + b"\0\0\0\7") * 9
     got = outcome(program, ["--summary"], ases)
     if got != (0, summary(ases), "") or got[1].count("AS:") != 10 or not got[1].endswith(LARGEST):
@@ -615,17 +615,17 @@ def summarised(program):
     ends = [offset + len(unit) for offset, unit in split(session)]
     for cut in range(len(session)):
         whole = max((end for end in ends if end <= cut), default=0)
-        wanted = (0, summary(session[:whole]), "")
+        expected = (0, summary(session[:whole]), "")
         if cut > whole:
             text = f"rtr_list: offset {whole}: unexpected end of input\n"
-            wanted = (1, summary(session[:whole], "no"), text)
-        if outcome(program, ["--summary"], session[:cut]) != wanted:
+            expected = (1, summary(session[:whole], "no"), text)
+        if outcome(program, ["--summary"], session[:cut]) != expected:
             yield f"a session that is cut after {cut} bytes"
     for unit, text in REFUSED:
         front = unhex(CLEAN)
         got = outcome(program, ["--summary"], front + unhex(unit))
-        said = f"rtr_list: offset {len(front)}: {text}\n"
-        if got != (1, summary(front, "no"), said):
+        stderr = f"rtr_list: offset {len(front)}: {text}\n"
+        if got != (1, summary(front, "no"), stderr):
             yield f"{unit}: {got}"
 
 
@@ -654,18 +654,18 @@ def long_units_listed(program):
     """Differences between listings of long units and the expected ones."""
     units = [*long_units(), (unhex(IPV4), "v1 IPv4 prefix announce 192.0.2.0/23-26 AS65551")]
     for unit, text in units * 2:
-        wanted = (0, lines([f"0 {text}"]), "")
-        if outcome(program, [], unit) != wanted:
+        expected = (0, lines([f"0 {text}"]), "")
+        if outcome(program, [], unit) != expected:
             yield f"a unit of {len(unit)} bytes, {text[:40]}"
     data = b"".join(unit for unit, _ in units * 2)
-    places = [offset for offset, _ in split(data)]
-    texts = [f"{offset} {text}" for offset, (_, text) in zip(places, units * 2)]
+    offsets = [offset for offset, _ in split(data)]
+    texts = [f"{offset} {text}" for offset, (_, text) in zip(offsets, units * 2)]
     if outcome(program, [], data) != (0, lines(texts), ""):
         yield "long units one after the other"
     status, output, error = outcome(program, ["--json"], data)
     objects = [json.loads(line) for line in output.splitlines()]
-    wanted = [object_of(offset, unit) for offset, unit in split(data)]
-    if (status, objects, error) != (0, wanted, ""):
+    expected = [object_of(offset, unit) for offset, unit in split(data)]
+    if (status, objects, error) != (0, expected, ""):
         yield f"long units as JSON: status {status}, {len(objects)} objects, {error}"
     for unit, text in units:
         answer = unit + unit[:1] + unhex(END)[1:]
@@ -694,14 +694,14 @@ def many_announced(program):
     """Differences between the output of `--check` for many announcements and the expected one."""
     for units, gone in announced_units(5000):
         data, size = b"".join(units), len(units[0])
-        wanted = [(b"", [])]
+        cases = [(b"", [])]
         for unit in (units[0], units[999], units[1000], units[-1]):
-            wanted.append((unit, [f"offset {len(data)}: announced twice in the sequence"]))
-        wanted.append((gone + units[0], []))
-        place = len(data) + len(gone) + size
-        again = [f"offset {place}: announced twice in the sequence"]
-        wanted.append((gone + units[0] * 2, again))
-        for more, findings in wanted:
+            cases.append((unit, [f"offset {len(data)}: announced twice in the sequence"]))
+        cases.append((gone + units[0], []))
+        offset = len(data) + len(gone) + size
+        again = [f"offset {offset}: announced twice in the sequence"]
+        cases.append((gone + units[0] * 2, again))
+        for more, findings in cases:
             given = data + more
             found = findings + missing(given)
             got = outcome(program, ["--check"], given)
@@ -726,20 +726,20 @@ def after_4_gib(program):
         return
     # A report whose lengths don't fit, so that its line is short.
     unit, count = unhex("01 0a 00 00 00 00 ff ff").ljust(65535, b"\xff"), 2**32 // 65535 + 2
-    with tempfile.TemporaryFile() as made:
-        pipes = {"stdin": subprocess.PIPE, "stdout": made, "stderr": subprocess.PIPE}
+    with tempfile.TemporaryFile() as output:
+        pipes = {"stdin": subprocess.PIPE, "stdout": output, "stderr": subprocess.PIPE}
         with subprocess.Popen([program, "--json"], **pipes) as run:
             with contextlib.suppress(BrokenPipeError):
-                for place in range(0, count, 512):
+                for start in range(0, count, 512):
                     with within_limit(run):
-                        run.stdin.write(unit * min(512, count - place))
+                        run.stdin.write(unit * min(512, count - start))
                 with within_limit(run):
                     run.stdin.write(unit[:1])
                     run.stdin.close()
             with within_limit(run):
                 error = run.stderr.read().decode()
-        made.seek(0)
-        offsets = [dict(fields_of(line) or []).get("offset") for line in made]
+        output.seek(0)
+        offsets = [dict(fields_of(line) or []).get("offset") for line in output]
     size = count * len(unit)
     if offsets != list(range(0, size, len(unit))):
         yield f"the offsets of {len(offsets)} of {count} units as JSON, the last at {offsets[-1:]}"
@@ -821,21 +821,22 @@ def prompted(program):
     for words in ([], ["--json"], ["--check"]):
         given = unhex(IPV4_HOST) * 200000
         command = ["sh", "-c", '"$0" "$@" | head -n 1', program, *words]
-        with tempfile.TemporaryFile() as said:
-            run = subprocess.run(command, input=given, stdout=subprocess.PIPE, stderr=said, timeout=SECONDS)
-            said.seek(0)
-            lines_said = [line for line in said.read().splitlines() if b"looked at" not in line]
-        if run.stdout.count(b"\n") != 1 or lines_said:
-            yield f"{words} to one that reads a line: {run.stdout[:80]}, {lines_said}"
+        with tempfile.TemporaryFile() as stderr:
+            run = subprocess.run(command, input=given, stdout=subprocess.PIPE, stderr=stderr,
+                                 timeout=SECONDS)
+            stderr.seek(0)
+            errors = [line for line in stderr.read().splitlines() if b"looked at" not in line]
+        if run.stdout.count(b"\n") != 1 or errors:
+            yield f"{words} to one that reads a line: {run.stdout[:80]}, {errors}"
 
 
 def disguised(program):
     """Differences between the lines for inputs that aren't units and the expected ones."""
     for given, text, looks in GUISES:
         for words in ([], ["--json"], ["--csv"], ["--vrps"]):
-            said = f"rtr_list: offset 0: {text}\n" + (f"rtr_list: {looks}\n" if looks else "")
+            stderr = f"rtr_list: offset 0: {text}\n" + (f"rtr_list: {looks}\n" if looks else "")
             got = outcome(program, words, given)
-            if got != (1, "", said):
+            if got != (1, "", stderr):
                 yield f"{words} {given}: {got}"
 
 

@@ -627,7 +627,7 @@ IN_SAMPLES = {
 }
 
 
-def told(line):
+def error_text(line):
     """The text on standard error: each line after the program's name, except the usage."""
     if not line or line == USAGE:
         return line and line + "\n"
@@ -636,14 +636,14 @@ def told(line):
 
 def check_rows(program):
     wrong = 0
-    for place, row in zip(places(globals()), RUNS):
+    for where, row in zip(places(globals()), RUNS):
         arguments, redirection, given, output, line, status = row
         got = run(program, arguments, redirection, given)
-        said = got[1] if line is None else told(line)
-        if got != (output, said, status):
+        stderr = got[1] if line is None else error_text(line)
+        if got != (output, stderr, status):
             wrong += 1
-            print(f"{place}: {arguments} {redirection} {given[:80]}: {got}, not "
-                  f"{(output, said, status)}")
+            print(f"{where}: {arguments} {redirection} {given[:80]}: {got}, not "
+                  f"{(output, stderr, status)}")
     return wrong
 
 
@@ -659,8 +659,9 @@ def check_samples(program):
         print("makes: the samples aren't those of the table")
     for name, units in IN_SAMPLES.items():
         form = "--" + name.rsplit(".", 1)[1]
-        output, said, status = got = run(program, [form, "--at", "0"], "", sample(name))
-        if (output, status) != (units + END, 0) or not said.startswith("rtr_make: left out 0 that have expired; "):
+        output, stderr, status = got = run(program, [form, "--at", "0"], "", sample(name))
+        left_out = stderr.startswith("rtr_make: left out 0 that have expired; ")
+        if (output, status) != (units + END, 0) or not left_out:
             wrong += 1
             print(f"makes: {name}: {got}")
     return wrong
@@ -677,15 +678,15 @@ def check_random(program):
                  for net, length, most, asn in picked]
         lines += choice.sample(lines, len(lines) // 2)
         choice.shuffle(lines)
-        wanted = {bytes([2, 4, 0, 0, 0, 0, 0, 20, 1, length, most, 0, net, 0, 0, 0, 0, 0, 0, asn])
-                  for net, length, most, asn in picked}
-        output, said, status = run(program, CSV, "", b"".join(lines))
+        expected = {bytes([2, 4, 0, 0, 0, 0, 0, 20, 1, length, most, 0, net, 0, 0, 0, 0, 0, 0, asn])
+                    for net, length, most, asn in picked}
+        output, stderr, status = run(program, CSV, "", b"".join(lines))
         units = [output[at:at + 20] for at in range(0, len(output) - len(END), 20)]
         order = [int.from_bytes(unit[12:16], "big") for unit in units]
-        if (set(units) != wanted or len(units) != len(wanted) or output[-24:] != END
-                or said or status or order != sorted(order)):
+        if (set(units) != expected or len(units) != len(expected) or output[-24:] != END
+                or stderr or status or order != sorted(order)):
             wrong += 1
-            print(f"makes: {lines[:3]}..: {status} {said}")
+            print(f"makes: {lines[:3]}..: {status} {stderr}")
     return wrong
 
 
@@ -702,15 +703,15 @@ def check_growth(program):
             whole = (0, units + END, b"")
             allowed = [whole, (3, b"", b"rtr_make: out of memory\n"), (2, b"", USAGE.encode() + b"\n")]
             command = [program, *arguments]
-            said = []
+            outcomes = []
             for refused in range(1, MOST):
                 ran, is_met = growth.refusing(shim, command, given, refused, 0)
-                said.append((ran.returncode, ran.stdout, ran.stderr))
+                outcomes.append((ran.returncode, ran.stdout, ran.stderr))
                 if not is_met:
                     break
-            if said[-1] != whole or allowed[1] not in said or set(said) - set(allowed):
+            if outcomes[-1] != whole or allowed[1] not in outcomes or set(outcomes) - set(allowed):
                 wrong += 1
-                print(f"makes: {arguments}: {set(said) - set(allowed)} as memory runs out")
+                print(f"makes: {arguments}: {set(outcomes) - set(allowed)} as memory runs out")
     return wrong
 
 

@@ -185,8 +185,8 @@ def main():
         problems = [pool.submit(problem, *run) for run in runs(alone.name, listed.name)]
         problems += [pool.submit(row_problem, *row) for row in ROWS]
     problems = [done.result() for done in problems if done.result()]
-    for said in problems:
-        print(f"memory: {said}")
+    for text in problems:
+        print(f"memory: {text}")
     if problems:
         sys.exit("memory: FAILED")
 

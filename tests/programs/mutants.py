@@ -80,11 +80,11 @@ def by_json(text):
         lists = list(value or []) if plain(name) == "providerauthorizations" else [(name, value)]
         for name, items in lists:
             for item in items or [] if plain(name) in ARRAYS else []:
-                found.add(one(plain(name), item))
+                found.add(payload_of(plain(name), item))
     return found
 
 
-def one(array, item):
+def payload_of(array, item):
     if array == "aspa" and isinstance(item[1], tuple | list) and not isinstance(item[0], tuple):
         return ("aspa", number(item[0]), numbers(item[1]))
     parts = {plain(name): value for name, value in item}
@@ -120,7 +120,7 @@ def payloads(units):
     while at < len(units):
         kind, size = units[at + 1], int.from_bytes(units[at + 4:at + 8], "big")
         unit, at = units[at:at + size], at + size
-        asns = [int.from_bytes(unit[place:place + 4], "big") for place in range(8, size - 3, 4)]
+        asns = [int.from_bytes(unit[offset:offset + 4], "big") for offset in range(8, size - 3, 4)]
         if kind in (4, 6):
             net = ipaddress.ip_network((unit[12:-4], unit[9]))
             found.add(("origin", int.from_bytes(unit[-4:], "big"), str(net), unit[10]))
@@ -152,11 +152,11 @@ def wrong(program, form, text, whole):
     if whole is not None and not got <= whole:
         return f"cut off: {got - whole}"
     try:
-        wanted = (by_csv if form == "--csv" else by_json)(text)
+        expected = (by_csv if form == "--csv" else by_json)(text)
     except (ValueError, KeyError, IndexError, TypeError, AttributeError, StopIteration,
             csv.Error) as error:
         return f"it takes {got}, Python {error!r}"
-    return None if got == wanted else f"it takes {got}, Python {wanted}"
+    return None if got == expected else f"it takes {got}, Python {expected}"
 
 
 # ---- what is tried

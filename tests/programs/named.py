@@ -82,14 +82,14 @@ def same(name):
 def refused(name, folder):
     """Runs over files that can't be read, and with wrong arguments."""
     path, forms = PROGRAMS[name]
-    words, told = forms[0], f"{name}: "
+    words, prefix = forms[0], f"{name}: "
     missing = os.path.join(folder, "a\nb")
     shown = missing.replace("\n", "\\n")
     yield compare(name, [*words, missing],
-                  (b"", f"{told}{shown}: No such file or directory (os error 2)\n", 3))
-    reason = f"{told}read failed: Is a directory (os error 21)"
+                  (b"", f"{prefix}{shown}: No such file or directory (os error 2)\n", 3))
+    reason = f"{prefix}read failed: Is a directory (os error 21)"
     if name == "rtr_make":
-        reason = f"{told}{folder}: read failed: Is a directory (os error 21)"
+        reason = f"{prefix}{folder}: read failed: Is a directory (os error 21)"
     yield compare(name, [*words, folder], (b"", reason + "\n", 3))
     _, usage, _ = run([built.program(name), "--no-option"])
     for wrong in WRONG[name]:
@@ -99,17 +99,17 @@ def refused(name, folder):
 def faulty(name, folder):
     """Runs over files with faults: a line says by the file's name that it looks like a capture."""
     path = os.path.join(folder, "faulty")
-    told = {CUT: f"{name}: offset 0: unexpected end of input\n"}
+    lines = {CUT: f"{name}: offset 0: unexpected end of input\n"}
     for magic, fault in CAPTURES.items():
-        told[bytes.fromhex(magic)] = f"{name}: offset 0: {fault}\n{name}: {path} {GUISE}\n"
-    for content, line in told.items():
+        lines[bytes.fromhex(magic)] = f"{name}: offset 0: {fault}\n{name}: {path} {GUISE}\n"
+    for content, line in lines.items():
         with open(path, "wb") as file:
             file.write(content)
         for words in PROGRAMS[name][1]:
-            output, said, status = run([built.program(name), *words, path])
+            output, stderr, status = run([built.program(name), *words, path])
             is_quiet = not output or words == ["--summary"]
-            if (said.replace(NO_UNITS, ""), status) != (line, 1) or not is_quiet:
-                print(f"tests/programs/named.py: {name} {words} {content}: {output}, {said}, "
+            if (stderr.replace(NO_UNITS, ""), status) != (line, 1) or not is_quiet:
+                print(f"tests/programs/named.py: {name} {words} {content}: {output}, {stderr}, "
                       f"{status}")
                 yield False
             yield True

@@ -105,9 +105,9 @@ def payload_of(unit):
 
 # ---- data (rtr_list(1), "DATA OF A RECORDING")
 
-def is_before(one, other):
+def is_before(serial, other):
     """Whether a serial number comes before another one (RFC 1982)."""
-    return 0 < (other - one) % 2**32 < 2**31
+    return 0 < (other - serial) % 2**32 < 2**31
 
 
 class Reader:
@@ -203,7 +203,7 @@ def breaks_alone(unit):
     if kind == ASPA:
         providers = numbers(unit[12:])
         broken |= bool(providers) and not announces(unit)
-        broken |= any(one >= other for one, other in zip(providers, providers[1:]))
+        broken |= any(first >= second for first, second in zip(providers, providers[1:]))
     if kind == END and unit[0] > 0:
         broken |= breaks_times(*numbers(unit[12:]))
     return broken | (kind == REPORT and breaks_report(unit))
@@ -314,8 +314,8 @@ def by_summary(content):
     found = Counter({"complete: yes": 1, f"bytes: {len(content)}": 1, f"units: {len(units)}": 1})
     for kind, name in KINDS.items():
         of_kind = [unit for unit in units if unit[1] == kind]
-        for action, wanted in (("announce", True), ("withdraw", False)) if kind in PAYLOADS else ():
-            found[f"{name} {action}: {sum(announces(unit) == wanted for unit in of_kind)}"] += 1
+        for action, flag in (("announce", True), ("withdraw", False)) if kind in PAYLOADS else ():
+            found[f"{name} {action}: {sum(announces(unit) == flag for unit in of_kind)}"] += 1
         if kind not in PAYLOADS:
             found[f"{name}: {len(of_kind)}"] += 1
     for line in answers_of(units) or ["none"]:
@@ -401,13 +401,13 @@ class Programs:
 
     def wrong(self, content, route):
         """The errors of all runs over a recording."""
-        for name, words, good, wanted, read in self.runs(content, route):
+        for name, words, good, expected, read in self.runs(content, route):
             if name not in self.paths:
                 continue
             status, text, errors = self.run(name, words, content)
             what = f"{name} {' '.join(words)}: "
             try:
-                right = wanted()
+                right = expected()
             except Refused as error:
                 if status in good:
                     yield f"{what}takes what the reader refuses: {error}"
@@ -546,13 +546,13 @@ def by_bytes(content, chance):
 def by_units(recording):
     """The recording with units left out, doubled, moved and put in."""
     for at in range(len(recording)):
-        head, one, tail = recording[:at], recording[at], recording[at + 1:]
+        head, unit, tail = recording[:at], recording[at], recording[at + 1:]
         yield b"".join(head + tail)
-        yield b"".join(head + [one, one] + tail)
-        yield b"".join([one, *head, *tail])
-        yield b"".join([*head, *tail, one])
+        yield b"".join(head + [unit, unit] + tail)
+        yield b"".join([unit, *head, *tail])
+        yield b"".join([*head, *tail, unit])
         if tail:
-            yield b"".join([*head, tail[0], one, *tail[1:]])
+            yield b"".join([*head, tail[0], unit, *tail[1:]])
         for other in MORE:
             yield b"".join(head + [other] + recording[at:])
             yield b"".join(head + [other] + tail)
@@ -588,7 +588,7 @@ def main():
         old.flush()
         programs = Programs(paths, old.name)
         for (content, _), faults in zip(inputs, threads.map(
-                lambda one: list(programs.wrong(*one)), inputs)):
+                lambda pair: list(programs.wrong(*pair)), inputs)):
             for fault in faults:
                 failed += 1
                 print(f"recordings: {content.hex()}: {fault}")

@@ -230,10 +230,10 @@ def differences(program, row):
 def check(program):
     """The number of differences in all runs of the program. Each is printed."""
     count = 0
-    for place, row in zip(places(globals()), RUNS):
+    for where, row in zip(places(globals()), RUNS):
         arguments, redirection, given = row[:3]
         for difference in differences(program, row):
-            print(f"{place}: {program} {arguments} {redirection} with the input {shown(given)}: "
+            print(f"{where}: {program} {arguments} {redirection} with the input {shown(given)}: "
                   f"{difference}")
             count += 1
     return count

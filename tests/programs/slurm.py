@@ -210,13 +210,13 @@ REFUSED = [
     ([slurm((), (), (), [dict(K, routerPublicKey="A===")])],
      "bgpsecAssertions[0]: routerPublicKey is no base64url without padding"),
     # Files that overlap (section 4.2), whichever comes first.
-    *[([slurm(*pair[0]), slurm(*pair[1])], OVERLAP) for one, other in [
+    *[([slurm(*pair[0]), slurm(*pair[1])], OVERLAP) for first, second in [
         (([{"prefix": "192.0.2.0/24"}],), ([{"prefix": "192.0.2.128/25"}],)),
         (([{"prefix": "192.0.2.0/24", "asn": 1}],), ((), (), [dict(P, asn=2)])),
         (((), (), [dict(P, prefix="2001:db8::/32")]), ((), (), [dict(P, prefix="2001:db8:1::/48")])),
         (((), [{"asn": 1}]), ((), [{"asn": 1, "SKI": url64(FIRST)}])),
         (((), [{"asn": 1}]), ((), (), (), [K])),
-    ] for pair in ((one, other), (other, one))],
+    ] for pair in ((first, second), (second, first))],
     ([EXAMPLE, EXAMPLE], OVERLAP),
 ]
 # fmt: on
@@ -256,28 +256,28 @@ def run(program, files, given, *more):
 def check_left(program):
     wrong = 0
     for files, origins, keys in RUNS:
-        output, said, status, _ = run(program, files, text_of())
+        output, stderr, status, _ = run(program, files, text_of())
         want = sorted([origin(*o) for o in origins] + [key(*k) for k in keys] + [ASPA, END])
-        if (sorted(units(output)), said, status) != (want, "", 0):
+        if (sorted(units(output)), stderr, status) != (want, "", 0):
             wrong += 1
-            print(f"slurm: {files}: {said} {status}, {[u.hex() for u in units(output)]}")
+            print(f"slurm: {files}: {stderr} {status}, {[u.hex() for u in units(output)]}")
     return wrong
 
 
 def check_refused(program):
     wrong = 0
     for files, line in REFUSED:
-        output, said, status, names = run(program, files, text_of())
-        if (output, said, status) != (b"", f"rtr_make: {names[-1]}: {line}\n", 1):
+        output, stderr, status, names = run(program, files, text_of())
+        if (output, stderr, status) != (b"", f"rtr_make: {names[-1]}: {line}\n", 1):
             wrong += 1
-            print(f"slurm: {files}: {said} {status}, not {line}")
+            print(f"slurm: {files}: {stderr} {status}, not {line}")
     return wrong
 
 
 def check_rest(program):
     """What is left decides whether there is a payload; versions, CSV and words."""
     everything = slurm([{"prefix": "0.0.0.0/0"}])
-    one = text_of([("10.0.0.0/8", 8, 1)], [])
+    listed = text_of([("10.0.0.0/8", 8, 1)], [])
     only = b'{"roas": [{"prefix": "10.0.0.0/8", "maxLength": 8, "asn": 1}]}'
     empty = "rtr_make: input: no payloads: give --empty if that is meant\n"
     key_alone = slurm((), (), (), [K])
@@ -285,7 +285,7 @@ def check_rest(program):
     rows = [
         (run(program, [everything], only)[:3], (b"", empty, 1)),
         (run(program, [everything], only, "--empty")[:3], (END, "", 0)),
-        (run(program, [everything], one)[:3], (ASPA + END, "", 0)),
+        (run(program, [everything], listed)[:3], (ASPA + END, "", 0)),
         (run(program, [key_alone], only, "--version", "0")[:3], (b"", f"rtr_make: {lacks}\n", 1)),
         (run(program, [slurm((), (), [P])], b'{"roas": []}')[:3],
          (origin("192.0.2.0/24", 24, 1) + END, "", 0)),
@@ -332,21 +332,21 @@ def check_routes(program):
     for files, origins, _ in RUNS:
         want = [f"{prefix} AS{asn} {state_of((prefix, asn), origins)}" for prefix, asn in routes]
         for listed in (text_of(), by_units):
-            output, said, status, _ = validate(program, files, listed, given)
+            output, stderr, status, _ = validate(program, files, listed, given)
             got = [line.split(": ")[0] for line in output.decode().splitlines()]
-            if (got, said, status) != (want, "", 0):
+            if (got, stderr, status) != (want, "", 0):
                 wrong += 1
-                print(f"slurm: {files}: {said} {status}, {got}, not {want}")
+                print(f"slurm: {files}: {stderr} {status}, {got}, not {want}")
     return wrong
 
 
 def check_refused_too(program):
     wrong = 0
     for files, line in REFUSED:
-        output, said, status, names = validate(program, files, text_of(), b"10.0.0.0/8 1\n")
-        if (output, said, status) != (b"", f"rtr_validate: {names[-1]}: {line}\n", 1):
+        output, stderr, status, names = validate(program, files, text_of(), b"10.0.0.0/8 1\n")
+        if (output, stderr, status) != (b"", f"rtr_validate: {names[-1]}: {line}\n", 1):
             wrong += 1
-            print(f"slurm: {files}: {said} {status}, not {line}")
+            print(f"slurm: {files}: {stderr} {status}, not {line}")
     return wrong
 
 

@@ -325,16 +325,16 @@ ALIKE = [
 
 def check_rows(program):
     wrong = 0
-    for place, row in zip(places(globals()), RUNS):
+    for where, row in zip(places(globals()), RUNS):
         arguments, redirection, given, output, line, status = row
-        said = line + "\n" if line else ""
-        if said and status != 2:
-            said = "rtr_list: " + said
+        stderr = line + "\n" if line else ""
+        if stderr and status != 2:
+            stderr = "rtr_list: " + stderr
         got = run(program, arguments, redirection, given)
-        if got != (output, said, status):
+        if got != (output, stderr, status):
             wrong += 1
-            print(f"{place}: {arguments} {redirection} {given[:80]}: {got}, not "
-                  f"{(output, said, status)}")
+            print(f"{where}: {arguments} {redirection} {given[:80]}: {got}, not "
+                  f"{(output, stderr, status)}")
     return wrong
 
 
@@ -349,25 +349,25 @@ def alike_problem(program, diff, given, leaves, findings):
     """How a program reads a recording differently from what is expected, or None."""
     is_refused = isinstance(leaves, tuple)
     is_cut = not is_refused and (NO_END in (text for _, text in findings))
-    said, status = ended(leaves, "rtr_list: ", is_cut)
+    stderr, status = ended(leaves, "rtr_list: ", is_cut)
     sequence = END_1 if is_refused else b"".join(leaves) + END_1
     for arguments in (CSV, VRPS):
         table = NONE if is_refused else run(program, arguments, "", sequence)[0]
         got = run(program, arguments, "", given)
-        if got != (table, said, status):
-            return f"{arguments}: {got}, not {(table, said, status)}"
+        if got != (table, stderr, status):
+            return f"{arguments}: {got}, not {(table, stderr, status)}"
     lines = "".join(f"offset {offset}: {text}\n" for offset, text in findings).encode()
     got = run(program, ["--check"], "", given)
     if (got[0], got[2]) != (lines, bool(findings)):
         return f"--check: {got}, not {lines}"
-    said, status = ended(leaves, "rtr_diff: -: ", is_cut)
+    stderr, status = ended(leaves, "rtr_diff: -: ", is_cut)
     with tempfile.NamedTemporaryFile() as other:
         other.write(sequence)
         other.flush()
         for names in (["-", other.name], [other.name, "-"]):
             got = run(diff, names, "", given)
-            if got != (NONE, said, 3 * status):
-                return f"rtr_diff {names}: {got}, not {(said, 3 * status)}"
+            if got != (NONE, stderr, 3 * status):
+                return f"rtr_diff {names}: {got}, not {(stderr, 3 * status)}"
     return None
 
 
@@ -415,7 +415,7 @@ def picked(choice):
     found = [picked_prefix(choice) for _ in range(choice.randrange(30))]
     found += [picked_key(choice) for _ in range(choice.randrange(10))]
     found += [picked_aspa(choice, customer) for customer in choice.sample(range(300), 5)]
-    return {place: unit for unit, place in found}
+    return {key: unit for unit, key in found}
 
 
 def between(choice):
@@ -430,7 +430,7 @@ def recorded(choice, units):
     """A recording of several answers that leaves these units: in any order, some of them withdrawn
     in between and announced again, and others withdrawn; sometimes the data before are of another
     session, or from before a cache reset."""
-    others = [unit for place, unit in picked(choice).items() if place not in units]
+    others = [unit for key, unit in picked(choice).items() if key not in units]
     steps = [[unit] for unit in units.values()] + [[unit, withdrawn(unit)] for unit in others]
     steps += [[unit, withdrawn(unit), unit] for unit in units.values() if choice.random() < 0.3]
     again = {}
@@ -438,11 +438,11 @@ def recorded(choice, units):
         again[step[0]] = step
     order = [unit for unit, step in again.items() for _ in step]
     choice.shuffle(order)
-    told = b"".join(again[unit].pop(0) + between(choice) for unit in order)
+    changes = b"".join(again[unit].pop(0) + between(choice) for unit in order)
     former = b"".join(picked(choice).values())
     of_other_session = RESPONSE_ELSE + former + END_ELSE + RESPONSE
     before_reset = RESPONSE + former + END_1 + RESET + RESPONSE
-    return choice.choice([b"", of_other_session, before_reset]) + told
+    return choice.choice([b"", of_other_session, before_reset]) + changes
 
 
 def check_random(program):
@@ -454,22 +454,22 @@ def check_random(program):
     for _ in range(40):
         units = picked(choice)
         given = recorded(choice, units) + END
-        wanted = b"".join(units[place] for place in sorted(units))
-        origins = b"".join(units[place] for place in sorted(units) if place[0] == 0)
-        table, said, status = run(program, VRPS, "", given)
-        made = run(make, ["--json", *asked], "", table)
-        again = run(program, VRPS, "", made[0])
-        if (made != (wanted + END, "", 0) or (said, status) != ("", 0) or again[0] != table
+        expected = b"".join(units[key] for key in sorted(units))
+        origins = b"".join(units[key] for key in sorted(units) if key[0] == 0)
+        table, stderr, status = run(program, VRPS, "", given)
+        remade = run(make, ["--json", *asked], "", table)
+        again = run(program, VRPS, "", remade[0])
+        if (remade != (expected + END, "", 0) or (stderr, status) != ("", 0) or again[0] != table
                 or sum(map(len, json.loads(table).values())) != len(units)):
             wrong += 1
-            print(f"tables: {given.hex()} as JSON: {status} {said} {made[1]}")
-        table, said, status = run(program, CSV, "", given)
-        made = run(make, ["--csv", *asked], "", table)
-        keys = sum(place[0] == 1 for place in units)
+            print(f"tables: {given.hex()} as JSON: {status} {stderr} {remade[1]}")
+        table, stderr, status = run(program, CSV, "", given)
+        remade = run(make, ["--csv", *asked], "", table)
+        keys = sum(key[0] == 1 for key in units)
         line = f"rtr_list: left out: router keys {keys}, ASPAs {len(units) - keys - table.count(b'/')}\n"
-        if made != (origins + END, "", 0) or (said, status) != (line, 0):
+        if remade != (origins + END, "", 0) or (stderr, status) != (line, 0):
             wrong += 1
-            print(f"tables: {given.hex()} as CSV: {status} {said} {made[1]}")
+            print(f"tables: {given.hex()} as CSV: {status} {stderr} {remade[1]}")
     return wrong
 
 
@@ -478,9 +478,10 @@ def check_many(program):
     units = [V4[:12] + number.to_bytes(3, "big") + bytes(1) + V4[16:] for number in range(65537)]
     units = [unit[:9] + bytes([24, 24]) + unit[11:] for unit in units]
     given = RESPONSE + b"".join(units) + END_1 + RESPONSE + V4 + END_1
-    table, said, status = run(program, CSV, "", given)
-    if (table.count(b"\n"), table.count(V4_ROW.encode()), said, status) != (len(units) + 2, 1, "", 0):
-        print(f"tables: {table.count(b'/')} of {len(units) + 1} origins: {status} {said}")
+    table, stderr, status = run(program, CSV, "", given)
+    counts = table.count(b"\n"), table.count(V4_ROW.encode())
+    if (counts, stderr, status) != ((len(units) + 2, 1), "", 0):
+        print(f"tables: {table.count(b'/')} of {len(units) + 1} origins: {status} {stderr}")
         return 1
     return 0
 
@@ -501,15 +502,15 @@ def check_growth(program):
                 (CSV, (0, csv(V4_ROW, OTHER_ROW, V6_ROW), left_out)),
                 (VRPS, (0, vrps([V4_ROA, OTHER_ROA, V6_ROA], [ONE_KEY], [ONE_ASPA]), b""))):
             allowed = [whole, (3, b"", b"rtr_list: out of memory\n"), (2, b"", USAGE.encode() + b"\n")]
-            said = []
+            outcomes = []
             for refused in range(1, MOST):
                 ran, is_met = growth.refusing(shim, [program, *arguments], given, refused, 0)
-                said.append((ran.returncode, ran.stdout, ran.stderr))
+                outcomes.append((ran.returncode, ran.stdout, ran.stderr))
                 if not is_met:
                     break
-            if said[-1] != whole or allowed[1] not in said or set(said) - set(allowed):
+            if outcomes[-1] != whole or allowed[1] not in outcomes or set(outcomes) - set(allowed):
                 wrong += 1
-                print(f"tables: {arguments}: {set(said) - set(allowed)} as memory runs out")
+                print(f"tables: {arguments}: {set(outcomes) - set(allowed)} as memory runs out")
     return wrong
 
 

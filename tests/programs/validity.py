@@ -164,7 +164,7 @@ STRICT = ["--strict", "vrps"]
 ANSWER = "10.0.0.0/8 AS1 not found"
 
 
-def one(prefix, asn):
+def lookup(prefix, asn):
     return ["vrps", prefix, asn]
 
 
@@ -236,39 +236,39 @@ Displayed  7 routes and 8 total paths
 """
 RUNS = [
     # RFC 6811 section 2: no VRP covers the route.
-    (one("10.0.0.0/8", "AS65551"), "", FILE, NONE, lines("10.0.0.0/8 AS65551 not found"), "", 0),
-    (one("192.0.0.0/21", "65551"), "", FILE, NONE, lines("192.0.0.0/21 AS65551 not found"), "", 0),
-    (one("2001:db9::/32", "65551"), "", FILE, NONE, lines("2001:db9::/32 AS65551 not found"), "", 0),
-    (one("0.0.0.0/0", "65551"), "", FILE, NONE, lines("0.0.0.0/0 AS65551 not found"), "", 0),
-    (one("::/0", "65551"), "", FILE, NONE, lines("::/0 AS65551 not found"), "", 0),
+    (lookup("10.0.0.0/8", "AS65551"), "", FILE, NONE, lines("10.0.0.0/8 AS65551 not found"), "", 0),
+    (lookup("192.0.0.0/21", "65551"), "", FILE, NONE, lines("192.0.0.0/21 AS65551 not found"), "", 0),
+    (lookup("2001:db9::/32", "65551"), "", FILE, NONE, lines("2001:db9::/32 AS65551 not found"), "", 0),
+    (lookup("0.0.0.0/0", "65551"), "", FILE, NONE, lines("0.0.0.0/0 AS65551 not found"), "", 0),
+    (lookup("::/0", "65551"), "", FILE, NONE, lines("::/0 AS65551 not found"), "", 0),
     # A VRP matches it: at its prefix length, at its max length, and beside others that don't.
-    (one("198.51.100.0/24", "AS65551"), "", FILE, NONE, lines("198.51.100.0/24 AS65551 valid"), "", 0),
-    (one("198.51.100.128/25", "as65551"), "", FILE, NONE, lines("198.51.100.128/25 AS65551 invalid: 198.51.100.0/24-24 AS65551 (longer than 24)"), "", 0),
-    (one("198.51.100.16/28", "65552"), "", FILE, NONE, lines("198.51.100.16/28 AS65552 valid"), "", 0),
-    (one("192.0.2.0/24", "65550"), "", FILE, NONE, lines("192.0.2.0/24 AS65550 valid"), "", 0),
-    (one("2001:db8:1::/48", "65551"), "", FILE, NONE, lines("2001:db8:1::/48 AS65551 valid"), "", 0),
-    (one("2001:DB8:0:0::/32", "+65551"), "", FILE, NONE, lines("2001:db8::/32 AS65551 valid"), "", 0),
+    (lookup("198.51.100.0/24", "AS65551"), "", FILE, NONE, lines("198.51.100.0/24 AS65551 valid"), "", 0),
+    (lookup("198.51.100.128/25", "as65551"), "", FILE, NONE, lines("198.51.100.128/25 AS65551 invalid: 198.51.100.0/24-24 AS65551 (longer than 24)"), "", 0),
+    (lookup("198.51.100.16/28", "65552"), "", FILE, NONE, lines("198.51.100.16/28 AS65552 valid"), "", 0),
+    (lookup("192.0.2.0/24", "65550"), "", FILE, NONE, lines("192.0.2.0/24 AS65550 valid"), "", 0),
+    (lookup("2001:db8:1::/48", "65551"), "", FILE, NONE, lines("2001:db8:1::/48 AS65551 valid"), "", 0),
+    (lookup("2001:DB8:0:0::/32", "+65551"), "", FILE, NONE, lines("2001:db8::/32 AS65551 valid"), "", 0),
     # Some cover it, and none matches.
-    (one("192.0.2.0/24", "AS65551"), "", FILE, NONE, lines(INVALID), "", 0),
-    (one("192.0.2.0/24", "AS65552"), "", FILE, NONE, lines("192.0.2.0/24 AS65552 invalid: 192.0.0.0/22-23 AS65551 (another AS); 192.0.2.0/23-24 AS65550 (another AS)"), "", 0),
-    (one("198.51.100.0/29", "65552"), "", FILE, NONE, lines("198.51.100.0/29 AS65552 invalid: 198.51.100.0/24-24 AS65551 (another AS); 198.51.100.0/25-28 AS65552 (longer than 28)"), "", 0),
-    (one("2001:db8:1:2::/64", "65551"), "", FILE, NONE, lines("2001:db8:1:2::/64 AS65551 invalid: 2001:db8::/32-48 AS65551 (longer than 48)"), "", 0),
+    (lookup("192.0.2.0/24", "AS65551"), "", FILE, NONE, lines(INVALID), "", 0),
+    (lookup("192.0.2.0/24", "AS65552"), "", FILE, NONE, lines("192.0.2.0/24 AS65552 invalid: 192.0.0.0/22-23 AS65551 (another AS); 192.0.2.0/23-24 AS65550 (another AS)"), "", 0),
+    (lookup("198.51.100.0/29", "65552"), "", FILE, NONE, lines("198.51.100.0/29 AS65552 invalid: 198.51.100.0/24-24 AS65551 (another AS); 198.51.100.0/25-28 AS65552 (longer than 28)"), "", 0),
+    (lookup("2001:db8:1:2::/64", "65551"), "", FILE, NONE, lines("2001:db8:1:2::/64 AS65551 invalid: 2001:db8::/32-48 AS65551 (longer than 48)"), "", 0),
     # AS 0 of a VRP says that no route is valid (RFC 6483 section 4), and a route of AS 0 matches
     # none (RFC 7607).
-    (one("203.0.113.0/24", "65551"), "", FILE, NONE, lines("203.0.113.0/24 AS65551 invalid: " + ZERO), "", 0),
-    (one("203.0.113.0/24", "0"), "", FILE, NONE, lines("203.0.113.0/24 AS0 invalid: " + ZERO), "", 0),
-    (one("198.51.100.0/24", "AS0"), "", FILE, NONE, lines("198.51.100.0/24 AS0 invalid: 198.51.100.0/24-24 AS65551 (another AS)"), "", 0),
+    (lookup("203.0.113.0/24", "65551"), "", FILE, NONE, lines("203.0.113.0/24 AS65551 invalid: " + ZERO), "", 0),
+    (lookup("203.0.113.0/24", "0"), "", FILE, NONE, lines("203.0.113.0/24 AS0 invalid: " + ZERO), "", 0),
+    (lookup("198.51.100.0/24", "AS0"), "", FILE, NONE, lines("198.51.100.0/24 AS0 invalid: 198.51.100.0/24-24 AS65551 (another AS)"), "", 0),
     # One that covers all addresses, and one of a single address.
-    (one("10.0.0.1/32", "1"), "", sequence(("0.0.0.0/0", 0, 1), ("10.0.0.1/32", 32, 2)), NONE, lines("10.0.0.1/32 AS1 invalid: 0.0.0.0/0-0 AS1 (longer than 0); 10.0.0.1/32-32 AS2 (another AS)"), "", 0),
-    (one("0.0.0.0/0", "1"), "", sequence(("0.0.0.0/0", 0, 1)), NONE, lines("0.0.0.0/0 AS1 valid"), "", 0),
-    (one("2001:db8::1/128", "4294967295"), "", sequence(("2001:db8::1/128", 128, 4294967295)), NONE, lines("2001:db8::1/128 AS4294967295 valid"), "", 0),
+    (lookup("10.0.0.1/32", "1"), "", sequence(("0.0.0.0/0", 0, 1), ("10.0.0.1/32", 32, 2)), NONE, lines("10.0.0.1/32 AS1 invalid: 0.0.0.0/0-0 AS1 (longer than 0); 10.0.0.1/32-32 AS2 (another AS)"), "", 0),
+    (lookup("0.0.0.0/0", "1"), "", sequence(("0.0.0.0/0", 0, 1)), NONE, lines("0.0.0.0/0 AS1 valid"), "", 0),
+    (lookup("2001:db8::1/128", "4294967295"), "", sequence(("2001:db8::1/128", 128, 4294967295)), NONE, lines("2001:db8::1/128 AS4294967295 valid"), "", 0),
     # Several of one prefix, in the order of payloads.
-    (one("10.0.0.0/9", "1"), "", sequence(("10.0.0.0/8", 24, 3), ("10.0.0.0/8", 8, 1), ("10.0.0.0/8", 8, 2)), NONE, lines("10.0.0.0/9 AS1 invalid: 10.0.0.0/8-8 AS1 (longer than 8); 10.0.0.0/8-8 AS2 (another AS); 10.0.0.0/8-24 AS3 (another AS)"), "", 0),
+    (lookup("10.0.0.0/9", "1"), "", sequence(("10.0.0.0/8", 24, 3), ("10.0.0.0/8", 8, 1), ("10.0.0.0/8", 8, 2)), NONE, lines("10.0.0.0/9 AS1 invalid: 10.0.0.0/8-8 AS1 (longer than 8); 10.0.0.0/8-8 AS2 (another AS); 10.0.0.0/8-24 AS3 (another AS)"), "", 0),
     # JSON has all VRPs that cover the route.
-    (["--json", *one("192.0.2.0/24", "65551")], "", FILE, NONE, lines('{"prefix":"192.0.2.0/24","asn":65551,"state":"invalid","vrps":[' + OBJECTS + "]}"), "", 0),
-    (["--json", *one("10.0.0.0/8", "65551")], "", FILE, NONE, lines('{"prefix":"10.0.0.0/8","asn":65551,"state":"not found","vrps":[]}'), "", 0),
-    (["--json", *one("198.51.100.0/25", "65552")], "", FILE, NONE, lines('{"prefix":"198.51.100.0/25","asn":65552,"state":"valid","vrps":[{"prefix":"198.51.100.0/24","maxLength":24,"asn":65551,"mismatch":"another AS"},{"prefix":"198.51.100.0/25","maxLength":28,"asn":65552,"mismatch":null}]}'), "", 0),
-    (["--json", *one("203.0.113.0/24", "1")], "", FILE, NONE, lines('{"prefix":"203.0.113.0/24","asn":1,"state":"invalid","vrps":[{"prefix":"203.0.113.0/24","maxLength":32,"asn":0,"mismatch":"AS 0"}]}'), "", 0),
+    (["--json", *lookup("192.0.2.0/24", "65551")], "", FILE, NONE, lines('{"prefix":"192.0.2.0/24","asn":65551,"state":"invalid","vrps":[' + OBJECTS + "]}"), "", 0),
+    (["--json", *lookup("10.0.0.0/8", "65551")], "", FILE, NONE, lines('{"prefix":"10.0.0.0/8","asn":65551,"state":"not found","vrps":[]}'), "", 0),
+    (["--json", *lookup("198.51.100.0/25", "65552")], "", FILE, NONE, lines('{"prefix":"198.51.100.0/25","asn":65552,"state":"valid","vrps":[{"prefix":"198.51.100.0/24","maxLength":24,"asn":65551,"mismatch":"another AS"},{"prefix":"198.51.100.0/25","maxLength":28,"asn":65552,"mismatch":null}]}'), "", 0),
+    (["--json", *lookup("203.0.113.0/24", "1")], "", FILE, NONE, lines('{"prefix":"203.0.113.0/24","asn":1,"state":"invalid","vrps":[{"prefix":"203.0.113.0/24","maxLength":32,"asn":0,"mismatch":"AS 0"}]}'), "", 0),
     # Routes that are read.
     (ALL, "", FILE, NONE, NONE, "", 0),
     (ALL, "", FILE, b"192.0.2.0/24 AS65551\n10.0.0.0/8 1\n", lines(INVALID, "10.0.0.0/8 AS1 not found"), "", 0),
@@ -306,9 +306,9 @@ RUNS = [
     (ALL, "", FILE, b"10.0.0.0/8 {64496,64497}\n", lines("10.0.0.0/8 AS_SET not found"), "", 0),
     (ALL, "", FILE, b"203.0.113.0/24 {65551}\n", lines("203.0.113.0/24 AS_SET invalid: " + ZERO), "", 0),
     (ALL, "", FILE, b"198.51.100.0/24 {65551,AS65552,0}\n", lines("198.51.100.0/24 AS_SET invalid: 198.51.100.0/24-24 AS65551 (another AS)"), "", 0),
-    (one("198.51.100.0/24", "{65551}"), "", FILE, NONE, lines("198.51.100.0/24 AS_SET invalid: 198.51.100.0/24-24 AS65551 (another AS)"), "", 0),
-    (["--json", *one("10.0.0.0/8", "{65551}")], "", FILE, NONE, lines('{"prefix":"10.0.0.0/8","asn":null,"state":"not found","vrps":[]}'), "", 0),
-    (one("198.51.100.0/24", "{65551"), "", FILE, NONE, NONE, "198.51.100.0/24 {65551: invalid AS number", 2),
+    (lookup("198.51.100.0/24", "{65551}"), "", FILE, NONE, lines("198.51.100.0/24 AS_SET invalid: 198.51.100.0/24-24 AS65551 (another AS)"), "", 0),
+    (["--json", *lookup("10.0.0.0/8", "{65551}")], "", FILE, NONE, lines('{"prefix":"10.0.0.0/8","asn":null,"state":"not found","vrps":[]}'), "", 0),
+    (lookup("198.51.100.0/24", "{65551"), "", FILE, NONE, NONE, "198.51.100.0/24 {65551: invalid AS number", 2),
     (ALL, "", FILE, b"10.0.0.0/8 {}\n10.0.0.0/8 {1,}\n10.0.0.0/8 {,1}\n10.0.0.0/8 {1,,2}\n", NONE, named(*((number, "invalid AS number") for number in range(1, 5))), 1),
     (ALL, "", FILE, b"10.0.0.0/8 {1\n10.0.0.0/8 1}\n10.0.0.0/8 {1}x\n10.0.0.0/8 {{1}}\n10.0.0.0/8 1,2\n", NONE, named(*((number, "invalid AS number") for number in range(1, 6))), 1),
     (ALL, "", FILE, b"10.0.0.0/8 {1,4294967296}\n10.0.0.0/8 {1, 2}\n", NONE, named((1, "invalid AS number"), (2, "invalid AS number")), 1),
@@ -367,26 +367,26 @@ RUNS = [
     (AGAINST, "<&-", FILE, NONE, NONE, CLOSED, 3),
     # Local exceptions, of a sequence, CSV and JSON (RFC 8416): AS65550's VRPs are removed, and one is added.
     *[([*SLURM, "vrps"], "", file, b"192.0.2.0/24 AS65550\n10.0.0.0/8 1\n198.51.100.0/24 65551\n", lines("192.0.2.0/24 AS65550 invalid: 192.0.0.0/22-23 AS65551 (another AS)", "10.0.0.0/8 AS1 valid", "198.51.100.0/24 AS65551 valid"), "", 0) for file in (FILE, CSV, JSON, KEY + FILE[:-24] + ASPA + END)],
-    ([*SLURM, *one("10.0.0.0/8", "1")], "", FILE, NONE, lines("10.0.0.0/8 AS1 valid"), "", 0),
-    ([*SLURM, *one("10.0.0.0/8", "1")], "", RESPONSE + FILE[:-24] + RESPONSE + unit("10.0.0.0/8", 8, 1) + END, NONE, lines("10.0.0.0/8 AS1 valid"), LEFT_OUT, 0),
-    ([*SLURM, *one("10.0.0.0/8", "1")], "", END, NONE, lines("10.0.0.0/8 AS1 valid"), "", 0),
+    ([*SLURM, *lookup("10.0.0.0/8", "1")], "", FILE, NONE, lines("10.0.0.0/8 AS1 valid"), "", 0),
+    ([*SLURM, *lookup("10.0.0.0/8", "1")], "", RESPONSE + FILE[:-24] + RESPONSE + unit("10.0.0.0/8", 8, 1) + END, NONE, lines("10.0.0.0/8 AS1 valid"), LEFT_OUT, 0),
+    ([*SLURM, *lookup("10.0.0.0/8", "1")], "", END, NONE, lines("10.0.0.0/8 AS1 valid"), "", 0),
     ([*SLURM, *AGAINST], "", FILE, b"192.0.2.0/24 AS65550\n192.0.2.0/24 AS65551\n10.0.0.0/9 1\n10.0.0.0/8 1\n", lines("192.0.2.0/24 AS65551 invalid to valid"), "", 0),
     (["--slurm", "all", "vrps"], "", FILE, b"10.0.0.0/8 1\n", NONE, NO_VRPS, 1),
     (["--slurm", "all", *SLURM, "vrps"], "", FILE, b"10.0.0.0/8 1\n", NONE, "slurm: " + OVERLAP, 1),
     (["--slurm", "bad", "vrps"], "", FILE, b"10.0.0.0/8 1\n", NONE, "bad: SLURM file: no JSON", 1),
     (["--slurm", "none", "vrps"], "", FILE, b"10.0.0.0/8 1\n", NONE, "none: " + NO_FILE, 3),
     # The file: a sequence, a recorded session, and what validators print.
-    (one("192.0.2.0/24", "65551"), "", CSV, NONE, lines(INVALID), "", 0),
-    (one("192.0.2.0/24", "65551"), "", JSON, NONE, lines(INVALID), "", 0),
-    (one("192.0.2.0/24", "65551"), "", b" " + JSON, NONE, lines(INVALID), "", 0),
-    (one("192.0.2.0/24", "65551"), "", b"\r\n\t" + JSON, NONE, lines(INVALID), "", 0),
-    (one("192.0.2.0/24", "65551"), "", b"\xef\xbb\xbf\n" + JSON, NONE, lines(INVALID), "", 0),
-    (one("192.0.2.0/24", "65551"), "", b"\n" + CSV, NONE, lines(INVALID), "", 0),
-    (one("192.0.2.0/24", "65551"), "", b"\xef\xbb\xbf" + CSV, NONE, lines(INVALID), "", 0),
-    (one("192.0.2.0/24", "65551"), "", b"ASN,Max Length,Prefix\n65551,24,192.0.2.0/24\n", NONE, lines("192.0.2.0/24 AS65551 valid"), "", 0),
+    (lookup("192.0.2.0/24", "65551"), "", CSV, NONE, lines(INVALID), "", 0),
+    (lookup("192.0.2.0/24", "65551"), "", JSON, NONE, lines(INVALID), "", 0),
+    (lookup("192.0.2.0/24", "65551"), "", b" " + JSON, NONE, lines(INVALID), "", 0),
+    (lookup("192.0.2.0/24", "65551"), "", b"\r\n\t" + JSON, NONE, lines(INVALID), "", 0),
+    (lookup("192.0.2.0/24", "65551"), "", b"\xef\xbb\xbf\n" + JSON, NONE, lines(INVALID), "", 0),
+    (lookup("192.0.2.0/24", "65551"), "", b"\n" + CSV, NONE, lines(INVALID), "", 0),
+    (lookup("192.0.2.0/24", "65551"), "", b"\xef\xbb\xbf" + CSV, NONE, lines(INVALID), "", 0),
+    (lookup("192.0.2.0/24", "65551"), "", b"ASN,Max Length,Prefix\n65551,24,192.0.2.0/24\n", NONE, lines("192.0.2.0/24 AS65551 valid"), "", 0),
     # Without VRPs every route would be not found.
-    (one("192.0.2.0/24", "65551"), "", END, NONE, NONE, NO_VRPS, 1),
-    (one("192.0.2.0/24", "65551"), "", KEY + ASPA + END, NONE, NONE, NO_VRPS, 1),
+    (lookup("192.0.2.0/24", "65551"), "", END, NONE, NONE, NO_VRPS, 1),
+    (lookup("192.0.2.0/24", "65551"), "", KEY + ASPA + END, NONE, NONE, NO_VRPS, 1),
     (ALL, "", RESPONSE + END, b"10.0.0.0/8 1\n", NONE, NO_VRPS, 1),
     (AS_JSON, "", b'{"roas":[]}', b"10.0.0.0/8 1\n", NONE, NO_VRPS, 1),
     (ALL, "", b"ASN,IP Prefix,Max Length\n", b"10.0.0.0/8 1\n", NONE, NO_VRPS, 1),
@@ -399,30 +399,30 @@ RUNS = [
     (["--at", "0", "vrps"], "", EXPIRING, b"10.0.0.0/8 1\n192.0.2.0/24 2\n", lines("10.0.0.0/8 AS1 valid", "192.0.2.0/24 AS2 valid"), "", 0),
     (["--at", "1", "vrps"], "", EXPIRING, b"10.0.0.0/8 1\n192.0.2.0/24 2\n", lines(ANSWER, "192.0.2.0/24 AS2 valid"), gone(1), 0),
     (["--at", "99999999998", "vrps"], "", EXPIRING, b"192.0.2.0/24 2\n", lines("192.0.2.0/24 AS2 valid"), gone(1), 0),
-    (["--at", "99999999999", *one("192.0.2.0/24", "2")], "", EXPIRING, NONE, lines("192.0.2.0/24 AS2 not found"), gone(2), 0),
+    (["--at", "99999999999", *lookup("192.0.2.0/24", "2")], "", EXPIRING, NONE, lines("192.0.2.0/24 AS2 not found"), gone(2), 0),
     (["--json", "--at", "18446744073709551615", "--strict", "vrps"], "", EXPIRING, b"198.51.100.0/24 4\n", lines('{"prefix":"198.51.100.0/24","asn":4,"state":"invalid","vrps":[{"prefix":"198.51.100.0/24","maxLength":24,"asn":3,"mismatch":"another AS"}]}'), gone(2), 0),
     (["--at", "0", "vrps"], "", FILE, b"192.0.2.0/24 AS65551\n", lines(INVALID), "", 0),
     # A list that is cut off.
     (ALL, "", CSV[:-1], b"10.0.0.0/8 1\n", NONE, "vrps: line 7: no line end: the list may be cut off (`rtr_make --unended` reads it)", 1),
     (ALL, "", JSON[:-1], b"10.0.0.0/8 1\n", NONE, f"vrps: offset {len(JSON) - 1}: ends in the middle of a value", 1),
-    (one("192.0.2.0/24", "65551"), "", b"\xef\xbb\xbf" + JSON, NONE, lines(INVALID), "", 0),
-    (one("192.0.2.0/24", "65551"), "", b"".join(unit(*vrp, version=0) for vrp in VRPS if vrp[2] != 1) + END_0, NONE, lines(INVALID), "", 0),
-    (one("192.0.2.0/24", "65551"), "", KEY + FILE[:-24] + ASPA + END, NONE, lines(INVALID), "", 0),
-    (one("192.0.2.0/24", "65551"), "", RESPONSE + unit("192.0.2.0/24", 24, 65551) + END + samples.unit("cache reset", version=2) + RESPONSE + FILE, NONE, lines(INVALID), "", 0),
-    (one("10.0.0.0/8", "1"), "", RESPONSE + FILE[:-24] + RESPONSE + unit("10.0.0.0/8", 8, 1) + END, NONE, lines("10.0.0.0/8 AS1 valid"), LEFT_OUT, 0),
+    (lookup("192.0.2.0/24", "65551"), "", b"\xef\xbb\xbf" + JSON, NONE, lines(INVALID), "", 0),
+    (lookup("192.0.2.0/24", "65551"), "", b"".join(unit(*vrp, version=0) for vrp in VRPS if vrp[2] != 1) + END_0, NONE, lines(INVALID), "", 0),
+    (lookup("192.0.2.0/24", "65551"), "", KEY + FILE[:-24] + ASPA + END, NONE, lines(INVALID), "", 0),
+    (lookup("192.0.2.0/24", "65551"), "", RESPONSE + unit("192.0.2.0/24", 24, 65551) + END + samples.unit("cache reset", version=2) + RESPONSE + FILE, NONE, lines(INVALID), "", 0),
+    (lookup("10.0.0.0/8", "1"), "", RESPONSE + FILE[:-24] + RESPONSE + unit("10.0.0.0/8", 8, 1) + END, NONE, lines("10.0.0.0/8 AS1 valid"), LEFT_OUT, 0),
     (["-", "192.0.2.0/24", "65551"], "", NONE, FILE, lines(INVALID), "", 0),
     (["-", "192.0.2.0/24", "65551"], "", NONE, CSV, lines(INVALID), "", 0),
     (["--json", "-", "10.0.0.0/8", "1"], "", NONE, JSON, lines('{"prefix":"10.0.0.0/8","asn":1,"state":"not found","vrps":[]}'), "", 0),
     # Files that are refused: nothing is answered.
-    (one("10.0.0.0/8", "1"), "", NONE, NONE, NONE, "vrps: offset 0: " + CUT, 1),
+    (lookup("10.0.0.0/8", "1"), "", NONE, NONE, NONE, "vrps: offset 0: " + CUT, 1),
     (ALL, "", FILE[:-1], b"10.0.0.0/8 1\n", NONE, f"vrps: offset {len(FILE) - 24}: " + CUT, 1),
-    (one("10.0.0.0/8", "1"), "", unit("10.0.0.0/8", 8, 1) * 2 + END, NONE, NONE, "vrps: offset 20: duplicate announcement", 1),
-    (one("10.0.0.0/8", "1"), "", b"AS1,10.0.0.0/8,7\n", NONE, NONE, "vrps: line 1: max-length smaller than prefix length", 1),
-    (one("10.0.0.0/8", "1"), "", b"hello\n", NONE, NONE, "vrps: line 1: invalid AS number", 1),
-    (one("10.0.0.0/8", "1"), "", b"{}", NONE, NONE, "vrps: input: no array of payloads", 1),
-    (one("10.0.0.0/8", "1"), "", b"{", NONE, NONE, "vrps: offset 1: ends in the middle of a value", 1),
-    (one("10.0.0.0/8", "1"), "", b'{"roas":[{"prefix":"10.0.0.0/8"}]}', NONE, NONE, "vrps: roas[0].asn: missing", 1),
-    (one("10.0.0.0/8", "1"), "", bytes.fromhex("d4c3b2a1 0200 0400") + bytes(16), NONE, NONE, "vrps: line 1: no UTF-8\nrtr_validate: vrps " + CAPTURE, 1),
+    (lookup("10.0.0.0/8", "1"), "", unit("10.0.0.0/8", 8, 1) * 2 + END, NONE, NONE, "vrps: offset 20: duplicate announcement", 1),
+    (lookup("10.0.0.0/8", "1"), "", b"AS1,10.0.0.0/8,7\n", NONE, NONE, "vrps: line 1: max-length smaller than prefix length", 1),
+    (lookup("10.0.0.0/8", "1"), "", b"hello\n", NONE, NONE, "vrps: line 1: invalid AS number", 1),
+    (lookup("10.0.0.0/8", "1"), "", b"{}", NONE, NONE, "vrps: input: no array of payloads", 1),
+    (lookup("10.0.0.0/8", "1"), "", b"{", NONE, NONE, "vrps: offset 1: ends in the middle of a value", 1),
+    (lookup("10.0.0.0/8", "1"), "", b'{"roas":[{"prefix":"10.0.0.0/8"}]}', NONE, NONE, "vrps: roas[0].asn: missing", 1),
+    (lookup("10.0.0.0/8", "1"), "", bytes.fromhex("d4c3b2a1 0200 0400") + bytes(16), NONE, NONE, "vrps: line 1: no UTF-8\nrtr_validate: vrps " + CAPTURE, 1),
     # Files that can't be opened or read.
     (["none", "10.0.0.0/8", "1"], "", NONE, NONE, NONE, "none: " + NO_FILE, 3),
     (["none"], "", NONE, b"10.0.0.0/8 1\n", NONE, "none: " + NO_FILE, 3),
@@ -430,20 +430,20 @@ RUNS = [
     (["-", "10.0.0.0/8", "1"], "<.", NONE, NONE, NONE, "-: " + NO_READ, 3),
     (ALL, "<.", FILE, NONE, NONE, NO_READ, 3),
     (ALL, "<&-", FILE, NONE, NONE, CLOSED, 3),
-    (one("10.0.0.0/8", "1"), "<&-", FILE, NONE, lines("10.0.0.0/8 AS1 not found"), "", 0),
+    (lookup("10.0.0.0/8", "1"), "<&-", FILE, NONE, lines("10.0.0.0/8 AS1 not found"), "", 0),
     (["a\nb\x1b", "10.0.0.0/8", "1"], "", NONE, NONE, NONE, "a\\nb\\x1b: " + NO_FILE, 3),
     # An output or a line that can't be written.
-    (one("10.0.0.0/8", "1"), ">/dev/full", FILE, NONE, NONE, NO_WRITE, 3),
+    (lookup("10.0.0.0/8", "1"), ">/dev/full", FILE, NONE, NONE, NO_WRITE, 3),
     (ALL, ">/dev/full", FILE, b"10.0.0.0/8 1\n", NONE, NO_WRITE, 3),
     (ALL, ">/dev/full", FILE, b"10.0.0.0/8 1\nx\n", NONE, "line 2: missing prefix length\nrtr_validate: " + NO_WRITE, 3),
     (STRICT, ">/dev/full", FILE, b"10.0.0.0/8 1\nx\n", NONE, "line 2: missing prefix length\nrtr_validate: " + NO_WRITE, 3),
     (ALL, "2>/dev/full", FILE, b"x\n10.0.0.0/8 1\n", lines(ANSWER), "", 1),
     (STRICT, "2>/dev/full", FILE, b"x\n10.0.0.0/8 1\n", NONE, "", 1),
     # Arguments that aren't a route: nothing is read.
-    (one("10.0.0.1/8", "AS1"), "", FILE, NONE, NONE, "10.0.0.1/8 AS1: " + HOST, 2),
-    (one("10.0.0.0/8", "x"), "", NONE, NONE, NONE, "10.0.0.0/8 x: invalid AS number", 2),
-    (one(" 10.0.0.0/8", "1"), "", FILE, NONE, NONE, " 10.0.0.0/8 1: invalid IP address syntax", 2),
-    (one("\n", "\u00e9"), "", FILE, NONE, NONE, "\\n \\xc3\\xa9: missing prefix length", 2),
+    (lookup("10.0.0.1/8", "AS1"), "", FILE, NONE, NONE, "10.0.0.1/8 AS1: " + HOST, 2),
+    (lookup("10.0.0.0/8", "x"), "", NONE, NONE, NONE, "10.0.0.0/8 x: invalid AS number", 2),
+    (lookup(" 10.0.0.0/8", "1"), "", FILE, NONE, NONE, " 10.0.0.0/8 1: invalid IP address syntax", 2),
+    (lookup("\n", "\u00e9"), "", FILE, NONE, NONE, "\\n \\xc3\\xa9: missing prefix length", 2),
     # Wrong arguments.
     ([], "", FILE, NONE, NONE, USAGE, 2),
     (["-"], "", FILE, NONE, NONE, USAGE, 2),
@@ -457,8 +457,8 @@ RUNS = [
     (["--format", "frr", "--format", "frr", "vrps"], "", FILE, NONE, NONE, USAGE, 2),
     (["--format", "lines", "--format", "mrt", "vrps"], "", FILE, NONE, NONE, USAGE, 2),
     (["--summary", "--summary", "vrps"], "", FILE, NONE, NONE, USAGE, 2),
-    (["--summary", *one("10.0.0.0/8", "1")], "", FILE, NONE, NONE, USAGE, 2),
-    (["--against", "other", *one("10.0.0.0/8", "1")], "", FILE, NONE, NONE, USAGE, 2),
+    (["--summary", *lookup("10.0.0.0/8", "1")], "", FILE, NONE, NONE, USAGE, 2),
+    (["--against", "other", *lookup("10.0.0.0/8", "1")], "", FILE, NONE, NONE, USAGE, 2),
     ([*AGAINST, "--against", "other"], "", FILE, NONE, NONE, USAGE, 2),
     (["--against", "-", "vrps"], "", FILE, NONE, NONE, USAGE, 2),
     (["--against", "other"], "", FILE, NONE, NONE, USAGE, 2),
@@ -492,15 +492,15 @@ def run(program, arguments, redirection, vrps, given):
 
 def check_rows(program):
     wrong = 0
-    for place, row in zip(places(globals()), RUNS):
+    for where, row in zip(places(globals()), RUNS):
         arguments, redirection, vrps, given, output, line, status = row
-        said = line + "\n" if line else ""
-        if said and line != USAGE:
-            said = "rtr_validate: " + said
+        stderr = line + "\n" if line else ""
+        if stderr and line != USAGE:
+            stderr = "rtr_validate: " + stderr
         got = run(program, arguments, redirection, vrps, given)
-        if got != (output, said, status):
+        if got != (output, stderr, status):
             wrong += 1
-            print(f"{place}: {arguments} {redirection}: {got}, not {(output, said, status)}")
+            print(f"{where}: {arguments} {redirection}: {got}, not {(output, stderr, status)}")
     return wrong
 
 
@@ -512,9 +512,9 @@ def answer(vrps, prefix, asn):
     whys = ["AS 0" if origin == 0 else "another AS" if origin != asn
             else f"longer than {max_len}" if net.prefixlen > max_len else ""
             for _, max_len, origin in covering]
-    said = "; ".join(f"{above}-{max_len} AS{origin} ({why})"
-                     for (above, max_len, origin), why in zip(covering, whys))
-    state = "not found" if not covering else "invalid: " + said if all(whys) else "valid"
+    reasons = "; ".join(f"{above}-{max_len} AS{origin} ({why})"
+                        for (above, max_len, origin), why in zip(covering, whys))
+    state = "not found" if not covering else "invalid: " + reasons if all(whys) else "valid"
     return f"{net} AS{asn} {state}"
 
 
@@ -541,17 +541,17 @@ def check_tables(program, many):
         routes = [(nested(choice, choice.choice((32, 128))), choice.choice((0, 1, 2, 3)))
                   for _ in range(200)]
         given = lines(*(f"{net} AS{asn}" for net, asn in routes))
-        wanted = [answer(vrps, net, asn) for net, asn in routes]
+        answers = [answer(vrps, net, asn) for net, asn in routes]
         units = [unit(str(net), longest, asn) for net, longest, asn in vrps]
         shuffled = choice.sample(units, len(units))
         got = run(program, ALL, "", b"".join(shuffled) + END, given)
-        expected = lines(*wanted), "", 0
+        expected = lines(*answers), "", 0
         if not vrps:
             expected = NONE, f"rtr_validate: {NO_VRPS}\n", 1
         if got != expected:
             wrong += 1
             shown = got[0].decode().splitlines()
-            differs = [pair for pair in zip(shown, wanted) if pair[0] != pair[1]]
+            differs = [pair for pair in zip(shown, answers) if pair[0] != pair[1]]
             print(f"validity: {differs[:3]}, {got[1:]}")
     return wrong
 
@@ -602,10 +602,10 @@ def check_progress(program):
             except OSError:
                 break
         os.close(above)
-    wanted = re.compile(rb"(\rrtr_validate: \d+ lines){2,}\r {40}\r"
-                        rb"rtr_validate: line \d+: missing prefix length\r\n"
-                        rb"rtr_validate: 1 line is no route\r\n")
-    if (not wanted.fullmatch(seen) or took < 2
+    pattern = re.compile(rb"(\rrtr_validate: \d+ lines){2,}\r {40}\r"
+                         rb"rtr_validate: line \d+: missing prefix length\r\n"
+                         rb"rtr_validate: 1 line is no route\r\n")
+    if (not pattern.fullmatch(seen) or took < 2
             or output != summary(0, 0, sent, 1, (1, 0, 0, sent))):
         print(f"validity: {seen} and {output} after {sent} lines in {took} s")
         return 1

@@ -86,21 +86,21 @@ def sequence_rows():
         yield f"normalise to=1 breaks={len(output) + 1} {whole}"
         for count in range(len(output)):
             taken = len(unit) if count < len(form) else len(given)
-            said = f"{taken} : {output[:count].hex()}"
-            yield f"normalise to=1 breaks={count + 1} {given.hex()} => Writer {said}"
-            yield f"normalise to=1 stops={count + 1} {given.hex()} => Writer(own) {said}"
+            counts = f"{taken} : {output[:count].hex()}"
+            yield f"normalise to=1 breaks={count + 1} {given.hex()} => Writer {counts}"
+            yield f"normalise to=1 stops={count + 1} {given.hex()} => Writer(own) {counts}"
 
 
-def into_row(call, units, end, room):
-    """A run into an output of `room` bytes, over units and what is written for each, if any."""
+def into_row(call, units, end, capacity):
+    """A run into an output of this capacity, over units and what is written for each, if any."""
     given = b"".join(unit for unit, _ in units) + end[0]
     taken, written, forms = 0, b"", 0
-    call = f"{call} {ONCE} room={room} {given.hex()}"
+    call = f"{call} {ONCE} room={capacity} {given.hex()}"
     for count, (unit, form) in enumerate(units):
-        if len(written) + len(form) > room:
+        if len(written) + len(form) > capacity:
             return f"{call} => NoRoom {count} {forms} {taken} {len(written)} : {written.hex()}"
         taken, written, forms = taken + len(unit), written + form, forms + (form != b"")
-    if len(written) + len(end[1]) > room:
+    if len(written) + len(end[1]) > capacity:
         return f"{call} => NoRoom {len(units)} {forms} {taken} {len(written)} : {written.hex()}"
     written += end[1]
     return f"{call} => Ok {len(units)} {forms} {len(given)} {len(written)} : {written.hex()}"
@@ -113,12 +113,12 @@ def into_rows():
         runs = [[], *([pair] for pair in UNITS), UNITS]
         for units in runs:
             size = sum(len(unit) for unit, _ in units) + len(end)
-            for room in range(size + 14):
-                yield into_row("normalise_into", units, (end, end), room)
+            for capacity in range(size + 14):
+                yield into_row("normalise_into", units, (end, end), capacity)
                 for version in range(3):
                     call = f"normalise_for_into version={version}"
                     named = [(unit, form_for(version, form)) for unit, form in units]
-                    yield into_row(call, named, (end, ENDS[version]), room)
+                    yield into_row(call, named, (end, ENDS[version]), capacity)
 
 
 def into_stop_rows():
@@ -130,8 +130,8 @@ def into_stop_rows():
             if taken + len(unit) > count:
                 break
             whole, taken, written = whole + 1, taken + len(unit), written + form
-        said = f"{whole} {whole} {taken} {len(written)} : {written.hex()}"
-        yield f"normalise_into {ONCE} {given[:count].hex()} => Refused Short {said}"
+        counts = f"{whole} {whole} {taken} {len(written)} : {written.hex()}"
+        yield f"normalise_into {ONCE} {given[:count].hex()} => Refused Short {counts}"
     for limit in range(len(UNITS) + 1):
         taken = sum(len(unit) for unit, _ in UNITS[:limit])
         for version in (None, 0, 1, 2):
@@ -139,8 +139,8 @@ def into_stop_rows():
             written = b"".join(forms[:limit])
             kept = sum(form != b"" for form in forms[:limit])
             call = "normalise_into" if version is None else f"normalise_for_into version={version}"
-            said = f"{limit} {kept} {taken} {len(written)} : {written.hex()}"
-            yield f"{call} {ONCE} limit={limit} {given.hex()} => TooMany {said}"
+            counts = f"{limit} {kept} {taken} {len(written)} : {written.hex()}"
+            yield f"{call} {ONCE} limit={limit} {given.hex()} => TooMany {counts}"
 
 
 def form_for(version, form):
@@ -205,8 +205,8 @@ def sample_rows():
     for sample in samples.SAMPLES:
         given, size = sample.bytes.hex(), len(sample.bytes)
         if sample.line:
-            said = f"{NAMES[sample.bytes[1]]} {sample.bytes[0]} {size} {given} taken {size}"
-            yield f"AnyUnit::read {given} ff => {said}"
+            result = f"{NAMES[sample.bytes[1]]} {sample.bytes[0]} {size} {given} taken {size}"
+            yield f"AnyUnit::read {given} ff => {result}"
             yield f"unit_length {given} => {size} =>"
         if not sample.refused and sample.bytes[1] in (4, 6, 7, 9, 11):
             yield f"form {given} => Ok {sample.written.hex()}"
@@ -324,9 +324,10 @@ def in_order_rows():
     changes = [(name, unit) for name, units in THERE.items() for unit in units]
     for there in itertools.product(*THERE.values()):
         call = f"apply_in_order {ONCE} {' '.join(filter(None, there))} END |"
-        for made in (run for count in range(5) for run in itertools.product(changes, repeat=count)):
-            units = " ".join(unit or f"{name}_GONE" for name, unit in made)
-            answer = in_order_answer(dict(zip(THERE, there)), made)
+        for steps in (run for count in range(5)
+                      for run in itertools.product(changes, repeat=count)):
+            units = " ".join(unit or f"{name}_GONE" for name, unit in steps)
+            answer = in_order_answer(dict(zip(THERE, there)), steps)
             yield f"{call} {units} END => {answer} =>"
 
 
@@ -337,14 +338,14 @@ def version_rows():
             call = f"normalise_for version={version} limit={limit}"
             yield f"{call} {IPV4.hex()} {END_0.hex()} => UnitVersion({version}) unasked :"
             call = f"normalise_for_into {ONCE} version={version} limit={limit}"
-            said = f"Refused UnitVersion({version}) 0 0 0 0 :"
-            yield f"{call} {IPV4.hex()} {END_0.hex()} => {said}"
+            result = f"Refused UnitVersion({version}) 0 0 0 0 :"
+            yield f"{call} {IPV4.hex()} {END_0.hex()} => {result}"
 
 
 def text_rows():
     """Texts of key info of all sizes."""
     for count in (0, 1, 2, 3, 4, 65503):
-        info = bytes(place % 251 for place in range(count))
+        info = bytes(index % 251 for index in range(count))
         text = base64.urlsafe_b64encode(info).decode().rstrip("=")
         call = "RouterKeyInfo::to_text by=whole to=whole"
         yield f'{call} {info.hex()} => "{text}" shown "{text}" of {info.hex()}'

@@ -62,7 +62,7 @@ class Rows:
         if word in self.named:
             found = self.named[word]
         elif word.startswith(".."):
-            found = bytes(place % 251 for place in range(int(word[2:])))
+            found = bytes(index % 251 for index in range(int(word[2:])))
         else:
             try:
                 found = bytes.fromhex(word)
@@ -106,21 +106,21 @@ class Library:
         from rtr_wire import _library, _rtr
         self.rows, self.calls, self.types = rows, _library.CALLS, _rtr
 
-    def slice_call(self, settings, left, room):
+    def slice_call(self, settings, left, capacity):
         """What a call that normalises answers, and the output."""
-        output = ctypes.create_string_buffer(bytes([FILL]) * room, room + 1)
+        output = ctypes.create_string_buffer(bytes([FILL]) * capacity, capacity + 1)
         answer = self.types.rtr_answer()
         limit = int(settings.get("limit", MOST_UNITS))
         if "version" in settings:
-            self.calls.rtr_normalise_for_slice_nonnull(left, len(left), output, room, limit,
+            self.calls.rtr_normalise_for_slice_nonnull(left, len(left), output, capacity, limit,
                                                        int(settings["version"]), answer)
         else:
-            self.calls.rtr_normalise_slice_nonnull(left, len(left), output, room, limit, answer)
-        return answer, output.raw[:room]
+            self.calls.rtr_normalise_slice_nonnull(left, len(left), output, capacity, limit, answer)
+        return answer, output.raw[:capacity]
 
-    def normalise_into(self, settings, left, _right, _wanted):
-        room = int(settings.get("room", len(left) + 12))
-        answer, output = self.slice_call(settings, left, room)
+    def normalise_into(self, settings, left, _right, _expected):
+        capacity = int(settings.get("room", len(left) + 12))
+        answer, output = self.slice_call(settings, left, capacity)
         name = "Ok" if answer.status == 0 else fault(answer.status, answer.detail)
         refused = [] if name in ("Ok", "NoRoom", "TooMany") else ["Refused"]
         spoilt = output[answer.written:].strip(bytes([FILL])) and ["spoilt"]
@@ -129,7 +129,7 @@ class Library:
 
     normalise_for_into = normalise_into
 
-    def normalise(self, settings, left, _right, wanted):
+    def normalise(self, settings, left, _right, expected):
         if set(settings) - {"limit", "version", "by", "to"}:
             return None
         answer, output = self.slice_call(settings, left, len(left) + 12)
@@ -139,14 +139,14 @@ class Library:
             return [f"Ok({count})", str(answer.taken), *form]
         # A reader is asked for other bytes than a slice, and a report is written.
         name = fault(answer.status, answer.detail).replace("Prefix", "Refused")
-        if "report" in wanted:
-            del wanted[wanted.index("report"):]
-        wanted[:wanted.index(":")] = wanted[:1]
+        if "report" in expected:
+            del expected[expected.index("report"):]
+        expected[:expected.index(":")] = expected[:1]
         return [name.split("(")[0] if name.startswith("Refused") else name, *form]
 
     normalise_for = normalise
 
-    def normalise_slice(self, settings, left, _right, _wanted):
+    def normalise_slice(self, settings, left, _right, _expected):
         if settings:
             return None
         answer, output = self.slice_call(settings, left, len(left) + 12)
@@ -161,28 +161,28 @@ class Library:
                                             int(settings.get("limit", MOST_UNITS)), answer)
         return answer
 
-    def same_meaning(self, settings, left, right, wanted):
+    def same_meaning(self, settings, left, right, expected):
         if set(settings) - {"limit", "by", "to"}:
             return None
         answer = self.comparison(settings, left, right)
         if answer.status == 0:
             return [str(answer.same).lower()]
         name = fault(answer.status, answer.detail)
-        if wanted[0] == "Refused":
-            del wanted[1:]
+        if expected[0] == "Refused":
+            del expected[1:]
             return ["Refused" if name.startswith("Prefix") else name]
         return [name]
 
     same_meaning_slice = same_meaning
 
-    def compare_meanings(self, settings, left, right, _wanted):
+    def compare_meanings(self, settings, left, right, _expected):
         answer = self.comparison(settings, left, right)
         if answer.status == 0:
             return [str(answer.same).lower()]
         side = {1: "left", 2: "right"}[answer.side]
         return [side, str(answer.offset), fault(answer.status, answer.detail)]
 
-    def unit_length(self, _settings, left, _right, _wanted):
+    def unit_length(self, _settings, left, _right, _expected):
         size, detail = ctypes.c_size_t(), ctypes.c_uint8()
         status = self.calls.rtr_unit_size_nonnull(left, len(left), ctypes.byref(size),
                                                  ctypes.byref(detail))
@@ -194,18 +194,18 @@ class Library:
         unit = self.types.rtr_unit()
         return self.calls.rtr_next_nonnull(data, len(data), unit), unit
 
-    def session_first(self, _settings, left, _right, wanted):
+    def session_first(self, _settings, left, _right, expected):
         status, unit = self.next(left)
         if status:
             size = ["size", str(unit.size)] if status == 7 else []
             return [fault(status, unit.detail), *size]
         kind, part = KINDS[unit.kind], left[unit.part_start:][:unit.part_length]
         if kind in ("ResetQuery", "CacheReset"):
-            del wanted[2]
+            del expected[2]
         if kind in ("Origin", "RouterKey", "Aspa"):
-            wanted[2] = str(int(wanted[2]) & 1)
+            expected[2] = str(int(expected[2]) & 1)
         text = left[unit.text_start:][:unit.text_length]
-        told = {
+        words = {
             "SerialNotify": [unit.session, unit.serial], "SerialQuery": [unit.session, unit.serial],
             "CacheResponse": [unit.session], "End": self.end_words(unit),
             "Origin": [unit.action, self.prefix(unit), unit.max_length, unit.asn],
@@ -216,7 +216,7 @@ class Library:
                       *(["about", part.hex(), "text", text.hex()] if unit.text_start
                         else ["lengths"])],
         }.get(kind, [])
-        return [kind, str(unit.version), *map(str, told), "size", str(unit.size)]
+        return [kind, str(unit.version), *map(str, words), "size", str(unit.size)]
 
     @staticmethod
     def end_words(unit):
@@ -228,73 +228,73 @@ class Library:
         packed = bytes(unit.address)[:4 if unit.family == 4 else 16]
         return f"{ipaddress.ip_address(packed)}/{unit.prefix_length}"
 
-    def place_form(self, settings, left, _right, wanted):
+    def place_form(self, settings, left, _right, expected):
         status, unit = self.next(left)
         if status or (unit.kind == 10 and not unit.text_start):
             return None
-        room, written = int(settings.get("room", len(left) + 12)), ctypes.c_size_t()
-        output = ctypes.create_string_buffer(room + 1)
-        status = self.calls.rtr_write_unit_nonnull(unit, left, len(left), output, room,
+        capacity, written = int(settings.get("room", len(left) + 12)), ctypes.c_size_t()
+        output = ctypes.create_string_buffer(capacity + 1)
+        status = self.calls.rtr_write_unit_nonnull(unit, left, len(left), output, capacity,
                                                   ctypes.byref(written))
         if status:
             return [fault(status, 0)]
         return [str(written.value), ":", output.raw[:written.value].hex()]
 
-    def owed_code(self, _settings, left, _right, wanted):
+    def owed_code(self, _settings, left, _right, expected):
         status, _ = self.next(left)
-        if "view" not in wanted:
+        if "view" not in expected:
             return None
-        del wanted[:wanted.index("view") + 2]
-        del wanted[1:]
+        del expected[:expected.index("view") + 2]
+        del expected[1:]
         code = ctypes.c_uint16()
         owed = self.calls.rtr_error_code_nonnull(status, left, len(left),
                                                  ctypes.byref(code))
         return [str(code.value) if owed else "none"]
 
     def data_call(self, call, settings, left, right, index=()):
-        room = int(settings.get("room", len(left) + len(right)))
-        output, answer = ctypes.create_string_buffer(room + 1), self.types.rtr_data_answer()
-        call(left, len(left), right, len(right), *index, output, room, answer)
+        capacity = int(settings.get("room", len(left) + len(right)))
+        output, answer = ctypes.create_string_buffer(capacity + 1), self.types.rtr_data_answer()
+        call(left, len(left), right, len(right), *index, output, capacity, answer)
         return answer, output.raw[:answer.written]
 
-    def data_words(self, answer, written, sides, wanted):
+    def data_words(self, answer, written, sides, expected):
         """What a call on data answers; of a session and of an output that is too short no more is
         compared than that it is so."""
         if answer.status == 0:
             return ["Ok", ":", written.hex()]
         name = fault(answer.status, answer.detail)
         if name in ("Session", "NoRoom"):
-            wanted[:] = [wanted[0].split("(")[0]]
+            expected[:] = [expected[0].split("(")[0]]
             return [name]
         if name in ("Duplicate", "Unknown"):
             return [name, str(answer.offset), ":"]
         side = [sides[answer.side], str(answer.offset)] if answer.side in sides else []
         return [*side, name, ":"]
 
-    def delta_into(self, settings, left, right, wanted):
+    def delta_into(self, settings, left, right, expected):
         found = self.data_call(self.calls.rtr_delta_nonnull, settings, left, right)
         # The data's other version is told without a side in rows.
-        if wanted[0].startswith("UnitVersion"):
+        if expected[0].startswith("UnitVersion"):
             found[0].side = 0
-        return self.data_words(*found, {1: "Old", 2: "New"}, wanted)
+        return self.data_words(*found, {1: "Old", 2: "New"}, expected)
 
-    def apply_in_order(self, settings, left, right, wanted):
+    def apply_in_order(self, settings, left, right, expected):
         places = int(settings.get("places", len(right)))
         index = (ctypes.c_size_t * (places + 1))()
         found = self.data_call(self.calls.rtr_apply_in_order_nonnull, settings, left, right,
                                (index, places))
-        if wanted[0].startswith("UnitVersion"):
+        if expected[0].startswith("UnitVersion"):
             found[0].side = 0
-        return self.data_words(*found, {1: "Data", 2: "Changes"}, wanted)
+        return self.data_words(*found, {1: "Data", 2: "Changes"}, expected)
 
-    def check_data(self, settings, left, _right, _wanted):
+    def check_data(self, settings, left, _right, _expected):
         answer, written = self.data_call(self.calls.rtr_delta_nonnull, settings, left, left)
         if answer.status:
             return [str(answer.offset), fault(answer.status, answer.detail)]
         _, unit = self.next(written)
         return ["End", str(unit.version), *map(str, self.end_words(unit))]
 
-    def validate(self, settings, left, right, _wanted):
+    def validate(self, settings, left, right, _expected):
         if len(right) not in (4, 16) or int(settings["length"]) > 8 * len(right):
             return None
         route = self.types.rtr_route(asn=int(settings["asn"]), family=4 if len(right) == 4 else 6,
@@ -303,12 +303,12 @@ class Library:
         lookup, found = self.types.rtr_lookup(), self.types.rtr_covering()
         self.calls.rtr_check_data_nonnull(left, len(left), lookup, self.types.rtr_data_answer())
         words = [VALIDITIES[self.calls.rtr_validate_nonnull(left, len(left), lookup, route)]]
-        place = 0
-        while self.calls.rtr_covering_nonnull(left, len(left), lookup, route, place,
+        index = 0
+        while self.calls.rtr_covering_nonnull(left, len(left), lookup, route, index,
                                               found) == self.types.Covers.ONE:
             words += [":", str(found.place), f"{found.prefix_length}-{found.max_length}",
                       f"AS{found.asn}", MISMATCHES[found.mismatch]]
-            place = found.place + 1
+            index = found.place + 1
         return words
 
 
@@ -328,17 +328,17 @@ def main():
 def play(rows):
     """Plays the rows. The status is 1 if one fails, or too few are played."""
     library, played, wrong = Library(rows), 0, 0
-    for place, call, settings, left, right, wanted in rows.all():
-        made = getattr(library, call.replace("SessionView::", "session_"), None)
-        wanted = list(rows.spelled(wanted))
-        answer = made(settings, left, right, wanted) if made else None
+    for where, call, settings, left, right, expected in rows.all():
+        method = getattr(library, call.replace("SessionView::", "session_"), None)
+        expected = list(rows.spelled(expected))
+        answer = method(settings, left, right, expected) if method else None
         if answer is None:
             continue
         played += 1
-        if rows.spelled(answer) != rows.spelled(wanted):
+        if rows.spelled(answer) != rows.spelled(expected):
             wrong += 1
-            print(f"{place}: {call}: the library's answer\n  {' '.join(answer)}\nisn't\n"
-                  f"  {' '.join(wanted)}")
+            print(f"{where}: {call}: the library's answer\n  {' '.join(answer)}\nisn't\n"
+                  f"  {' '.join(expected)}")
     if played < LEAST:
         print(f"rows: only {played} were played through the library")
     return 1 if wrong or played < LEAST else 0

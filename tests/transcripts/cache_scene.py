@@ -35,7 +35,7 @@ class CacheScene(Scene):
 
     def has(self, time, data):
         """The cache's newest data are these."""
-        parts = [spaced(one).replace(" ", "") for one in split(data)]
+        parts = [spaced(unit).replace(" ", "") for unit in split(data)]
         self.at(time, "data { " + " ".join(parts) + " }")
 
     def forgets(self, time, serial):
@@ -45,8 +45,8 @@ class CacheScene(Scene):
 
     def sends(self, data):
         """The cache sends these units, now."""
-        for one in split(data):
-            self.at(self.now, f"cache> {spaced(one)}", words(one))
+        for unit in split(data):
+            self.at(self.now, f"cache> {spaced(unit)}", words(unit))
 
     def reports(self, version, code, about, text):
         """The cache sends a report of this code and text about a unit, now."""

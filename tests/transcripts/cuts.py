@@ -23,20 +23,20 @@ def begun(name, changes, how):
 def left(data):
     """The bytes after the last whole unit."""
     rest = data
-    for one in split(data):
-        if len(one) >= 8 and len(one) == int.from_bytes(one[4:8], "big"):
-            rest = rest[len(one):]
+    for unit in split(data):
+        if len(unit) >= 8 and len(unit) == int.from_bytes(unit[4:8], "big"):
+            rest = rest[len(unit):]
     return rest
 
 
-def in_two(place, changes):
+def in_two(offset, changes):
     """The bytes come in two reads: the data are those of the whole answer."""
     data = CHANGES if changes else ALL
-    name = f"cut-{'changes' if changes else 'all'}-{place}-reads"
-    state = begun(name, changes, f"it comes in two reads, of {place} bytes and the others")
+    name = f"cut-{'changes' if changes else 'all'}-{offset}-reads"
+    state = begun(name, changes, f"it comes in two reads, of {offset} bytes and the others")
     scene = state.scene
-    scene.cache_cut(scene.now + 100, data[:place])
-    scene.cache_cut(scene.now + 100, data[place:])
+    scene.cache_cut(scene.now + 100, data[:offset])
+    scene.cache_cut(scene.now + 100, data[offset:])
     shown = data_of(VERSION, NEXT, CHANGED) if changes else data_of(VERSION, SERIAL, OLD)
     scene.shows(scene.now, shown)
     return scene
@@ -53,11 +53,11 @@ def goes_on(scene, again):
         answer(scene, scene.now + 100, VERSION, NEXT, (NEW,))
 
 
-def ended(place, changes, how):
+def ended(offset, changes, how):
     """The cache closes, breaks off or stalls after so many bytes: none of them is shown."""
-    data = (CHANGES if changes else ALL)[:place]
-    name = f"cut-{'changes' if changes else 'all'}-{place}-{how}"
-    state = begun(name, changes, f"after {place} bytes the cache {how}")
+    data = (CHANGES if changes else ALL)[:offset]
+    name = f"cut-{'changes' if changes else 'all'}-{offset}-{how}"
+    state = begun(name, changes, f"after {offset} bytes the cache {how}")
     scene = state.scene
     scene.cache_cut(scene.now + 100, data)
     if how == "stalls":
@@ -71,7 +71,7 @@ def ended(place, changes, how):
     if how == "closes" and rest:
         scene.reports(scene.now, VERSION, 0, rest, "unexpected end of input")
     scene.ends(scene.now)
-    if place == 0 and not changes and how != "stalls":  # silence (section 7)
+    if offset == 0 and not changes and how != "stalls":  # silence (section 7)
         scene.asks(scene.now, VERSION - 1)
     else:
         goes_on(scene, changes and how == "stalls")
@@ -81,8 +81,8 @@ def ended(place, changes, how):
 def scenes():
     for changes in (False, True):
         length = len(CHANGES if changes else ALL)
-        for place in range(length):
-            if place:
-                yield in_two(place, changes)
+        for offset in range(length):
+            if offset:
+                yield in_two(offset, changes)
             for how in ("closes", "breaks", "stalls"):
-                yield ended(place, changes, how)
+                yield ended(offset, changes, how)

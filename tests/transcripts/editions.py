@@ -48,7 +48,7 @@ AT = {
 def data(serial, session=SESSION, version=2, payloads=None):
     """Data in canonical form, in a version."""
     own = AT[serial] if payloads is None else payloads
-    parts = [one.unit(version) for one in own if one.least() <= version]
+    parts = [payload.unit(version) for payload in own if payload.least() <= version]
     return b"".join(parts) + units.end(version, serial, session)
 
 
@@ -59,10 +59,11 @@ def everything(version, serial, session=SESSION, payloads=None):
 
 def delta(old, new, version):
     """The units that announce new payloads, and then those that withdraw old ones."""
-    names = {one.name() for one in new}
-    announced = [one.unit(version) for one in new if one not in old and one.least() <= version]
-    withdrawn = [one.unit(version, WITHDRAW) for one in old
-                 if one.name() not in names and one.least() <= version]
+    names = {payload.name() for payload in new}
+    announced = [payload.unit(version) for payload in new
+                 if payload not in old and payload.least() <= version]
+    withdrawn = [payload.unit(version, WITHDRAW) for payload in old
+                 if payload.name() not in names and payload.least() <= version]
     return b"".join(announced + withdrawn)
 
 

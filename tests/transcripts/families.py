@@ -19,8 +19,9 @@ def scene_of_unit(name, state_name, case, of_connection, of_unit):
     state = states.STATES[state_name](name, about, of_connection)
     unit = case.make(of_unit)
     outcome, section = rules.row_of(state, case, of_unit)
-    said = outcome if isinstance(outcome, str) else f"report {outcome[0]}"
-    state.scene.lines.insert(2, f"# {case.name} of version {of_unit} comes: {said} ({section}).")
+    expected = outcome if isinstance(outcome, str) else f"report {outcome[0]}"
+    comes = f"# {case.name} of version {of_unit} comes: {expected} ({section})."
+    state.scene.lines.insert(2, comes)
     state.scene.cache_one(state.scene.now + 100, unit)
     outcomes.come_to(outcome, state, case, unit, of_unit)
     return state.scene
@@ -50,8 +51,8 @@ def scene_at_cache(name, state_name, states_of, case, of_connection, of_unit):
         cache_outcomes.quiet(state)
         return state.scene
     outcome, section = cache_rules.row_of(state, case, of_unit)
-    said = outcome if isinstance(outcome, str) else f"report {outcome[0]}"
-    state.scene.lines.insert(after, f"# {case.name} of version {of_unit}: {said} ({section}).")
+    expected = outcome if isinstance(outcome, str) else f"report {outcome[0]}"
+    state.scene.lines.insert(after, f"# {case.name} of version {of_unit}: {expected} ({section}).")
     cache_outcomes.come_to(outcome, state, case, unit, of_unit)
     return state.scene
 

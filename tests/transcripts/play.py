@@ -66,9 +66,9 @@ def of_machines(seed):
 
 def has_none_that_differs(program, scenes):
     """Has the program play scenes."""
-    wanted = f"{count(scenes)} scenes, of which 0 differ\n"
+    expected = f"{count(scenes)} scenes, of which 0 differ\n"
     done = subprocess.run([program], input=scenes, stdout=subprocess.PIPE, text=True, timeout=600)
-    if done.returncode or done.stdout != wanted:
+    if done.returncode or done.stdout != expected:
         sys.exit(f"scenes: {program}:\n{done.stdout[-3000:]}")
 
 

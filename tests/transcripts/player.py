@@ -102,9 +102,10 @@ class Scene:
                 if wakes <= time:
                     late = late or f"{self} after '{line}': it wants to wake at {wakes}"
         for part in self.parts:
-            wanted, did = (steps_of(self.end, steps) for steps in (part.expected, part.found))
-            for index in range(max(len(wanted), len(did))):
-                number, *step = wanted[index] if index < len(wanted) else (part.number, "nothing")
+            expected, did = (steps_of(self.end, steps) for steps in (part.expected, part.found))
+            for index in range(max(len(expected), len(did))):
+                nothing = part.number, "nothing"
+                number, *step = expected[index] if index < len(expected) else nothing
                 _, *other = did[index] if index < len(did) else (None, "nothing")
                 if step != other:
                     return (f"{self} line {number}: expected\n  {' '.join(step)}\nfound\n"
@@ -129,7 +130,7 @@ def steps_of(end, lines):
     for number, (time, what, *words) in [*lines, (None, (None, None))]:
         is_sent = what == f"{end}>"
         if sent and not (is_sent and time == first[1]):
-            steps += [(*first, one.hex()) for one in units.split(sent)]
+            steps += [(*first, unit.hex()) for unit in units.split(sent)]
             sent = b""
         if is_sent:
             first = first if sent else (number, time, what)
@@ -162,13 +163,13 @@ def played(scenes, running):
             wrong.append(f"{scene}: {stopped}")
             break
         count += 1
-    return count, [one for one in wrong if one]
+    return count, [difference for difference in wrong if difference]
 
 
 def play(end, command, lacks=None):
     """Plays all scenes of a router or a cache by this command, except those with a step that it
     lacks. Prints their number; exits if something differs."""
-    scenes = [Scene(end, text, place) for text, place in texts_of(end)]
+    scenes = [Scene(end, text, where) for text, where in texts_of(end)]
     if len(scenes) < LEAST or len({scene.name for scene in scenes}) < len(scenes):
         sys.exit(f"scenes: only {len(scenes)} of a {end}, or two have one name")
     left_out = [scene for scene in scenes if lacks and scene.has(lacks)]
@@ -186,6 +187,6 @@ def play(end, command, lacks=None):
         wrong.append(f"after the last scene it exited with status {status}")
     if wrong or count < len(scenes):
         wrong = [*wrong[:PRINTED], f"{len(wrong)} of {len(scenes)} of a {end} differ"]
-        sys.exit("\n".join(f"scenes: {one}" for one in wrong))
+        sys.exit("\n".join(f"scenes: {line}" for line in wrong))
     left = f", and {len(left_out)} left out with the step {lacks}" if lacks else ""
     print(f"{count} scenes of a {end} played{left}")

@@ -37,8 +37,8 @@ class Scene:
 
     def cache(self, time, data):
         """The cache sends these bytes, a line for each unit."""
-        for one in split(data):
-            self.at(time, f"cache> {spaced(one)}", words(one))
+        for unit in split(data):
+            self.at(time, f"cache> {spaced(unit)}", words(unit))
 
     def cache_one(self, time, unit):
         """The cache sends a unit, valid or not."""
@@ -77,7 +77,7 @@ class Scene:
 
     def shows(self, time, data):
         """The router shows these data, in canonical form."""
-        parts = [spaced(one).replace(" ", "") for one in split(data)]
+        parts = [spaced(unit).replace(" ", "") for unit in split(data)]
         self.at(time, "shows { " + " ".join(parts) + " }")
 
     def drops(self, time):

@@ -86,23 +86,23 @@ def first_reset_with_data(name, about, version):
 
 def reading(of):
     """The cache response to the query of another state has come."""
-    def made(name, about, version):
+    def begin(name, about, version):
         state = of(name, about, version)
         state.scene.cache(state.scene.now + 100, response(version))
         state.phase, state.agreed = "reading", True
         return state
-    return made
+    return begin
 
 
 def without_data(of):
     """The cache has reported that it has no data: the next query is a reset query (section 8.4)."""
-    def made(name, about, version):
+    def begin(name, about, version):
         state = of(name, about, version)
         state.scene.cache(state.scene.now + 100, report(version, 2))
         state.scene.has_none(state.scene.now)
         state.phase, state.agreed, state.serial = "waiting", True, False
         return state
-    return made
+    return begin
 
 
 STATES = {
