@@ -35,8 +35,8 @@ def key(unit):
     customer."""
     if unit[1] == ASPA:
         return unit[1], unit[8:12]
-    place = FLAGS[unit[1]]
-    return unit[:place] + unit[place + 1:]
+    offset = FLAGS[unit[1]]
+    return unit[:offset] + unit[offset + 1:]
 
 
 def applied(data, units):

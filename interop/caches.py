@@ -183,8 +183,8 @@ class Fort(Cache):
         fort = program("fort")
         if shutil.which("openssl") is None:
             raise Missing("openssl isn't installed, which makes the trust anchor")
-        place = tempfile.mkdtemp(prefix="anchor.", dir=self.folder)
-        locators, repository = trust_anchor.make(place)
+        anchor = tempfile.mkdtemp(prefix="anchor.", dir=self.folder)
+        locators, repository = trust_anchor.make(anchor)
         words = [fort, f"--tal={locators}", f"--local-repository={repository}", f"--slurm={path}"]
         words += ["--mode=server", "--work-offline=true", "--server.interval.validation=60"]
         words += ["--log.output=console", "--validation-log.enabled=true"]
@@ -225,8 +225,8 @@ class Ours(Cache):
         path = self.keep("refused.sequence", content)
         log = os.path.join(self.folder, "refused")
         with open(log, "wb"), Server(self.words_of(path)(0), log) as server:
-            until(lambda: "time has to be" in server.said(), READY_SECONDS, "a refusal")
-            return "payloads" not in server.said()
+            until(lambda: "time has to be" in server.output(), READY_SECONDS, "a refusal")
+            return "payloads" not in server.output()
 
     def write(self, listed):
         """Writes the file that it serves."""

@@ -81,27 +81,27 @@ class Cutter(Tap):
         if self.chance.random() < IDLE:
             self.cut_now()
 
-    def pass_on(self, one, other, path):
+    def pass_on(self, source, target, path):
         """Forwards bytes from one to the other until it ends or is cut; then both are closed,
         sometimes so that bytes in transit are lost."""
         left = None
         number = path.rsplit(".", 1)[0]
-        self.passing[number] = (one, other)
+        self.passing[number] = (source, target)
         with open(path, "wb") as file, contextlib.suppress(OSError):
-            while content := one.recv(1 << 16):
+            while content := source.recv(1 << 16):
                 if self.cutting and left is None:
                     left = self.chance.randrange(self.chance.choice([FEW, MANY]))
                 part = content if left is None else content[:left]
                 left = None if left is None else left - len(part)
                 file.write(part)
                 file.flush()
-                other.sendall(part)
+                target.sendall(part)
                 if len(part) < len(content):
                     self.cuts += 1
-                    self.drop(other)
+                    self.drop(target)
                     break
         self.passing.pop(number, None)
-        end((one, other))
+        end((source, target))
 
     def drop(self, connection):
         """Loses the bytes in transit half of the time."""
@@ -325,11 +325,11 @@ class Injected:
 
     def attached(self):
         """Reports whether it traces the cache."""
-        said = self.server.said()
-        if "Operation not permitted" in said:
+        output = self.server.output()
+        if "Operation not permitted" in output:
             raise Missing("strace may not trace a process here")
         self.server.check()
-        return "attached" in said
+        return "attached" in output
 
     def kills(self):
         """Waits until the cache is killed, and reports whether it was."""
@@ -357,8 +357,8 @@ def asked(scene, query, name):
 
 def has(scene, number, listed):
     """Reports whether the data of a serial number are a list."""
-    wanted = {answers.announced(each, 1) for each in payloads.in_version(listed, 1)}
-    return set(scene.answers.served[number].values()) == wanted
+    expected = {answers.announced(each, 1) for each in payloads.in_version(listed, 1)}
+    return set(scene.answers.served[number].values()) == expected
 
 
 def killed(scene, turn, phase):

@@ -56,10 +56,10 @@ def beginning(results, maker, folder, name, lists, retry=None):
 def seconds_until(each, listed, start, seconds):
     """Returns after how many seconds a table holds a list, at most this many from the start; or
     None."""
-    wanted = each.router.shows(listed)
+    expected = each.router.shows(listed)
     with contextlib.suppress(TimeoutError):
         left = max(1, start + seconds - time.monotonic())
-        until(lambda: each.router.table() == wanted, left, "table")
+        until(lambda: each.router.table() == expected, left, "table")
         return time.monotonic() - start
     return None
 
@@ -96,8 +96,8 @@ def burst(results, maker, folder):
         def then(each, took):
             found = note(each, BURST, took, CURRENT_SECONDS)
             each.pair.equal(f"after {BURST}", found, "current")
-            said = each.router.complaints(payloads.TIMINGS)
-            each.pair.equal("takes the default times", said, [], 1)
+            complaints = each.router.complaints(payloads.TIMINGS)
+            each.pair.equal("takes the default times", complaints, [], 1)
         are_current(beside, cache.serves(lists[2]), time.monotonic(), CURRENT_SECONDS, then)
 
 
@@ -157,8 +157,8 @@ def new_session(results, maker, folder):
 
         def then(each, took):
             found = note(each, SESSION, took, SESSION_SECONDS)
-            said = tables.written(MARK).get(each.pair.column(), {}).get(SESSION, found)
-            each.pair.equal(f"after {SESSION}, as the page says", found, said)
+            expected = tables.written(MARK).get(each.pair.column(), {}).get(SESSION, found)
+            each.pair.equal(f"after {SESSION}, as the page says", found, expected)
         are_current(beside, cache.serves(lists[1]), time.monotonic(), SESSION_SECONDS, then)
 
 

@@ -50,10 +50,10 @@ KINDS = {
 }
 
 
-def packet(content, stream, place):
+def packet(content, stream, offset):
     """A packet of IPv4 and TCP from the port of caches that carries these bytes of a stream."""
     port = 40000 + stream
-    segment = struct.pack(">HHIIBBHHH", PORT, port, place + 1, 1, 0x50, 0x18, 65535, 0, 0)
+    segment = struct.pack(">HHIIBBHHH", PORT, port, offset + 1, 1, 0x50, 0x18, 65535, 0, 0)
     home = bytes([127, 0, 0, 1])
     length = 40 + len(content)
     head = struct.pack(">BBHHHBBH4s4s", 0x45, 0, length, 0, 0, 64, 6, 0, home, home)
@@ -65,9 +65,9 @@ def capture(streams, path):
     with open(path, "wb") as file:
         file.write(struct.pack("<IHHiIII", 0xA1B2C3D4, 2, 4, 0, 0, 1 << 18, 101))
         for stream, content in enumerate(streams):
-            for place in range(0, len(content), PIECE):
-                sent = packet(content[place:place + PIECE], stream, place)
-                file.write(struct.pack("<IIII", stream, place, len(sent), len(sent)) + sent)
+            for offset in range(0, len(content), PIECE):
+                sent = packet(content[offset:offset + PIECE], stream, offset)
+                file.write(struct.pack("<IIII", stream, offset, len(sent), len(sent)) + sent)
 
 
 def dissected(path):
@@ -96,25 +96,25 @@ def key_info(unit, content):
 
 def as_shown(unit, content):
     """Returns what tshark should show of a unit of `rtr_list --json`; `content` has its bytes."""
-    wanted = {"pdu_type": KINDS[unit["kind"]]}
-    wanted |= {shown: unit[name] for name, shown in NUMBERS.items() if name in unit}
-    wanted |= {shown: unit[name] for name, shown in BYTES.items() if unit.get(name)}
+    fields = {"pdu_type": KINDS[unit["kind"]]}
+    fields |= {shown: unit[name] for name, shown in NUMBERS.items() if name in unit}
+    fields |= {shown: unit[name] for name, shown in BYTES.items() if unit.get(name)}
     if "prefix" in unit:
-        wanted[f"ipv{4 if unit['kind'] == 'ipv4_prefix' else 6}_prefix"] = unit["prefix"]
+        fields[f"ipv{4 if unit['kind'] == 'ipv4_prefix' else 6}_prefix"] = unit["prefix"]
     if "zero" in unit:
-        wanted["reserved"] = "".join(f"{n:0{w}x}" for n, w in zip(unit["zero"], (4, 2)))
+        fields["reserved"] = "".join(f"{n:0{w}x}" for n, w in zip(unit["zero"], (4, 2)))
     if unit["kind"] == "router_key":
-        wanted |= key_info(unit, content)
+        fields |= key_info(unit, content)
     if unit["kind"] == "error_report":
-        wanted["length_pdu"] = len(unit["erroneous_pdu"]) // 2
-        wanted["length_text"] = len(unit["error_text_bytes"]) // 2
-    return wanted
+        fields["length_pdu"] = len(unit["erroneous_pdu"]) // 2
+        fields["length_text"] = len(unit["error_text_bytes"]) // 2
+    return fields
 
 
-def shown_of(fields, wanted):
+def shown_of(fields, expected):
     """Returns what tshark shows of these fields, in the same form."""
     shown = {}
-    for name, value in wanted.items():
+    for name, value in expected.items():
         found = fields.get(NAMES.get(name, name))
         if found is None:
             continue
@@ -136,25 +136,25 @@ def both(streams, path):
         b"".join(unit for unit in recorder.units(content) if unit[1] != ASPA) for content in streams
     ]
     capture(known, path)
-    wanted = [
+    expected = [
         as_shown(unit, content) for content in known for unit in programs.listed(content)
     ]
     fields = list(dissected(path))
-    got = [shown_of(each, unit) for each, unit in zip(fields, wanted)]
-    return got + [{}] * (len(fields) - len(got)), wanted
+    got = [shown_of(each, unit) for each, unit in zip(fields, expected)]
+    return got + [{}] * (len(fields) - len(got)), expected
 
 
-def streams_of(what, place):
+def streams_of(what, source):
     """Returns the streams of a file, or of a folder and its subfolders."""
     if what == SAMPLE:
-        return [read(place)]
-    contents = [read(path) for path in files_below(place, STREAMS[what])]
+        return [read(source)]
+    contents = [read(path) for path in files_below(source, STREAMS[what])]
     return contents if STREAMS[what] == SESSIONS else list(map(programs.normalised, contents))
 
 
-def compare_streams(pair, what, name, place, path):
+def compare_streams(pair, what, name, source, path):
     """Compares what both list of these streams."""
-    words = [sys.executable, os.path.abspath(__file__), what, place, path]
+    words = [sys.executable, os.path.abspath(__file__), what, source, path]
     with at_once:
         done = subprocess.run(words, capture_output=True, timeout=2 * SECONDS, check=False)
     if done.returncode:
@@ -181,30 +181,30 @@ def compare_sample(results, captures):
         compare_streams(pair, SAMPLE, SAMPLE, sample, os.path.join(captures, "sample.pcap"))
 
 
-def files_below(place, endings):
+def files_below(top, endings):
     """Returns the paths of the files with these suffixes, in a folder and its subfolders."""
-    return [os.path.join(folder, name) for folder, _, names in sorted(os.walk(place))
+    return [os.path.join(folder, name) for folder, _, names in sorted(os.walk(top))
             for name in sorted(names) if name.endswith(endings)]
 
 
 def recorded(folder):
     """The folders in which pairs of a run left recordings, the largest first."""
     sizes = {}
-    for place in (os.path.join(folder, name) for name in sorted(os.listdir(folder))):
-        if found := files_below(place, (*SESSIONS, FORMS)):
-            sizes[place] = sum(map(os.path.getsize, found))
+    for path in (os.path.join(folder, name) for name in sorted(os.listdir(folder))):
+        if found := files_below(path, (*SESSIONS, FORMS)):
+            sizes[path] = sum(map(os.path.getsize, found))
     return sorted(sizes, key=sizes.get, reverse=True)
 
 
-def compare(results, place, captures):
+def compare(results, recordings, captures):
     """Compares both over the recordings in a folder and its subfolders."""
     with names(results) as pair, contextlib.suppress(Missing):
         program("tshark")
-        name = os.path.basename(place)
+        name = os.path.basename(recordings)
         for what, endings in STREAMS.items():
-            if files_below(place, endings):
+            if files_below(recordings, endings):
                 path = os.path.join(captures, f"{name}.{what.split()[-1]}.pcap")
-                compare_streams(pair, what, f"{what} of {name}", place, path)
+                compare_streams(pair, what, f"{what} of {name}", recordings, path)
 
 
 if __name__ == "__main__":

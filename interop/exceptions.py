@@ -117,15 +117,15 @@ def lines_of(units):
     return set(theirs.payload_lines(units))
 
 
-def made(cache):
+def made_with_slurm(cache):
     """What `rtr_make` makes of the list and the SLURM file of a cache."""
     with open(os.path.join(cache.folder, cache.json), "rb") as file:
         listed = file.read()
     words = ["rtr_make", "--json", "--version", str(cache.version), "--empty"]
     path = os.path.join(cache.folder, "slurm.json")
-    status, units, said = programs.run([*words, "--slurm", path], listed)
+    status, units, errors = programs.run([*words, "--slurm", path], listed)
     if status:
-        raise ValueError(f"rtr_make --slurm ends with {status}: {said}")
+        raise ValueError(f"rtr_make --slurm ends with {status}: {errors}")
     return units
 
 
@@ -141,13 +141,13 @@ def compare(results, folder):
     leaves. Where the file has keys stayrtr also serves it with the base64 that it reads."""
     names = (caches.StayRTR.name + " -slurm", "v1", caches.StayRTR.release())
     with Pair(results, PART, *names) as pair:
-        for place, (what, (arrays, left)) in enumerate(SCENES.items()):
-            cache = SlurmStayRTR(os.path.join(folder, f"slurm{place}"), 1)
-            wanted = {Change(True, payload).line() for payload in left}
+        for number, (what, (arrays, left)) in enumerate(SCENES.items()):
+            cache = SlurmStayRTR(os.path.join(folder, f"slurm{number}"), 1)
+            expected = {Change(True, payload).line() for payload in left}
             if arrays[1] or arrays[3]:
                 others = [[padded(entry) for entry in array] for array in arrays]
                 sent = sent_by(cache, slurm(*others))
-                pair.equal(f"what it sends by padded base64, {what}", lines_of(sent), wanted)
+                pair.equal(f"what it sends by padded base64, {what}", lines_of(sent), expected)
             sent = sent_by(cache, slurm(*arrays))
-            pair.equal(f"what it sends, {what}", lines_of(sent), wanted)
-            pair.equal(f"rtr_make --slurm, {what}", lines_of(made(cache)), wanted)
+            pair.equal(f"what it sends, {what}", lines_of(sent), expected)
+            pair.equal(f"rtr_make --slurm, {what}", lines_of(made_with_slurm(cache)), expected)

@@ -98,8 +98,8 @@ class Example:
         words = [self.built(), f"127.0.0.1:{port}", "--once", "--json", "--version", str(version)]
         done = subprocess.run(words, capture_output=True, text=True, timeout=SECONDS, check=False)
         if done.returncode:
-            said = done.stderr[-300:]
-            raise OSError(f"client in {self.name} ends with {done.returncode}: {said}")
+            errors = done.stderr[-300:]
+            raise OSError(f"client in {self.name} ends with {done.returncode}: {errors}")
         return {payloads.as_line(json.loads(line)) for line in done.stdout.splitlines()}
 
 
@@ -126,8 +126,8 @@ class Program:
             return "go isn't installed"
         if not programs.there(self.NEEDS[self.name]):
             return f"{self.NEEDS[self.name]} isn't in {programs.SHOWN}"
-        said = subprocess.run([BUILD, "--missing"], capture_output=True, text=True, check=True)
-        missing = said.stdout.split()
+        listing = subprocess.run([BUILD, "--missing"], capture_output=True, text=True, check=True)
+        missing = listing.stdout.split()
         return f"{missing[0]} isn't installed" if missing else None
 
     def built(self):

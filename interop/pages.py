@@ -69,15 +69,15 @@ ROUTERS = (Bird, FRR, OpenBGPD)
 
 def holds(pair, router, what, listed):
     """Passes once a router holds its part of a list, in time."""
-    wanted, tables = router.shows(listed), [set()]
+    expected, tables = router.shows(listed), [set()]
 
     def same():
         tables.append(router.table())
-        return tables[-1] == wanted
+        return tables[-1] == expected
 
     with contextlib.suppress(TimeoutError):
         until(same, SECONDS, "table")
-    pair.equal(what, tables[-1], wanted)
+    pair.equal(what, tables[-1], expected)
 
 
 def compare(results, maker, folder):
@@ -90,8 +90,8 @@ def compare(results, maker, folder):
         for kind in ROUTERS:
             peer = f"{kind.name} at {cache.name}"
             with Pair(results, PART, peer, "v1", kind.release()) as pair:
-                place = os.path.join(folder, kind.__name__.lower())
-                beside.append((pair, stack.enter_context(kind(place, cache.port))))
+                path = os.path.join(folder, kind.__name__.lower())
+                beside.append((pair, stack.enter_context(kind(path, cache.port))))
         for pair, router in beside:
             holds(pair, router, "by the page's configuration it holds the list", cache.serves(old))
         cache.change(new)

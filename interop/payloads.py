@@ -215,24 +215,24 @@ BASE = (
 KEY_HEAD = bytes.fromhex("3059301306072a8648ce3d020106082a8648ce3d030107034200")
 
 
-def added(one, other):
+def added(left, right):
     """Returns the sum of two points of the curve, neither of which is the other's negative."""
-    if one == other:
-        slope = (3 * one[0] ** 2 - 3) * pow(2 * one[1], -1, FIELD)
+    if left == right:
+        slope = (3 * left[0] ** 2 - 3) * pow(2 * left[1], -1, FIELD)
     else:
-        slope = (other[1] - one[1]) * pow(other[0] - one[0], -1, FIELD)
-    first = (slope**2 - one[0] - other[0]) % FIELD
-    return first, (slope * (one[0] - first) - one[1]) % FIELD
+        slope = (right[1] - left[1]) * pow(right[0] - left[0], -1, FIELD)
+    first = (slope**2 - left[0] - right[0]) % FIELD
+    return first, (slope * (left[0] - first) - left[1]) % FIELD
 
 
 def router_keys(count):
     """Returns this many router keys from points of the curve: 2, 3, 4 .. times its base."""
     point, found = BASE, []
-    for place in range(count):
+    for index in range(count):
         point = added(point, BASE)
         public = b"\4" + point[0].to_bytes(32, "big") + point[1].to_bytes(32, "big")
         identifier = hashlib.sha1(public).digest()
-        found.append(RouterKey(identifier, 64500 + place % 3, KEY_HEAD + public))
+        found.append(RouterKey(identifier, 64500 + index % 3, KEY_HEAD + public))
     return found
 
 
@@ -245,8 +245,8 @@ def made_up():
     come = (origins(chance, 30, 4) | origins(chance, 20, 6)) - first
     keys = router_keys(10)
     aspas = [
-        Authorization(65000 + place, tuple(range(64600 + place, 64603 + 2 * place)))
-        for place in range(10)
+        Authorization(65000 + index, tuple(range(64600 + index, 64603 + 2 * index)))
+        for index in range(10)
     ]
     replaced = Authorization(aspas[9].customer, (1, 2, 4294967295))
     old = first | set(keys[:8]) | set(aspas)

@@ -60,15 +60,15 @@ class Ports:
 
     lock = threading.Lock()
     given = itertools.cycle(range(20000, 32000))
-    place = os.getpid() * 97 % 12000
+    start = os.getpid() * 97 % 12000
     names = []
 
     @classmethod
     def free(cls):
         """Returns a free port."""
         with cls.lock:
-            for port in itertools.islice(cls.given, cls.place, cls.place + 1000):
-                cls.place = 0
+            for port in itertools.islice(cls.given, cls.start, cls.start + 1000):
+                cls.start = 0
                 with contextlib.suppress(OSError), socket.socket() as probe:
                     probe.bind(("127.0.0.1", port))
                     cls.hold(port)
@@ -162,7 +162,7 @@ class Server:
             if self in Server.running:
                 Server.running.remove(self)
 
-    def said(self):
+    def output(self):
         """Returns its output so far."""
         with open(self.log, encoding="utf-8", errors="replace") as file:
             return file.read()
@@ -170,9 +170,9 @@ class Server:
     def check(self):
         """Raises why it exited, if it did."""
         if self.process.poll() is not None:
-            said = self.said()[-300:]
-            kind = PortTaken if TAKEN in said.lower() else OSError
-            raise kind(f"{self.words[0]} ended: {said}")
+            output = self.output()[-300:]
+            kind = PortTaken if TAKEN in output.lower() else OSError
+            raise kind(f"{self.words[0]} ended: {output}")
 
     def owns(self, port):
         """Reports whether this server, or a process that it started, listens at a port."""

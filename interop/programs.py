@@ -83,7 +83,7 @@ def normalised(content):
     return form
 
 
-def made(content, version):
+def rtr_make(content, version):
     """Returns the output of `rtr_make --json` for a cache's file, without what the version
     lacks."""
     words = ["rtr_make", "--json", "--version", str(version), "--session", "4660", "--serial", "1"]

@@ -28,8 +28,8 @@ def ran(words, **settings):
     """Returns the output of a command; raises an error if it fails."""
     done = subprocess.run(words, capture_output=True, timeout=SECONDS, check=False, **settings)
     if done.returncode:
-        said = done.stderr[-500:].decode(errors="replace")
-        raise OSError(f"{words[0]} ends with {done.returncode}: {said}")
+        errors = done.stderr[-500:].decode(errors="replace")
+        raise OSError(f"{words[0]} ends with {done.returncode}: {errors}")
     return done.stdout
 
 
@@ -45,10 +45,10 @@ def installed(folder):
             import ensurepip  # noqa: F401
         except ImportError:
             raise Missing("python3 has no ensurepip (python3-venv)") from None
-        made = os.path.join(folder, "packages")
+        packages = os.path.join(folder, "packages")
         archives = os.path.dirname(os.path.dirname(os.path.join(TOP, ours.ARCHIVE)))
-        ran([os.path.join(TOP, "bindings", "package.py"), "--archives", archives, made])
-        wheels = os.path.join(made, "python")
+        ran([os.path.join(TOP, "bindings", "package.py"), "--archives", archives, packages])
+        wheels = os.path.join(packages, "python")
         ran([sys.executable, "-m", "venv", environment])
         ran([python, "-m", "pip", "install", "--no-index", "--disable-pip-version-check",
              "--find-links", wheels, "rtr_wire", "--only-binary", "rtr_wire"])
@@ -57,8 +57,8 @@ def installed(folder):
 
 def lines_of(changes):
     """Returns the lines that the example prints for changes of origins."""
-    return {f"{'+' if one.announce else '-'} {one.payload.prefix}-{one.payload.max_length} "
-            f"AS{one.payload.asn}" for one in changes if isinstance(one.payload, Origin)}
+    return {f"{'+' if change.announce else '-'} "
+            f"{change.payload.prefix}-{change.payload.max_length} AS{change.payload.asn}" for change in changes if isinstance(change.payload, Origin)}
 
 
 def fetched(pair, python, cache, listed):
@@ -68,10 +68,11 @@ def fetched(pair, python, cache, listed):
     nothing = cache.keep("nothing", payloads.end_of_data(1, 0, 0))
     pair.equal("fetch has the list", programs.differing(nothing, file),
                {Change(True, payload).line() for payload in listed})
-    one = max((each for each in listed if isinstance(each, Origin) and each.asn),
-              key=lambda each: each.order())
-    said = ran([python, "-I", "-m", "rtr_wire", "validate", file, one.prefix, str(one.asn)])
-    pair.equal("validate", said.decode().splitlines()[0], f"{one.prefix} AS{one.asn} valid", 1)
+    origin = max((each for each in listed if isinstance(each, Origin) and each.asn),
+                 key=lambda each: each.order())
+    output = ran([python, "-I", "-m", "rtr_wire", "validate", file, origin.prefix, str(origin.asn)])
+    pair.equal("validate", output.decode().splitlines()[0],
+               f"{origin.prefix} AS{origin.asn} valid", 1)
 
 
 def watched(pair, python, cache, listed):
@@ -79,11 +80,12 @@ def watched(pair, python, cache, listed):
     address, log = f"127.0.0.1:{cache.port}", os.path.join(cache.folder, "watch_async.log")
     words = [python, "-I", os.path.join(EXAMPLES, "watch_async.py")]
     with Server([*words, str(SECONDS), address], log) as server:
-        said = until(lambda: server.check() or server.said(), SECONDS, "a word of watch_async.py")
-    wanted = f"{address}: <Data of {len(listed)} payloads, "
+        output = until(lambda: server.check() or server.output(), SECONDS,
+                       "a word of watch_async.py")
+    expected = f"{address}: <Data of {len(listed)} payloads, "
     ended = ran([*words, str(WATCHED), address]).decode()
-    well = said.startswith(wanted) and (not ended or ended.startswith(wanted))
-    pair.holds("watch_async.py prints how much there is", well, f"{said}, and then {ended}", 1)
+    well = output.startswith(expected) and (not ended or ended.startswith(expected))
+    pair.holds("watch_async.py prints how much there is", well, f"{output}, and then {ended}", 1)
 
 
 def followed(pair, python, cache, change):

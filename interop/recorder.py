@@ -66,14 +66,14 @@ class Answer:
         """Describes it: the types of its units other than payloads, as words."""
         names = {NOTIFY: "serial notify", RESPONSE: "cache response", END: "end of data",
                  RESET: "cache reset", REPORT: "error report"}
-        said = []
+        words = []
         for unit in self.units:
             if unit[1] in names:
                 code = f" code {struct.unpack_from('>H', unit, 2)[0]}" if unit[1] == REPORT else ""
-                said.append(f"{names[unit[1]]} v{unit[0]}{code}")
+                words.append(f"{names[unit[1]]} v{unit[0]}{code}")
         if self.closed:
-            said.append("closed")
-        return ", ".join(said) or "nothing"
+            words.append("closed")
+        return ", ".join(words) or "nothing"
 
 
 class Session:

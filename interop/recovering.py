@@ -42,7 +42,7 @@ class Scene(scripted.Cache):
 
     # The highest version of our clients; what is expected of them, and of any router.
     version = 1
-    wanted = name = ""
+    expected = name = ""
 
     def __init__(self):
         self.old, self.new = payloads.made_up()
@@ -69,10 +69,10 @@ class Scene(scripted.Cache):
 
     def holds(self, pair, router, listed, what):
         """Passes if the router has these data now or soon."""
-        wanted = router.shows(listed)
+        expected = router.shows(listed)
         with contextlib.suppress(TimeoutError):
-            until(lambda: router.table() == wanted, LATE, what)
-        pair.equal(what, router.table(), wanted)
+            until(lambda: router.table() == expected, LATE, what)
+        pair.equal(what, router.table(), expected)
 
     def tells(self, router, query, serial):
         """Notifies a router of this serial number, a moment later."""
@@ -86,7 +86,7 @@ class HasNoMore(Scene):
 
     name = "no data any more, with a retry time of 20 s"
     RETRY, TIMES = 20, 3
-    wanted = f"reset queries, each {RETRY} s"
+    expected = f"reset queries, each {RETRY} s"
     TIMINGS = (3600, RETRY, 7200)
 
     def __init__(self):
@@ -113,7 +113,7 @@ class HasNoMore(Scene):
         self.sees(lambda: len(self.after()) > 1 + self.TIMES,
                   NOTIFY_SECONDS + self.TIMES * (self.RETRY + LATE))
         queries = self.after()
-        gaps = [later.when - one.when for one, later in itertools.pairwise(queries)]
+        gaps = [later.when - earlier.when for earlier, later in itertools.pairwise(queries)]
         kinds = {query.kind for query in queries[1:]}
         if not gaps:
             return f"no query within {SECONDS} s"
@@ -135,7 +135,7 @@ class HasNoneYet(Scene):
     """It has no data yet, gets the first nine seconds later, and then notifies."""
 
     name = "no data yet, and a notify 10 s later"
-    wanted = "a reset query"
+    expected = "a reset query"
     GETS = 9
 
     def answer(self, router, query):
@@ -168,7 +168,7 @@ class Cuts(Scene):
 
     name = "four cuts in all data, with older data"
     CUTS = 4
-    wanted = "current"
+    expected = "current"
 
     def __init__(self):
         self.cuts = 0
@@ -190,12 +190,12 @@ class Cuts(Scene):
 
     def rests(self):
         """Returns how long the router waited after each end of a connection."""
-        return [came - self.closed[place] for place, came in enumerate(self.came[1:])
-                if place in self.closed]
+        return [came - self.closed[index] for index, came in enumerate(self.came[1:])
+                if index in self.closed]
 
     def found(self, router):
-        wanted = router.shows(self.new)
-        done = self.sees(lambda: self.cuts == self.CUTS and router.table() == wanted, SECONDS)
+        expected = router.shows(self.new)
+        done = self.sees(lambda: self.cuts == self.CUTS and router.table() == expected, SECONDS)
         return "current" if done else f"not current within {SECONDS} s"
 
     def look(self, pair, router):
@@ -205,8 +205,8 @@ class Cuts(Scene):
 def grown(rests):
     """Returns which of these waits don't grow from a second on, each up to twice the one before,
     with a random part."""
-    return [f"{place}: {rest:.1f} s" for place, rest in enumerate(rests)
-            if not max(PAUSE, 2**place / 2) - EARLY <= rest <= 2**place + LATE]
+    return [f"{index}: {rest:.1f} s" for index, rest in enumerate(rests)
+            if not max(PAUSE, 2**index / 2) - EARLY <= rest <= 2**index + LATE]
 
 
 class Closes(Scene):
@@ -215,7 +215,7 @@ class Closes(Scene):
     name = f"a close after each answer, for {SECONDS} s"
     # Waits of 1, 2, 4, 8, 16, 32 s, each randomly shortened by up to half, but at least a second.
     MOST = 8
-    wanted = f"at most {MOST} queries"
+    expected = f"at most {MOST} queries"
 
     def answer(self, router, query):
         if query.kind == RESET_QUERY:
@@ -231,7 +231,7 @@ class Closes(Scene):
         return f"{'at most' if count <= self.MOST else 'more than'} {self.MOST} queries"
 
     def look(self, pair, router):
-        rests = [came - self.closed[place] for place, came in enumerate(self.came[1:])]
+        rests = [came - self.closed[index] for index, came in enumerate(self.came[1:])]
         pair.equal("after closes waits 1, 2, 4 .. s", grown(rests), [], len(rests))
         self.holds(pair, router, self.old, "holds the data of a cache that closes")
 
@@ -241,7 +241,7 @@ class ClosesOnce(Scene):
 
     name = "a close before the first answer, and another one after data"
     version = 2
-    wanted = "version 1, and then version 2"
+    expected = "version 1, and then version 2"
     STAYS = 10
 
     def __init__(self):
@@ -290,7 +290,7 @@ class Rises(ClosesOnce):
 
     name = "a close before the first answer"
     REFRESH = 3600
-    wanted = f"version 1, and version 2 after {REFRESH} s"
+    expected = f"version 1, and version 2 after {REFRESH} s"
     STAYS = 0
 
     def found(self, router):
@@ -310,7 +310,7 @@ class NamesNoTimes(Scene):
     """Its end of data has times that section 6 doesn't allow."""
 
     name = "times that section 6 doesn't allow"
-    wanted = "takes the data"
+    expected = "takes the data"
     TIMINGS = (0, 0, 10)
 
     def answer(self, router, query):
@@ -320,8 +320,8 @@ class NamesNoTimes(Scene):
             router.send(scripted.nothing_new(query.version, 1, self.TIMINGS))
 
     def found(self, router):
-        wanted = router.shows(self.old)
-        takes = self.sees(lambda: router.table() == wanted, LATE)
+        expected = router.shows(self.old)
+        takes = self.sees(lambda: router.table() == expected, LATE)
         found = "takes the data" if takes else "refuses the answer"
         kinds = {routers.Bird.name: ", and warns", routers.RtrClient.name: ", with other times",
                  routers.FRR.name: ", with other times"}
@@ -377,9 +377,9 @@ SOON = f"the data within {LATE} s"
 
 def shows(router, listed, seconds):
     """Returns after how many seconds a table holds a list, or None."""
-    start, wanted = time.monotonic(), router.shows(listed)
+    start, expected = time.monotonic(), router.shows(listed)
     with contextlib.suppress(TimeoutError):
-        until(lambda: router.table() == wanted, seconds, "table")
+        until(lambda: router.table() == expected, seconds, "table")
         return time.monotonic() - start
     return None
 
@@ -396,12 +396,12 @@ def sees(router, listed, cache, away=0):
     return SOON if took - away - (cache.late - late) <= LATE else f"the data within {SECONDS} s"
 
 
-def note(pair, scene, found, wanted, ours, seen):
+def note(pair, scene, found, expected, ours, seen):
     """Compares what was seen with what is expected of ours, or with the page."""
     pair.sees(scene, found)
     if not ours:
-        wanted = tables.written(PREFERRED).get(pair.column(), {}).get(scene, found)
-    pair.equal(f"after {scene}", found, wanted, seen=seen)
+        expected = tables.written(PREFERRED).get(pair.column(), {}).get(scene, found)
+    pair.equal(f"after {scene}", found, expected, seen=seen)
 
 
 def seen_by(router, *served):
@@ -482,7 +482,7 @@ def compare_times(results, maker, folder):
         if cache.numbered:
             cache.serial = 0
             with cache.serve(listed):
-                until(lambda: SERIAL_0 in cache.server.said(), LATE, "a warning")
+                until(lambda: SERIAL_0 in cache.server.output(), LATE, "a warning")
             pair.holds("warns of serial number 0", True, units=1)
 
 
@@ -491,17 +491,17 @@ class FirstCut(Tap):
 
     cutting = True
 
-    def pass_on(self, one, other, path):
+    def pass_on(self, source, target, path):
         """Forwards bytes from one to the other until it ends or is cut."""
         if not self.cutting or not path.endswith(".answers"):
-            return super().pass_on(one, other, path)
+            return super().pass_on(source, target, path)
         with open(path, "wb") as file, contextlib.suppress(OSError):
             content = b""
-            while len(content) < CUT_AFTER and (piece := one.recv(1 << 16)):
+            while len(content) < CUT_AFTER and (piece := source.recv(1 << 16)):
                 content += piece
             file.write(content[:CUT_AFTER])
-            other.sendall(content[:CUT_AFTER])
-        for each in (one, other):
+            target.sendall(content[:CUT_AFTER])
+        for each in (source, target):
             close(each)
 
     def asked(self, kind):
@@ -522,7 +522,7 @@ def compare_first_cut(results, maker, folder):
     """BIRD loses its first answer, and asks with serial number 0: at serial number 1 it gets all
     data, and at 0 it keeps a part forever, about which our caches warn."""
     listed, _ = payloads.made_up()
-    for serial, wanted in ((1, "all data"), (0, "a part of the data")):
+    for serial, expected in ((1, "all data"), (0, "a part of the data")):
         with contextlib.ExitStack() as stack:
             bird = type("Bird", (routers.Bird,), {"times": BIRD_RETRY})
             names = (f"{bird.name} at {maker.name}", "v1", bird.release())
@@ -537,8 +537,8 @@ def compare_first_cut(results, maker, folder):
             until(lambda: tap.asked(SERIAL_QUERY), FIRST_SECONDS, "a serial query")
             took = shows(router, cache.serves(listed), LATE)
             found = "a part of the data" if took is None else "all data"
-            pair.equal(f"after a cut in the first answer, at serial number {serial}", found, wanted,
-                       1)
+            pair.equal(f"after a cut in the first answer, at serial number {serial}", found,
+                       expected, 1)
 
 
 def compare_scene(results, maker, folder, kind, ours):
@@ -553,11 +553,12 @@ def compare_scene(results, maker, folder, kind, ours):
             router.keep("seen", scene.seen())
             pair.sees(kind.name, found)
             if ours:
-                pair.equal(f"after {kind.name}", found, kind.wanted, seen=scene.seen())
+                pair.equal(f"after {kind.name}", found, kind.expected, seen=scene.seen())
                 scene.look(pair, router)
             else:
-                said = tables.written(MARK).get(pair.column(), {}).get(kind.name, found)
-                pair.equal(f"after {kind.name}, as the page says", found, said, seen=scene.seen())
+                expected = tables.written(MARK).get(pair.column(), {}).get(kind.name, found)
+                pair.equal(f"after {kind.name}, as the page says", found, expected,
+                           seen=scene.seen())
 
 
 def together(jobs):

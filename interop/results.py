@@ -37,15 +37,15 @@ class Row(NamedTuple):
     what: str
     outcome: str
     units: int | None
-    said: str
+    note: str
 
     def line(self):
         """Returns it as a line for the screen."""
         units = "" if self.units is None else f", {self.units} units"
-        said = f": {self.said}" if self.said else ""
+        note = f": {self.note}" if self.note else ""
         peer = f"{self.names.peer} {self.names.version}".strip()
         loud = "!!! " if self.outcome == SKIPPED else ""
-        return f"{loud}{self.outcome}  {peer}, {self.what}{units}{said}"
+        return f"{loud}{self.outcome}  {peer}, {self.what}{units}{note}"
 
 
 class Results:
@@ -89,33 +89,33 @@ class Pair:
             self.skip("all", str(error))
             return True
         if issubclass(kind, Exception):
-            place = " < ".join(places(error))
-            self.add("all", FAILED, None, f"{kind.__name__}: {error} ({place})")
+            where = " < ".join(places(error))
+            self.add("all", FAILED, None, f"{kind.__name__}: {error} ({where})")
             return True
         return False
 
-    def add(self, what, outcome, units, said):
+    def add(self, what, outcome, units, note):
         """Adds a row."""
-        self.results.add(Row(self.names, what, outcome, units, said))
+        self.results.add(Row(self.names, what, outcome, units, note))
 
     def skip(self, what, reason):
         """Records what isn't compared, and why."""
         self.add(what, SKIPPED, None, reason)
 
-    def holds(self, what, holds, said="", units=None):
+    def holds(self, what, holds, note="", units=None):
         """Passes if this holds."""
-        self.add(what, PASSED if holds else FAILED, units, "" if holds else said)
+        self.add(what, PASSED if holds else FAILED, units, "" if holds else note)
 
-    def equal(self, what, got, wanted, units=None, seen=""):
+    def equal(self, what, got, expected, units=None, seen=""):
         """Passes if both are equal, or if README.md lists the difference; else shows the
         difference, and the observed value."""
-        if got != wanted and what in self.known():
+        if got != expected and what in self.known():
             return self.add(what, PASSED, 0, NAMED)
-        said = difference(got, wanted) if got != wanted else ""
-        if said and seen:
-            said += f"; seen: {seen[:SEEN]}"
-        counts = units if units is not None else len(wanted)
-        return self.add(what, FAILED if said else PASSED, counts, said)
+        note = difference(got, expected) if got != expected else ""
+        if note and seen:
+            note += f"; seen: {seen[:SEEN]}"
+        counts = units if units is not None else len(expected)
+        return self.add(what, FAILED if note else PASSED, counts, note)
 
     def column(self):
         """Its column in a table of scenes."""
@@ -138,19 +138,20 @@ def places(error):
     return [f"{os.path.basename(frame.filename)}:{frame.lineno}" for frame in own[:-4:-1]]
 
 
-def difference(got, wanted):
+def difference(got, expected):
     """Returns where two sets, lists or values differ, in short."""
-    if isinstance(got, list) and isinstance(wanted, set):
+    if isinstance(got, list) and isinstance(expected, set):
         return f"{len(got)} lines, of which {len(set(got))} differ"
-    if isinstance(got, (set, frozenset)) and isinstance(wanted, (set, frozenset)):
-        more, less = sorted(map(str, got - wanted)), sorted(map(str, wanted - got))
+    if isinstance(got, (set, frozenset)) and isinstance(expected, (set, frozenset)):
+        more, less = sorted(map(str, got - expected)), sorted(map(str, expected - got))
         return f"{len(more)} more {more[:SHOWN]}, {len(less)} missing {less[:SHOWN]}"
-    if isinstance(got, (list, tuple, bytes)) and isinstance(wanted, (list, tuple, bytes)):
-        pairs = zip(got, wanted)
-        place = next((i for i, (g, w) in enumerate(pairs) if g != w), min(len(got), len(wanted)))
-        at = slice(place, place + 1)
-        return f"{len(got)} in place of {len(wanted)}, from {place}: {got[at]}, not {wanted[at]}"
-    return f"{got!r}, not {wanted!r}"
+    if isinstance(got, (list, tuple, bytes)) and isinstance(expected, (list, tuple, bytes)):
+        pairs = zip(got, expected)
+        index = next((i for i, (g, w) in enumerate(pairs) if g != w), min(len(got), len(expected)))
+        at = slice(index, index + 1)
+        counts = f"{len(got)} in place of {len(expected)}"
+        return f"{counts}, from {index}: {got[at]}, not {expected[at]}"
+    return f"{got!r}, not {expected!r}"
 
 
 # A row of the table of known findings in README.md.

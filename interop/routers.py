@@ -92,18 +92,18 @@ class Router:
         the text changes."""
         state = os.stat(self.path(name))
         now = state.st_ino, state.st_size, state.st_mtime_ns
-        before, made = self.read.get(name, (None, None))
+        before, parsed = self.read.get(name, (None, None))
         if before != now:
             with open(self.path(name), encoding="utf-8") as file:
-                made = parse(file.read())
-            self.read[name] = now, made
-        return made
+                parsed = parse(file.read())
+            self.read[name] = now, parsed
+        return parsed
 
     def run(self, words, **options):
         """Starts its program."""
         self.server = Server(words, self.path("log"), **options)
 
-    def said(self, name, text):
+    def lines_with(self, name, text):
         """The lines of one of its files that match this."""
         with contextlib.suppress(FileNotFoundError), \
                 open(self.path(name), encoding="utf-8", errors="replace") as file:
@@ -125,7 +125,7 @@ class OfRtrlib(Router):
 
     def complaints(self, times):
         taken = "expire_interval:{2}, refresh_interval:{0}, retry_interval:{1}".format(*times)
-        return [line for line in self.said("log", "New interval values") if taken not in line]
+        return [line for line in self.lines_with("log", "New interval values") if taken not in line]
 
 
 class RtrClient(OfRtrlib):
@@ -189,7 +189,7 @@ class Bird(Router):
         self.run([program("bird"), "-f", "-c", path, *control])
 
     def complaints(self, _times):
-        return self.said("messages", "<WARN>.* interval ")
+        return self.lines_with("messages", "<WARN>.* interval ")
 
     def table(self):
         """What it holds."""
@@ -215,8 +215,8 @@ class FRR(OfRtrlib):
         if not glob.glob(self.MODULES):
             raise Missing("frr-rpki-rtrlib isn't installed")
         program("vtysh")
-        named = "".join(f" rpki cache 127.0.0.1 {port} preference {place}\n"
-                        for place, port in enumerate(self.ports, 1))
+        named = "".join(f" rpki cache 127.0.0.1 {port} preference {preference}\n"
+                        for preference, port in enumerate(self.ports, 1))
         path = self.keep("conf", f"rpki\n{self.times}{named} exit\n")
         words = ["-M", "rpki", "-f", path, "-i", self.path("process"), "-Z", "-S", "-P", "0"]
         words += ["--vty_socket", self.folder, "-l", "127.0.0.1", "-p", "0"]
@@ -295,7 +295,7 @@ class OpenBGPD(Router):
         self.speaker = until(lambda: self.connected(listen), SECONDS, "OpenBGPD takes a neighbor")
 
     def complaints(self, _times):
-        return self.said("log", "bad timeout values")
+        return self.lines_with("log", "bad timeout values")
 
     def connected(self, listen):
         """Returns a session of BGP, once it accepts one."""

@@ -92,19 +92,19 @@ class Beside:
 
     def holds(self, what, listed, end):
         """Passes once the table holds exactly the router's part of the list, before a time."""
-        wanted = self.router.shows(listed)
+        expected = self.router.shows(listed)
         with self.pair:
-            table = self.table_until(wanted, end)
-            self.pair.equal(what, table, wanted)
-            self.held = table == wanted
+            table = self.table_until(expected, end)
+            self.pair.equal(what, table, expected)
+            self.held = table == expected
 
-    def table_until(self, wanted, end):
+    def table_until(self, expected, end):
         """Returns the table once it is the expected one, or at this time."""
         tables = [set()]
 
         def same():
             tables.append(self.router.table())
-            return tables[-1] == wanted
+            return tables[-1] == expected
 
         with contextlib.suppress(TimeoutError):
             until(same, max(1, end - time.monotonic()), "table")
@@ -128,7 +128,7 @@ class Beside:
         """Reports whether the last notify has another serial number than the one after the
         data's."""
         sent = self.sent()
-        last = max((place for place, unit in enumerate(sent) if unit[1] == NOTIFY), default=0)
+        last = max((index for index, unit in enumerate(sent) if unit[1] == NOTIFY), default=0)
         before = [recorder.End(unit).serial for unit in sent[:last] if unit[1] == END]
         return bool(before) and recorder.End(sent[last]).serial != before[-1] + 1
 
@@ -147,8 +147,8 @@ class Beside:
                             notified and query[1] == SERIAL_QUERY, seen)
             units = programs.listed(b"".join(delta))
             lines = {programs.line_of(unit) for unit in units if "action" in unit}
-            wanted = {change.line() for change in changed}
-            self.pair.equal("the change came as a delta", lines, wanted, seen=seen)
+            expected = {change.line() for change in changed}
+            self.pair.equal("the change came as a delta", lines, expected, seen=seen)
 
     def listed(self):
         """Passes if our programs accept all queries of the router, and find nothing."""

@@ -81,8 +81,8 @@ def jobs_of_transports(found, folder):
     """Returns the jobs of the part `transports`: with rtr-cache, and with stayrtr."""
     makers = [*caches.of_programs(folder, transports.SecuredRtrCache), transports.SecuredStayRTR]
     for maker in makers:
-        place = os.path.join(apart(folder, "transports"), maker.__name__.lower())
-        yield transports.compare, (found, maker, place)
+        path = os.path.join(apart(folder, "transports"), maker.__name__.lower())
+        yield transports.compare, (found, maker, path)
 
 
 def jobs_of_filter(found, folder):
@@ -112,9 +112,9 @@ def jobs_of_dissector(found, folder):
     captures = os.path.join(folder, "captures")
     os.makedirs(captures, exist_ok=True)
     yield dissector.compare_sample, (found, captures)
-    for place in dissector.recorded(folder):
-        if place not in [apart(folder, part) for part in BESIDE]:
-            yield dissector.compare, (found, place, captures)
+    for path in dissector.recorded(folder):
+        if path not in [apart(folder, part) for part in BESIDE]:
+            yield dissector.compare, (found, path, captures)
 
 
 def apart(folder, part="defaults"):
@@ -154,8 +154,8 @@ def long_jobs(found, folder):
     """Returns the same over ten minutes."""
     for maker in caches.of_programs(folder, cutting.Kept):
         for retry in cutting.LONG_RETRIES:
-            place = os.path.join(apart(folder, "cuts"), f"cut.{retry}")
-            yield cutting.cut, (found, maker, place, retry, cutting.LONG_SECONDS,
+            path = os.path.join(apart(folder, "cuts"), f"cut.{retry}")
+            yield cutting.cut, (found, maker, path, retry, cutting.LONG_SECONDS,
                                 cutting.LONG_CHANGES)
         yield cutting.kill, (found, maker, os.path.join(apart(folder, "cuts"), "killed"))
 

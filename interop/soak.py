@@ -57,8 +57,8 @@ class Crowd:
         self.faults = []
         self.failures = []
         self.threads = [
-            threading.Thread(target=self.run, args=(random.Random(place),), daemon=True)
-            for place in range(AT_ONCE)
+            threading.Thread(target=self.run, args=(random.Random(seed),), daemon=True)
+            for seed in range(AT_ONCE)
         ]
         for thread in self.threads:
             thread.start()

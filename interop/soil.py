@@ -26,9 +26,9 @@ def soiled(unit):
         unit[8] |= 0xFE
         unit[11] = 0xFF
         size = 32 if kind == IPV4 else 128
-        place = slice(12, 12 + size // 8)
-        address = int.from_bytes(unit[place], "big") | ((1 << (size - unit[9])) - 1)
-        unit[place] = address.to_bytes(size // 8, "big")
+        span = slice(12, 12 + size // 8)
+        address = int.from_bytes(unit[span], "big") | ((1 << (size - unit[9])) - 1)
+        unit[span] = address.to_bytes(size // 8, "big")
     elif kind == ROUTER_KEY:
         unit[2] |= 0xFE
         unit[3] = 0xFF

@@ -27,7 +27,7 @@ def table(heads, rows):
 def differences(rows):
     """Returns how many comparisons differ, and how many of them README.md lists."""
     failed = sum(row.outcome == FAILED for row in rows)
-    named = sum(row.said == NAMED for row in rows)
+    named = sum(row.note == NAMED for row in rows)
     return f"{named} named" if named and not failed else str(failed + named)
 
 
@@ -59,8 +59,8 @@ def answers(found):
         seen.setdefault(names, {})[what] = answer
     heads = sorted({what for _, what, _ in found.seen if "query" in what})
     rows = [
-        (names.peer, names.version, *(said.get(head, "") for head in heads))
-        for names, said in sorted(seen.items()) if heads and heads[0] in said
+        (names.peer, names.version, *(replies.get(head, "") for head in heads))
+        for names, replies in sorted(seen.items()) if heads and heads[0] in replies
     ]
     return table(["Cache", "Version", *heads], rows)
 
@@ -100,10 +100,10 @@ def replace(name, lines):
     """Writes these lines between the marks of this name, on the page with these marks."""
     for page in PAGES:
         text = read(page)
-        made = marks(name).sub(lambda mark: mark[1] + "\n".join(lines) + "\n" + mark[3], text)
+        updated = marks(name).sub(lambda mark: mark[1] + "\n".join(lines) + "\n" + mark[3], text)
         if marks(name).search(text):
             with open(page, "w", encoding="utf-8") as file:
-                file.write(made)
+                file.write(updated)
             return
     raise ValueError(f"no page has marks of {name}")
 
@@ -126,7 +126,7 @@ def write(found, parts, more):
     for mark, lines in more.items():
         if lines:
             replace(mark, lines)
-    skipped = [f"- {row.names.peer} {row.what}: {row.said}" for row in found.rows
+    skipped = [f"- {row.names.peer} {row.what}: {row.note}" for row in found.rows
                if row.outcome == SKIPPED]
     day = time.strftime("%Y-%m-%d", time.gmtime())
     counts = [f"{found.count(outcome)} {outcome}" for outcome in ("passed", FAILED, SKIPPED)]

@@ -87,14 +87,14 @@ class Tap:
         for way in ways:
             self.start(self.pass_on, *way)
 
-    def pass_on(self, one, other, path):
+    def pass_on(self, source, target, path):
         """Forwards bytes from one to the other until it ends; then both are closed."""
         with open(path, "wb") as file, contextlib.suppress(OSError):
-            while content := one.recv(PIECE):
+            while content := source.recv(PIECE):
                 file.write(content)
                 file.flush()
-                other.sendall(content)
-        for each in (one, other):
+                target.sendall(content)
+        for each in (source, target):
             with contextlib.suppress(OSError):
                 each.shutdown(socket.SHUT_RDWR)
 

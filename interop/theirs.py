@@ -53,8 +53,8 @@ class Recorded:
             recorder.reset_query(cache.highest + 1),
         ]
         self.refused = {
-            what: self.once(f"refused{place}", query)
-            for place, (what, query) in enumerate(zip(ANSWERS, queries))
+            what: self.once(f"refused{number}", query)
+            for number, (what, query) in enumerate(zip(ANSWERS, queries))
         }
 
     def once(self, name, query):
@@ -87,7 +87,7 @@ def compare_lists(pair, recorded):
     cache = recorded.cache
     old, new = cache.serves(recorded.old), cache.serves(recorded.new)
     changed = {change.line() for change in payloads.changes(old, new)}
-    for what, answer, wanted in [
+    for what, answer, expected in [
         ("reset query", recorded.first, announced(old)),
         ("serial query after the change", recorded.delta, changed),
         ("serial query with nothing new", recorded.nothing, set()),
@@ -95,7 +95,7 @@ def compare_lists(pair, recorded):
     ]:
         lines = payload_lines(own(answer.sequence(), cache))
         each_once = len(set(lines)) == len(lines)
-        pair.equal(f"rtr_list of a {what}", set(lines) if each_once else lines, wanted)
+        pair.equal(f"rtr_list of a {what}", set(lines) if each_once else lines, expected)
     pair.holds("serial notify after the change", recorded.notify.last == payloads.NOTIFY,
                "none came")
     first = os.path.join(cache.folder, "first.sequence")
@@ -129,11 +129,11 @@ def compare_made(pair, recorded):
     if not programs.there("rtr_make") or cache.json is None or cache.other_aspas:
         return
     with open(os.path.join(cache.folder, cache.json), "rb") as file:
-        made = programs.made(file.read(), cache.version)
+        sequence = programs.rtr_make(file.read(), cache.version)
     path = os.path.join(cache.folder, "made.sequence")
     with open(path, "wb") as file:
-        file.write(made)
-    units = len(recorder.units(made))
+        file.write(sequence)
+    units = len(recorder.units(sequence))
     second = os.path.join(cache.folder, "second.sequence")
     pair.equal("rtr_make of its file", programs.differing(path, second), set(), units)
 
@@ -168,8 +168,8 @@ def older_aspas(pair, recorded):
             providers = struct.unpack_from(f">{count}I", unit, 16)
             got.add((flags, family, customer, providers))
     aspas = [p for p in recorded.old if isinstance(p, payloads.Authorization)]
-    wanted = {(1, family, a.customer, a.providers) for a in aspas for family in (0, 1)}
-    pair.equal("ASPAs, read as draft 10 has them", got, wanted)
+    expected = {(1, family, a.customer, a.providers) for a in aspas for family in (0, 1)}
+    pair.equal("ASPAs, read as draft 10 has them", got, expected)
 
 
 def clients_hold(pair, cache, listed, clients):

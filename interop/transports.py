@@ -202,15 +202,15 @@ class RtrClientOverSSH(routers.RtrClient):
             with open(self.path("changes"), "wb") as file:
                 self.run(words, split=file)
             until(self.tried, READY_SECONDS, "rtrclient connects")
-            if self.DONE in self.server.said():
+            if self.DONE in self.server.output():
                 return
             self.server.end()
         raise OSError(f"rtrclient: {self.FAILED}, {ATTEMPTS} times")
 
     def tried(self):
         """Reports whether it has connected, or failed to."""
-        said = self.server.said()
-        return self.DONE in said or self.FAILED in said
+        output = self.server.output()
+        return self.DONE in output or self.FAILED in output
 
 
 class Beside(routing.Beside):
@@ -232,12 +232,12 @@ def clients(folder, keys):
     ]
 
 
-def counts(each, what, wanted):
+def counts(each, what, expected):
     """Passes if the example for tokio printed these numbers of changes."""
     with each.pair:
         with contextlib.suppress(TimeoutError):
-            until(lambda: each.router.table() == wanted, 2 * routing.FIRST_SECONDS, "changes")
-        each.pair.equal(what, each.router.table(), wanted, sum(wanted))
+            until(lambda: each.router.table() == expected, 2 * routing.FIRST_SECONDS, "changes")
+        each.pair.equal(what, each.router.table(), expected, sum(expected))
 
 
 def compare(results, maker, folder):
@@ -251,16 +251,16 @@ def compare(results, maker, folder):
         stack.enter_context(cache.serve(old))
         beside = [Beside(results, cache, each, stack, PART) for each in clients(
             os.path.dirname(folder), maker.keys)]
-        told = [each for each in beside if each.live and isinstance(each.router, RustOverTLS)]
-        holding = [each for each in beside if each.live and each not in told]
+        counting = [each for each in beside if each.live and isinstance(each.router, RustOverTLS)]
+        holding = [each for each in beside if each.live and each not in counting]
         lists = [cache.serves(listed) for listed in (old, new, other)]
         routing.all_hold(holding, "holds the list", lists[0], routing.FIRST_SECONDS)
-        for each in told:
+        for each in counting:
             counts(each, "counts the list", [len(lists[0])])
         cache.change(new)
         routing.all_hold(holding, "holds the changed list", lists[1], cache.change_seconds)
         changed = len(payloads.changes(*lists[:2]))
-        for each in told:
+        for each in counting:
             counts(each, "counts what changes", [len(lists[0]), changed])
         cache.restart(other)
         what = "holds the list of another session"

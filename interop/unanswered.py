@@ -105,17 +105,17 @@ def compare_router(results, maker, folder):
     with Pair(results, PART, maker.name, "v1", maker.release()) as pair, \
             contextlib.ExitStack() as stack:
         scripts = {}
-        for place, answer in enumerate(ANSWERS):
+        for number, answer in enumerate(ANSWERS):
             script = stack.enter_context(Scripted(answer))
-            own = os.path.join(folder, f"unanswered.{maker.__name__.lower()}{place}")
+            own = os.path.join(folder, f"unanswered.{maker.__name__.lower()}{number}")
             scripts[answer] = script, stack.enter_context(maker(own, script.port))
         page = tables.written(MARK)
         for answer, (script, router) in scripts.items():
             found = script.found()
             router.keep("seen", script.seen())
             pair.sees(answer, found)
-            said = page.get(answer, {}).get(pair.column(), found)
-            pair.equal(f"after a {answer}, as the page says", found, said, seen=script.seen())
+            expected = page.get(answer, {}).get(pair.column(), found)
+            pair.equal(f"after a {answer}, as the page says", found, expected, seen=script.seen())
 
 
 def compare(results, folder):

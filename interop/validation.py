@@ -121,19 +121,19 @@ def compare(results, maker, folder):
     vrps, routes = made_up()
     states = [validity.state(validity.covering(vrps, route), route) for route in routes]
     listed = {origin_of(vrp) for vrp in vrps}
-    place = os.path.join(folder, "validation")
+    path = os.path.join(folder, "validation")
     with Pair(results, PART, maker.name, "v1", maker.release()):
-        cache = maker(place, 1)
+        cache = maker(path, 1)
         with cache.serve(listed), contextlib.ExitStack() as stack:
-            with recorder.Session(cache.port, place, "recorded") as session:
+            with recorder.Session(cache.port, path, "recorded") as session:
                 answer = session.ask(recorder.reset_query(1))
             file = cache.keep("sequence", answer.sequence())
             with Pair(results, PART, "rtr_validate", "v1", "this tree") as other:
-                other.equal("its answers", by_us(place, file, routes), states)
+                other.equal("its answers", by_us(path, file, routes), states)
             with Pair(results, PART, "rtrlib", "v1", package_version("librtr0")) as other:
-                theirs = by_rtrlib(place, cache.port, routes)
+                theirs = by_rtrlib(path, cache.port, routes)
                 other.equal("rtr_mgr_validate", theirs, states)
             with Pair(results, PART, "BIRD", "v1", routers.Bird.release()) as other:
-                bird = stack.enter_context(routers.Bird(os.path.join(place, "bird"), cache.port))
+                bird = stack.enter_context(routers.Bird(os.path.join(path, "bird"), cache.port))
                 until(lambda: len(bird.table()) == len(listed), SECONDS, "BIRD's tables")
                 other.equal("roa_check", by_bird(bird, routes), states)
