@@ -23,7 +23,8 @@ RECONNECTS = 4
 
 # Two hundred connects of a client, whose memory after the second hundred is that after the first.
 CONNECTS = "two hundred connects"
-PAUSE = ["--pause", "10ms"]  # between two connections, for clients that take it
+PAUSE = "10"  # milliseconds between two connections
+COUNTING = {"C client", "asyncio"}  # beside that in Go
 MEMORY = 1 << 15  # bytes by which it may grow; a connection alone has more than 200
 
 # A cache whose first answer is a unit of a type that nobody knows: the client has to send a whole
@@ -142,18 +143,21 @@ class Cache:
 
 
 class Run:
-    """Runs a client beside a cache, with these faults."""
+    """Runs a client beside a cache, with these faults; one that counts its memory reconnects after
+    a short pause."""
 
-    def __init__(self, command, faults, library, folder, refused=b""):
+    def __init__(self, command, faults, library, folder, refused=b"", counts=False):
         self.cache = Cache(socket.AF_INET, refused)
-        self.seen, self.state = (os.path.join(folder, name) for name in ("seen", "state"))
+        self.seen, self.state, self.memory = (os.path.join(folder, name)
+                                              for name in ("seen", "state", "memory"))
+        counting = {"FAULTS_PAUSE": PAUSE, "FAULTS_MEMORY": self.memory} if counts else {}
         self.said = open(os.path.join(folder, "said"), "w+b")
         # The name has two addresses in sockets.c, and the cache is at the second.
         words = [word.replace("ADDRESS", f"localhost:{self.cache.port}") for word in command]
         self.process = subprocess.Popen(
             words, stdout=subprocess.PIPE, stderr=self.said,
             env={**os.environ, "LD_PRELOAD": library, "FAULTS": faults, "FAULTS_SEEN": self.seen,
-                 "FAULTS_STATE": self.state})
+                 "FAULTS_STATE": self.state, **counting})
         self.held, self.lines = b"", collections.deque()
 
     def read(self, wanted):
@@ -205,7 +209,7 @@ class Run:
                 first = self.holds()  # the first connection may have ended before it was counted
             if number and number % 100 == 0:
                 self.settles(first)
-                sizes.append(held.memory(self.process, self.state))
+                sizes.append(held.memory(self.process, self.state, self.memory))
         if sizes and sizes[1] > sizes[0] + MEMORY:
             raise Wrong(f"it has {sizes[1]} bytes of memory, and had {sizes[0]}")
         self.settles(first)
@@ -239,8 +243,8 @@ class Run:
 def play(command, name, library, folder):
     """Plays a client with the faults of this name; returns what was wrong, or nothing."""
     faults = FAULTS.get(name, "")
-    run = Run([*command, *(PAUSE if name == CONNECTS else [])], faults, library, folder,
-              UNKNOWN if name == REFUSED else b"")
+    run = Run(command, faults, library, folder, UNKNOWN if name == REFUSED else b"",
+              name == CONNECTS)
     wrong = None
     try:
         connects = 200 if name == CONNECTS else RECONNECTS
@@ -262,5 +266,5 @@ def names(program):
     if program == "tokio":
         return [name for name in FAULTS if is_of_edges(FAULTS[name])]
     if program != "Go":
-        return list(FAULTS)
+        return [*FAULTS, *([CONNECTS] if program in COUNTING else [])]
     return [*(name for name in FAULTS if name not in ("interrupted waits", REFUSED)), CONNECTS]

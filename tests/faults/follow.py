@@ -1,9 +1,16 @@
 """Follows a cache with the package for Python, and prints the lines of rtr_diff for prefixes.
 
 usage: follow.py HOST:PORT --version N [--asyncio]
+
+If FAULTS_PAUSE has milliseconds, it reconnects after these. If FAULTS_MEMORY names a file, that gets
+a line at each SIGUSR2: how many bytes of memory are in use.
 """
 import asyncio
+import gc
+import os
+import signal
 import sys
+import tracemalloc
 
 import rtr_wire
 
@@ -22,11 +29,30 @@ async def show_all(client):
         show(update)
 
 
+def counts(path):
+    """Starts to count memory, and to write it to a file."""
+    tracemalloc.start()
+    file = open(path, "w", encoding="ascii")
+
+    def write(*_):
+        gc.collect()
+        print(tracemalloc.get_traced_memory()[0], file=file, flush=True)
+    signal.signal(signal.SIGUSR2, write)
+
+
 def main():
     host, _, port = sys.argv[1].rpartition(":")
     made = rtr_wire.AsyncClient if "--asyncio" in sys.argv else rtr_wire.Client
-    client = made(host.strip("[]"), int(port), rtr_wire.Settings(int(sys.argv[3])),
-                  failed=lambda error: print(error, file=sys.stderr, flush=True))
+    pause = os.environ.get("FAULTS_PAUSE")
+    settings = rtr_wire.Settings(int(sys.argv[3]), pause=pause and int(pause) / 1000)
+    if "FAULTS_MEMORY" in os.environ:
+        counts(os.environ["FAULTS_MEMORY"])
+
+    def failed(error):
+        print(error, file=sys.stderr, flush=True)
+        if pause:
+            client.ask_now()
+    client = made(host.strip("[]"), int(port), settings, failed=failed)
     if made is rtr_wire.AsyncClient:
         asyncio.run(show_all(client))
     for update in client:

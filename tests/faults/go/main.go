@@ -3,10 +3,10 @@
 //
 // usage:
 //
-//	faulty ADDRESS --version N [--pause DURATION]    prints the lines of rtr_diff; with a pause, it
-//	                                                 reconnects as soon as that allows
+//	faulty ADDRESS --version N     prints the lines of rtr_diff
 //	faulty FILE --listen ADDRESS
 //
+// If FAULTS_PAUSE has milliseconds, the client reconnects after these.
 // At SIGUSR1 it writes the number of goroutines and the bytes of its heap to the file that
 // FAULTS_STATE names, at SIGUSR2 after a garbage collection: that also closes what the package
 // forgot to close. Stacks aren't counted, whose sizes vary: each goroutine is.
@@ -77,10 +77,8 @@ func follow(ctx context.Context, injected *faults, words []string) error {
 	}
 	client.AskIn(uint8(version))
 	client.Failed = func(err error) { fmt.Fprintln(os.Stderr, err) }
-	if len(words) > 4 {
-		if client.Limits.Pause, err = time.ParseDuration(words[4]); err != nil {
-			return err
-		}
+	if pause, err := strconv.Atoi(os.Getenv("FAULTS_PAUSE")); err == nil {
+		client.Limits.Pause = time.Duration(pause) * time.Millisecond
 		client.Failed = func(error) { client.AskNow() }
 	}
 	client.Dial = func(ctx context.Context, network, address string) (net.Conn, error) {
