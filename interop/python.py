@@ -57,8 +57,9 @@ def installed(folder):
 
 def lines_of(changes):
     """Returns the lines that the example prints for changes of origins."""
-    return {f"{'+' if change.announce else '-'} "
-            f"{change.payload.prefix}-{change.payload.max_length} AS{change.payload.asn}" for change in changes if isinstance(change.payload, Origin)}
+    return {f"{'+' if change.announce else '-'} {change.payload.prefix}-"
+            f"{change.payload.max_length} AS{change.payload.asn}"
+            for change in changes if isinstance(change.payload, Origin)}
 
 
 def fetched(pair, python, cache, listed):
