@@ -376,7 +376,8 @@ fn a_report() {
     drop(cache.join().unwrap());
 }
 
-/// After a report what still comes is read for a while, since a close would take the report away.
+/// After a report what still comes is read for two seconds, since a close would take the report
+/// away.
 #[tokio::test(start_paused = true)]
 async fn a_client_that_reads_on() {
     let (mine, mut cache) = tokio::io::duplex(1024);
@@ -397,8 +398,12 @@ async fn a_client_that_reads_on() {
         Unit::first(&report),
         Ok((Unit::ErrorReport(_), []))
     ));
+    for _ in 0..2 {
+        cache.write_all(&[0; 8]).await.expect("it reads on");
+        tokio::time::sleep(Duration::from_millis(990)).await;
+    }
     cache.write_all(&[0; 8]).await.expect("it reads on");
-    tokio::time::sleep(Duration::from_secs(1)).await;
+    tokio::time::sleep(Duration::from_millis(40)).await;
     assert!(cache.write_all(&[0; 8]).await.is_err());
     assert!(matches!(
         running.await.unwrap(),
