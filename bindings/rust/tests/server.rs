@@ -609,8 +609,8 @@ fn answers_that_are_cut() {
             server.update(data(serial)).unwrap();
         }
         assert!(told.recv_timeout(milliseconds(300)).is_err());
-        let began = Instant::now();
         server.update(data_of(session, 4, 20)).unwrap();
+        let began = Instant::now(); // the data are saved and served now
         assert_eq!(told.recv_timeout(PATIENCE).as_deref(), Ok(texts));
         assert!(began.elapsed() < milliseconds(2000), "it ended late");
         assert!(holds(|| server.clients() == 0));
