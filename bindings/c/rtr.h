@@ -855,7 +855,7 @@ static inline size_t rtr_validate_many(const struct rtr_data *data,
                                        const struct rtr_route *routes, size_t count,
                                        uint8_t *validities)
 {
-    static const struct rtr_route nowhere = {0};
+    static struct rtr_route nowhere;
     return rtr_validate_many_nonnull(rtr_readable(data->bytes), data->lookup.length, &data->lookup,
                                      routes ? routes : &nowhere, count,
                                      rtr_writable(validities), count);
