@@ -75,17 +75,25 @@ class Cache:
         session = self.session or r"\d+"
         self.session = int(self.says(rf"session ({session}) serial {serial}: \d+ payloads?.*")[1])
         if os.path.exists(self.state):
-            self.waits(lambda: "/dev/null" in self.links()[3:], "it has loaded the data")
+            self.waits(self.links_with_spare, "it has loaded the data")
 
     def puts(self, content):
         put(self.path, content)
 
     def holds(self):
         """Returns how many descriptors and threads or goroutines it has, except files in memory,
-        which hold encoded data, and how many of those. That of the list of faults is left out."""
+        which hold encoded data, and how many of those. That of the list of faults is left out. A
+        cache in Go has no spare descriptor while it looks at its file: it isn't counted then."""
         links = self.links()
+        if os.path.exists(self.state):
+            links = self.waits(self.links_with_spare, "it has a spare descriptor")
         memory = sum(link.startswith("/memfd:") for link in links)
         return len(links) - memory, held.tasks(self.process, self.state), memory
+
+    def links_with_spare(self):
+        """Returns what its descriptors are, if /dev/null is among those that it opened itself."""
+        links = self.links()
+        return links if "/dev/null" in links[3:] else None
 
     def links(self):
         """Returns what its descriptors are, except the list of faults."""
