@@ -41,18 +41,20 @@ def measured(listeners):
                 if len(closed[one]) == WAIT:
                     waits[one] = time.monotonic() - closed[one][-1]
                     selector.unregister(one)
-                refuse(connection)
-                closed[one].append(time.monotonic())
+                closed[one].append(refuse(connection))
     return sorted(waits.values())
 
 
 def refuse(connection):
-    """Answers a query by a report without a unit and a text, and closes."""
+    """Answers a query by a report without a unit and a text, and closes. Returns a time before
+    which no wait for the next connection begins."""
     connection.settimeout(LONG)
     query = connection.recv(16)
+    before = time.monotonic()
     if query:
         connection.sendall(unit(REPORT, INTERNAL_ERROR, bytes(8), query[0]))
     connection.close()
+    return before
 
 
 def play(command, _, __, folder):
