@@ -4,7 +4,7 @@
 /* The bytes of an error report beside its two parts. */
 enum { REPORT_FIXED = 16 };
 
-/* The status of a unit of each kind with a whole header, by its length. */
+/* Returns the status of a unit of each kind with a whole header, by its length. */
 static inline uint8_t prefix_status(const uint8_t *in, size_t left, size_t size, unsigned width,
                                     uint8_t *detail)
 {
@@ -50,8 +50,8 @@ static inline uint8_t aspa_status(const uint8_t *in, size_t left, size_t size)
     return left < size ? RTR_SHORT : RTR_OK;
 }
 
-/* The status of the payload unit or the end of data at the front, and its length; or the detail of
- * its refusal. */
+/* Returns the status of the payload unit or the end of data at the front, and its length; or the
+ * detail of its refusal. */
 static inline uint8_t checked(const uint8_t *in, size_t left, size_t *size, uint8_t *detail)
 {
     if (left < 8)
@@ -76,12 +76,12 @@ static inline uint8_t checked(const uint8_t *in, size_t left, size_t *size, uint
 
 /* Writes a checked prefix unit in canonical form: the session, the free byte, all flags but the
  * lowest and the bits of the address after the prefix length are cleared. */
-static inline void put_prefix(uint8_t *to, const uint8_t *at, size_t size)
+static inline void put_prefix(uint8_t *to, const uint8_t *from, size_t size)
 {
-    put64(to, get64(at) & UINT64_C(0xffff0000ffffffff));
-    put32(to + 8, get32(at + 8) & 0x01ffff00);
-    put_cleared(to + 12, at + 12, (unsigned)size - 16, at[9]);
-    memcpy(to + size - 4, at + size - 4, 4);
+    put64(to, get64(from) & UINT64_C(0xffff0000ffffffff));
+    put32(to + 8, get32(from + 8) & 0x01ffff00);
+    put_cleared(to + 12, from + 12, (unsigned)size - 16, from[9]);
+    memcpy(to + size - 4, from + size - 4, 4);
 }
 
 static void answer_with(struct rtr_answer *answer, uint8_t status, uint8_t detail, size_t wanted)
@@ -92,41 +92,41 @@ static void answer_with(struct rtr_answer *answer, uint8_t status, uint8_t detai
     answer->wanted = wanted;
 }
 
-uint8_t normalise_by_hand(const uint8_t *in, size_t length, uint8_t *out, size_t room,
+uint8_t normalise_by_hand(const uint8_t *in, size_t length, uint8_t *out, size_t capacity,
                           uint64_t limit, struct rtr_answer *answer)
 {
-    const uint8_t *at = in;
+    const uint8_t *next = in;
     uint8_t *to = out, status = RTR_TOO_MANY, detail = 0;
     uint64_t units = 0;
     size_t left = length, size = 0, made;
-    for (; units < limit; units++, at += size, left -= size) {
+    for (; units < limit; units++, next += size, left -= size) {
         status = RTR_SHORT;
         if (left < 8)
             break;
-        size = get32(at + 4);
-        switch (at[1]) {
+        size = get32(next + 4);
+        switch (next[1]) {
         case RTR_IPV4_PREFIX:
-            status = prefix_status(at, left, size, 32, &detail);
+            status = prefix_status(next, left, size, 32, &detail);
             made = 20;
-            if (status != RTR_OK || room < made)
+            if (status != RTR_OK || capacity < made)
                 goto stopped;
-            put_prefix(to, at, 20);
+            put_prefix(to, next, 20);
             break;
         case RTR_IPV6_PREFIX:
-            status = prefix_status(at, left, size, 128, &detail);
+            status = prefix_status(next, left, size, 128, &detail);
             made = 32;
-            if (status != RTR_OK || room < made)
+            if (status != RTR_OK || capacity < made)
                 goto stopped;
-            put_prefix(to, at, 32);
+            put_prefix(to, next, 32);
             break;
         case RTR_END_OF_DATA:
-            status = end_status(at, left, size, &detail);
+            status = end_status(next, left, size, &detail);
             made = size;
-            if (status != RTR_OK || room < made)
+            if (status != RTR_OK || capacity < made)
                 goto stopped;
-            memcpy(to, at, size);
+            memcpy(to, next, size);
             to += size;
-            at += size;
+            next += size;
             made = 0;
             goto stopped;
         case RTR_ROUTER_KEY:
@@ -134,37 +134,37 @@ uint8_t normalise_by_hand(const uint8_t *in, size_t length, uint8_t *out, size_t
             made = size;
             goto long_unit;
         case RTR_ASPA:
-            status = aspa_status(at, left, size);
-            made = at[2] & 1 ? size : 12;
+            status = aspa_status(next, left, size);
+            made = next[2] & 1 ? size : 12;
         long_unit:
-            if (status != RTR_OK || room < made)
+            if (status != RTR_OK || capacity < made)
                 goto stopped;
-            memcpy(to + 8, at + 8, made - 8);
-            put32(to, get32(at) & 0xffff0100);
+            memcpy(to + 8, next + 8, made - 8);
+            put32(to, get32(next) & 0xffff0100);
             put32(to + 4, (uint32_t)made);
             break;
         default:
-            detail = at[1];
+            detail = next[1];
             status = RTR_UNIT_TYPE;
             goto stopped;
         }
         to += made;
-        room -= made;
+        capacity -= made;
     }
     if (units == limit)
         status = RTR_TOO_MANY;
     made = 0;
 stopped:
-    if (status == RTR_OK && room < made)
+    if (status == RTR_OK && capacity < made)
         status = RTR_NO_ROOM;
     answer_with(answer, status, detail, status != RTR_SHORT ? 0 : left < 8 ? 8 : size);
     answer->units = answer->forms = units;
-    answer->taken = (size_t)(at - in);
+    answer->taken = (size_t)(next - in);
     answer->written = (size_t)(to - out);
     return status;
 }
 
-/* The status of a unit, with a whole header, of a kind that no sequence has. */
+/* Returns the status of a unit, with a whole header, of a kind that no sequence has. */
 static uint8_t other_status(const uint8_t *in, size_t left, size_t size, uint8_t *detail)
 {
     switch (in[1]) {
@@ -281,7 +281,8 @@ static inline bool is_part(size_t start, size_t length, size_t all)
     return start <= all && length <= all - start;
 }
 
-/* The length of a unit when written, or the status that refuses it, in the order of rtr.h. */
+/* Returns the length of a unit when written, or the status that refuses it, in the order of rtr.h.
+ * */
 static inline uint8_t formed(const struct rtr_unit *unit, size_t length, size_t *size)
 {
     switch (unit->kind) {
@@ -355,11 +356,11 @@ static void put_other(uint8_t *out, const struct rtr_unit *unit, const uint8_t *
 }
 
 uint8_t write_by_hand(const struct rtr_unit *unit, const uint8_t *in, size_t length, uint8_t *out,
-                      size_t room, size_t *written)
+                      size_t capacity, size_t *written)
 {
     size_t size = 0;
     uint8_t status = formed(unit, length, &size);
-    if (status == RTR_OK && size > room)
+    if (status == RTR_OK && size > capacity)
         status = RTR_NO_ROOM;
     if (status != RTR_OK) {
         *written = 0;

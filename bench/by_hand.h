@@ -6,30 +6,30 @@
 #include <string.h>
 #include "rtr.h"
 
-static inline uint32_t get32(const uint8_t *at)
+static inline uint32_t get32(const uint8_t *bytes)
 {
     uint32_t value;
-    memcpy(&value, at, 4);
+    memcpy(&value, bytes, 4);
     return __builtin_bswap32(value);
 }
 
-static inline void put32(uint8_t *at, uint32_t value)
+static inline void put32(uint8_t *bytes, uint32_t value)
 {
     value = __builtin_bswap32(value);
-    memcpy(at, &value, 4);
+    memcpy(bytes, &value, 4);
 }
 
-static inline uint64_t get64(const uint8_t *at)
+static inline uint64_t get64(const uint8_t *bytes)
 {
     uint64_t value;
-    memcpy(&value, at, 8);
+    memcpy(&value, bytes, 8);
     return __builtin_bswap64(value);
 }
 
-static inline void put64(uint8_t *at, uint64_t value)
+static inline void put64(uint8_t *bytes, uint64_t value)
 {
     value = __builtin_bswap64(value);
-    memcpy(at, &value, 8);
+    memcpy(bytes, &value, 8);
 }
 
 /* Writes an address of 4 or 16 bytes with all but its first `bits` bits cleared. */

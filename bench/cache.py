@@ -10,8 +10,8 @@ The caches serve the same made-up table of 500,000 VRPs, one after the other. Pr
 - the time from the change of its file to the last byte that the last of 100 clients gets, where
   1,000 VRPs change: the least and the most of N rounds, 3 by default, each with new clients, since
   a cache tells a client of a change once a minute at most;
-- but for stayrtr, the memory that a cache has after 15 more such changes, before each of which three
-  clients ask for all data and then read nothing.
+- but for stayrtr, the memory that a cache has after 15 more such changes, before each of which
+  three clients ask for all data and then read nothing.
 
 CACHE is c, go, rust or stayrtr; by default all installed caches are measured, and the missing ones
 are left out with a loud message. --write renews the table of docs/SPEED.md and the line below it.
@@ -39,8 +39,8 @@ sys.path[:0] = [os.path.join(TOP, ".ci"), os.path.join(TOP, "interop")]
 import built  # noqa: E402  (it lies in another folder)
 import count
 import processes  # noqa: E402  (it lies in another folder)
+from speed_page import write
 
-PAGE = os.path.join(TOP, "docs", "SPEED.md")
 MARKER = "<!-- measured: cache -->"
 RUN = re.compile(r"Caches: measured with .*\.$")
 HEAD = ["| Cache | All data to ten clients, s | MiB | 1,000 changes to 100 clients, s "
@@ -65,13 +65,14 @@ def warn(text):
 
 
 def counted(process, name):
-    """A number of the system about the memory of a process, in bytes."""
+    """Returns a number of the system about the memory of a process, in bytes."""
     with open(f"/proc/{process.pid}/status", encoding="ascii") as file:
         return int(next(line for line in file if line.startswith(name)).split()[1]) << 10
 
 
 def in_files(process):
-    """The bytes of its files in memory that aren't mapped, which the system doesn't count to it."""
+    """Returns the bytes of its files in memory that aren't mapped, which the system doesn't count
+    to it."""
     folder, size = f"/proc/{process.pid}/fd", 0
     for name in os.listdir(folder):
         with contextlib.suppress(OSError):
@@ -82,7 +83,7 @@ def in_files(process):
 
 
 def load_examples():
-    """The module that builds our caches, with the archive that is picked here."""
+    """Returns the module that builds our caches, with the archive that is picked here."""
     archive = built.program("rtr_c")
     os.environ["RTR_ARCHIVE"] = archive
     os.environ["RTR_LIB_DIR"] = os.path.dirname(archive)
@@ -96,44 +97,45 @@ class Table:
     def __init__(self, units=UNITS):
         words = [sys.executable, os.path.join(TOP, "bench", "generate_data.py"), "--units",
                  str(units), "--differ", str(2 * units // CHANGES)]
-        made = subprocess.run(words, stdout=subprocess.PIPE, check=True).stdout
-        size = next(self.ends(made))
-        self.timings = made[size + 12:size + 24]
-        self.data = [made[:size], made[size + 24:-24]]
+        content = subprocess.run(words, stdout=subprocess.PIPE, check=True).stdout
+        size = next(self.ends(content))
+        self.timings = content[size + 12:size + 24]
+        self.data = [content[:size], content[size + 24:-24]]
 
     @staticmethod
     def ends(content):
-        """The offsets of the ends of data."""
-        at = 0
-        while at < len(content):
-            if content[at + 1] == END:
-                yield at
-            at += struct.unpack_from(">I", content, at + 4)[0]
+        """Yields the offsets of the ends of data."""
+        offset = 0
+        while offset < len(content):
+            if content[offset + 1] == END:
+                yield offset
+            offset += struct.unpack_from(">I", content, offset + 4)[0]
 
     def sequence(self, serial):
-        """A file of ours at this serial number: odd ones have the first data."""
+        """Returns a file of ours at this serial number: odd ones have the first data."""
         end = struct.pack(">BBHII", 2, END, 4660, 24, serial) + self.timings
         return self.data[(serial + 1) % 2] + end
 
     def json(self, serial):
-        """The same data in stayrtr's format."""
-        content, at, roas = self.data[(serial + 1) % 2], 0, []
-        while at < len(content):
-            size, length, most = struct.unpack_from(">I", content, at + 4)[0], *content[at + 9:at + 11]
-            address = ipaddress.ip_address(content[at + 12:at + size - 4])
-            asn = struct.unpack_from(">I", content, at + size - 4)[0]
+        """Returns the same data in stayrtr's format."""
+        content, offset, roas = self.data[(serial + 1) % 2], 0, []
+        while offset < len(content):
+            size = struct.unpack_from(">I", content, offset + 4)[0]
+            length, most = content[offset + 9:offset + 11]
+            address = ipaddress.ip_address(content[offset + 12:offset + size - 4])
+            asn = struct.unpack_from(">I", content, offset + size - 4)[0]
             roas.append({"prefix": f"{address}/{length}", "maxLength": most, "asn": asn, "ta": ""})
-            at += size
+            offset += size
         return json.dumps({"metadata": {"counts": len(roas)}, "roas": roas}).encode()
 
 
 class Client:
     """A client: what it waits for, and the bytes that came since its query."""
 
-    def __init__(self, port, query, room=None):
+    def __init__(self, port, query, capacity=None):
         self.socket = socket.socket()
-        if room:
-            self.socket.setsockopt(socket.SOL_SOCKET, socket.SO_RCVBUF, room)
+        if capacity:
+            self.socket.setsockopt(socket.SOL_SOCKET, socket.SO_RCVBUF, capacity)
         self.socket.settimeout(SECONDS)
         self.socket.connect(("127.0.0.1", port))
         self.socket.setblocking(False)
@@ -149,27 +151,27 @@ class Client:
         self.last = (self.last + piece)[-24:]
 
     def has_end(self):
-        """Whether the last that came is an end of data."""
+        """Reports whether the last unit that came is an end of data."""
         return len(self.last) == 24 and self.last[:2] == bytes([VERSION, END]) \
             and self.last[4:8] == bytes([0, 0, 0, 24])
 
     def is_notified(self):
-        """Whether the last that came is a notify."""
+        """Reports whether the last unit that came is a notify."""
         return self.last[-12:-10] == bytes([VERSION, NOTIFY])
 
 
 def reset_query():
-    """A reset query (RFC 8210 section 5.4)."""
+    """Returns a reset query (RFC 8210 section 5.4)."""
     return struct.pack(">BBHI", VERSION, RESET_QUERY, 0, 8)
 
 
 def serial_query(session, serial):
-    """A serial query (RFC 8210 section 5.3)."""
+    """Returns a serial query (RFC 8210 section 5.3)."""
     return struct.pack(">BBHII", VERSION, SERIAL_QUERY, session, 12, serial)
 
 
-def read_until(clients, done):
-    """Lets all clients read until they are done; `done` may send their next query."""
+def read_until(clients, is_done):
+    """Lets all clients read until `is_done` reports so; it may send their next query."""
     with selectors.DefaultSelector() as ready:
         for client in clients:
             ready.register(client.socket, selectors.EVENT_READ, client)
@@ -177,7 +179,7 @@ def read_until(clients, done):
         while left:
             for key, _ in ready.select(1):
                 key.data.read()
-                if done(key.data):
+                if is_done(key.data):
                     ready.unregister(key.fileobj)
                     left -= 1
             if time.monotonic() > end:
@@ -226,7 +228,7 @@ class Cache:
             file.write(self.content())
 
     def content(self):
-        """That of the file."""
+        """Returns the content of the file."""
         return self.table.sequence(self.serial)
 
     def change(self):
@@ -247,13 +249,13 @@ class Cache:
         sys.exit(f"bench/cache.py: {self.name} doesn't come up: see {self.log}")
 
     def used(self):
-        """The processor time that it has taken, in seconds."""
+        """Returns the processor time that it has taken, in seconds."""
         with open(f"/proc/{self.process.pid}/stat", encoding="ascii") as file:
             fields = file.read().rpartition(")")[2].split()
         return (int(fields[11]) + int(fields[12])) / os.sysconf("SC_CLK_TCK")
 
     def memory(self, which="VmHWM"):
-        """Its peak memory in MiB, or its present memory: VmRSS."""
+        """Returns its peak memory in MiB, or its present memory: VmRSS."""
         return (counted(self.process, which) + in_files(self.process)) / (1 << 20)
 
 
@@ -273,22 +275,22 @@ class StayRTR(Cache):
 
 
 def seconds_of_change(cache, session, serial):
-    """How long it takes until a change has come to all clients, which know the data before it; the
-    serial number then."""
+    """Returns how long it takes until a change has come to all clients, which know the data before
+    it; the serial number then."""
     known = serial_query(session, serial)
     clients = [Client(cache.port, known) for _ in range(NOTIFIED)]
     read_until(clients, Client.has_end)
     cache.serial += 1
     cache.put()
 
-    def done(client):
+    def is_done(client):
         if client.is_notified():
             client.last = b""
             client.socket.send(known)
         return client.has_end()
 
     since = cache.change()
-    read_until(clients, done)
+    read_until(clients, is_done)
     seconds = time.monotonic() - since
     for client in clients:
         client.socket.close()
@@ -299,7 +301,7 @@ def seconds_of_change(cache, session, serial):
 
 
 def memory_with_stalled(cache, session, serial):
-    """The memory after changes beside clients that ask for all data and read nothing."""
+    """Returns the memory after changes beside clients that ask for all data and read nothing."""
     stalled = []
     for _ in range(STALLED_CHANGES):
         stalled += [Client(cache.port, reset_query(), 4096) for _ in range(STALLED)]
@@ -318,7 +320,7 @@ def memory_with_stalled(cache, session, serial):
 
 
 def measured(cache, rounds):
-    """The row of a cache."""
+    """Returns the row of a cache."""
     with cache:
         cache.comes_up()
         before = cache.used()
@@ -333,18 +335,18 @@ def measured(cache, rounds):
 
 
 def our_words(program):
-    """The command of a cache of ours."""
+    """Returns the command of a cache of ours."""
     return lambda path, port: [program, path, "--listen", f"127.0.0.1:{port}"]
 
 
 def their_words(path, port):
-    """The command of stayrtr."""
+    """Returns the command of stayrtr."""
     return ["stayrtr", "-cache", path, "-checktime=false", "-refresh", "3600", "-protocol",
             str(VERSION), "-metrics.addr", "127.0.0.1:0", "-bind", f"127.0.0.1:{port}"]
 
 
 def caches(examples, folder, asked):
-    """The kind, the name and the command of each cache that is asked for and installed."""
+    """Yields the kind, the name and the command of each cache that is asked for and installed."""
     for example in examples.caches(folder):
         if not asked or example.name.lower() in asked:
             yield Cache, f"in {example.name}", our_words(example.built())
@@ -356,27 +358,14 @@ def caches(examples, folder, asked):
 
 
 def how(name, loads):
-    """The machine and the versions that it was measured with."""
+    """Returns the machine and the versions that it was measured with."""
     tools = [count.version(name) for name in ("gcc", "rustc") if shutil.which(name)]
     if shutil.which("go"):
         version = subprocess.run(["go", "version"], capture_output=True, text=True).stdout
         tools.append(f"go {re.search(r'go([0-9.]+)', version)[1]}")
     tools.append(f"stayrtr {processes.package_version('stayrtr')}")
-    return (f"{name}: measured with {', '.join(tools)}, on {os.cpu_count()} processors under a load "
-            f"of {min(loads):.0f} to {max(loads):.0f}.")
-
-
-def write(marker, run, table, run_line):
-    """Renews a table of the page and the line below it."""
-    with open(PAGE, encoding="utf-8") as file:
-        lines = file.read().splitlines()
-    begin = end = lines.index(marker) + 1
-    while end < len(lines) and lines[end].startswith("|"):
-        end += 1
-    lines[begin:end] = table
-    lines = [run_line if run.match(line) else line for line in lines]
-    with open(PAGE, "w", encoding="utf-8") as file:
-        file.write("\n".join(lines) + "\n")
+    return (f"{name}: measured with {', '.join(tools)}, on {os.cpu_count()} processors under a "
+            f"load of {min(loads):.0f} to {max(loads):.0f}.")
 
 
 def main():
@@ -396,7 +385,7 @@ def main():
     run_line = how("Caches", loads)
     print(*rows, run_line, sep="\n")
     if asked.write:
-        write(MARKER, RUN, rows, run_line)
+        write(MARKER, rows, RUN, run_line)
     return 0
 
 

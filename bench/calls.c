@@ -11,8 +11,8 @@
  * The first prints for each job the best of 41 runs each way, interleaved, in nanoseconds a unit,
  * and how many times as long the calls take. With --count callgrind dumps the cost of each job,
  * labelled `JOB WAY FILE`: bench/count.py reads that. Both exit with status 1 if the two ways
- * disagree on an input; the first also if they disagree with any bit of its front flipped, or on units of
- * all kinds with lengths at the limits. */
+ * disagree on an input; the first also if they disagree with any bit of its front flipped, or on
+ * units of all kinds with lengths at the limits. */
 #include <stdio.h>
 #include <stdlib.h>
 #include <string.h>
@@ -63,31 +63,31 @@ typedef uint8_t write_call(const struct rtr_unit *, const uint8_t *, size_t, uin
 /* Writes all units, and returns how many bytes it wrote. */
 static inline __attribute__((always_inline)) size_t write_units(write_call *write,
                                                                 const struct sample *sample,
-                                                                uint8_t *out, size_t room)
+                                                                uint8_t *out, size_t capacity)
 {
     const uint8_t *in = sample->input;
-    size_t made = 0, written;
+    size_t formed = 0, written;
     for (uint64_t i = 0; i < sample->count; in += sample->units[i++].size) {
         const struct rtr_unit *unit = &sample->units[i];
-        if (write(unit, in, unit->size, out + made, room - made, &written) != RTR_OK)
+        if (write(unit, in, unit->size, out + formed, capacity - formed, &written) != RTR_OK)
             return 0;
-        made += written;
+        formed += written;
     }
-    return made;
+    return formed;
 }
 
 /* Does a job with the calls, and returns how many bytes it made; 0 if it was refused. */
 static __attribute__((noinline)) size_t with_calls(enum job job, const struct sample *sample,
-                                                   uint8_t *out, size_t room)
+                                                   uint8_t *out, size_t capacity)
 {
     struct rtr_answer answer;
     struct rtr_comparison both;
     switch (job) {
     case NORMALISE:
-        return rtr_normalise_slice(sample->input, sample->length, out, room, UINT32_MAX,
+        return rtr_normalise_slice(sample->input, sample->length, out, capacity, UINT32_MAX,
                                    &answer) == RTR_OK ? answer.written : 0;
     case NORMALISE_FOR:
-        return rtr_normalise_for_slice(sample->input, sample->length, out, room, UINT32_MAX,
+        return rtr_normalise_for_slice(sample->input, sample->length, out, capacity, UINT32_MAX,
                                        VERSION, &answer) == RTR_OK ? answer.written : 0;
     case SAME_MEANING:
         rtr_same_meaning(sample->input, sample->length, sample->form, sample->form_length,
@@ -96,23 +96,23 @@ static __attribute__((noinline)) size_t with_calls(enum job job, const struct sa
     case NEXT:
         return read_units(rtr_next, sample);
     default:
-        return write_units(rtr_write_unit, sample, out, room);
+        return write_units(rtr_write_unit, sample, out, capacity);
     }
 }
 
-/* The same by hand. */
+/* Does the same by hand. */
 static __attribute__((noinline)) size_t by_hand(enum job job, const struct sample *sample,
-                                                uint8_t *out, size_t room)
+                                                uint8_t *out, size_t capacity)
 {
     struct rtr_answer answer;
     switch (job) {
     case NORMALISE:
-        return normalise_by_hand(sample->input, sample->length, out, room, UINT32_MAX,
+        return normalise_by_hand(sample->input, sample->length, out, capacity, UINT32_MAX,
                                  &answer) == RTR_OK ? answer.written : 0;
     case NEXT:
         return read_units(next_by_hand, sample);
     default:
-        return write_units(write_by_hand, sample, out, room);
+        return write_units(write_by_hand, sample, out, capacity);
     }
 }
 
@@ -122,19 +122,19 @@ enum { LONGEST = 70000 };
 /* What the two ways write. */
 static uint8_t written[2][LONGEST];
 
-/* Whether both ways write the same for a unit, also with one byte too little room. */
+/* Reports whether both ways write the same for a unit, also with one byte too little room. */
 static int agree_on_writing(const struct rtr_unit *unit, const uint8_t *in, size_t left)
 {
-    size_t made[2], room = LONGEST;
-    for (int i = 0; i < 2; i++, room = made[0] ? made[0] - 1 : 0)
-        if (rtr_write_unit(unit, in, left, written[0], room, &made[0])
-                != write_by_hand(unit, in, left, written[1], room, &made[1])
-            || made[0] != made[1] || memcmp(written[0], written[1], made[0]) != 0)
+    size_t formed[2], capacity = LONGEST;
+    for (int i = 0; i < 2; i++, capacity = formed[0] ? formed[0] - 1 : 0)
+        if (rtr_write_unit(unit, in, left, written[0], capacity, &formed[0])
+                != write_by_hand(unit, in, left, written[1], capacity, &formed[1])
+            || formed[0] != formed[1] || memcmp(written[0], written[1], formed[0]) != 0)
             return 0;
     return 1;
 }
 
-/* Whether both ways decode and write the unit at the front the same. */
+/* Reports whether both ways decode and write the unit at the front the same. */
 static int agree_on_unit(const uint8_t *in, size_t left)
 {
     struct rtr_unit unit[2];
@@ -143,7 +143,8 @@ static int agree_on_unit(const uint8_t *in, size_t left)
         && agree_on_writing(&unit[0], in, left);
 }
 
-/* Whether both ways write the unit at the front the same with any bit of its fields flipped. */
+/* Reports whether both ways write the unit at the front the same with any bit of its fields
+ * flipped. */
 static int agree_on_fields(const uint8_t *in, size_t left)
 {
     struct rtr_unit unit;
@@ -159,17 +160,17 @@ static int agree_on_fields(const uint8_t *in, size_t left)
     return 1;
 }
 
-/* Whether both ways normalise the same with this limit and room. */
-static int agree_on_run(const uint8_t *in, size_t length, uint64_t limit, size_t room)
+/* Reports whether both ways normalise the same with this limit and room. */
+static int agree_on_run(const uint8_t *in, size_t length, uint64_t limit, size_t capacity)
 {
     struct rtr_answer answer[2];
-    rtr_normalise_slice(in, length, written[0], room, limit, &answer[0]);
-    normalise_by_hand(in, length, written[1], room, limit, &answer[1]);
+    rtr_normalise_slice(in, length, written[0], capacity, limit, &answer[0]);
+    normalise_by_hand(in, length, written[1], capacity, limit, &answer[1]);
     return memcmp(&answer[0], &answer[1], offsetof(struct rtr_answer, detail) + 1) == 0
         && memcmp(written[0], written[1], answer[0].written) == 0;
 }
 
-/* Whether both ways normalise the same, with enough and with too little room. */
+/* Reports whether both ways normalise the same, with enough and with too little room. */
 static int agree_on_form(const uint8_t *in, size_t length)
 {
     return agree_on_run(in, length, UINT32_MAX, LONGEST)
@@ -178,7 +179,7 @@ static int agree_on_form(const uint8_t *in, size_t length)
         && agree_on_run(in, length, 0, 0);
 }
 
-/* Whether both ways agree with any bit of the front of the input flipped. */
+/* Reports whether both ways agree with any bit of the front of the input flipped. */
 static int agree_on_damaged(const struct sample *sample)
 {
     uint8_t *in = sample->input;
@@ -208,7 +209,7 @@ static const uint32_t lengths[] = {
 
 enum { LENGTHS = sizeof lengths / sizeof lengths[0] };
 
-/* Whether both ways agree on a unit with this header, with more and fewer bytes of it. */
+/* Reports whether both ways agree on a unit with this header, with more and fewer bytes of it. */
 static int agree_on_header(uint8_t *in, uint8_t version, uint8_t kind, uint8_t flags,
                            uint32_t length)
 {
@@ -223,7 +224,7 @@ static int agree_on_header(uint8_t *in, uint8_t version, uint8_t kind, uint8_t f
     return 1;
 }
 
-/* Whether both ways write units of this kind the same when their parts have lengths at the
+/* Reports whether both ways write units of this kind the same when their parts have lengths at the
  * limits. */
 static int agree_on_parts(const uint8_t *in, uint8_t version, uint8_t kind, uint8_t action)
 {
@@ -243,7 +244,7 @@ static int agree_on_parts(const uint8_t *in, uint8_t version, uint8_t kind, uint
     return 1;
 }
 
-/* Whether both ways agree on all kinds of units with lengths at the limits. */
+/* Reports whether both ways agree on all kinds of units with lengths at the limits. */
 static int agree_at_limits(void)
 {
     static uint8_t in[LONGEST];
@@ -265,14 +266,15 @@ static int agree_at_limits(void)
 /* Reads a sequence to its end. Returns whether it is one and memory sufficed. */
 static int take_sample(FILE *from, struct sample *sample)
 {
-    size_t room = 1 << 16;
+    size_t capacity = 1 << 16;
     memset(sample, 0, sizeof *sample);
-    sample->input = malloc(room);
+    sample->input = malloc(capacity);
     for (size_t n; sample->input
-            && (n = fread(sample->input + sample->length, 1, room - sample->length, from)) > 0;) {
+            && (n = fread(sample->input + sample->length, 1, capacity - sample->length,
+                          from)) > 0;) {
         sample->length += n;
-        if (sample->length == room)
-            sample->input = realloc(sample->input, room *= 2);
+        if (sample->length == capacity)
+            sample->input = realloc(sample->input, capacity *= 2);
     }
     struct rtr_answer answer;
     sample->form = malloc(sample->length + 1);
@@ -283,8 +285,9 @@ static int take_sample(FILE *from, struct sample *sample)
     sample->form_length = answer.written;
     sample->count = answer.units + 1;
     sample->units = malloc(sample->count * sizeof *sample->units);
-    for (uint64_t i = 0, at = 0; sample->units && i < sample->count; at += sample->units[i++].size)
-        if (rtr_next(sample->input + at, sample->length - at, &sample->units[i]) != RTR_OK)
+    uint64_t offset = 0;
+    for (uint64_t i = 0; sample->units && i < sample->count; offset += sample->units[i++].size)
+        if (rtr_next(sample->input + offset, sample->length - offset, &sample->units[i]) != RTR_OK)
             return 0;
     return sample->units != NULL;
 }
@@ -296,35 +299,35 @@ static void drop_sample(struct sample *sample)
     free(sample->units);
 }
 
-/* Whether each compared job makes the same bytes in both ways. */
-static int agree(const struct sample *sample, uint8_t *out[2], size_t room)
+/* Reports whether each compared job makes the same bytes in both ways. */
+static int agree(const struct sample *sample, uint8_t *out[2], size_t capacity)
 {
     for (enum job job = 0; job < COMPARED; job++) {
-        memset(out[0], 1, room);
-        memset(out[1], 1, room);
-        size_t made = with_calls(job, sample, out[0], room);
-        if (made == 0 || made != by_hand(job, sample, out[1], room)
-            || memcmp(out[0], out[1], room) != 0)
+        memset(out[0], 1, capacity);
+        memset(out[1], 1, capacity);
+        size_t formed = with_calls(job, sample, out[0], capacity);
+        if (formed == 0 || formed != by_hand(job, sample, out[1], capacity)
+            || memcmp(out[0], out[1], capacity) != 0)
             return 0;
     }
     return 1;
 }
 
 /* Does each job in each of its ways, and has callgrind dump its cost. */
-static void count(const char *file, const struct sample *sample, uint8_t *out, size_t room)
+static void count(const char *file, const struct sample *sample, uint8_t *out, size_t capacity)
 {
-    char said[4096];
+    char label[4096];
     for (enum job job = 0; job < JOBS; job++) {
-        snprintf(said, sizeof said, "%s ours %s", names[job], file);
+        snprintf(label, sizeof label, "%s ours %s", names[job], file);
         CALLGRIND_ZERO_STATS;
-        with_calls(job, sample, out, room);
-        CALLGRIND_DUMP_STATS_AT(said);
+        with_calls(job, sample, out, capacity);
+        CALLGRIND_DUMP_STATS_AT(label);
         if (job >= COMPARED)
             continue;
-        snprintf(said, sizeof said, "%s by-hand %s", names[job], file);
+        snprintf(label, sizeof label, "%s by-hand %s", names[job], file);
         CALLGRIND_ZERO_STATS;
-        by_hand(job, sample, out, room);
-        CALLGRIND_DUMP_STATS_AT(said);
+        by_hand(job, sample, out, capacity);
+        CALLGRIND_DUMP_STATS_AT(label);
     }
 }
 
@@ -342,16 +345,16 @@ static void best(double *least, double begun)
         *least = taken;
 }
 
-static void print_times(const struct sample *sample, uint8_t *out, size_t room)
+static void print_times(const struct sample *sample, uint8_t *out, size_t capacity)
 {
     for (enum job job = 0; job < COMPARED; job++) {
         double ours = 0, hand = 0, units = (double)sample->count;
         for (int i = 0; i < RUNS; i++) {
             double begun = now();
-            with_calls(job, sample, out, room);
+            with_calls(job, sample, out, capacity);
             best(&ours, begun);
             begun = now();
-            by_hand(job, sample, out, room);
+            by_hand(job, sample, out, capacity);
             best(&hand, begun);
         }
         printf("%s: calls %.2f ns a unit, by hand %.2f ns, %.2f times as long\n", names[job],
@@ -367,13 +370,13 @@ static int measure(FILE *from, const char *counted)
         fprintf(stderr, "no sequence, or no memory for it\n");
         return 0;
     }
-    size_t room = sample.length + 12;
-    uint8_t *out[2] = {malloc(room), malloc(room)};
-    int alike = out[0] && out[1] && agree(&sample, out, room);
+    size_t capacity = sample.length + 12;
+    uint8_t *out[2] = {malloc(capacity), malloc(capacity)};
+    int alike = out[0] && out[1] && agree(&sample, out, capacity);
     if (alike && counted)
-        count(counted, &sample, out[0], room);
+        count(counted, &sample, out[0], capacity);
     else if (alike && (alike = agree_at_limits() && agree_on_damaged(&sample)))
-        print_times(&sample, out[0], room);
+        print_times(&sample, out[0], capacity);
     if (!alike)
         fprintf(stderr, "the calls and the code by hand differ\n");
     free(out[0]);

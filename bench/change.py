@@ -55,16 +55,16 @@ class Router:
                 if not piece:
                     sys.exit("bench/change.py: the cache closed a connection")
                 self.rest += piece
-            length, at = struct.unpack_from(">I", self.rest, 4)[0], 0
-            while len(self.rest) >= at + length:
-                unit, at = self.rest[at:at + length], at + length
+            length, offset = struct.unpack_from(">I", self.rest, 4)[0], 0
+            while len(self.rest) >= offset + length:
+                unit, offset = self.rest[offset:offset + length], offset + length
                 if unit[1] == kind:
-                    self.rest = self.rest[at:]
-                    return unit, size + at
-                if len(self.rest) < at + 8:
+                    self.rest = self.rest[offset:]
+                    return unit, size + offset
+                if len(self.rest) < offset + 8:
                     break
-                length = struct.unpack_from(">I", self.rest, at + 4)[0]
-            self.rest, size = self.rest[at:], size + at
+                length = struct.unpack_from(">I", self.rest, offset + 4)[0]
+            self.rest, size = self.rest[offset:], size + offset
 
 
 class Build:
@@ -98,7 +98,7 @@ class Build:
             sys.exit(f"bench/change.py: {self.program} doesn't come up: {log.read()}")
 
     def used(self):
-        """The processor time of its threads, and of ended children, in milliseconds."""
+        """Returns the processor time of its threads, and of ended children, in milliseconds."""
         folder, own = f"/proc/{self.process.pid}", 0
         for thread in os.listdir(f"{folder}/task"):
             with open(f"{folder}/task/{thread}/schedstat", encoding="ascii") as file:
@@ -109,7 +109,7 @@ class Build:
         return own / 1e6, children
 
     def memory(self, which):
-        """Its peak memory, or its present memory, in MiB."""
+        """Returns its peak memory, or its present memory, in MiB."""
         own = cache.counted(self.process, which)
         return (own + cache.in_files(self.process)) / (1 << 20)
 
@@ -167,7 +167,8 @@ def main():
         finally:
             for build in builds:
                 build.ends()
-    print("| Build | Processor, ms | rtr_make's, ms | Peak, MiB | after, MiB |\n|---|---|---|---|---|")
+    print("| Build | Processor, ms | rtr_make's, ms | Peak, MiB | after, MiB |")
+    print("|---|---|---|---|---|")
     for build in builds:
         cells = [f"{statistics.median(column):.0f}" for column in zip(*build.rows)]
         print(f"| {os.path.relpath(build.program)} | {' | '.join(cells)} |")

@@ -31,9 +31,9 @@ sys.path.insert(0, os.path.join(TOP, "interop"))
 
 import count
 import processes  # noqa: E402  (it lies in another folder)
-from cache import load_examples, write
+from cache import load_examples
+from speed_page import lines_of_page, write
 
-PAGE = os.path.join(TOP, "docs", "SPEED.md")
 MARKER = "<!-- measured: clients -->"
 RUN = re.compile(r"Measured with .*\.$")
 
@@ -75,7 +75,7 @@ examples = load_examples()
 
 
 def generated(units, shuffled):
-    """What makes up a table."""
+    """Starts the script that writes a table, and returns its process."""
     words = [os.path.join(TOP, "bench", "generate_data.py"), "--units", str(units), "--differ",
              str(max(1, units))]
     return subprocess.Popen(words + ["--shuffled"] * shuffled, stdout=subprocess.PIPE)
@@ -85,8 +85,8 @@ def generated(units, shuffled):
 def cache(units, shuffled=False):
     """Runs a cache of a table, and yields its port. It is a process of its own, so that its memory
     isn't counted as a client's."""
-    with generated(units, shuffled) as made, subprocess.Popen(
-            [sys.executable, "-c", CACHE], stdin=made.stdout, stdout=subprocess.PIPE) as server:
+    with generated(units, shuffled) as maker, subprocess.Popen(
+            [sys.executable, "-c", CACHE], stdin=maker.stdout, stdout=subprocess.PIPE) as server:
         try:
             yield int(server.stdout.readline())
         finally:
@@ -94,30 +94,31 @@ def cache(units, shuffled=False):
 
 
 def lines_of_table(units):
-    """The lines that announce the small table."""
-    with generated(units, False) as made:
-        content = made.stdout.read()
-    at = 0
-    while content[at + 1] != 7:
-        size, length, most = struct.unpack_from(">I", content, at + 4)[0], *content[at + 9:at + 11]
-        address = ipaddress.ip_address(content[at + 12:at + size - 4])
-        asn = struct.unpack_from(">I", content, at + size - 4)[0]
+    """Yields the lines that announce the small table."""
+    with generated(units, False) as maker:
+        content = maker.stdout.read()
+    offset = 0
+    while content[offset + 1] != 7:
+        size = struct.unpack_from(">I", content, offset + 4)[0]
+        length, most = content[offset + 9:offset + 11]
+        address = ipaddress.ip_address(content[offset + 12:offset + size - 4])
+        asn = struct.unpack_from(">I", content, offset + size - 4)[0]
         yield f"+ IPv{address.version} prefix {address}/{length}-{most} AS{asn}\n"
-        at += size
+        offset += size
 
 
 def our_words(program):
-    """The command of a client of ours for a port."""
+    """Returns the command of a client of ours for a port."""
     return lambda port: [program, f"127.0.0.1:{port}", "--once"]
 
 
 def their_words(port):
-    """The command of rtrlib's client."""
+    """Returns the command of rtrlib's client."""
     return ["rtrclient", "-e", "-t", "csv", "-o", os.devnull, "tcp", "127.0.0.1", str(port)]
 
 
 def clients(folder):
-    """The command of each installed client, by its name."""
+    """Returns the command of each installed client, by its name."""
     found = {}
     for example in (examples.Example(name, "client", folder) for name in examples.BUILDS):
         if example.lacks():
@@ -132,12 +133,12 @@ def clients(folder):
 
 
 def is_whole(errors, units):
-    """Whether a client reports the whole table."""
+    """Reports whether a client reports the whole table."""
     return f": {units} payloads" in errors or f"received {units} Prefix PDUs" in errors
 
 
 def run(words, units):
-    """The processor time and the memory of a run, in seconds and in MiB."""
+    """Returns the processor time and the memory of a run, in seconds and in MiB."""
     with subprocess.Popen(words, stdout=subprocess.DEVNULL, stderr=subprocess.PIPE,
                           text=True) as process:
         errors = process.stderr.read()
@@ -149,7 +150,7 @@ def run(words, units):
 
 
 def timed(found, rounds, shuffled):
-    """The least time and the median of the memory of each client."""
+    """Returns the least time and the median of the memory of each client."""
     with cache(TIMED, shuffled) as port:
         runs = [{name: run(words(port), TIMED) for name, words in found.items()}
                 for _ in range(rounds)]
@@ -158,7 +159,7 @@ def timed(found, rounds, shuffled):
 
 
 def counted(found):
-    """The instructions a prefix of each client that valgrind runs: none of those in Go."""
+    """Returns the instructions a prefix of each client that valgrind runs: none of those in Go."""
     numbers = {}
     for name, words in found.items():
         if name != "in Go":
@@ -171,17 +172,18 @@ def counted(found):
 
 
 def rows(found, rounds):
-    """The table."""
+    """Yields the table."""
     numbers = counted(found)
     times = [timed(found, rounds, shuffled) for shuffled in (False, True)]
     for name in found:
         instructions = f"{numbers[name]:.0f}" if name in numbers else ""
-        cells = [cell for each in times for cell in (f"{each[name][0]:.2f}", f"{each[name][1]:.0f}")]
+        cells = [cell for each in times
+                 for cell in (f"{each[name][0]:.2f}", f"{each[name][1]:.0f}")]
         yield "| " + " | ".join([name, instructions, *cells]) + " |"
 
 
 def how(loads):
-    """The machine and the versions that it was measured with."""
+    """Returns the machine and the versions that it was measured with."""
     tools = [count.version(name) for name in ("gcc", "rustc") if shutil.which(name)]
     if shutil.which("go"):
         version = subprocess.run(["go", "version"], capture_output=True, text=True).stdout
@@ -193,17 +195,16 @@ def how(loads):
 
 
 def check(found):
-    """What is wrong: clients that print another table, and instructions that differ from the
-    page."""
-    wanted = hashlib.sha256("".join(lines_of_table(COUNTED)).encode()).hexdigest()
+    """Yields an error for each client that prints another table, and for instructions that differ
+    from the page."""
+    expected = hashlib.sha256("".join(lines_of_table(COUNTED)).encode()).hexdigest()
     ours = {name: words for name, words in found.items() if words is not their_words}
     with cache(COUNTED) as port:
         for name, words in ours.items():
             printed = subprocess.run(words(port), capture_output=True).stdout
-            if hashlib.sha256(printed).hexdigest() != wanted:
+            if hashlib.sha256(printed).hexdigest() != expected:
                 yield f"{name}: the lines aren't those of the table"
-    with open(PAGE, encoding="utf-8") as file:
-        lines = file.read().splitlines()
+    lines = lines_of_page()
     run_line = next(line for line in lines if RUN.match(line))
     here = [count.version(name) for name in ("gcc", "rustc") if shutil.which(name)]
     if any(tool not in run_line for tool in here):
@@ -233,7 +234,7 @@ def main():
         loads.append(os.getloadavg()[0])
     print(*table, how(loads), sep="\n")
     if asked.write:
-        write(MARKER, RUN, table, how(loads))
+        write(MARKER, table, RUN, how(loads))
     return 0
 
 

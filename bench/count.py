@@ -31,6 +31,7 @@ TOP = os.path.realpath(os.path.join(os.path.dirname(os.path.abspath(__file__)), 
 sys.path.insert(0, os.path.join(TOP, ".ci"))
 
 import built  # noqa: E402  (it lies in another folder)
+from speed_page import end_of_table
 
 PAGES = ["README.md", "docs/SPEED.md"]
 MARKER = re.compile(r"<!-- counted: (all|these) -->$")
@@ -88,7 +89,7 @@ ENVIRONMENT = {
 
 
 def source(name):
-    """The path of a file beside this one."""
+    """Returns the path of a file beside this one."""
     return os.path.join(TOP, "bench", name)
 
 
@@ -98,24 +99,24 @@ def warn(text):
 
 
 def version(command):
-    """The first line of a tool's version, as `name number`."""
+    """Returns the first line of a tool's version, as `name number`."""
     said = subprocess.run([command, "--version"], capture_output=True, text=True).stdout
     return f"{command} {re.search(r'[0-9]+([.][0-9]+)+', said)[0]}"
 
 
 def tools(compilers):
-    """The versions that it is counted with: compilers, C library, valgrind."""
+    """Returns the versions that it is counted with: compilers, C library, valgrind."""
     library = " ".join(platform.libc_ver())
     return [version(compiler) for compiler in compilers] + [library, version("valgrind")]
 
 
 def sample(folder, kind, length, clean):
-    """The path of an input. All kinds share the one without units."""
+    """Returns the path of an input. All kinds share the one without units."""
     return os.path.join(folder, f"{kind if length else ''}.{length}{'.clean' if clean else ''}")
 
 
 def samples(folder):
-    """The kind, the length and whether it is clean of each input, by its path."""
+    """Returns the kind, the length and whether it is clean of each input, by its path."""
     return {sample(folder, kind, length, clean): (kind, length, clean)
             for kind in KINDS for length in LENGTHS for clean in (False, True)}
 
@@ -128,7 +129,7 @@ def make_sample(path, kind, length, clean):
 
 
 def compiled(folder, compiler, name, *others):
-    """The path of a program of this folder, compiled."""
+    """Returns the path of a program of this folder, compiled."""
     made = os.path.join(folder, f"{name}.{compiler}")
     files = [source(name + ".c"), source("by_hand.c"), *others]
     if subprocess.run([compiler, *FLAGS, "-o", made, *files]).returncode != 0:
@@ -137,7 +138,7 @@ def compiled(folder, compiler, name, *others):
 
 
 def callgrind(command, input_path=os.devnull, dump=os.devnull):
-    """The instructions of a whole run; with `dump` a file of what its parts took."""
+    """Returns the instructions of a whole run; with `dump` a file of what its parts took."""
     with open(input_path, "rb") as file:
         ran = subprocess.run(["valgrind", "--tool=callgrind", "--combine-dumps=yes",
                               f"--callgrind-out-file={dump}", *command], stdin=file,
@@ -150,7 +151,8 @@ def callgrind(command, input_path=os.devnull, dump=os.devnull):
 
 
 def parts(folder, program):
-    """The cost of each job of `calls` or `programs` over each input, by the labels of the dumps."""
+    """Returns the cost of each job of `calls` or `programs` over each input, by the labels of the
+    dumps."""
     dump = f"{program}.dump"
     callgrind([program, "--count", *samples(folder)], dump=dump)
     with open(dump, encoding="ascii") as file:
@@ -159,18 +161,18 @@ def parts(folder, program):
 
 
 def a_unit(numbers):
-    """Instructions a unit, by those at the two lengths."""
+    """Returns instructions a unit, by those at the two lengths."""
     return (numbers[1] - numbers[0]) / (LENGTHS[1] - LENGTHS[0])
 
 
 def of_parts(found, job, kind, clean=False):
-    """Instructions a unit of a job by its parts."""
+    """Returns instructions a unit of a job by its parts."""
     return a_unit([found[job, os.path.basename(sample("", kind, length, clean))]
                    for length in LENGTHS])
 
 
 def machine_parts(folder, program):
-    """The cost of `router` over each clean input."""
+    """Returns the cost of `router` over each clean input."""
     dump = f"{program}.dump"
     callgrind([program, *(path for path, each in samples(folder).items() if each[2])], dump=dump)
     with open(dump, encoding="ascii") as file:
@@ -184,19 +186,20 @@ def machine_parts(folder, program):
 
 
 def machine_line(found):
-    """The row of the machine."""
+    """Returns the row of the machine."""
     cells = (f"{of_parts(found, MACHINE, kind, clean=True):.0f}" for kind in KINDS)
     return f"| {MACHINE} | " + " | ".join(cells) + " |"
 
 
 def program_of(row):
-    """The command of a program's row."""
+    """Returns the command of a program's row."""
     name, *words = row.split()
     return [built.program(name), *words]
 
 
 def is_clean(row):
-    """Whether a row is counted over clean input: the check's row, which prints nothing then."""
+    """Reports whether a row is counted over clean input: the check's row, which prints nothing
+    then."""
     return row.endswith("--check")
 
 
@@ -234,7 +237,8 @@ def start_runs(folder, pool, rows):
 
 
 def ours_of(folder, runs, row, kind):
-    """Instructions a unit of a row of our programs; in bench_units without reading the input."""
+    """Returns instructions a unit of a row of our programs; in bench_units without reading the
+    input."""
     def of_run(command):
         return a_unit([runs[tuple(command), sample(folder, kind, length, is_clean(row))].result()
                        for length in LENGTHS])
@@ -246,7 +250,7 @@ def ours_of(folder, runs, row, kind):
 
 
 def count_all(folder, pool, compilers):
-    """Instructions a unit, ours and by hand, by row, compiler and kind."""
+    """Returns instructions a unit, ours and by hand, by row, compiler and kind."""
     list(pool.map(lambda each: make_sample(each[0], *each[1]), samples(folder).items()))
     archive = built.needed("rtr_c")[0]
     calls = {each: compiled(folder, each, "calls", archive) for each in compilers}
@@ -280,13 +284,13 @@ def count_all(folder, pool, compilers):
 
 
 def cell(numbers):
-    """A cell of the table."""
+    """Returns a cell of the table."""
     ours, hand = (round(number) for number in numbers)
     return f"{ours} / {hand} = {ours / hand:.2f}"
 
 
 def line(job, compiler, found):
-    """A row of the table."""
+    """Returns a row of the table."""
     cells = [cell(found[job, compiler, kind]) for kind in KINDS]
     return "| " + " | ".join([f"`{job}`", compiler, *cells]) + " |"
 
@@ -295,24 +299,21 @@ HEAD = ["| Job | By hand with | " + " | ".join(KINDS) + " |", "|---" * (len(KIND
 
 
 def names_of(row):
-    """The job, the compiler and the other cells of a row of a page."""
+    """Returns the job, the compiler and the other cells of a row of a page."""
     cells = [text.strip() for text in row.strip().strip("|").split("|")]
     return cells[0].strip("`"), cells[1], cells[2:]
 
 
 def tables(lines):
-    """Where each table of a page begins and ends, and whether it is the whole one."""
+    """Yields where each table of a page begins and ends, and whether it is the whole one."""
     for place, text in enumerate(lines):
         marker = MARKER.match(text)
         if marker:
-            end = place + 1
-            while end < len(lines) and lines[end].startswith("|"):
-                end += 1
-            yield place + 1, end, marker[1] == "all"
+            yield place + 1, end_of_table(lines, place + 1), marker[1] == "all"
 
 
 def rows_between(lines, begin, end):
-    """The rows of a table of a page, without its head, by job and compiler."""
+    """Returns the rows of a table of a page, without its head, by job and compiler."""
     return {names_of(row)[:2]: row for row in lines[begin:end][len(HEAD):]}
 
 
@@ -334,20 +335,19 @@ def written(page, found, machine, used):
                                    for key in names]
     if MACHINE_MARKER in lines:
         place = lines.index(MACHINE_MARKER) + 1
-        end = next(at for at in range(place, len(lines)) if not lines[at].startswith("|"))
-        lines[place:end] = MACHINE_HEAD + machine
+        lines[place:end_of_table(lines, place)] = MACHINE_HEAD + machine
     lines = [f"Counted with {', '.join(used)}." if TOOLS.match(text) else text for text in lines]
     with open(path, "w", encoding="utf-8") as file:
         file.write("\n".join(lines) + "\n")
 
 
 def is_near(shown, counted):
-    """Whether a number on a page is near enough."""
+    """Reports whether a number on a page is near enough."""
     return abs(shown - counted) <= max(LEAST, SHARE * counted)
 
 
 def wrong_cells(page, row, found):
-    """What is wrong with a row of a page: how many cells, each with a line."""
+    """Prints each wrong cell in a row of a page, and returns their number."""
     job, compiler, cells = names_of(row)
     wrong = 0
     for kind, text in zip(KINDS, cells, strict=True):
@@ -362,7 +362,7 @@ def wrong_cells(page, row, found):
 
 
 def wrong_machine(lines, machine):
-    """How many numbers of the machine's rows of a page are wrong, each with a line."""
+    """Prints each row of the machine with a wrong number, and returns their number."""
     wrong = 0
     place = lines.index(MACHINE_MARKER) + 1 + len(MACHINE_HEAD)
     for row, counted in zip(lines[place:place + len(machine)], machine):
@@ -399,8 +399,8 @@ def check(found, machine, used):
 
 
 def same_tools(used):
-    """Whether the pages were counted with these tools, except for a compiler that isn't
-    installed."""
+    """Reports whether the pages were counted with these tools, except for a compiler that isn't
+    installed here."""
     with open(os.path.join(TOP, "docs", "SPEED.md"), encoding="utf-8") as file:
         tool_lines = [text for text in file.read().splitlines() if TOOLS.match(text)]
     return bool(tool_lines) and all(re.search(rf"\b{re.escape(name)}[,.]", tool_lines[0])
@@ -408,8 +408,8 @@ def same_tools(used):
 
 
 def can_count(warns, *needed):
-    """Whether these tools are here, and the processor is that of the pages; if not, warns by this
-    function."""
+    """Reports whether these tools are installed, and the processor is that of the pages. If not, it
+    calls `warns` with the reason."""
     missing = [name for name in needed if not shutil.which(name)]
     if missing or platform.machine() != "x86_64":
         warns(f"no {' and no '.join(missing) or 'x86-64'} here: nothing is counted")
@@ -418,7 +418,8 @@ def can_count(warns, *needed):
 
 
 def options(number, default):
-    """The options of a script that counts: --check, --write, and one that takes a number."""
+    """Returns the options of a script that counts: --check, --write, and one that takes a
+    number."""
     parser = argparse.ArgumentParser()
     parser.add_argument("--check", action="store_true")
     parser.add_argument("--write", action="store_true")

@@ -26,9 +26,8 @@ import tempfile
 from concurrent.futures import ThreadPoolExecutor
 
 import count
+from speed_page import lines_of_page, table_at, write
 
-TOP = os.path.realpath(os.path.join(os.path.dirname(os.path.abspath(__file__)), ".."))
-PAGE = os.path.join(TOP, "docs", "SPEED.md")
 MARKER = "<!-- measured: data calls -->"
 
 # How many units the data have.
@@ -67,24 +66,18 @@ def warn(text):
     print(f"!!! bench/data.py: {text}", file=sys.stderr)
 
 
-def page_lines():
-    """The lines of the page."""
-    with open(PAGE, encoding="utf-8") as file:
-        return file.read().splitlines()
-
-
 def compiled(folder):
-    """The path of data_calls, compiled."""
-    made = os.path.join(folder, "arrays")
+    """Returns the path of data_calls, compiled."""
+    program = os.path.join(folder, "arrays")
     files = [count.source("data_calls.c"), count.source("data_by_hand.c"),
              count.built.needed("rtr_c")[0]]
-    if subprocess.run(["gcc", *count.FLAGS, "-o", made, *files]).returncode != 0:
+    if subprocess.run(["gcc", *count.FLAGS, "-o", program, *files]).returncode != 0:
         sys.exit("bench/data.py: data_calls.c FAILED to compile: is the archive that of rtr.h?")
-    return made
+    return program
 
 
 def make_data(folder, name, *words):
-    """The path of an old and a new data."""
+    """Returns the path of an old and a new data."""
     path = os.path.join(folder, name)
     with open(path, "wb") as file:
         subprocess.run([count.source("generate_data.py"), *words], stdout=file, check=True)
@@ -92,7 +85,7 @@ def make_data(folder, name, *words):
 
 
 def of_kind(folder, program, kind):
-    """Instructions that each job of data_calls takes over origins of this kind."""
+    """Returns instructions that each job of data_calls takes over origins of this kind."""
     files = [make_data(folder, f"{kind}.{length}", "--units", str(length), "--mix", KINDS[kind])
              for length in (0, COUNTED)]
     dump = os.path.join(folder, f"{kind}.dump")
@@ -105,14 +98,14 @@ def of_kind(folder, program, kind):
 
 
 def units_of(job):
-    """How many units both inputs of a job have."""
+    """Returns how many units both inputs of a job have."""
     if job.endswith("_all"):
         return COUNTED
     return 2 * COUNTED if "delta" in job else COUNTED + 2 * (COUNTED // 1000)
 
 
 def of_calls(folder, program, pool):
-    """The rows of both tables: the name, and a number for each kind."""
+    """Returns the rows of both tables: the name, and a number for each kind."""
     runs = [pool.submit(of_kind, folder, program, kind) for kind in KINDS]
     taken = [run.result() for run in runs]
     rows = CALL_ROWS + [(row, job, None) for row, job in ORDER_ROWS]
@@ -122,45 +115,28 @@ def of_calls(folder, program, pool):
 
 
 def number(value):
-    """A number of a table."""
+    """Returns a number of a table."""
     return f"{value:.{0 if value >= 30 else 2}f}"
 
 
 def calls_table(calls):
-    """The lines of a table."""
+    """Returns the lines of a table."""
     head = ["| Instructions a unit of both inputs | " + " | ".join(KINDS) + " |",
             "|---" * (len(KINDS) + 1) + "|"]
     return head + [f"| {row} | " + " | ".join(map(number, numbers)) + " |"
                    for row, numbers in calls]
 
 
-def table_at(lines):
-    """Where the table of the page begins and ends."""
-    begin = end = lines.index(MARKER) + 1
-    while end < len(lines) and lines[end].startswith("|"):
-        end += 1
-    return begin, end
-
-
-def write(table):
-    """Renews the table of the page."""
-    lines = page_lines()
-    begin, end = table_at(lines)
-    lines[begin:end] = table
-    with open(PAGE, "w", encoding="utf-8") as file:
-        file.write("\n".join(lines) + "\n")
-
-
 def rows_said():
     """The rows of the table of the page: their names and their cells, in order."""
-    lines = page_lines()
-    begin, end = table_at(lines)
+    lines = lines_of_page()
+    begin, end = table_at(lines, MARKER)
     rows = [[cell.strip() for cell in line.strip("|").split("|")] for line in lines[begin:end][2:]]
     return [(row[0], row[1:]) for row in rows]
 
 
 def is_near(shown, exact):
-    """Whether a number of the page is near enough."""
+    """Reports whether a number of the page is near enough."""
     return re.fullmatch(r"[\d.]+", shown) and abs(float(shown) - exact) <= max(LEAST, SHARE * exact)
 
 
@@ -193,7 +169,7 @@ def main():
     if asked.check:
         return 1 if check(calls) else 0
     if asked.write:
-        write(calls_table(calls))
+        write(MARKER, calls_table(calls))
     print(*calls_table(calls), "", *calls_table(orders), sep="\n")
     return 0
 

@@ -14,25 +14,25 @@ static inline bool append(struct origins *to, const struct origin *origin)
 size_t read_changes(const uint8_t *in, size_t length, struct origins *announced,
                     struct origins *withdrawn)
 {
-    size_t at = 0;
+    size_t offset = 0;
     announced->count = 0;
     if (withdrawn)
         withdrawn->count = 0;
     for (;;) {
         struct origin origin;
         bool announces;
-        size_t size = take_origin(in + at, length - at, 2, &origin, &announces);
+        size_t size = take_origin(in + offset, length - offset, 2, &origin, &announces);
         if (size == 0)
             break;
         if (announces ? (withdrawn && withdrawn->count) || !append(announced, &origin)
                       : !withdrawn || !append(withdrawn, &origin))
             return SIZE_MAX;
-        at += size;
+        offset += size;
     }
-    if (length - at < END_SIZE || in[at] != 2 || in[at + 1] != RTR_END_OF_DATA
-        || get32(in + at + 4) != END_SIZE)
+    if (length - offset < END_SIZE || in[offset] != 2 || in[offset + 1] != RTR_END_OF_DATA
+        || get32(in + offset + 4) != END_SIZE)
         return SIZE_MAX;
-    return at;
+    return offset;
 }
 
 void merge_delta(const struct origins *old, const struct origins *new, struct origins *announced,
@@ -59,18 +59,18 @@ void merge_delta(const struct origins *old, const struct origins *new, struct or
 }
 
 bool merge_applied(const struct origins *data, const struct origins *announced,
-                   const struct origins *withdrawn, struct origins *made)
+                   const struct origins *withdrawn, struct origins *result)
 {
     const struct origin *each = data->at, *end = each + data->count;
     const struct origin *more = announced->at, *more_end = more + announced->count;
     const struct origin *less = withdrawn->at, *less_end = less + withdrawn->count;
-    made->count = 0;
+    result->count = 0;
     while (each < end) {
         int order = more < more_end ? compare_origins(each, more) : -1;
         if (order == 0)
             return false;
         if (order > 0) {
-            made->at[made->count++] = *more++;
+            result->at[result->count++] = *more++;
             continue;
         }
         order = less < less_end ? compare_origins(each, less) : -1;
@@ -79,18 +79,18 @@ bool merge_applied(const struct origins *data, const struct origins *announced,
         if (order == 0)
             less++;
         else
-            made->at[made->count++] = *each;
+            result->at[result->count++] = *each;
         each++;
     }
     while (more < more_end)
-        made->at[made->count++] = *more++;
+        result->at[result->count++] = *more++;
     return less == less_end;
 }
 
 size_t put_origins(const struct origins *origins, uint8_t flags, uint8_t *out)
 {
-    size_t made = 0;
+    size_t result = 0;
     for (size_t i = 0; i < origins->count; i++)
-        made += put_origin(&origins->at[i], flags, out + made);
-    return made;
+        result += put_origin(&origins->at[i], flags, out + result);
+    return result;
 }

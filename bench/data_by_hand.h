@@ -22,7 +22,7 @@ struct origins {
 /* The bytes of an end of data of version 2. */
 enum { END_SIZE = 24 };
 
-/* The order of payloads: below 0, 0, or above. */
+/* Compares payloads by their order: returns a number below 0, 0, or above. */
 static inline int compare_origins(const struct origin *left, const struct origin *right)
 {
     if (left->family != right->family)
@@ -93,7 +93,7 @@ void merge_delta(const struct origins *old, const struct origins *new, struct or
 
 /* Applies the changes to the data. Returns whether the rules allow them. */
 bool merge_applied(const struct origins *data, const struct origins *announced,
-                   const struct origins *withdrawn, struct origins *made);
+                   const struct origins *withdrawn, struct origins *result);
 
 /* Writes the units of origins, and returns their length. */
 size_t put_origins(const struct origins *origins, uint8_t flags, uint8_t *out);

@@ -95,7 +95,7 @@ static size_t order_apply(const struct sample *sample, struct bytes old, struct 
     return answer.written;
 }
 
-/* The same in one call. */
+/* Does the same in one call. */
 static size_t in_order(const struct sample *sample, struct bytes old, struct bytes changes,
                        uint8_t *out)
 {
@@ -107,7 +107,7 @@ static size_t in_order(const struct sample *sample, struct bytes old, struct byt
 
 /* Does a job, and returns how many bytes it made, or for arrays one more than the origins; 0 if it
  * was refused. */
-static __attribute__((noinline)) size_t done(enum job job, struct sample *sample, uint8_t *out)
+static __attribute__((noinline)) size_t run_job(enum job job, struct sample *sample, uint8_t *out)
 {
     struct rtr_data_answer answer;
     struct bytes old = sample->old, new = sample->new, changes = sample->changes;
@@ -147,18 +147,18 @@ static __attribute__((noinline)) size_t done(enum job job, struct sample *sample
 /* Reads a file to its end. Returns whether memory sufficed. */
 static bool read_all(FILE *from, uint8_t **input, size_t *length)
 {
-    size_t room = 1 << 16;
+    size_t capacity = 1 << 16;
     *length = 0;
-    *input = malloc(room);
-    for (size_t n; *input && (n = fread(*input + *length, 1, room - *length, from)) > 0;) {
+    *input = malloc(capacity);
+    for (size_t n; *input && (n = fread(*input + *length, 1, capacity - *length, from)) > 0;) {
         *length += n;
-        if (*length == room)
-            *input = realloc(*input, room *= 2);
+        if (*length == capacity)
+            *input = realloc(*input, capacity *= 2);
     }
     return *input != NULL;
 }
 
-/* The length of the sequence at the front, or 0 if there is none. */
+/* Returns the length of the sequence at the front, or 0 if there is none. */
 static size_t sequence_length(const uint8_t *in, size_t left)
 {
     struct rtr_unit unit;
@@ -204,10 +204,10 @@ static struct bytes mix(struct bytes from, size_t *places, uint8_t *out)
 /* Makes the inputs of the jobs that take changes in no order. */
 static bool take_mixed(struct sample *sample)
 {
-    size_t room = sample->new.length + sample->changes.length;
-    sample->index = malloc(room / 20 * sizeof *sample->index + 1);
-    sample->ordered = malloc(room);
-    uint8_t *mixed = malloc(room);
+    size_t capacity = sample->new.length + sample->changes.length;
+    sample->index = malloc(capacity / 20 * sizeof *sample->index + 1);
+    sample->ordered = malloc(capacity);
+    uint8_t *mixed = malloc(capacity);
     if (!sample->index || !sample->ordered || !mixed)
         return false;
     sample->none = (struct bytes){sample->new.at + sample->new.length - END_SIZE, END_SIZE};
@@ -228,7 +228,7 @@ static bool take_sample(const uint8_t *input, size_t length, struct sample *samp
         || !make_room(&sample->announced, both) || !make_room(&sample->withdrawn, both)
         || !make_room(&sample->made, both))
         return false;
-    sample->changes = (struct bytes){delta, done(DELTA, sample, delta)};
+    sample->changes = (struct bytes){delta, run_job(DELTA, sample, delta)};
     return sample->old.length && sample->new.length && sample->changes.length
         && take_mixed(sample);
 }
@@ -245,34 +245,34 @@ static void drop_sample(struct sample *sample)
     free(sample->index);
 }
 
-/* Whether a job wrote the right bytes: the delta, or the new data. */
+/* Reports whether a job wrote the right bytes: the delta, or the new data. */
 static bool is_right(enum job job, const struct sample *sample, const uint8_t *out, size_t made)
 {
-    struct bytes wanted;
+    struct bytes expected;
     switch (job) {
     case DELTA: case DELTA_BYTES:
-        wanted = sample->changes;
+        expected = sample->changes;
         break;
     case APPLY: case APPLY_BYTES: case ORDER_APPLY: case IN_ORDER: case ORDER_APPLY_ALL:
     case IN_ORDER_ALL:
-        wanted = sample->new;
+        expected = sample->new;
         break;
     default:
         return made > 0;
     }
-    return made == wanted.length && memcmp(out, wanted.at, made) == 0;
+    return made == expected.length && memcmp(out, expected.at, made) == 0;
 }
 
 /* Does each job, has callgrind dump its cost, and tests its output. The jobs over arrays use those
  * that the job before read. */
 static bool count(const char *file, struct sample *sample, uint8_t *out)
 {
-    char said[4096];
+    char label[4096];
     for (enum job job = 0; job < JOBS; job++) {
-        snprintf(said, sizeof said, "%s %s", names[job], file);
+        snprintf(label, sizeof label, "%s %s", names[job], file);
         CALLGRIND_ZERO_STATS;
-        size_t made = done(job, sample, out);
-        CALLGRIND_DUMP_STATS_AT(said);
+        size_t made = run_job(job, sample, out);
+        CALLGRIND_DUMP_STATS_AT(label);
         if (!is_right(job, sample, out, made))
             return false;
     }

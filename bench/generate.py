@@ -3,9 +3,10 @@
 
 usage: generate.py [--units N] [--seed N] [--mix KIND=SHARE,..] [--clean]
 
-KIND is ipv4, ipv6, key (91 bytes of key info) or aspa (1 to 8 providers), SHARE a whole number; without --mix all units
-are ipv4. The same arguments give the same bytes. With --clean all units are of version 2 and
-announce, bits without meaning are zero, and providers ascend: a full table as a cache sends it.
+KIND is ipv4, ipv6, key (91 bytes of key info) or aspa (1 to 8 providers), SHARE a whole number;
+without --mix all units are ipv4. The same arguments give the same bytes. With --clean all units are
+of version 2 and announce, bits without meaning are zero, and providers ascend: a full table as a
+cache sends it.
 """
 import argparse
 import random
@@ -22,7 +23,8 @@ def prefix(rng, kind, width):
     max_length = rng.randint(length, width)
     flags = rng.randint(0, 255)
     body = struct.pack(">BBBB", flags, length, max_length, rng.randint(0, 255))
-    body += rng.getrandbits(width).to_bytes(width // 8, "big") + rng.getrandbits(32).to_bytes(4, "big")
+    body += rng.getrandbits(width).to_bytes(width // 8, "big")
+    body += rng.getrandbits(32).to_bytes(4, "big")
     return header(1, kind, rng.getrandbits(16), 8 + len(body)) + body
 
 
@@ -39,7 +41,7 @@ def aspa(rng):
 
 
 def cleaned(unit):
-    """The unit as it is in a full table."""
+    """Returns the unit as it is in a full table."""
     kind, fields = unit[1], bytearray(unit)
     if kind in (4, 6):
         width = 32 if kind == 4 else 128
@@ -48,7 +50,8 @@ def cleaned(unit):
         fields[8:12] = 1, fields[9], fields[10], 0
         fields[12:-4] = address.to_bytes(width // 8, "big")
     if kind == 11:
-        providers = sorted({bytes(fields[at:at + 4]) for at in range(12, len(fields), 4)})
+        offsets = range(12, len(fields), 4)
+        providers = sorted({bytes(fields[offset:offset + 4]) for offset in offsets})
         fields[12:] = b"".join(providers)
     fields[:8] = header(2, kind, 0 if kind in (4, 6) else 0x100, len(fields))
     return bytes(fields)
@@ -69,7 +72,8 @@ def main():
     parser.add_argument("--mix", default="ipv4=1")
     parser.add_argument("--clean", action="store_true")
     args = parser.parse_args()
-    shares = dict((kind, int(share)) for kind, share in (part.split("=") for part in args.mix.split(",")))
+    parts = (part.split("=") for part in args.mix.split(","))
+    shares = {kind: int(share) for kind, share in parts}
     rng = random.Random(args.seed)
     kinds = rng.choices(list(shares), weights=list(shares.values()), k=args.units)
     out = sys.stdout.buffer

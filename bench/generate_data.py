@@ -23,7 +23,8 @@ UNITS = {4: (4, 20), 6: (6, 32)}
 
 
 def origin(rng, family):
-    """An origin: its family, address, prefix length, max length and ASN, which is its order."""
+    """Returns an origin: its family, address, prefix length, max length and ASN, which is its
+    order."""
     width, shortest, longest = FAMILIES[family]
     length = rng.randint(shortest, longest)
     bits = rng.getrandbits(length)
@@ -34,24 +35,24 @@ def origin(rng, family):
 
 
 def unit(family, address, length, max_length, asn):
-    """The unit that announces the origin."""
+    """Returns the unit that announces the origin."""
     kind, size = UNITS[family]
     front = struct.pack(">BBHIBBBB", VERSION, kind, 0, size, 1, length, max_length, 0)
     return front + address.to_bytes(size - 16, "big") + struct.pack(">I", asn)
 
 
 def end(serial):
-    """An end of data."""
+    """Returns an end of data."""
     return struct.pack(">BBHIIIII", VERSION, 7, SESSION, 24, serial, 3600, 600, 7200)
 
 
 def origins(rng, shares, count):
-    """This many origins in order."""
+    """Returns this many origins in order."""
     families = rng.choices(list(shares), weights=list(shares.values()), k=count)
-    made = {origin(rng, family) for family in families}
-    while len(made) < count:
-        made.add(origin(rng, rng.choice(families)))
-    return sorted(made)
+    found = {origin(rng, family) for family in families}
+    while len(found) < count:
+        found.add(origin(rng, rng.choice(families)))
+    return sorted(found)
 
 
 def main():
@@ -66,10 +67,10 @@ def main():
               for kind, share in (part.split("=") for part in asked.mix.split(","))}
     rng = random.Random(asked.seed)
     differing = asked.units // asked.differ
-    made = origins(rng, shares, asked.units + differing)
-    apart = [(2 * place + 1) * len(made) // (4 * differing) for place in range(2 * differing)]
+    candidates = origins(rng, shares, asked.units + differing)
+    apart = [(2 * index + 1) * len(candidates) // (4 * differing) for index in range(2 * differing)]
     for serial, left_out in enumerate((set(apart[::2]), set(apart[1::2]))):
-        data = [each for place, each in enumerate(made) if place not in left_out]
+        data = [each for index, each in enumerate(candidates) if index not in left_out]
         if asked.shuffled:
             rng.shuffle(data)
         sys.stdout.buffer.write(b"".join(unit(*each) for each in data) + end(serial + 1))

@@ -24,7 +24,7 @@ GLOBAL_UNICAST = 0b001
 
 
 def vrp(rng):
-    """A line of the list."""
+    """Returns a line of the list."""
     family = 4 if rng.randrange(100) < IPV4 else 6
     width, shortest, longest = FAMILIES[family]
     length = rng.randint(shortest, longest)

@@ -5,9 +5,9 @@ and of the same jobs by hand in C.
 usage: bench/lists.py [--check | --write] [--jobs N]
 
 Prints a table as bench/count.py does: a cell says `ours / by hand = ratio`, with instructions a
-unit by callgrind, as the difference of an input of 2000 units and one of none. Units are announcements
-of version 2, in no order. rtr_diff reads two such recordings, of which one unit in ten differs; its
-numbers are for a unit of both. First a test compares what both ways write.
+unit by callgrind, as the difference of an input of 2000 units and one of none. Units are
+announcements of version 2, in no order. rtr_diff reads two such recordings, of which one unit in
+ten differs; its numbers are for a unit of both. First a test compares what both ways write.
 
 With --check the table of docs/SPEED.md is compared: a number may differ by 3 in a hundred. --write
 renews it. The programs are those of .ci/built.py; tables.c has the code by hand.
@@ -21,9 +21,8 @@ import tempfile
 from concurrent.futures import ThreadPoolExecutor
 
 import count
+from speed_page import lines_of_page, table_at, write
 
-TOP = os.path.realpath(os.path.join(os.path.dirname(os.path.abspath(__file__)), ".."))
-PAGE = os.path.join(TOP, "docs", "SPEED.md")
 MARKER = "<!-- counted: lists -->"
 
 # The jobs, with the argument with which tables.c does the same.
@@ -43,7 +42,7 @@ def warn(text):
 
 
 def units_of(content):
-    """The units of a recording, without its end of data, and that."""
+    """Returns the units of a recording, without its end of data, and that."""
     units, at = [], 0
     while at < len(content):
         size = struct.unpack_from(">I", content, at + 4)[0]
@@ -72,7 +71,7 @@ def make_samples(folder):
 
 
 def command_of(job, hand, paths):
-    """The command of a job, by our program or by hand, and its standard input."""
+    """Returns the command of a job, by our program or by hand, and its standard input."""
     name, *words = job.split()
     program = [hand, JOBS[job]] if hand else [count.built.program(name), *words]
     return (program + paths, os.devnull) if name == "rtr_diff" else (program, paths[0])
@@ -92,7 +91,7 @@ def test(hand, samples):
 
 
 def a_unit(pool, job, hand, samples, kind):
-    """What gives the instructions a unit of a job."""
+    """Starts the runs of a job, and returns a function that returns their instructions a unit."""
     runs = [pool.submit(count.callgrind, *command_of(job, hand, samples[kind, length]))
             for length in count.LENGTHS]
     inputs = 2 if job == "rtr_diff" else 1
@@ -100,7 +99,7 @@ def a_unit(pool, job, hand, samples, kind):
 
 
 def table(folder, pool, compilers):
-    """The rows."""
+    """Yields the rows."""
     samples = make_samples(folder)
     hands = {each: count.compiled(folder, each, "tables") for each in compilers}
     test(hands[compilers[0]], samples)
@@ -113,24 +112,10 @@ def table(folder, pool, compilers):
             yield "| " + " | ".join([f"`{job}`", each, *cells]) + " |"
 
 
-def place_of_table(lines):
-    """Where the table of the page begins and ends."""
-    begin = end = lines.index(MARKER) + 1
-    while end < len(lines) and lines[end].startswith("|"):
-        end += 1
-    return begin, end
-
-
-def lines_of_page():
-    """The lines of the page."""
-    with open(PAGE, encoding="utf-8") as file:
-        return file.read().splitlines()
-
-
 def wrong_cells(rows):
     """Says which cells of the page are wrong."""
     lines = lines_of_page()
-    begin, end = place_of_table(lines)
+    begin, end = table_at(lines, MARKER)
     said = {count.names_of(row)[:2]: count.names_of(row)[2] for row in lines[begin + 2:end]}
     for job, compiler, cells in map(count.names_of, rows):
         for kind, shown, cell in zip(KINDS, said.get((job, compiler), [""] * len(KINDS)), cells):
@@ -157,11 +142,7 @@ def main():
         return 1 if wrong else 0
     print(*count.HEAD, *rows, sep="\n")
     if asked.write:
-        lines = lines_of_page()
-        begin, end = place_of_table(lines)
-        lines[begin:end] = count.HEAD + rows
-        with open(PAGE, "w", encoding="utf-8") as file:
-            file.write("\n".join(lines) + "\n")
+        write(MARKER, count.HEAD + rows)
     return 0
 
 

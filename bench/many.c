@@ -26,7 +26,8 @@
 #include <unistd.h>
 
 enum { VERSION = 1, NOTIFY = 0, SERIAL_QUERY = 1, RESET_QUERY = 2, END = 7, REPORT = 10 };
-enum { HEAD = 8, END_SIZE = 24, PER_ADDRESS = 100, BUFFER = 1 << 16, PIECE = 1 << 20, EVENTS = 256 };
+enum { HEAD = 8, END_SIZE = 24, PER_ADDRESS = 100, EVENTS = 256 };
+enum { BUFFER = 1 << 16, PIECE = 1 << 20 };
 
 /* A router: how many bytes of an answer have come; when it reads units, the front of the current
  * unit, and how many bytes of it are still to come after that. */

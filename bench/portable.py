@@ -4,8 +4,8 @@
 usage: bench/portable.py [--check]
 
 Prints a table, as bench/count.py does: a cell says, for one kind of units, `portable / archive =
-ratio`. With --check it fails where normalising takes more than half as many again over the C file. The
-compiler is gcc, with -O2 for the C file.
+ratio`. With --check it fails where normalising takes more than half as many again over the C file.
+The compiler is gcc, with -O2 for the C file.
 """
 import os
 import platform
@@ -29,16 +29,16 @@ MOST = 1.5
 
 
 def counted(folder, name, linked):
-    """Instructions a unit over what is linked, by call and kind."""
-    place = os.path.join(folder, name)
-    os.mkdir(place)
-    found = count.parts(folder, count.compiled(place, "gcc", "calls", linked))
+    """Returns instructions a unit over what is linked, by call and kind."""
+    own = os.path.join(folder, name)
+    os.mkdir(own)
+    found = count.parts(folder, count.compiled(own, "gcc", "calls", linked))
     return {(call, kind): count.of_parts(found, f"{call} ours", kind)
             for call in CALLS for kind in count.KINDS}
 
 
 def table():
-    """Instructions a unit over the C file and over the archive, by call and kind."""
+    """Returns instructions a unit over the C file and over the archive, by call and kind."""
     with tempfile.TemporaryDirectory() as folder:
         for path, each in count.samples(folder).items():
             count.make_sample(path, *each)
@@ -63,7 +63,8 @@ def main():
     print("| Call |", " | ".join(count.KINDS), "|")
     print("|---" * (len(count.KINDS) + 1) + "|")
     for call in CALLS:
-        print(f"| `{call}` |", " | ".join(count.cell(found[call, kind]) for kind in count.KINDS), "|")
+        cells = " | ".join(count.cell(found[call, kind]) for kind in count.KINDS)
+        print(f"| `{call}` | {cells} |")
     slow = [f"{call} of {kind}" for (call, kind), (portable, archive) in found.items()
             if call in CHECKED and portable > MOST * archive]
     if check and slow:

@@ -23,9 +23,9 @@ static int normalise_all(void)
     struct rtr_answer answer;
     for (;;) {
         const uint8_t *from = input + input_at;
-        size_t left = input_end - input_at, room = sizeof output - output_end;
+        size_t left = input_end - input_at, capacity = sizeof output - output_end;
         uint8_t *to = (uint8_t *)output + output_end;
-        uint8_t status = normalise_by_hand(from, left, to, room, UINT32_MAX, &answer);
+        uint8_t status = normalise_by_hand(from, left, to, capacity, UINT32_MAX, &answer);
         input_at += answer.taken;
         output_end += answer.written;
         if (output_end >= BUFFER || status != RTR_SHORT)
@@ -84,8 +84,8 @@ static void object_of_payload(const uint8_t *in, size_t size)
         put_labelled(",\"zero\":[", in[3]);
         put_labelled("],\"customer_asn\":", get32(in + 8));
         put_text(",\"provider_asns\":[");
-        for (size_t at = 12; at < size; at += 4)
-            put_labelled(at > 12 ? "," : "", get32(in + at));
+        for (size_t position = 12; position < size; position += 4)
+            put_labelled(position > 12 ? "," : "", get32(in + position));
         put_byte(']');
     }
 }
@@ -130,13 +130,13 @@ static uint8_t *kept;
 static size_t kept_length, kept_room;
 static int sequence_version = -1;
 
-static uint64_t hash_of(const uint8_t *at, size_t length)
+static uint64_t hash_of(const uint8_t *position, size_t length)
 {
     uint64_t hash = length;
-    for (; length >= 8; at += 8, length -= 8)
-        hash = (hash ^ get64(at)) * UINT64_C(0x9e3779b97f4a7c15), hash ^= hash >> 32;
-    for (; length > 0; at++, length--)
-        hash = (hash ^ *at) * UINT64_C(0x9e3779b97f4a7c15), hash ^= hash >> 32;
+    for (; length >= 8; position += 8, length -= 8)
+        hash = (hash ^ get64(position)) * UINT64_C(0x9e3779b97f4a7c15), hash ^= hash >> 32;
+    for (; length > 0; position++, length--)
+        hash = (hash ^ *position) * UINT64_C(0x9e3779b97f4a7c15), hash ^= hash >> 32;
     return hash;
 }
 
@@ -150,10 +150,10 @@ static void grow_table(void)
     for (size_t i = 0; i < table_size; i++) {
         if (table[i].state != TAKEN)
             continue;
-        size_t place = table[i].hash & (size - 1);
-        while (larger[place].state == TAKEN)
-            place = (place + 1) & (size - 1);
-        larger[place] = table[i];
+        size_t index = table[i].hash & (size - 1);
+        while (larger[index].state == TAKEN)
+            index = (index + 1) & (size - 1);
+        larger[index] = table[i];
         table_used++;
     }
     free(table);
@@ -161,18 +161,18 @@ static void grow_table(void)
     table_size = size;
 }
 
-/* The slot of a payload, or the first free one. */
+/* Returns the slot of a payload, or the first free one. */
 static struct slot *slot_of(const uint8_t *payload, size_t length, uint64_t hash)
 {
-    size_t place = hash & (table_size - 1);
-    while (table[place].state != FREE) {
-        const struct slot *slot = &table[place];
+    size_t index = hash & (table_size - 1);
+    while (table[index].state != FREE) {
+        const struct slot *slot = &table[index];
         if (slot->state == TAKEN && slot->hash == hash && slot->length == length
             && memcmp(kept + slot->start, payload, length) == 0)
             break;
-        place = (place + 1) & (table_size - 1);
+        index = (index + 1) & (table_size - 1);
     }
-    return &table[place];
+    return &table[index];
 }
 
 /* Counts a payload as announced or withdrawn, and returns whether it was announced before. */
@@ -222,12 +222,12 @@ static void find(const char *what)
     put_byte('\n');
 }
 
-static void check_reserved(unsigned place, uint8_t byte)
+static void check_reserved(unsigned index, uint8_t byte)
 {
     if (byte == 0)
         return;
     begin_finding();
-    put_labelled("reserved byte ", place);
+    put_labelled("reserved byte ", index);
     put_text(" is not zero\n");
 }
 
@@ -311,8 +311,8 @@ static void check_aspa(const uint8_t *in, size_t size)
         find(older ? "withdrawn ASPA has providers; looks like the layout of an older draft"
              : "withdrawn ASPA has providers");
     }
-    for (size_t at = 16; at < size; at += 4) {
-        if (get32(in + at - 4) >= get32(in + at)) {
+    for (size_t position = 16; position < size; position += 4) {
+        if (get32(in + position - 4) >= get32(in + position)) {
             find("providers are not in ascending order");
             break;
         }
@@ -341,7 +341,7 @@ static void check_unit(const uint8_t *in, size_t size)
 
 /* ---- the loop */
 
-/* Whether a unit of this type has this length. */
+/* Reports whether a unit of this type has this length. */
 static bool is_length(const uint8_t *in, size_t size)
 {
     switch (in[1]) {
@@ -404,7 +404,7 @@ static int run(int job)
 /* Does each job over a file as if the program had just started, but with its memory allocated. */
 static void count(const char *file)
 {
-    char said[4096];
+    char label[4096];
     for (int job = 0; job < JOBS; job++) {
         int from = open(file, O_RDONLY);
         if (from < 0 || dup2(from, STDIN_FILENO) < 0)
@@ -413,10 +413,10 @@ static void count(const char *file)
         input_at = input_end = 0;
         offset = 0;
         begin_sequence();
-        snprintf(said, sizeof said, "%s %s", jobs[job], file);
+        snprintf(label, sizeof label, "%s %s", jobs[job], file);
         CALLGRIND_ZERO_STATS;
         run(job);
-        CALLGRIND_DUMP_STATS_AT(said);
+        CALLGRIND_DUMP_STATS_AT(label);
     }
 }
 

@@ -20,7 +20,7 @@ import tempfile
 import time
 from dataclasses import dataclass
 
-from cache import write
+from speed_page import write
 
 TOP = os.path.realpath(os.path.join(os.path.dirname(os.path.abspath(__file__)), ".."))
 MARKER = "<!-- measured: python -->"
@@ -40,7 +40,7 @@ class ByHand:
 
 
 def by_hand(data):
-    """The units of data in which all are IPv4 prefixes."""
+    """Yields the units of data in which all are IPv4 prefixes."""
     at, end, unpack = 0, len(data), LAYOUT.unpack_from
     while at < end:
         version, kind, _, length, flags, bits, most, _, address, asn = unpack(data, at)
@@ -52,15 +52,15 @@ def by_hand(data):
 
 
 def prefixes(numbers):
-    """The units of these prefixes, each a number of 24 bits."""
+    """Returns the units of these prefixes, each a number of 24 bits."""
     return b"".join(
         LAYOUT.pack(1, 4, 0, LAYOUT.size, 1, 24, 24, 0, (number << 8).to_bytes(4, "big"), 64496)
         for number in numbers)
 
 
 def least(rounds, *jobs):
-    """The least processor times of jobs, in seconds: in turns, so that what else the machine does
-    is the same for all."""
+    """Returns the least processor times of jobs, in seconds: in turns, so that what else the
+    machine does is the same for all."""
     times = [[] for _ in jobs]
     for _ in range(rounds):
         for job, took in zip(jobs, times):
@@ -77,7 +77,7 @@ def drained(items):
 
 
 def in_c(folder, old, new, rounds):
-    """The times of both calls in C, and what they write."""
+    """Returns the times of both calls in C, and what they write."""
     paths = [os.path.join(folder, name) for name in ("old", "new")]
     for path, data in zip(paths, (old, new)):
         with open(path, "wb") as file:
@@ -105,13 +105,13 @@ def main():
         lines = list(measured(folder, args.units, args.rounds))
     said = f"Python: the least of {args.rounds} rounds over {args.units} prefixes."
     if args.write:
-        write(MARKER, RUN, lines, said)
+        write(MARKER, lines, RUN, said)
     else:
         print(*lines, "", said, sep="\n")
 
 
 def measured(folder, count, rounds):
-    """The lines of the table."""
+    """Yields the lines of the table."""
     from rtr_wire import Data, EndOfData, units
 
     table = prefixes(range(count))

@@ -36,21 +36,21 @@ static uint64_t now(void)
     return (uint64_t)time.tv_sec * 1000000000 + (uint64_t)time.tv_nsec;
 }
 
-/* The delta from old to new; or if `changes`, the old data with the changes (the second input)
- * applied. */
+/* Returns the delta from old to new; or with `changes`, the old data with those in `second`. */
 static struct input called(struct input old, struct input second, bool changes)
 {
-    size_t room = old.length + second.length, places = second.length / 8;
-    struct input output = {malloc(room), 0};
+    size_t capacity = old.length + second.length, places = second.length / 8;
+    struct input output = {malloc(capacity), 0};
     size_t *index = changes ? malloc(places * sizeof *index) : 0;
     struct rtr_data_answer answer;
     if (!output.bytes || (changes && !index))
         exit(1);
     if (changes)
         rtr_apply_in_order(old.bytes, old.length, second.bytes, second.length, index, places,
-                           output.bytes, room, &answer);
+                           output.bytes, capacity, &answer);
     else
-        rtr_delta(old.bytes, old.length, second.bytes, second.length, output.bytes, room, &answer);
+        rtr_delta(old.bytes, old.length, second.bytes, second.length, output.bytes, capacity,
+                  &answer);
     free(index);
     if (answer.status != RTR_OK)
         exit(2);
@@ -69,9 +69,9 @@ int main(int count, char **words)
         size_t length = 0;
         for (int round = atoi(words[3]); round > 0; round--) {
             uint64_t from = now();
-            struct input made = called(old, changes ? delta : new, changes);
-            length = made.length;
-            free(made.bytes);
+            struct input result = called(old, changes ? delta : new, changes);
+            length = result.length;
+            free(result.bytes);
             uint64_t took = now() - from;
             least = took < least ? took : least;
         }

@@ -12,7 +12,7 @@
 
 enum { VERSION = 2, SESSION = 0x1234 };
 
-/* A router that reads an answer. */
+/* Makes a router that reads an answer; returns false without memory. */
 static bool reads(struct rtr_router *router)
 {
     static const uint8_t response[] = {VERSION, RTR_CACHE_RESPONSE, SESSION >> 8, SESSION & 0xff,
@@ -27,8 +27,8 @@ static bool reads(struct rtr_router *router)
     return action.kind == RTR_BEGIN;
 }
 
-/* Gives it all units, and returns how many bytes they had once their changes are to be applied. */
-static __attribute__((noinline)) size_t told(struct rtr_router *router, const uint8_t *input,
+/* Lets the router read all units; returns their length once their changes are to be applied. */
+static __attribute__((noinline)) size_t read_all(struct rtr_router *router, const uint8_t *input,
                                              size_t length)
 {
     struct rtr_action action;
@@ -45,17 +45,17 @@ static bool count(const char *name)
 {
     static uint8_t input[1 << 20];
     struct rtr_router router;
-    char said[4096];
+    char label[4096];
     FILE *from = fopen(name, "rb");
     size_t length = from ? fread(input, 1, sizeof input, from) : 0;
     if (from)
         fclose(from);
     if (!length || !reads(&router))
         return false;
-    snprintf(said, sizeof said, "rtr_router_read %s", name);
+    snprintf(label, sizeof label, "rtr_router_read %s", name);
     CALLGRIND_ZERO_STATS;
-    size_t taken = told(&router, input, length);
-    CALLGRIND_DUMP_STATS_AT(said);
+    size_t taken = read_all(&router, input, length);
+    CALLGRIND_DUMP_STATS_AT(label);
     return taken == length;
 }
 

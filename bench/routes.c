@@ -45,7 +45,7 @@ static uint64_t any(uint64_t below)
     return seed % below;
 }
 
-/* The processor time used so far. */
+/* Returns the processor time used so far. */
 static double now(void)
 {
     struct timespec time;
@@ -154,7 +154,8 @@ static void below(struct rtr_route *route, const struct vrp *vrp)
         route->address[i] = (uint8_t)any(256);
     for (int i = 0; i < vrp->length; i++) {
         uint8_t bit = (uint8_t)(0x80 >> i % 8);
-        route->address[i / 8] = (uint8_t)((route->address[i / 8] & ~bit) | (vrp->address[i / 8] & bit));
+        uint8_t kept = route->address[i / 8] & (uint8_t)~bit;
+        route->address[i / 8] = (uint8_t)(kept | (vrp->address[i / 8] & bit));
     }
     clear(route->address, route->prefix_length);
 }
@@ -232,7 +233,7 @@ static double median(double *times, int rounds)
     return times[rounds / 2];
 }
 
-/* The order of families, and of addresses in each. */
+/* Compares by family, and then by address. */
 static int by_address(const void *left, const void *right)
 {
     const struct rtr_route *one = left, *other = right;

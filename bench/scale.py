@@ -34,6 +34,7 @@ import threading
 import time
 
 import cache
+from speed_page import write
 
 TOP = os.path.realpath(os.path.join(os.path.dirname(os.path.abspath(__file__)), ".."))
 MARKER = "<!-- measured: scale -->"
@@ -56,7 +57,7 @@ class Stopped(Exception):
 
 
 def compiled(name, folder):
-    """The path of a program of bench/."""
+    """Returns the path of a program of bench/."""
     program = os.path.join(folder, name)
     subprocess.run(["cc", "-std=c11", "-Wall", "-Wextra", "-O2", "-o", program,
                     os.path.join(TOP, "bench", f"{name}.c")], check=True)
@@ -69,11 +70,11 @@ class Sender(cache.Cache):
     ending = "answer"
 
     def content(self):
-        """All data in version 1, behind a cache response."""
-        content, at = bytearray(self.table.sequence(self.serial)), 0
-        while at < len(content):
-            content[at] = cache.VERSION
-            at += struct.unpack_from(">I", content, at + 4)[0]
+        """Returns all data in version 1, behind a cache response."""
+        content, offset = bytearray(self.table.sequence(self.serial)), 0
+        while offset < len(content):
+            content[offset] = cache.VERSION
+            offset += struct.unpack_from(">I", content, offset + 4)[0]
         return struct.pack(">BBHI", cache.VERSION, cache.RESPONSE, 4660, 8) + content
 
 
@@ -94,7 +95,7 @@ class Memory:
                     self.process.kill()
 
     def peak(self):
-        """The peak since the last reset."""
+        """Returns the peak since the last reset."""
         found = cache.counted(self.process, "VmHWM") + cache.in_files(self.process)
         self.most = max(self.most, found)
         return found
@@ -129,8 +130,8 @@ class Routers:
             self.process.stdin.write(step + "\n")
             self.process.stdin.flush()
 
-    def done(self):
-        """The step's start and end, and how many bytes came."""
+    def finish(self):
+        """Returns the step's start and end, and how many bytes came."""
         words = self.process.stdout.readline().split()
         if self.memory.is_above:
             raise Stopped(f"stopped above {MOST_MEMORY >> 30} GiB")
@@ -144,7 +145,7 @@ class Routers:
     def take(self, step):
         """Runs a step to its end."""
         self.begin(step)
-        return self.done()
+        return self.finish()
 
 
 def raise_limit():
@@ -154,16 +155,16 @@ def raise_limit():
 
 
 def used(process):
-    """The processor time that a process has taken, in seconds."""
+    """Returns the processor time that a process has taken, in seconds."""
     return time.clock_gettime(~process.pid << 3 | 2)
 
 
 def measured(server, many, count, shares):
-    """The cells of a server."""
+    """Returns the cells of a server."""
     rounds = next((rounds for most, rounds in ROUNDS if count <= most), 1)
     memory = Memory(server.process)
     with server, Routers(many, server, count, memory) as routers:
-        routers.done()
+        routers.finish()
         before = memory.forget_peak()
         routers.take("connect")
         seconds, rate = [], 0
@@ -181,7 +182,7 @@ def measured(server, many, count, shares):
             server.put()
             routers.begin("changes")
             since = server.change()
-            took = f"{routers.done()[1] - since:.2f}"
+            took = f"{routers.finish()[1] - since:.2f}"
         memory.peak()
         memory.ends.set()
     shares.setdefault(count, min(seconds))
@@ -191,12 +192,12 @@ def measured(server, many, count, shares):
 
 
 def words_of(words, count):
-    """The command of a server for this many routers."""
+    """Returns the command of a server for this many routers."""
     return lambda path, port: words(path, port, count + 1)
 
 
 def servers(examples, folder, asked):
-    """The kind, the name and the command of each server that is asked for and installed."""
+    """Yields the kind, the name and the command of each server that is asked for and installed."""
     def limited(program):
         return lambda path, port, most: [*program, path, "--listen", f"127.0.0.1:{port}",
                                          "--max-clients", str(most)]
@@ -218,7 +219,7 @@ def servers(examples, folder, asked):
 
 
 def row(kind, name, words, table, size, many, shares):
-    """The row of a server with a number of routers."""
+    """Returns the row of a server with a number of routers."""
     count, vrps = size
     amount = f"{count:,}" + (f", {vrps:,} VRPs" if vrps != VRPS else "")
     with tempfile.TemporaryDirectory() as folder:
@@ -233,7 +234,7 @@ def row(kind, name, words, table, size, many, shares):
 
 
 def sizes(text):
-    """The numbers of routers and of VRPs in an argument."""
+    """Yields the numbers of routers and of VRPs in an argument."""
     for word in text.split(","):
         count, _, vrps = word.partition(":")
         yield int(count), int(vrps or VRPS)
@@ -261,7 +262,7 @@ def main():
     run_line = cache.how("Scale", loads)
     print(*HEAD, *rows, run_line, sep="\n")
     if asked.write:
-        cache.write(MARKER, RUN, [*HEAD, *rows], run_line)
+        write(MARKER, [*HEAD, *rows], RUN, run_line)
     return 0
 
 

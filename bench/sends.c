@@ -38,11 +38,11 @@ static void wait_for(struct router *r, int how, uint32_t what)
 /* Accepts the waiting connections. */
 static void take_all(int listener)
 {
-    int one, bytes = BUFFER;
-    while ((one = accept4(listener, NULL, NULL, SOCK_NONBLOCK | SOCK_CLOEXEC)) >= 0) {
+    int fd, bytes = BUFFER;
+    while ((fd = accept4(listener, NULL, NULL, SOCK_NONBLOCK | SOCK_CLOEXEC)) >= 0) {
         struct router *r = calloc(1, sizeof *r);
-        setsockopt(one, SOL_SOCKET, SO_SNDBUF, &bytes, sizeof bytes);
-        r->socket = one;
+        setsockopt(fd, SOL_SOCKET, SO_SNDBUF, &bytes, sizeof bytes);
+        r->socket = fd;
         r->sent = length;
         wait_for(r, EPOLL_CTL_ADD, EPOLLIN);
     }
@@ -88,15 +88,15 @@ static void act(struct router *r)
 
 static int listen_at(uint16_t port)
 {
-    int yes = 1, one = socket(AF_INET, SOCK_STREAM | SOCK_NONBLOCK | SOCK_CLOEXEC, 0);
-    struct sockaddr_in at = {.sin_family = AF_INET, .sin_port = htons(port)};
-    at.sin_addr.s_addr = htonl(INADDR_LOOPBACK);
-    setsockopt(one, SOL_SOCKET, SO_REUSEADDR, &yes, sizeof yes);
-    if (bind(one, (struct sockaddr *)&at, sizeof at) || listen(one, SOMAXCONN)) {
+    int yes = 1, fd = socket(AF_INET, SOCK_STREAM | SOCK_NONBLOCK | SOCK_CLOEXEC, 0);
+    struct sockaddr_in address = {.sin_family = AF_INET, .sin_port = htons(port)};
+    address.sin_addr.s_addr = htonl(INADDR_LOOPBACK);
+    setsockopt(fd, SOL_SOCKET, SO_REUSEADDR, &yes, sizeof yes);
+    if (bind(fd, (struct sockaddr *)&address, sizeof address) || listen(fd, SOMAXCONN)) {
         perror("sends");
         exit(1);
     }
-    return one;
+    return fd;
 }
 
 int main(int words, char **word)

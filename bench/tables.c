@@ -85,7 +85,7 @@ static int order(uint64_t left, uint64_t right)
     return left < right ? -1 : left > right;
 }
 
-/* The order of payloads. Those of an ASPA's customer are equal. */
+/* Compares payloads by their order. ASPAs of one customer are equal. */
 static int payload_order(const struct item *left, const struct item *right)
 {
     if (left->type != right->type)
@@ -101,7 +101,7 @@ static int payload_order(const struct item *left, const struct item *right)
     return info ? info : order(left->size, right->size);
 }
 
-/* The order of payloads, and for each the order of its units. */
+/* Compares by payload, and then by the order of its units. */
 static int unit_order(const void *left, const void *right)
 {
     const struct item *first = left, *second = right;
@@ -122,7 +122,7 @@ static void settle(struct items *items)
     items->count = kept;
 }
 
-/* The payloads that remain after all whole answers. */
+/* Returns the payloads that remain after all whole answers. */
 static struct items data_of(struct bytes all)
 {
     struct items items = {0};
@@ -195,26 +195,26 @@ static void put_object(const uint8_t *in, size_t size)
     put_byte('}');
 }
 
-/* The items up to this type, from a place on; returns the place after them. */
-static size_t put_array(struct items items, size_t place, const char *name, uint8_t last)
+/* Puts the items up to this type, from an index on; returns the index after them. */
+static size_t put_array(struct items items, size_t index, const char *name, uint8_t last)
 {
     const char *between = "\n";
     put_text(name);
-    for (; place < items.count && items.at[place].type <= last; place++) {
+    for (; index < items.count && items.at[index].type <= last; index++) {
         put_text(between);
-        put_object(items.at[place].unit, items.at[place].size);
+        put_object(items.at[index].unit, items.at[index].size);
         between = ",\n";
         flush_full();
     }
     put_text("\n]");
-    return place;
+    return index;
 }
 
 static void list_vrps(struct items items)
 {
-    size_t place = put_array(items, 0, "{\"roas\":[", RTR_IPV6_PREFIX);
-    place = put_array(items, place, ",\n\"bgpsec_keys\":[", RTR_ROUTER_KEY);
-    put_array(items, place, ",\n\"aspas\":[", RTR_ASPA);
+    size_t index = put_array(items, 0, "{\"roas\":[", RTR_IPV6_PREFIX);
+    index = put_array(items, index, ",\n\"bgpsec_keys\":[", RTR_ROUTER_KEY);
+    put_array(items, index, ",\n\"aspas\":[", RTR_ASPA);
     put_text("}\n");
 }
 
@@ -240,7 +240,7 @@ struct as {
     uint64_t count;
 };
 
-/* The ASes that come most often among these, the most first; returns how many. */
+/* Finds the most frequent ASes among these, the most frequent first; returns their number. */
 static size_t most_of(uint32_t *asns, size_t count, struct as top[TOP])
 {
     size_t found = 0;
@@ -248,14 +248,14 @@ static size_t most_of(uint32_t *asns, size_t count, struct as top[TOP])
     for (size_t i = 0, next; i < count; i = next) {
         for (next = i + 1; next < count && asns[next] == asns[i];)
             next++;
-        size_t place = found;
-        while (place > 0 && top[place - 1].count < next - i)
-            place--;
-        if (place == TOP)
+        size_t index = found;
+        while (index > 0 && top[index - 1].count < next - i)
+            index--;
+        if (index == TOP)
             continue;
         found += found < TOP;
-        memmove(top + place + 1, top + place, (found - 1 - place) * sizeof *top);
-        top[place] = (struct as){asns[i], next - i};
+        memmove(top + index + 1, top + index, (found - 1 - index) * sizeof *top);
+        top[index] = (struct as){asns[i], next - i};
     }
     return found;
 }
@@ -343,7 +343,7 @@ static void summarise(struct bytes all)
 
 /* ---- rtr_diff */
 
-/* Whether two units of a customer's ASPA have the same providers; of others always. */
+/* Reports whether two units of a customer's ASPA have the same providers; of others always. */
 static bool is_same(const struct item *left, const struct item *right)
 {
     return left->type != RTR_ASPA

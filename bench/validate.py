@@ -23,16 +23,16 @@ TOP = os.path.realpath(os.path.join(os.path.dirname(os.path.abspath(__file__)), 
 sys.path.insert(0, os.path.join(TOP, ".ci"))
 
 import built  # noqa: E402  (it lies in another folder)
+from speed_page import write
 
-PAGE = os.path.join(TOP, "docs", "SPEED.md")
 MARKER, IN_ORDER = "<!-- measured: validate -->", "<!-- measured: validate_many -->"
 
 # How many VRPs the lists have, how many routes are looked up, and the same for --check.
 LISTS, ROUTES = [1_000, 500_000, 1_000_000], 1_000_000
 CHECKED, CHECKED_ROUTES = 20_000, 60_000
 
-HEAD = ["| VRPs | Tables, ms | rtrlib's, ms | IPv4, ns | rtrlib, ns | IPv6, ns | rtrlib, ns | both, ns "
-        "| rtrlib, ns | as a share |", "|" + "---|" * 10]
+HEAD = ["| VRPs | Tables, ms | rtrlib's, ms | IPv4, ns | rtrlib, ns | IPv6, ns | rtrlib, ns "
+        "| both, ns | rtrlib, ns | as a share |", "|" + "---|" * 10]
 HEAD_IN_ORDER = ["| VRPs | IPv4, ns | many, ns | rtrlib, ns | IPv6, ns | many, ns | rtrlib, ns |",
                  "|" + "---|" * 7]
 
@@ -45,25 +45,25 @@ def warn(text):
 
 
 def compiler():
-    """A C compiler of the machine that finds rtrlib's header."""
+    """Returns a C compiler of the machine that finds rtrlib's header."""
     return next((name for name in ("gcc", "clang") if shutil.which(name)), None)
 
 
 def has_rtrlib(by):
-    """Whether a program can be compiled with rtrlib."""
-    done = subprocess.run([by, "-x", "c", "-", "-o", "/dev/null", "-lrtr"], capture_output=True,
-                          input=b"#include <rtrlib/rtrlib.h>\nint main(void) { return 0; }\n")
-    return done.returncode == 0
+    """Reports whether a program can be compiled with rtrlib."""
+    result = subprocess.run([by, "-x", "c", "-", "-o", "/dev/null", "-lrtr"], capture_output=True,
+                            input=b"#include <rtrlib/rtrlib.h>\nint main(void) { return 0; }\n")
+    return result.returncode == 0
 
 
 def has_call(archive):
-    """Whether the archive has the calls: a prebuilt one may be older than it."""
+    """Reports whether the archive has the calls: a prebuilt one may be older than it."""
     with open(archive, "rb") as file:
         return b"rtr_validate_many_nonnull" in file.read()
 
 
 def compiled(by, folder, archive, theirs):
-    """The path of the program."""
+    """Returns the path of the program."""
     program = os.path.join(folder, "routes")
     flags = ["-DWITH_RTRLIB"] if theirs else []
     subprocess.run([by, "-std=c11", "-D_POSIX_C_SOURCE=200809L", "-Wall", "-Wextra", "-O2", *flags,
@@ -74,41 +74,29 @@ def compiled(by, folder, archive, theirs):
 
 
 def measured(program, vrps, routes, rounds):
-    """The numbers that a run prints."""
-    done = subprocess.run([program, str(vrps), str(routes), str(rounds)], capture_output=True,
-                          text=True)
-    if done.returncode not in (0, 1) or not done.stdout:
-        sys.exit(f"bench/validate.py: {done.stderr or done.returncode}")
-    return [float(number) for number in done.stdout.split()]
+    """Returns the numbers that a run prints."""
+    result = subprocess.run([program, str(vrps), str(routes), str(rounds)], capture_output=True,
+                            text=True)
+    if result.returncode not in (0, 1) or not result.stdout:
+        sys.exit(f"bench/validate.py: {result.stderr or result.returncode}")
+    return [float(number) for number in result.stdout.split()]
 
 
 def row(numbers, theirs):
-    """The line of the table for a run."""
-    many, _, made, building, ours4, ours6, ours, their4, their6, their, *_ = numbers
+    """Returns the line of the table for a run."""
+    many, _, making, building, ours4, ours6, ours, their4, their6, their, *_ = numbers
     of_theirs = [f"{building:.0f}", f"{their4:.0f}", f"{their6:.0f}", f"{their:.0f}",
                  f"{ours / their:.2f}"] if theirs else ["-"] * 5
-    return (f"| {many:,.0f} | {made:.3f} | {of_theirs[0]} | {ours4:.0f} | {of_theirs[1]} | "
+    return (f"| {many:,.0f} | {making:.3f} | {of_theirs[0]} | {ours4:.0f} | {of_theirs[1]} | "
             f"{ours6:.0f} | {of_theirs[2]} | {ours:.0f} | {of_theirs[3]} | {of_theirs[4]} |")
 
 
 def row_in_order(numbers, theirs):
-    """The line of the table of routes in order for a run."""
+    """Returns the line of the table of routes in order for a run."""
     columns = [f"{number:.0f}" for number in numbers[10:16]]
     if not theirs:
         columns[2] = columns[5] = "-"
     return f"| {numbers[0]:,.0f} | " + " | ".join(columns) + " |"
-
-
-def write(marker, lines_of_table):
-    """Renews a table of the page."""
-    with open(PAGE, encoding="utf-8") as file:
-        lines = file.read().splitlines()
-    begin = end = lines.index(marker) + 1
-    while end < len(lines) and lines[end].startswith("|"):
-        end += 1
-    lines[begin:end] = lines_of_table
-    with open(PAGE, "w", encoding="utf-8") as file:
-        file.write("\n".join(lines) + "\n")
 
 
 def main():
@@ -136,8 +124,8 @@ def main():
         runs = [measured(program, *sizes, 1 if asked.check else asked.rounds) for sizes in lists]
     wrong = 0
     for many, *_, not_found, valid, invalid, differ in runs:
-        print(f"{many:.0f} VRPs: {not_found:.0f} routes not found, {valid:.0f} valid, {invalid:.0f} "
-              f"invalid; {differ:.0f} answers differ")
+        print(f"{many:.0f} VRPs: {not_found:.0f} routes not found, {valid:.0f} valid, "
+              f"{invalid:.0f} invalid; {differ:.0f} answers differ")
         wrong += differ
     if not asked.check:
         for marker, lines in (

@@ -25,9 +25,8 @@ import sys
 import tempfile
 
 import count
+from speed_page import lines_of_page, table_at, write
 
-TOP = os.path.realpath(os.path.join(os.path.dirname(os.path.abspath(__file__)), ".."))
-PAGE = os.path.join(TOP, "docs", "SPEED.md")
 MARKER = "<!-- measured: vrps -->"
 ROW = re.compile(r"\| (.*?) \| ([\d.]+) \| [\d.]+ \|$")
 
@@ -53,7 +52,7 @@ def warn(text):
 
 
 def commands():
-    """The names of what is measured, with the commands."""
+    """Returns the names of what is measured, with the commands."""
     bench = count.built.program(BENCH)
     return {goal: [bench, goal] for goal in GOALS} | {
         "rtr_make": [count.built.program("rtr_make"), "--csv"]}
@@ -69,14 +68,14 @@ def make_list(folder, length):
 
 
 def counted(folder):
-    """Instructions a VRP of each command."""
+    """Returns instructions a VRP of each command."""
     full, empty = make_list(folder, COUNTED), make_list(folder, 0)
     return {name: (count.callgrind(command, full) - count.callgrind(command, empty)) / COUNTED
             for name, command in commands().items()}
 
 
 def seconds(command, path):
-    """The processor time of a run."""
+    """Returns the processor time of a run."""
     before = resource.getrusage(resource.RUSAGE_CHILDREN)
     with open(path, "rb") as file:
         subprocess.run(command, stdin=file, stdout=subprocess.DEVNULL, check=True)
@@ -85,7 +84,7 @@ def seconds(command, path):
 
 
 def timed(folder, runs):
-    """The median time of each command, of runs that take turns."""
+    """Returns the median time of each command, of runs that take turns."""
     path = make_list(folder, TIMED)
     found = {name: [] for name in commands()}
     for _ in range(runs):
@@ -95,7 +94,7 @@ def timed(folder, runs):
 
 
 def rows(found):
-    """The numbers of the table, by what its rows say."""
+    """Returns the numbers of the table, by what its rows say."""
     rows_alone = found["rows"]
     data_alone = found["data"] - found["origins"]
     return {
@@ -109,33 +108,16 @@ def rows(found):
 
 
 def table(instructions, times):
-    """The lines of the table."""
+    """Returns the lines of the table."""
     head = ["| What | Instructions a VRP | Seconds for a million |", "|---|---|---|"]
     return head + [f"| {name} | {number:.{0 if number > 10 else 2}f} | {times[name]:.2f} |"
                    for name, number in instructions.items()]
 
 
-def page_lines():
-    """The lines of the page, and where its table begins and ends."""
-    with open(PAGE, encoding="utf-8") as file:
-        lines = file.read().splitlines()
-    begin = end = lines.index(MARKER) + 1
-    while end < len(lines) and lines[end].startswith("|"):
-        end += 1
-    return lines, begin, end
-
-
-def write(lines_of_table):
-    """Renews the table of the page."""
-    lines, begin, end = page_lines()
-    lines[begin:end] = lines_of_table
-    with open(PAGE, "w", encoding="utf-8") as file:
-        file.write("\n".join(lines) + "\n")
-
-
 def check(instructions):
     """Compares the page; returns how many numbers are wrong."""
-    lines, begin, end = page_lines()
+    lines = lines_of_page()
+    begin, end = table_at(lines, MARKER)
     said = dict(found.groups() for found in map(ROW.match, lines[begin:end]) if found)
     wrong = 0
     for name, number in instructions.items():
@@ -167,7 +149,7 @@ def main():
             return 1 if check(instructions) else 0
         lines = table(instructions, rows(timed(folder, asked.runs)))
     if asked.write:
-        write(lines)
+        write(MARKER, lines)
     print(*lines, sep="\n")
     return 0
 
