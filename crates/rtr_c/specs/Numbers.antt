@@ -1,10 +1,13 @@
 -- What numbers of the protocol say to C (this library's own numbers for them).
 use Rattle.std.specs.Prelude.{◌≡◌, ℕ, Bool, true, false, not, List, Option, Some, None}
-use Rattle.std.specs.Prelude.{nat_lt, nat_le, ◌==◌, ◌&&◌, ◌||◌, if◌then◌else◌}
+use Rattle.std.specs.Prelude.{nat_lt, nat_le, ◌==◌, ◌&&◌, if◌then◌else◌}
+use Rattle.std.specs.Option.{option_map}
 use Rattle.std.specs.declared.cmp.Ordering.{Ordering}
 use Rattle.std.specs.declared.cmp.Ordering.TheVariants.{Less, Equal, Greater}
 use Rattle.rtr_units.specs.Header.{type_field}
 use Rattle.unit_views.specs.OwedCodes.{owed}
+use Rattle.session_bytes.specs.Sent.{refusal_code}
+use Rattle.rtr_c.specs.RouterActions.{refusal_at}
 
 -- the order of two serial numbers (RFC 1982 section 3.2)
 abbrev pub order_number : Option Ordering → ℕ
@@ -30,19 +33,10 @@ is_since (Some first) v = nat_le first v && nat_le v 2
 abbrev pub has_kind : (version kind : ℕ) → Bool
 has_kind v k = is_since (first_version k) v
 
--- The error code of a status (RFC 8210 section 12): corrupt data for a unit that is cut short or
--- contradicts itself, an unsupported type or version, a wrong list of providers (as in the Rust
--- crate), a payload announced twice, and one withdrawn that isn't there. The others are no fault of
--- the peer's.
+-- The error code of a status (RFC 8210 section 12): that of the unit or the change which is refused
+-- with it, whatever the detail. The others are no fault of the peer's.
 abbrev pub status_code : ℕ → Option ℕ
-status_code s =
-    if (s == 1) || (s == 4) || (s == 5) || (s == 7) then Some 0
-    else if s == 2 then Some 5
-    else if s == 3 then Some 4
-    else if s == 6 then Some 9
-    else if s == 14 then Some 7
-    else if s == 15 then Some 6
-    else None
+status_code s = option_map refusal_code (refusal_at s 0)
 
 -- none is owed for an error report, which has its type in byte 1 (RFC 8210 section 5.11)
 abbrev pub code_owed : ℕ → List ℕ → Option ℕ

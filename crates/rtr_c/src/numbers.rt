@@ -6,10 +6,7 @@ ghost use Rattle.rtr_base.specs.Serial.{serial_cmp};
 ghost use Rattle.rtr_c.specs.Numbers.{order_number, has_kind, status_code, code_owed, TellsCode};
 ghost use Rattle.rtr_c.specs.Routers.{clock};
 
-use crate::answer::{
-    DUPLICATE, EMPTY_PROVIDERS, PREFIX, SHORT, TOO_LONG, UNIT_LENGTH, UNIT_TYPE, UNIT_VERSION,
-    UNKNOWN,
-};
+use crate::router_action::refusal_from;
 use rtr_units::header::LAST_VERSION;
 use rtr_wire::pdu::{Error, ErrorCode};
 use rtr_wire::state::Serial;
@@ -85,18 +82,12 @@ pub extern "C" fn rtr_error_code_nonnull(status: u8, input: &[u8], code: &mut u1
     }
 }
 
-/// The error code of a status (RFC 8210 section 12), as `ViewFault::code`, and as
-/// `ChangeError::code` of data_memory.
+/// The error code of a status (RFC 8210 section 12), as `Refusal::code` of session_bytes.
 pub(crate) fn code_of(status: u8) -> Option<ErrorCode>
     ensures { option_map (λ c. c.0) result ≡ status_code status }
 {
-    match status {
-        SHORT | TOO_LONG | UNIT_LENGTH | PREFIX => Some(ErrorCode::CORRUPT_DATA),
-        UNIT_TYPE => Some(ErrorCode::UNSUPPORTED_PDU_TYPE),
-        UNIT_VERSION => Some(ErrorCode::UNSUPPORTED_PROTOCOL_VERSION),
-        EMPTY_PROVIDERS => Some(ErrorCode::ASPA_PROVIDER_LIST_ERROR),
-        DUPLICATE => Some(ErrorCode::DUPLICATE_ANNOUNCEMENT_RECEIVED),
-        UNKNOWN => Some(ErrorCode::WITHDRAWAL_OF_UNKNOWN_RECORD),
-        _ => None,
+    match refusal_from(status, 0) {
+        Some(refusal) => Some(refusal.code()),
+        None => None,
     }
 }

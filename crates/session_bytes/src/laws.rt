@@ -1,21 +1,32 @@
-//! What holds of whole runs, in bytes.
+//! What holds of whole runs, in bytes, and of the numbers that both ends send.
 
 ghost use Rattle.std.specs.List.{concat};
+ghost use Rattle.std.specs.Option.{option_map};
 ghost use Rattle.std.specs.Prelude.{◌≡◌, ◌⊎◌, ◌++◌, ℕ, Bool, List, None, Some, drop, take};
+ghost use Rattle.rtr_units.specs.Codes.{code_of};
+ghost use Rattle.unit_views.specs.OwedCodes.{read_fault};
+ghost use Rattle.unit_views.specs.declared.fault.ViewFault.{ViewFault};
+ghost use Rattle.data_memory.specs.ChangeCodes.{change_code};
+ghost use Rattle.data_memory.specs.declared.change_error.ChangeError.TheVariants as changes;
 ghost use Rattle.session_cache.specs.Connections.{CacheMoment, IsConnection};
 ghost use Rattle.session_cache.specs.declared.cache.Cache.{Cache};
 ghost use Rattle.session_cache.specs.declared.event.Present.{Present};
 ghost use Rattle.session_cache.specs.declared.settings.CacheSettings.{CacheSettings};
 ghost use Rattle.session_bytes.specs.Reading.{Acts, Hears, KeepsAll};
 ghost use Rattle.session_bytes.specs.Sending.{AreWhole, CacheHearsSent, HearsSent};
+ghost use Rattle.session_bytes.specs.Sent.{refusal_code, refusal_of};
 ghost use Rattle.session_bytes.specs.Serving.{HearsRouter, ServesOn};
 ghost use Rattle.session_bytes.specs.ShownData.{ActsOn, AppliesAnswers, AreHeard, KeepsOn};
 ghost use Rattle.session_bytes.specs.ShownData.{ShowsAnswer};
+ghost use Rattle.session_bytes.specs.declared.refusal.Refusal.TheVariants as refusals;
 ghost use Rattle.session_bytes.specs.declared.serving.Served.{Served};
 ghost use Rattle.session_bytes.specs.declared.telling.Told.{Told};
 ghost use Rattle.session_router.specs.Histories.{Caller, Host, IsHistory, Moment};
 ghost use Rattle.session_router.specs.declared.event.Action.{Action};
 ghost use Rattle.session_router.specs.declared.router.Router.{Router};
+
+use rtr_units::header::LAST_VERSION;
+use session_router::settings::HIGHEST;
 
 /// Whatever bytes come to a router, and whenever: a caller that tells it of units by their bytes,
 /// and makes changes by `apply_in_order` of `data_slices`, shows no data, or those that one whole
@@ -68,4 +79,19 @@ pub fn what_is_sent_is_heard()
         → AreWhole sent → concat sent ≡ input ++ later
         → HearsRouter c now present kept input ended s after
         → CacheHearsSent c now present kept sent input ended s after }
+{}
+
+/// The error code of a refused unit (RFC 8210 section 12) is that of its fault, of
+/// `ViewFault::code`; a fault that isn't the peer's has neither a refusal nor a code. The error code
+/// of a refused change is that of `ChangeError::code` of `data_memory`.
+pub fn codes_of_refusals()
+    ensures unit { (fault : ViewFault) (report : List ℕ) →
+        option_map refusal_code (refusal_of fault) ≡ code_of (read_fault report fault) }
+    ensures duplicate { Some (refusal_code refusals.Duplicate) ≡ change_code changes.Duplicate }
+    ensures unknown { Some (refusal_code refusals.Unknown) ≡ change_code changes.Unknown }
+{}
+
+/// The highest version that a router and a cache speak is the last one that there are units of.
+pub fn versions_of_sessions()
+    ensures { HIGHEST ≡ LAST_VERSION }
 {}

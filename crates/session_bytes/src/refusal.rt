@@ -48,10 +48,10 @@ impl Refusal {
     }
 
     /// The code of a report about it (RFC 8210 section 12).
-    pub fn code(self) -> u16
-        ensures { result ≡ refusal_code self }
+    pub fn code(self) -> ErrorCode
+        ensures { result.0 ≡ refusal_code self }
     {
-        let code = match self {
+        match self {
             Refusal::Short | Refusal::TooLong | Refusal::UnitLength | Refusal::Prefix(_) => {
                 ErrorCode::CORRUPT_DATA
             }
@@ -60,8 +60,7 @@ impl Refusal {
             Refusal::EmptyProviders => ErrorCode::ASPA_PROVIDER_LIST_ERROR,
             Refusal::Duplicate => ErrorCode::DUPLICATE_ANNOUNCEMENT_RECEIVED,
             Refusal::Unknown => ErrorCode::WITHDRAWAL_OF_UNKNOWN_RECORD,
-        };
-        code.0
+        }
     }
 
     /// Returns the part of the input that a report about its first unit copies: only the header if
