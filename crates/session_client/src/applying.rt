@@ -283,7 +283,7 @@ impl Client {
     {
         let action = self
             .router
-            .step(now, Event::NotApplied(Some(refusal.code())));
+            .step(now, Event::NotApplied(Some(refusal.code().0)));
         let version = self.router.version;
         let about = part(input, offset.min(self.filled), self.filled);
         let refusal = Some(refusal);

@@ -40,7 +40,7 @@ pair_group = record {
   due = 5000;
 }
 
-pair_is_new : IsNewGroup 2 patient 0 pair_group
+pub pair_is_new : IsNewGroup 2 patient 0 pair_group
 pair_is_new = record {
   settings = refl;
   most = omega arith;

@@ -1,2 +1,5 @@
 mod Told
+mod Unchanged
+mod ShownData
 mod Example
+mod DataExample

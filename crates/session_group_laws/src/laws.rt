@@ -1,6 +1,7 @@
 //! What holds of clients that are the members of a group.
 
-ghost use Rattle.std.specs.Prelude.{◌≡◌, ℕ, List, Option, Some, None};
+ghost use Rattle.std.specs.Prelude.{◌≡◌, ℕ, List, Option, Some, None, length};
+ghost use Rattle.session_client.specs.Makings.{Octets};
 ghost use Rattle.session_client.specs.Next.{IsTodoOf};
 ghost use Rattle.session_client.specs.declared.next.Todo.{Todo};
 ghost use Rattle.session_group.specs.Groups.{best_of};
@@ -9,10 +10,13 @@ ghost use Rattle.session_group.specs.Runs.{IsGroupRun, ShowsBest, best_in};
 ghost use Rattle.session_group.specs.declared.event.Event.TheVariants as events;
 ghost use Rattle.session_group.specs.declared.group.Group.{Group};
 ghost use Rattle.session_group.specs.declared.settings.Settings.{Settings};
+ghost use Rattle.session_group_laws.specs.Buffers.{ClientHas, IsRunOfClients, ShowsDataOfClient};
 ghost use Rattle.session_group_laws.specs.Members.{CallsMember, IsRunOfMembers, MemberClient};
 ghost use Rattle.session_group_laws.specs.Members.{taken_tells, todo_tells};
 ghost use Rattle.session_router.specs.declared.event.Action.{Action};
+ghost use Rattle.session_router.specs.declared.settings.Settings as routers;
 
+use session_client::laws::{only_whole_answers_are_shown, room_may_change};
 use session_group::laws::{asked_in_order, best_data_shown};
 
 /// What a group is told of a call is what it is told of the action that the client's machine took
@@ -66,4 +70,40 @@ pub fn shows_data_of_a_client()
     ensures { (history : List (GroupMoment ℕ)) × (g : Group) × (c : Listener ℕ)
         × (xs : ℕ → MemberClient) × (s : Settings) × IsRunOfMembers 2 s history g c xs
         × (best_of g ≡ Some 0) × (c.shown ≡ Some 44) × ((xs 0).client.shown ≡ Some 44) }
+{}
+
+/// Whenever the group shows data of a member, these are the bytes that this member's client last
+/// told as data, unchanged since: its data buffer still begins with them, and one whole answer of
+/// its cache made them. So are the data of each member, shown or not.
+pub fn shown_data_are_a_clients()
+    ensures shown { (count : ℕ) (s : Settings) (t : ℕ → routers.Settings) (bytes : ℕ → Octets)
+        (history : List (GroupMoment ℕ)) (g : Group) (c : Listener ℕ) (xs : ℕ → MemberClient)
+        → IsRunOfClients count s t bytes history g c xs → ShowsDataOfClient bytes t c xs }
+    ensures each { (count : ℕ) (s : Settings) (t : ℕ → routers.Settings) (bytes : ℕ → Octets)
+        (history : List (GroupMoment ℕ)) (g : Group) (c : Listener ℕ) (xs : ℕ → MemberClient)
+        (m d : ℕ) → IsRunOfClients count s t bytes history g c xs
+        → (c.members m).has ≡ Some d → ClientHas (bytes d) (xs m) }
+{
+    room_may_change();
+    only_whole_answers_are_shown();
+    asked_in_order();
+    best_data_shown()
+}
+
+/// A call that is told as a failure, or not at all, leaves the bytes of a client's data as they
+/// are.
+pub fn told_data_stay()
+    ensures failure { (p : ℕ) (t : Todo) (x x' : MemberClient) (d : Octets) → CallsMember x x' t
+        → todo_tells p t ≡ Some events.Fails → ClientHas d x → ClientHas d x' }
+    ensures silence { (p : ℕ) (t : Todo) (x x' : MemberClient) (d : Octets) → CallsMember x x' t
+        → todo_tells p t ≡ None → ClientHas d x → ClientHas d x' }
+{}
+
+/// There is a run of two clients in which the group shows the bytes of the first one's data: it
+/// meets the premises of `shown_data_are_a_clients`.
+pub fn shows_bytes_of_a_client()
+    ensures { (history : List (GroupMoment ℕ)) × (g : Group) × (c : Listener ℕ)
+        × (xs : ℕ → MemberClient) × (s : Settings) × (t : ℕ → routers.Settings)
+        × (bytes : ℕ → Octets) × (d : ℕ) × IsRunOfClients 2 s t bytes history g c xs
+        × (c.shown ≡ Some d) × (length (bytes d) ≡ 44) × ClientHas (bytes d) (xs 0) }
 {}

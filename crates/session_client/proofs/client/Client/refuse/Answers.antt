@@ -23,13 +23,13 @@ use Rattle.session_client.proofs.client.Client.refuse.Goals as goal
 pub returns-clause-stands : goal.returns-clause-stands
 returns-clause-stands c = λ k held made x.
     c.follow.ensures.stands k held c.args.now c.args.self.now.router
-    (events.NotApplied (Some c.code.result)) tt x c.step-action.ensures.steps
+    (events.NotApplied (Some c.code.result.0)) tt x c.step-action.ensures.steps
 
 pub returns-clause-did : goal.returns-clause-did
 returns-clause-did c =
     let s = c.args.self.now in
     said c.args.now s.router [] s.router c.step-action.new.self c.follow.new.self.router
-    (events.NotApplied (Some c.code.result)) c.step-action.result _ _ s.unsent s.unsent
+    (events.NotApplied (Some c.code.result.0)) c.step-action.result _ _ s.unsent s.unsent
     c.put.new.unsent c.follow.new.self.unsent c.args.output.now c.put.new.output
     (kept_none s.router) c.step-action.ensures.steps c.put.ensures.puts refl
     c.follow.ensures.unsent c.follow.ensures.router
@@ -42,13 +42,13 @@ returns-clause-step c =
     (subst (λ (r : Router). InPhase r.phase (follows action s.holding))
     (sym c.follow.ensures.router)
     (step_itself s.router c.step-action.new.self c.args.now
-    (events.NotApplied (Some c.code.result)) action s.holding tt c.step-action.ensures.steps.rule
+    (events.NotApplied (Some c.code.result.0)) action s.holding tt c.step-action.ensures.steps.rule
     c.requires.step))
 
 pub returns-clause-ends : goal.returns-clause-ends
 returns-clause-ends c =
     let s = c.args.self.now in
-    let event = events.NotApplied (Some c.code.result) in
+    let event = events.NotApplied (Some c.code.result.0) in
     let action = c.step-action.result in
     gave_up_turns s c.follow.new.self c.args.input.now c.follow.new.input c.args.now event action
     (record {
@@ -66,7 +66,7 @@ returns-clause-ends c =
       opened = c.follow.ensures.same.opened;
       closed = c.follow.ensures.same.closed;
     }) c.requires.whole
-    (refused_ends s.router c.step-action.new.self c.args.now (Some c.code.result) action
+    (refused_ends s.router c.step-action.new.self c.args.now (Some c.code.result.0) action
     (answer_applying s.router.phase s.holding c.requires.step c.requires.whole)
     c.step-action.ensures.steps.rule)
 
@@ -106,12 +106,12 @@ returns-clause-names c = λ held since size places due refused.
 pub returns-clause-counts : goal.returns-clause-counts
 returns-clause-counts c =
     c.follow.ensures.counts c.args.now c.args.self.now.router
-    (events.NotApplied (Some c.code.result)) c.step-action.ensures.steps
+    (events.NotApplied (Some c.code.result.0)) c.step-action.ensures.steps
 
 pub returns-clause-takes : goal.returns-clause-takes
 returns-clause-takes c = λ held made.
     let s = c.args.self.now in
-    let event = events.NotApplied (Some c.code.result) in
+    let event = events.NotApplied (Some c.code.result.0) in
     let action = c.step-action.result in
     let after = c.follow.new.self in (
       record {
@@ -122,7 +122,7 @@ returns-clause-takes c = λ held made.
           subst (λ r. IsStep s.router c.args.now event action r) (sym c.follow.ensures.router)
               c.step-action.ensures.steps,
           leaves_ended action (untold s c.args.input.now) (untold after c.follow.new.input)
-              (refused_ends s.router c.step-action.new.self c.args.now (Some c.code.result) action
+              (refused_ends s.router c.step-action.new.self c.args.now (Some c.code.result.0) action
               (answer_applying s.router.phase s.holding c.requires.step c.requires.whole)
               c.step-action.ensures.steps.rule) c.follow.ensures.ends,
         );
@@ -140,5 +140,5 @@ returns-clause-takes c = λ held made.
 
 pub returns-clause-shows : goal.returns-clause-shows
 returns-clause-shows c =
-    no_show c.args.self.now.router c.args.now (events.NotApplied (Some c.code.result))
+    no_show c.args.self.now.router c.args.now (events.NotApplied (Some c.code.result.0))
     c.step-action.result c.step-action.new.self (λ e. cc) c.step-action.ensures.steps.rule
