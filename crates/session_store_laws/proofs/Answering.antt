@@ -99,7 +99,7 @@ here_or_not n x y o e = go (eqb_tells (serial x) n)
         inl (same, sym (ap serial same) ∙ d.1)
     go (inr d) = inr (sym (λ i. if d.0 i then Some x else o) ∙ e)
 
-at_serial : (n : ℕ) (x : Snapshot) (ys : List Snapshot) (y : Snapshot)
+pub at_serial : (n : ℕ) (x : Snapshot) (ys : List Snapshot) (y : Snapshot)
     → snapshot_at n x ys ≡ Some y → IsIn (x ∷ ys) y × (serial y ≡ n)
 at_serial n x [] y e = elim (here_or_not n x y None e) [
   | inl d ↦ (inl d.0, d.1)
@@ -112,7 +112,7 @@ at_serial n x (z ∷ zs) y e = elim (here_or_not n x y (snapshot_at n z zs) e) [
       (inr t.0, t.1)
 ]
 
-one_session : (b : List ℕ) (x : Snapshot) (ys : List Snapshot) (y : Snapshot) → GoesBack b x ys
+pub one_session : (b : List ℕ) (x : Snapshot) (ys : List Snapshot) (y : Snapshot) → GoesBack b x ys
     → IsIn (x ∷ ys) y → y.end.session ≡ x.end.session
 one_session b x [] y back (inl is) = ap (λ (z : Snapshot). z.end.session) (sym is)
 one_session b x [] y back (inr i) = absurd i
@@ -120,7 +120,7 @@ one_session b x (z ∷ zs) y back (inl is) = ap (λ (z : Snapshot). z.end.sessio
 one_session b x (z ∷ zs) y back (inr i) =
     one_session (part_rest b) z zs y back.2 i ∙ sym back.1.session
 
-edition_at : (had : List PayloadEdition) (xs : List Snapshot) (y : Snapshot) → AreHad had xs
+pub edition_at : (had : List PayloadEdition) (xs : List Snapshot) (y : Snapshot) → AreHad had xs
     → IsIn xs y → (e : PayloadEdition) × IsIn had e × IsEditionOf y e
 edition_at had [] y are i = absurd i
 edition_at had (x ∷ xs) y are (inl is) =

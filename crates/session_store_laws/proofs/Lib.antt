@@ -1,6 +1,10 @@
+mod Adding
 mod Answering
 mod Circles
 mod Example
+mod ExampleHistory
+mod FromServed
+mod Held
 mod OneName
 mod Sending
 mod Shown

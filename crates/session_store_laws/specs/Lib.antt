@@ -1,3 +1,4 @@
+pub mod HeldHistory
 pub mod SentOfStore
 pub mod ServedData
 pub mod ShownOfStore

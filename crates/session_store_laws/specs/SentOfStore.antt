@@ -37,6 +37,11 @@ pub record SendsChangesServed (served : List Snapshot) (since : ℕ) (t : Turn) 
       ≡ response_with t.version snapshot
       (changes_for t.version old.payloads snapshot.payloads)
 
+-- and these are the present data
+abbrev pub SendsChangesTo : (present : Snapshot) → (served : List Snapshot) → (since : ℕ) → Turn →
+    Type 0
+SendsChangesTo x served since t = (s : SendsChangesServed served since t) × (s.snapshot ≡ x)
+
 abbrev pub SendsServed : List Snapshot → Answer → Turn → Type 0
 SendsServed served answers.All t = SendsAllServed served t
 SendsServed served (answers.Changes since) t = SendsChangesServed served since t
