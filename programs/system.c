@@ -1,8 +1,8 @@
 /*
  * What the programs in Rattle reach of the system, for processors for which the kit has no C
- * functions of its own (it has them for x86-64): the heap, the arguments, the environment and errno.
- * Their contracts are those of the kit's libraries `libc` and `os`. Here they are trusted, as the
- * kit's are there.
+ * functions of its own (it has them for x86-64): the heap, the arguments, the environment and
+ * errno. Their contracts are those of the kit's libraries `libc` and `os`. Here they are trusted,
+ * as the kit's are there.
  */
 #include <errno.h>
 #include <stdbool.h>
@@ -68,8 +68,8 @@ size_t rattle_arg_count(void)
 }
 
 /*
- * Copies a text to the start of the buffer. Returns its length; -1 if there is none; -2 if it doesn't
- * fit, and then the buffer is full.
+ * Copies a text to the start of the buffer. Returns its length; -1 if there is none; -2 if it
+ * doesn't fit, and then the buffer is full.
  */
 static ssize_t copied(const char *text, char *buffer, size_t room)
 {

@@ -36,28 +36,27 @@ pub const USAGE: &str =
 /// What the program does, and what each word means.
 const HELP: &str = "rtr_make - write the RTR sequence of validated payloads
 
-It reads what a validator prints from FILE, or from standard input, for which
-the name - stands too, and writes the units that announce it, and an end of
-data, to standard output.
+It reads what a validator prints from FILE, or from standard input if FILE is -
+or isn't given, and writes the units that announce it, and an end of data, to
+standard output.
 
-  --csv            lines of an AS number, a prefix and a max length are read
-  --json           a JSON object is read, as validators print it
-  --version 0|1|2  the version of the units, 2 if none is named
-  --session N      the session of the end of data, 0 if none is named
-  --serial N       its serial number, 1 if none is named
-  --refresh N      its timings in seconds: 3600, 600 and 7200 if none are
-  --retry N        named; version 0 has none
+  --csv            read lines of an AS number, a prefix and a max length
+  --json           read a JSON object, as validators print it
+  --version 0|1|2  the version of the units (default 2)
+  --session N      the session of the end of data (default 0)
+  --serial N       its serial number (default 1)
+  --refresh N      its intervals in seconds (default 3600, 600 and 7200);
+  --retry N        version 0 has none
   --expire N
-  --drop           payloads that the version lacks are left out, and counted
-  --empty          a sequence without payloads is written, too
-  --unended        CSV is read whose last line has no line end, too
-  --ignore NAME    what the JSON has under this name is passed over
-  --at N           items that have expired at this time, in seconds since
-                   1970, are left out, and counted: by their expires in
-                   JSON, by a column of the name Expires in CSV; the time is
-                   now if none is named
-  --slurm FILE     payloads are filtered, and others added, by this SLURM
-                   file (RFC 8416); several must not overlap
+  --drop           leave out payloads that the version lacks, and count them
+  --empty          accept an input without payloads
+  --unended        accept CSV whose last line has no line end
+  --ignore NAME    ignore what the JSON has under this name
+  --at N           leave out items that have expired at this time, in seconds
+                   since 1970 (default now), and count them: by their expires
+                   in JSON, by a column of the name Expires in CSV
+  --slurm FILE     filter the payloads, and add others, by this SLURM file
+                   (RFC 8416); may be repeated, but files must not overlap
 
 Alone: --help prints this, and --version the program's version.
 ";

@@ -30,4 +30,4 @@ pub use json_names::{Holding, Kind, Part};
 pub use make::{program, run};
 pub use quotes::check_quotes;
 pub use sequence::{Trouble, write_sequence};
-pub use words::{Format, Request, Version, asked, is_ignored, long_number};
+pub use words::{Format, Request, Version, asked, broken_timing, is_ignored, long_number};

@@ -26,11 +26,13 @@ const MANUAL: Manual = Manual {
 rtr_clean - write the units of an RTR session with zero where they mean nothing
 usage: rtr_clean [--version 0|1|2] [FILE]
 
-It reads units of the RPKI to Router protocol (RFC 8210) from FILE, or from standard input, for
-which the name - stands too, and writes each one with zero wherever its bits mean nothing.
+It reads units of the RPKI to Router protocol (RFC 8210) from FILE, or from
+standard input if FILE is - or isn't given, and writes each one with zero
+wherever its bits mean nothing.
 
-  (no word)    leave the versions of units as they are
-  --version N  write payload units and ends of data in this version, and leave out what it lacks
+  (no word)    keep the versions of the units
+  --version N  write payload units and ends of data in this version, and leave
+               out payload units that it lacks
   --help       print this
   --version    without a number: print the program's version
 ",

@@ -21,11 +21,13 @@ const MANUAL: Manual = Manual {
 rtr_diff - print what differs between the data of two RTR recordings
 usage: rtr_diff [--json | --units] OLD NEW, where one of them may be -
 
-It reads two files of units of the RPKI to Router protocol (RFC 8210), and prints the changes that
-lead from the payloads of OLD to those of NEW. The name - stands for standard input.
+It reads two files of units of the RPKI to Router protocol (RFC 8210), and
+prints the changes that lead from the payloads of OLD to those of NEW. The name
+- stands for standard input.
 
-  (no word)  print a line of each change, + for an announcement and - for a withdrawal
-  --json     print a JSON object of each change
+  (no word)  print a line for each change: + for an announcement, - for a
+             withdrawal
+  --json     print a JSON object for each change
   --units    write the changes as units, and then the end of data of NEW
   --help     print this
   --version  print the program's version

@@ -23,13 +23,14 @@ const MANUAL: Manual = Manual {
 rtr_list - list the units of a recorded RTR session
 usage: rtr_list [--json | --check | --summary | --csv | --vrps] [FILE]
 
-It reads units of the RPKI to Router protocol (RFC 8210) from FILE, or from standard input, for
-which the name - stands too.
+It reads units of the RPKI to Router protocol (RFC 8210) from FILE, or from
+standard input if FILE is - or isn't given.
 
-  (no word)  print a line of each unit, which begins with its offset
-  --json     print a JSON object of each unit
-  --check    print what breaks the protocol's rules, and nothing else
-  --summary  print how many units of each kind there are, and what each answer's serial number is
+  (no word)  print a line for each unit, which begins with its offset
+  --json     print a JSON object for each unit
+  --check    print only the broken rules of the protocol
+  --summary  print the number of units of each kind, and the serial number of
+             each answer
   --csv      print the origins that the recording leaves, as CSV
   --vrps     print all payloads that the recording leaves, as JSON
   --help     print this

@@ -3,7 +3,7 @@
 #![tactic(auto)]
 
 use data_slurm::Slurm;
-use make_work::{asked, program};
+use make_work::{asked, broken_timing, program};
 use program_exceptions::{Split, read_files, split_words};
 use program_frame::{
     Input, STANDARD_INPUT, Subject, buffered_output, program_words, seconds_since_epoch, take_file,
@@ -55,14 +55,17 @@ fn main(rt: HostRuntime) -> ExitCode {
 /// Reads the SLURM files, and makes what the other words ask for.
 fn run(rt: &HostRuntime, split: Split, faults: &mut Stderr) -> ExitCode {
     let mut words = split.words;
-    let file = take_file(&mut words, |before| asked(before).is_some());
-    let mut slurm = Slurm::new(rt.alloc());
-    if asked(words_after_name(&words)).is_some() {
-        slurm = match read_files(rt, PROGRAM, &split.files, faults) {
-            Ok(slurm) => slurm,
-            Err(status) => return ExitCode::from(status),
-        };
+    let file = take_file(&mut words, |before| {
+        asked(before).is_some() || broken_timing(before).is_some()
+    });
+    if asked(words_after_name(&words)).is_none() {
+        // Wrong words: no file is opened.
+        return finish(rt, Some(words), &Slurm::new(rt.alloc()), None, faults);
     }
+    let slurm = match read_files(rt, PROGRAM, &split.files, faults) {
+        Ok(slurm) => slurm,
+        Err(status) => return ExitCode::from(status),
+    };
     match &file {
         Some(name) => finish(rt, Some(words), &slurm, Some(name.as_str()), faults),
         None => finish(rt, Some(words), &slurm, None, faults),

@@ -25,33 +25,38 @@ const MANUAL: Manual = Manual {
 [--slurm FILE].. [--against FILE] FILE [PREFIX ASN]\n",
     help: "\
 rtr_validate - print whether routes are valid by the VRPs of a file
-usage: rtr_validate [--json] [--summary] [--strict] [--format F] [--at N] [--slurm FILE]..
-                    [--against FILE] FILE [PREFIX ASN]
+usage: rtr_validate [--json] [--summary] [--strict] [--format F] [--at N]
+                    [--slurm FILE].. [--against FILE] FILE [PREFIX ASN]
 
-It prints the validity of a route (RFC 6811): valid, invalid or not found; of an invalid one also
-the VRPs that cover it, each with why it doesn't match. Without PREFIX and ASN it reads routes from
-standard input, one on a line; a line that is no route is named on standard error, and the run goes
-on. An AS_SET such as {64496,64497} in the place of ASN is no AS: no VRP matches it. FILE is a
-recording of units of the RPKI to Router protocol (RFC 8210), or the JSON or CSV that a validator
-prints, of which what has expired doesn't count. The name - stands for standard input, where PREFIX
-and ASN are given.
+It prints the validity of a route (RFC 6811): valid, invalid or not found; for
+an invalid one also the VRPs that cover it, each with the reason why it doesn't
+match. Without PREFIX and ASN it reads routes from standard input, one a line; a
+line that isn't a route is reported on standard error, and the program goes on.
+An AS_SET such as {64496,64497} instead of ASN is no AS: no VRP matches it. FILE
+is a recording of units of the RPKI to Router protocol (RFC 8210), or the JSON
+or CSV that a validator prints, whose expired items are ignored. The name -
+stands for standard input, if PREFIX and ASN are given.
 
   (no word)       print a line for each route
-  --json          print a JSON object for each route, with all VRPs that cover it
-  --summary       print only how many routes of standard input have each state, and of how many
-                  origin ASes they are, with a line for each of the 20 ASes that have most invalid
-                  routes, of as many the smaller AS first; an AS_SET counts for no AS
-  --strict        stop at the first line that is no route
+  --json          print a JSON object for each route, with all VRPs that cover
+                  it
+  --summary       print only how many routes of standard input have each state,
+                  the number of their origin ASes, and a line for each of the
+                  20 ASes with most invalid routes, the smaller AS first among
+                  equals; an AS_SET counts for no AS
+  --strict        stop at the first line that isn't a route
   --format F      the format of the lines (default lines):
                   lines  PREFIX ASN
                   mrt    bgpdump -m, which prints MRT dumps of tables (RFC 6396)
                   bird   BIRD's show route primary
                   frr    FRR's show bgp ipv4 unicast wide
-  --at N          what has expired at this time, in seconds since 1970, doesn't count (default now)
+  --at N          ignore items that have expired at this time, in seconds since
+                  1970 (default now)
   --slurm FILE    apply a file of local exceptions (RFC 8416); may be repeated
-  --against FILE  print only the routes of standard input that become invalid, or are no longer, if
-                  the list in this file, read as FILE is, comes in the place of FILE; with --summary
-                  how many routes turn from each state to each
+  --against FILE  print only the routes of standard input that become invalid,
+                  or are no longer, if this file replaces FILE; it is read in
+                  the same way; with --summary how many routes turn from which
+                  state to which
   --help          print this
   --version       print the program's version
 ",
