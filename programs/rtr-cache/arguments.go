@@ -6,11 +6,9 @@ import (
 	"os"
 	"time"
 
-	"fishreef/programs/internal/beside"
 	"fishreef/programs/internal/cache"
 	"fishreef/programs/internal/fetch"
 	"fishreef/programs/internal/logs"
-	"fishreef/programs/internal/payloads"
 	"fishreef/programs/internal/trust"
 	"fishreef/programs/internal/words"
 	"fishreef/rtr"
@@ -53,7 +51,7 @@ payloads, merged, over the RPKI to Router protocol (RFC 6810, RFC 8210).`,
 	return o, o.check()
 }
 
-// check returns an error if the options don't fit together.
+// check returns an error if the options don't fit together, and finds the programs that read lists.
 func (o *options) check() error {
 	s := &o.settings
 	if len(s.Files) == 0 {
@@ -63,28 +61,14 @@ func (o *options) check() error {
 		return fmt.Errorf("--refresh %d --retry %d --expire %d: %w", s.Timing.Refresh, s.Timing.Retry,
 			s.Timing.Expire, err)
 	}
-	if (s.TLS.Certificate == "") != (s.TLS.Key == "") {
-		return errors.New("--tls-cert and --tls-key need each other")
-	}
-	if s.TLS.ClientCA != "" && s.TLS.Certificate == "" {
-		return errors.New("--tls-client-ca needs --tls-cert and --tls-key")
-	}
-	if (s.SSH.HostKey == "") != (s.SSH.Routers == "") {
-		return errors.New("--ssh-host-key and --ssh-routers need each other")
-	}
-	if err := s.Reader.CheckSlurm(s.Files...); err != nil {
+	if err := s.TLS.Check(); err != nil {
 		return err
 	}
-	return o.find()
-}
-
-// find finds rtr_make, if a file needs it.
-func (o *options) find() (err error) {
-	for _, file := range o.settings.Files {
-		if file.Format != payloads.Sequence {
-			o.settings.Reader.Maker, err = beside.Find("rtr_make")
-			return err
-		}
+	if err := s.SSH.Check(); err != nil {
+		return err
 	}
-	return nil
+	if err := s.Fetch.Check(s.Files...); err != nil {
+		return err
+	}
+	return s.Reader.Check(s.Files...)
 }

@@ -55,7 +55,8 @@ func line(process *trial.Process, texts ...string) (last string) {
 func TestClients(t *testing.T) {
 	folder := t.TempDir()
 	trial.Write(t, folder+"/f", rows(3))
-	process, address := started(t, folder, "--csv", "f", "--log-level", "debug", "--metrics", "127.0.0.1:0")
+	process, address := started(t, folder, "--csv", "f", "--log-level", "debug",
+		"--metrics", "127.0.0.1:0")
 	url := strings.TrimSuffix(process.After("metrics are at "), "/metrics")
 	process.Says("3 payloads", 1)
 	if all := routers(t, url); all == nil || len(all) != 0 {
@@ -78,12 +79,14 @@ func TestClients(t *testing.T) {
 		}
 	}
 	asking, silent := routers(t, url)[0], routers(t, url)[1]
-	if asking.Address != first.LocalAddr().String() || asking.Transport != "tcp" || *asking.Version != 1 || asking.Queries != 1 ||
-		asking.Has == nil || asking.Has.Serial != 1 || asking.Has.Session != data.Session() || *asking.Behind != 0 ||
+	if asking.Address != first.LocalAddr().String() || asking.Transport != "tcp" ||
+		*asking.Version != 1 || asking.Queries != 1 || asking.Has == nil || asking.Has.Serial != 1 ||
+		asking.Has.Session != data.Session() || *asking.Behind != 0 ||
 		asking.Asked == nil || asking.Sent != int64(len(data.Bytes())+8) {
 		t.Errorf("%+v", asking)
 	}
-	if silent.Address != second.LocalAddr().String() || silent.Version != nil || silent.Has != nil || silent.Queries != 0 {
+	if silent.Address != second.LocalAddr().String() || silent.Version != nil || silent.Has != nil ||
+		silent.Queries != 0 {
 		t.Errorf("%+v", silent)
 	}
 
@@ -93,7 +96,8 @@ func TestClients(t *testing.T) {
 		t.Error(behind)
 	}
 	_, metrics := trial.Get(t, url+"/metrics")
-	if !strings.Contains(metrics, `rtr_cache_client_behind{client="`+first.LocalAddr().String()+`",transport="tcp"} 1`) {
+	metric := `rtr_cache_client_behind{client="` + first.LocalAddr().String() + `",transport="tcp"} 1`
+	if !strings.Contains(metrics, metric) {
 		t.Error("there is no metric of the client")
 	}
 	page := shown(t, url+"/clients")
@@ -106,7 +110,8 @@ func TestClients(t *testing.T) {
 	}
 	first.Close()
 	process.Await("the end", func() bool { return line(process, "msg=left", name) != "" })
-	left := line(process, "level=info", "msg=left", name, "version=1", "serial=1", "received=8", "lasted=")
+	left := line(process, "level=info", "msg=left", name, "version=1", "serial=1", "received=8",
+		"lasted=")
 	if left == "" || len(routers(t, url)) != 1 {
 		t.Error(process.Stderr())
 	}

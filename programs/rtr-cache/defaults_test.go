@@ -55,7 +55,8 @@ func manual(t *testing.T) map[string]string {
 			continue
 		}
 		for _, name := range names {
-			says[name] += strings.TrimLeft(regexp.MustCompile(`^\.[A-Z][a-z] `).ReplaceAllString(line, ""), ".") + " "
+			line = regexp.MustCompile(`^\.[A-Z][a-z] `).ReplaceAllString(line, "")
+			says[name] += strings.TrimLeft(line, ".") + " "
 		}
 		if strings.HasPrefix(line, ".El") {
 			names = nil
@@ -67,8 +68,10 @@ func manual(t *testing.T) map[string]string {
 // The help and the man page name exactly the defaults of the code.
 func TestDocumentedDefaults(t *testing.T) {
 	w, expected := usual(), defaults()
-	options := words.Join(w.ofFiles(), w.settings.Reader.Options(), w.ofData(), w.settings.Fetch.Options(),
-		w.ofGuard(), w.ofTimings(), w.ofSockets(), w.ofTLS(), w.ofSSH(), w.ofLimits(), w.ofReports(), w.log.Options())
+	options := words.Join(w.ofFiles(), w.settings.Reader.Options(), w.ofData(),
+		w.settings.Fetch.Options(),
+		w.ofGuard(), w.ofTimings(), w.ofSockets(), w.ofTLS(), w.ofSSH(), w.ofLimits(),
+		w.ofReports(), w.log.Options())
 	pages := manual(t)
 	named := regexp.MustCompile(`\(default\s+([^)]*)\)`)
 	listed := []string{expected["refresh"], expected["retry"], expected["expire"]}
@@ -104,6 +107,7 @@ func TestUsualPort(t *testing.T) {
 	trial.Write(t, folder+"/f", rows(3))
 	process := trial.Start(t, folder, "--csv", "f")
 	process.Await("the address", func() bool {
-		return process.Lines("listening at [::]:3323") == 1 || process.Lines("address already in use") == 1
+		return process.Lines("listening at [::]:3323") == 1 ||
+			process.Lines("address already in use") == 1
 	})
 }

@@ -19,6 +19,7 @@ import (
 	"time"
 
 	"fishreef/programs/internal/trial"
+	"fishreef/programs/internal/words"
 )
 
 // web is a web server whose answer a test sets, and that records its requests.
@@ -184,7 +185,7 @@ func TestFetches(t *testing.T) {
 		}
 		return false
 	})
-	if status := process.End(); status != 0 {
+	if status := process.End(); status != words.Well {
 		t.Error(status)
 	}
 }
@@ -520,12 +521,10 @@ func TestWrongURLs(t *testing.T) {
 		{"--csv http://h/ --fetch-limit 269", `--fetch-limit: 269 is more than 268`},
 	} {
 		process := trial.Start(t, folder, strings.Fields(row.words)...)
-		if status, stderr := process.Status(), process.Stderr(); status != 2 || !strings.Contains(stderr, row.says) {
-			t.Errorf("%q: status %d, %s", row.words, status, stderr)
-		}
+		process.Refuses(words.Usage, "rtr-cache: ", row.says)
 	}
 	process := trial.Start(t, folder, "--csv", "http://127.0.0.1/", "--fetch-ca", "none", "--listen", "127.0.0.1:0")
-	if status := process.Status(); status != 3 || process.Lines("none: no such file") != 1 {
+	if status := process.Status(); status != words.Failed || process.Lines("none: no such file") != 1 {
 		t.Error(status, process.Stderr())
 	}
 	secret := newWeb(t, func(answer http.ResponseWriter, ask *http.Request) {
@@ -559,7 +558,7 @@ func TestLeavesNothing(t *testing.T) {
 	if left, err := os.ReadDir(temporary); err != nil || len(left) != 0 {
 		t.Error(left, err)
 	}
-	if status := process.End(); status != 0 {
+	if status := process.End(); status != words.Well {
 		t.Error(status)
 	}
 }
@@ -606,7 +605,7 @@ func TestNoRoomForList(t *testing.T) {
 	process := trial.StartBy(t, folder, []string{"TMPDIR=" + folder + "/none"}, run)
 	process.Says(server.URL+": it can't be fetched: it can't be stored: ", 1)
 	process.Says("reason=disk", 1)
-	if status := process.End(); status != 0 {
+	if status := process.End(); status != words.Well {
 		t.Error(status)
 	}
 }

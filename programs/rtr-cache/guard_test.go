@@ -16,7 +16,8 @@ import (
 func guarded(t *testing.T, folder string, line ...string) *trial.Process {
 	t.Helper()
 	trial.Write(t, folder+"/f", rows(10))
-	process, _ := started(t, folder, append([]string{"--csv", "f", "--guard", "20%", "--look", "1s"}, line...)...)
+	process, _ := started(t, folder,
+		append([]string{"--csv", "f", "--guard", "20%", "--look", "1s"}, line...)...)
 	process.Says("10 payloads", 1)
 	return process
 }
@@ -48,7 +49,8 @@ func TestHolds(t *testing.T) {
 		process.Signal(hangup)
 		process.Says("it would withdraw 7 of 8 payloads", 2+i)
 	}
-	if status, says := trial.Get(t, health); status != http.StatusServiceUnavailable || !strings.Contains(says, "f: it would") {
+	if status, says := trial.Get(t, health); status != http.StatusServiceUnavailable ||
+		!strings.Contains(says, "f: it would") {
 		t.Error(status, says)
 	}
 	if process.Lines("serial 3") != 0 {
@@ -56,7 +58,10 @@ func TestHolds(t *testing.T) {
 	}
 	trial.Write(t, file, rows(9))
 	process.Says("serial 3: 9 payloads", 1)
-	process.Await("good", func() bool { status, _ := trial.Get(t, health); return status == http.StatusOK })
+	process.Await("good", func() bool {
+		status, _ := trial.Get(t, health)
+		return status == http.StatusOK
+	})
 	trial.Write(t, file, rows(1))
 	process.Says("it would withdraw 8 of 9 payloads", 1)
 }
@@ -91,7 +96,8 @@ func TestPersonDecides(t *testing.T) {
 	file := folder + "/f"
 	process := guarded(t, folder, "--hold", "--guard-time", "1s")
 	trial.Write(t, file, rows(2))
-	process.Says("it would withdraw 8 of 10 payloads, which is more than 20%: held until SIGUSR1, or a start with --force", 1)
+	process.Says("it would withdraw 8 of 10 payloads, which is more than 20%: held until SIGUSR1, "+
+		"or a start with --force", 1)
 	time.Sleep(4 * time.Second)
 	if process.Lines("serial 2") != 0 {
 		t.Error(process.Stderr())
@@ -182,7 +188,8 @@ func TestHoldsAnchor(t *testing.T) {
 			trial.Write(t, file, anchored(format, map[string]int{"apnic": 90, "ripe": 8}))
 			process.Says("serial 2: 98 payloads", 1)
 			trial.Write(t, file, anchored(format, map[string]int{"apnic": 90, "ripe": 6}))
-			process.Says("it would withdraw 2 of 8 items of trust anchor ripe, which is more than 20%: held until", 1)
+			process.Says("it would withdraw 2 of 8 items of trust anchor ripe, "+
+				"which is more than 20%: held until", 1)
 			trial.Write(t, file, anchored(format, map[string]int{"apnic": 91, "ripe": 7}))
 			process.Says("serial 3: 98 payloads", 1)
 		})

@@ -20,11 +20,11 @@ func main() { os.Exit(run(os.Args[1:])) }
 func run(line []string) int {
 	opts, err := arguments(line)
 	if errors.Is(err, words.ErrHelp) {
-		return words.Good
+		return words.Well
 	}
 	if err != nil {
 		fmt.Fprintln(os.Stderr, "rtr-cache:", err)
-		return words.Usage
+		return words.StatusOfLine(err)
 	}
 	log := opts.log.Logger()
 	ctx, stop := signal.NotifyContext(context.Background(), syscall.SIGINT, syscall.SIGTERM)
@@ -40,5 +40,5 @@ func run(line []string) int {
 		log.Error(err)
 		return words.StatusOf(err)
 	}
-	return words.Good
+	return words.Well
 }

@@ -65,7 +65,8 @@ const validators = `{"roas": [
 func TestServesFiles(t *testing.T) {
 	folder := t.TempDir()
 	trial.Write(t, folder+"/a.json", validators)
-	trial.Write(t, folder+"/b.csv", "ASN,IP Prefix,Max Length\nAS64496,192.0.2.0/24,24\nAS64497,198.51.100.0/24,26\n")
+	trial.Write(t, folder+"/b.csv",
+		"ASN,IP Prefix,Max Length\nAS64496,192.0.2.0/24,24\nAS64497,198.51.100.0/24,26\n")
 	if _, err := rtr.NewDataOf([]rtr.VRP{{ASN: 64499}}, 1, 7, 9, rtr.RecommendedTiming); err == nil {
 		t.Fatal("a VRP without a prefix")
 	}
@@ -80,7 +81,8 @@ func TestServesFiles(t *testing.T) {
 	process.Says("4 payloads", 1)
 	const prefixes = "IPv4 prefix 192.0.2.0/24-24 AS64496\nIPv4 prefix 198.51.100.0/24-26 AS64497\n" +
 		"IPv6 prefix 2001:db8::/32-48 AS65551"
-	for version, says := range []string{prefixes, prefixes, prefixes + "\nASPA AS64496 providers AS64510 AS64511"} {
+	all := prefixes + "\nASPA AS64496 providers AS64510 AS64511"
+	for version, says := range []string{prefixes, prefixes, all} {
 		data := fetched(t, address, uint8(version))
 		if lines(data) != says || int(data.Version()) != version {
 			t.Errorf("version %d has\n%s", data.Version(), lines(data))
@@ -90,7 +92,7 @@ func TestServesFiles(t *testing.T) {
 			t.Error(data.Timing())
 		}
 	}
-	if status := process.End(); status != 0 {
+	if status := process.End(); status != words.Well {
 		t.Error(status)
 	}
 }
@@ -99,7 +101,8 @@ func TestServesFiles(t *testing.T) {
 func TestContradiction(t *testing.T) {
 	folder := t.TempDir()
 	trial.Write(t, folder+"/a", validators)
-	trial.Write(t, folder+"/b", `{"roas": [], "aspas": [{"customer_asid": 64496, "providers": [64512]}]}`)
+	trial.Write(t, folder+"/b",
+		`{"roas": [], "aspas": [{"customer_asid": 64496, "providers": [64512]}]}`)
 	process, _ := started(t, folder, "--json", "a", "--json", "b")
 	process.Says("AS64496 providers AS64512", 1)
 	if process.Lines("session") != 0 {
@@ -222,7 +225,7 @@ func TestWrongWords(t *testing.T) {
 		{"--csv f --csv f", "--csv: f is given twice"},
 		{"--csv f --nothing", `unknown option "--nothing"`},
 		{"--csv f -x", `unknown option "-x"`},
-		{"--csv f --help", `unknown option "--help"`},
+		{"--csv f --help", "--help has to stand alone"},
 		{"--csv f --force=yes", "--force takes no argument"},
 		{"--csv f --guard 101%", `--guard: "101%" isn't a share`},
 		{"--csv f --guard half", `--guard: "half" isn't a share`},
@@ -240,9 +243,20 @@ func TestWrongWords(t *testing.T) {
 			"retry time"},
 		{"--csv f --listen 3323", `--listen: "3323" isn't ADDRESS:PORT`},
 		{"--csv f --listen quic:1.2.3.4:5", `--listen: "quic:1.2.3.4:5" isn't ADDRESS:PORT`},
+		{"--csv f --listen tls:[::]:70000", `--listen: "tls:[::]:70000" isn't ADDRESS:PORT`},
 		{"--csv f --metrics 9", `--metrics: "9" isn't ADDRESS:PORT`},
+		{"--csv f --metrics [::]:-1", `--metrics: "[::]:-1" isn't ADDRESS:PORT`},
 		{"--csv f --max-clients 0", `--max-clients: "0" isn't a number`},
+		{"--csv f --max-clients 99999999999", `"99999999999" isn't a number from 1 to 2147483647`},
 		{"--csv f --state a --state b", "--state: it is given twice"},
+		{"--csv f --refresh 60 --refresh 120", "--refresh: it is given twice"},
+		{"--csv f --max-clients 2 --max-clients=3", "--max-clients: it is given twice"},
+		{"--csv f --look 1s --look 2s", "--look: it is given twice"},
+		{"--csv f --guard 10% --hold --guard 20%", "--guard: it is given twice"},
+		{"--csv f --log-level error --log-level debug", "--log-level: it is given twice"},
+		{"--csv f --fetch-limit 2 --fetch-limit 3", "--fetch-limit: it is given twice"},
+		{"--csv f --fetch-ca ca", "--fetch-ca needs a list by URL: http://HOST/PATH or https://HOST/PATH"},
+		{"--sequence f --json ./https:f --fetch-ca ca", "--fetch-ca needs a list by URL"},
 		{"--csv f --tls-cert a", "--tls-cert and --tls-key need each other"},
 		{"--csv f --tls-client-ca a", "--tls-client-ca needs"},
 		{"--csv f --ssh-host-key a", "--ssh-host-key and --ssh-routers need each other"},
@@ -250,11 +264,7 @@ func TestWrongWords(t *testing.T) {
 		{"--csv f --log-level panic", `--log-level: "panic" is none of debug, info, warning and error`},
 	} {
 		process := trial.Start(t, folder, strings.Fields(row.words)...)
-		status, stderr := process.Status(), process.Stderr()
-		if status != 2 || strings.Count(stderr, "\n") != 1 || !strings.Contains(stderr, row.says) ||
-			!strings.HasPrefix(stderr, "rtr-cache: ") || process.Output() != "" {
-			t.Errorf("%q: status %d, %s", row.words, status, stderr)
-		}
+		process.Refuses(words.Usage, "rtr-cache: ", row.says)
 	}
 }
 
@@ -269,22 +279,28 @@ func TestWrongPlaces(t *testing.T) {
 		words, says string
 		status      int
 	}{
-		{"--listen " + address, address + ": bind: address already in use", words.System},
-		{"--listen nowhere.invalid:3323", "nowhere.invalid", words.System},
-		{"--listen 127.0.0.1:0 --metrics " + address, address + ": bind: address already in use", words.System},
-		{"--listen 127.0.0.1:0 --state taken", "taken: another cache uses this folder", words.Failed},
-		{"--listen 127.0.0.1:0 --state f", "f/lock: not a directory", words.System},
-		{"--listen 127.0.0.1:0 --state a/b", "a/b: no such file or directory", words.System},
-		{"--listen tls:127.0.0.1:0", "TLS needs --tls-cert and --tls-key", words.Failed},
-		{"--listen tls:127.0.0.1:0 --tls-cert none --tls-key file", "none: no such file", words.System},
-		{"--listen tls:127.0.0.1:0 --tls-cert file --tls-key file", "file with file: ", words.Failed},
-		{"--listen ssh:127.0.0.1:0", "SSH needs --ssh-host-key and --ssh-routers", words.Failed},
-		{"--listen ssh:127.0.0.1:0 --ssh-host-key none --ssh-routers file", "none: no such file", words.System},
-		{"--listen ssh:127.0.0.1:0 --ssh-host-key file --ssh-routers file", "file: ssh: no key found", words.Failed},
+		{"--listen " + address, address + ": bind: address already in use", words.Failed},
+		{"--listen nowhere.invalid:3323", "nowhere.invalid", words.Failed},
+		{"--listen 127.0.0.1:unknown-name", "unknown-name", words.Failed},
+		{"--listen 127.0.0.1:0 --metrics " + address, address + ": bind: address already in use", words.Failed},
+		{"--listen 127.0.0.1:0 --metrics 127.0.0.1:unknown-name", "unknown-name", words.Failed},
+		{"--listen 127.0.0.1:0 --state taken", "taken: another cache uses this folder", words.Refused},
+		{"--listen 127.0.0.1:0 --state f", "f/lock: not a directory", words.Failed},
+		{"--listen 127.0.0.1:0 --state a/b", "a/b: no such file or directory", words.Failed},
+		{"--listen tls:127.0.0.1:0", "TLS needs --tls-cert and --tls-key", words.Refused},
+		{"--listen tls:127.0.0.1:0 --tls-cert none --tls-key file", "none: no such file", words.Failed},
+		{"--listen tls:127.0.0.1:0 --tls-cert file --tls-key file", "file with file: ", words.Refused},
+		{"--listen ssh:127.0.0.1:0", "SSH needs --ssh-host-key and --ssh-routers", words.Refused},
+		{"--listen 127.0.0.1:0 --tls-cert file --tls-key file", "--tls-cert needs --listen tls:", words.Refused},
+		{"--listen 127.0.0.1:0 --ssh-host-key file --ssh-routers file", "--ssh-host-key needs --listen ssh:",
+			words.Refused},
+		{"--listen ssh:127.0.0.1:0 --ssh-host-key none --ssh-routers file", "none: no such file", words.Failed},
+		{"--listen ssh:127.0.0.1:0 --ssh-host-key file --ssh-routers file", "file: ssh: no key found", words.Refused},
 	} {
 		process := trial.Start(t, folder, append([]string{"--csv", "f"}, strings.Fields(row.words)...)...)
 		status, stderr := process.Status(), process.Stderr()
-		if status != row.status || !strings.Contains(stderr, row.says) || process.Lines("level=error") != 1 {
+		if status != row.status || !strings.Contains(stderr, row.says) ||
+			process.Lines("level=error") != 1 {
 			t.Errorf("%q: status %d, %s", row.words, status, stderr)
 		}
 	}

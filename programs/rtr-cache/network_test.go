@@ -49,7 +49,8 @@ func TestTLS(t *testing.T) {
 	ours.Save(folder + "/ca")
 	first := ours.Issue("127.0.0.1")
 	trial.Save(t, first, folder+"/cert", folder+"/key")
-	line := []string{"--csv", "f", "--listen", "tls:127.0.0.1:0", "--tls-cert", "cert", "--tls-key", "key",
+	line := []string{"--csv", "f", "--listen", "tls:127.0.0.1:0", "--tls-cert", "cert",
+		"--tls-key", "key",
 		"--tls-client-ca", "ca"}
 	process := trial.Start(t, folder, line...)
 	process.Says("3 payloads", 1)
@@ -89,7 +90,8 @@ func TestTLS(t *testing.T) {
 	}
 	process = trial.Start(t, folder, append(line, "--tls-any-address")...)
 	process.Says("3 payloads", 1)
-	config := &tls.Config{RootCAs: ours.Pool(), Certificates: []tls.Certificate{ours.Issue("192.0.2.1")}}
+	config := &tls.Config{RootCAs: ours.Pool(),
+		Certificates: []tls.Certificate{ours.Issue("192.0.2.1")}}
 	if _, err := overTLS(process.After("listening at "), config); err != nil {
 		t.Error(err)
 	}
@@ -111,7 +113,8 @@ func serverCertificate(t *testing.T, address string, config *tls.Config) *x509.C
 func TestLimits(t *testing.T) {
 	folder := t.TempDir()
 	trial.Write(t, folder+"/f", rows(3))
-	for option, address := range map[string]string{"--max-clients": "[::1]:0", "--max-per-address": "127.0.0.1:0"} {
+	listens := map[string]string{"--max-clients": "[::1]:0", "--max-per-address": "127.0.0.1:0"}
+	for option, address := range listens {
 		process := trial.Start(t, folder, "--csv", "f", "--listen", address, option, "2")
 		process.Says("3 payloads", 1)
 		at := process.After("listening at ")
@@ -144,7 +147,8 @@ func TestLimits(t *testing.T) {
 // asked sends a reset query over a connection, and returns the data of the answer.
 func asked(t *testing.T, connection net.Conn) rtr.Data {
 	t.Helper()
-	if err := rtr.NewWriter(connection).Write(&rtr.Unit{Kind: rtr.ResetQuery, Version: 1}); err != nil {
+	query := &rtr.Unit{Kind: rtr.ResetQuery, Version: 1}
+	if err := rtr.NewWriter(connection).Write(query); err != nil {
 		t.Fatal(err)
 	}
 	reader := rtr.NewReader(connection)
@@ -233,7 +237,8 @@ func TestMetrics(t *testing.T) {
 func TestSystemd(t *testing.T) {
 	folder := t.TempDir()
 	trial.Write(t, folder+"/f", rows(3))
-	socket, err := net.ListenUnixgram("unixgram", &net.UnixAddr{Name: folder + "/notify", Net: "unixgram"})
+	socket, err := net.ListenUnixgram("unixgram",
+		&net.UnixAddr{Name: folder + "/notify", Net: "unixgram"})
 	if err != nil {
 		t.Fatal(err)
 	}
@@ -260,7 +265,7 @@ func TestSystemd(t *testing.T) {
 	process.Signal(hangup)
 	awaitNotify(t, socket, "RELOADING=1")
 	awaitNotify(t, socket, "READY=1")
-	if status := process.End(); status != 0 {
+	if status := process.End(); status != words.Well {
 		t.Error(status)
 	}
 	awaitNotify(t, socket, "STOPPING=1")
@@ -278,7 +283,8 @@ type everywhere struct {
 // addresses.
 func reachable(t *testing.T, folder string) everywhere {
 	t.Helper()
-	e := everywhere{folder, trial.NewAuthority(t), trial.Reserved(t), trial.Reserved(t), trial.Reserved(t)}
+	e := everywhere{folder, trial.NewAuthority(t), trial.Reserved(t), trial.Reserved(t),
+		trial.Reserved(t)}
 	trial.Save(t, e.authority.Issue("127.0.0.1"), folder+"/cert", folder+"/key")
 	trial.Write(t, folder+"/routers", trial.ECDSA.Save(t, folder+"/router"))
 	host := trial.ECDSA.Save(t, folder+"/host")
@@ -327,7 +333,7 @@ func TestSocketActivation(t *testing.T) {
 	dialed(t, e.plain).Close() // at which the cache is started
 	process.Says("3 payloads", 1)
 	e.checkPayloads(t, 3)
-	if status := process.End(); status != 0 {
+	if status := process.End(); status != words.Well {
 		t.Error(status)
 	}
 }

@@ -3,7 +3,6 @@ package main
 import (
 	"errors"
 	"fmt"
-	"net"
 	"time"
 
 	"fishreef/programs/internal/fetch"
@@ -18,19 +17,19 @@ import (
 func (o *options) ofFiles() []words.Option {
 	return []words.Option{
 		{
-			Name: "json", Argument: "FILE|URL",
-			Help: "Serve this JSON file, or the one at this http or https URL, as\n" +
+			Name: "json", Argument: "FILE|URL", Repeats: true,
+			Help: "Serve this JSON file, or the one at this http or https URL, as " +
 				"validators print it; several are merged",
 			Set: o.file(payloads.JSON),
 		},
 		{
-			Name: "csv", Argument: "FILE|URL",
+			Name: "csv", Argument: "FILE|URL", Repeats: true,
 			Help: "Serve this CSV file: an AS number, a prefix and a max length",
 			Set:  o.file(payloads.CSV),
 		},
 		{
-			Name: "sequence", Argument: "FILE|URL",
-			Help: "Serve this recording, or list of units (PDUs) as rtr_make\n" +
+			Name: "sequence", Argument: "FILE|URL", Repeats: true,
+			Help: "Serve this recording, or list of units (PDUs) as rtr_make " +
 				"writes it",
 			Set: o.file(payloads.Sequence),
 		},
@@ -43,7 +42,7 @@ func (o *options) ofData() []words.Option {
 	return []words.Option{
 		{
 			Name: "state", Argument: "FOLDER",
-			Help: "Save session, serial number and changes in this folder for a\n" +
+			Help: "Save session, serial number and changes in this folder for a " +
 				"restart",
 			Set: words.Text(&s.State),
 		},
@@ -66,7 +65,7 @@ func (o *options) ofGuard() []words.Option {
 	return []words.Option{
 		{
 			Name: "guard", Argument: "SHARE",
-			Help: "Hold a file that withdraws more than this share of the\n" +
+			Help: "Hold a file that withdraws more than this share of the " +
 				"payloads, of a kind, or of a trust anchor (default 50%)",
 			Set: func(share string) (err error) {
 				s.Rules.Guard, err = trust.ParseShare(share)
@@ -75,7 +74,7 @@ func (o *options) ofGuard() []words.Option {
 		},
 		{
 			Name: "guard-time", Argument: "TIME",
-			Help: "Accept a held file, or a clock that was set, once it has stayed\n" +
+			Help: "Accept a held file, or a clock that was set, once it has stayed " +
 				"the same for this time (default 5m)",
 			Set: words.Wait(&s.Rules.Quiet, time.Second),
 		},
@@ -86,7 +85,7 @@ func (o *options) ofGuard() []words.Option {
 		},
 		{
 			Name: "force",
-			Help: "Accept the first list of each file after the start, however\n" +
+			Help: "Accept the first list of each file after the start, however " +
 				"much it withdraws",
 			Set: words.Yes(&s.Force),
 		},
@@ -123,8 +122,8 @@ func (o *options) ofSockets() []words.Option {
 	s := &o.settings
 	return []words.Option{
 		{
-			Name: "listen", Argument: "ADDRESS",
-			Help: "Listen at this ADDRESS:PORT for TCP, or for TLS or SSH with\n" +
+			Name: "listen", Argument: "ADDRESS", Repeats: true,
+			Help: "Listen at this ADDRESS:PORT for TCP, or for TLS or SSH with " +
 				"tls: or ssh: before it; may be repeated (default :3323)",
 			Set: func(address string) error {
 				parsed, err := transport.ParseAddress(address)
@@ -151,7 +150,7 @@ func (o *options) ofTLS() []words.Option {
 		},
 		{
 			Name: "tls-client-ca", Argument: "FILE",
-			Help: "Require a certificate from routers, by one of these authorities,\n" +
+			Help: "Require a certificate from routers, by one of these authorities, " +
 				"that names their address",
 			Set: words.Text(&s.TLS.ClientCA),
 		},
@@ -196,7 +195,7 @@ func (o *options) ofLimits() []words.Option {
 		},
 		{
 			Name: "refuse",
-			Help: "Send an error report instead of a cache reset to a router with\n" +
+			Help: "Send an error report instead of a cache reset to a router with " +
 				"unknown data",
 			Set: words.Yes(&s.Refuse),
 		},
@@ -209,14 +208,9 @@ func (o *options) ofReports() []words.Option {
 	return []words.Option{
 		{
 			Name: "metrics", Argument: "ADDRESS",
-			Help: "Serve /metrics for Prometheus, /health and /clients at this\n" +
+			Help: "Serve /metrics for Prometheus, /health and /clients at this " +
 				"ADDRESS:PORT by HTTP",
-			Set: func(address string) error {
-				if _, _, err := net.SplitHostPort(address); err != nil {
-					return fmt.Errorf("%q isn't ADDRESS:PORT", address)
-				}
-				return words.Text(&s.Metrics)(address)
-			},
+			Set: words.Address(&s.Metrics),
 		},
 	}
 }
@@ -227,13 +221,9 @@ func (o *options) file(format payloads.Format) func(string) error {
 		if path == "" {
 			return errors.New("it is empty")
 		}
-		file := payloads.File{Format: format, Path: path}
-		if fetch.IsURL(path) {
-			at, err := fetch.Parse(path)
-			if err != nil {
-				return err
-			}
-			file.URL, file.Path = at, at.Redacted()
+		file, err := fetch.FileOf(format, path)
+		if err != nil {
+			return err
 		}
 		for _, other := range o.settings.Files {
 			if other.Path == file.Path {

@@ -6,6 +6,7 @@ import (
 	"testing"
 
 	"fishreef/programs/internal/trial"
+	"fishreef/programs/internal/words"
 	"fishreef/rtr"
 )
 
@@ -42,8 +43,8 @@ func injectedAt(t *testing.T, folder, path, injection string) *trial.Process {
 	return trial.StartBy(t, folder, nil, run)
 }
 
-// withState returns a folder with a list of 201 payloads and the state of a cache that served 200 of
-// them, and the data of that cache.
+// withState returns a folder with a list of 201 payloads and the state of a cache that served 200
+// of them, and the data of that cache.
 func withState(t *testing.T) (folder string, first rtr.Data) {
 	t.Helper()
 	folder = t.TempDir()
@@ -129,21 +130,21 @@ func TestStartNeedsSync(t *testing.T) {
 	withStrace(t)
 	folder, _ := withState(t)
 	process := injected(t, folder, "", "fsync:error=EIO")
-	if status := process.Status(); status != 3 || process.Lines("payloads") > 0 ||
+	if status := process.Status(); status != words.Failed || process.Lines("payloads") > 0 ||
 		process.Lines("input/output error") != 1 {
 		t.Error(status, process.Stderr())
 	}
 }
 
-// A cache that creates its state folder, but can't sync the folder above, serves nothing: a power cut
-// could take the state away. It syncs that again at a start as long as nothing is saved.
+// A cache that creates its state folder, but can't sync the folder above, serves nothing: a power
+// cut could take the state away. It syncs that again at a start as long as nothing is saved.
 func TestNewFolderIsSynced(t *testing.T) {
 	withStrace(t)
 	folder := t.TempDir()
 	trial.Write(t, folder+"/f", rows(3))
 	for i := 0; i < 2; i++ {
 		process := injectedAt(t, folder, folder, "fsync:error=EIO")
-		if status := process.Status(); status != 3 || process.Lines("payloads") > 0 ||
+		if status := process.Status(); status != words.Failed || process.Lines("payloads") > 0 ||
 			process.Lines("input/output error") != 1 {
 			t.Error(status, process.Stderr())
 		}
@@ -194,8 +195,8 @@ func TestEachCallFails(t *testing.T) {
 	}
 }
 
-// A cache whose folder can't be synced has replaced its file all the same, and serves nothing of it.
-// The next start serves what the file has, once the folder is synced, or newer data.
+// A cache whose folder can't be synced has replaced its file all the same, and serves nothing of
+// it. The next start serves what the file has, once the folder is synced, or newer data.
 func TestFileMayBeReplaced(t *testing.T) {
 	withStrace(t)
 	folder := t.TempDir()

@@ -38,7 +38,8 @@ func TestSequences(t *testing.T) {
 		{"with its query", resetQuery + response + announced + end("\x07"), first},
 		{
 			"two answers",
-			response + announced + end("\x07") + serialQuery + response + other + withdrawn + end("\x08"), second,
+			response + announced + end("\x07") + serialQuery + response + other + withdrawn +
+				end("\x08"), second,
 		},
 	} {
 		trial.Write(t, folder+"/f", c.units)

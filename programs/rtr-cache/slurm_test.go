@@ -20,7 +20,8 @@ func TestSlurm(t *testing.T) {
 	trial.Write(t, folder+"/f", "AS1,10.0.0.0/16,16\nAS2,10.1.0.0/16,16\n")
 	trial.Write(t, folder+"/g", "AS1,192.0.2.0/24,24\nAS3,10.2.0.0/16,16\n")
 	trial.Write(t, folder+"/s", slurm(`{"asn": 1}`, `{"asn": 1, "prefix": "198.51.100.0/24"}`))
-	process, address := started(t, folder, "--csv", "f", "--csv", "g", "--slurm", "s", "--guard", "100%")
+	process, address := started(t, folder, "--csv", "f", "--csv", "g", "--slurm", "s",
+		"--guard", "100%")
 	process.Says("serial 1: 3 payloads", 1)
 	const first = "IPv4 prefix 10.1.0.0/16-16 AS2\nIPv4 prefix 10.2.0.0/16-16 AS3\n" +
 		"IPv4 prefix 198.51.100.0/24-24 AS1"

@@ -23,12 +23,14 @@ func startedSSH(t *testing.T, keys trial.Keys) (process *trial.Process, address,
 	trial.Write(t, folder+"/routers", "# routers\n"+keys.Save(t, folder+"/router")+"\n"+
 		keys.Save(t, folder+"/second")+"\n\n# the last one\n"+keys.Save(t, folder+"/third")+"\n")
 	keys.Save(t, folder+"/stranger")
-	process = trial.Start(t, folder, "--csv", "f", "--listen", "ssh:127.0.0.1:0", "--ssh-host-key", "host",
+	process = trial.Start(t, folder, "--csv", "f", "--listen", "ssh:127.0.0.1:0",
+		"--ssh-host-key", "host",
 		"--ssh-routers", "routers", "--metrics", "127.0.0.1:0")
 	process.Says("3 payloads", 1)
 	address = process.After("listening at ")
 	trial.Write(t, folder+"/known", "["+strings.Replace(address, ":", "]:", 1)+" "+host)
-	trial.Write(t, folder+"/others", "["+strings.Replace(address, ":", "]:", 1)+" "+keys.Save(t, folder+"/other"))
+	trial.Write(t, folder+"/others",
+		"["+strings.Replace(address, ":", "]:", 1)+" "+keys.Save(t, folder+"/other"))
 	return process, address, folder
 }
 
@@ -133,8 +135,9 @@ func byOpenSSH(t *testing.T, keys trial.Keys) {
 	}
 	ctx, cancel := context.WithTimeout(context.Background(), trial.Wait)
 	defer cancel()
-	run := exec.CommandContext(ctx, path, "-F", "none", "-p", port, "-i", folder+"/router", "-o", "BatchMode=yes",
-		"-o", "IdentitiesOnly=yes", "-o", "UserKnownHostsFile="+folder+"/known", "-l", "rpki", "-s", host, transport.Subsystem)
+	run := exec.CommandContext(ctx, path, "-F", "none", "-p", port, "-i", folder+"/router",
+		"-o", "BatchMode=yes", "-o", "IdentitiesOnly=yes",
+		"-o", "UserKnownHostsFile="+folder+"/known", "-l", "rpki", "-s", host, transport.Subsystem)
 	run.Stdin = bytes.NewReader([]byte{1, 2, 0, 0, 0, 0, 0, 8})
 	var stderr bytes.Buffer
 	run.Stderr = &stderr

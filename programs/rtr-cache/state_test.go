@@ -123,7 +123,8 @@ func TestTornState(t *testing.T) {
 		trial.Write(t, editions, text)
 		process, address := started(t, folder, "--csv", "f", "--state", "state")
 		process.Says("f: session", 1)
-		if process.Lines("state/editions: the saved file is damaged: the data need a new session; it is now state/editions.refused") != 1 {
+		if process.Lines("state/editions: the saved file is damaged: the data need a new session; "+
+			"it is now state/editions.refused") != 1 {
 			t.Errorf("%s: %s", name, process.Stderr())
 		}
 		if data := fetched(t, address, 2); data.Serial() != 1 || data.Len() != 3 {
@@ -188,7 +189,8 @@ func TestKilled(t *testing.T) {
 	trial.Write(t, file, rows(count))
 	var last rtr.Data
 	for turn := 0; turn < 30; turn++ {
-		process, address := started(t, folder, "--csv", "f", "--state", "state", "--max-per-address", "1000")
+		process, address := started(t, folder, "--csv", "f", "--state", "state",
+			"--max-per-address", "1000")
 		process.Says("payloads", 1)
 		got := polled(address)
 		count++

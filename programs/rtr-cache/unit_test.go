@@ -7,6 +7,7 @@ import (
 	"testing"
 
 	"fishreef/programs/internal/trial"
+	"fishreef/programs/internal/words"
 )
 
 // unitFile is the path of systemd's unit, relative to this test.
@@ -55,14 +56,14 @@ func allowed(t *testing.T) string {
 			}
 		}
 	}
-	var words []string
+	var filter []string
 	for name := range left {
-		words = append(words, "?"+name)
+		filter = append(filter, "?"+name)
 	}
-	if len(words) < 100 {
-		t.Fatalf("only %d calls are left: %s", len(words), words)
+	if len(filter) < 100 {
+		t.Fatalf("only %d calls are left: %s", len(filter), filter)
 	}
-	return strings.Join(words, ",")
+	return strings.Join(filter, ",")
 }
 
 // Under the unit file's filter of calls, which strace stands in for, all transports, metrics, the
@@ -96,7 +97,7 @@ func TestUnitFilter(t *testing.T) {
 	}
 	process.Signal(hangup)
 	process.Says("f: nothing changed", 1)
-	if status := process.End(); status != 0 {
+	if status := process.End(); status != words.Well {
 		t.Error(status)
 	}
 	traced, err := os.ReadFile(folder + "/calls")

@@ -24,8 +24,8 @@ func blocks(t *testing.T, folder string) (ends func()) {
 	}
 }
 
-// replaces puts a folder in the place of the file of the state, which can't be replaced, and returns
-// the function that ends that.
+// replaces puts a folder in the place of the file of the state, which can't be replaced, and
+// returns the function that ends that.
 func replaces(t *testing.T, folder string) (ends func()) {
 	t.Helper()
 	had, aside := folder+"/state/editions", folder+"/state/aside"
@@ -64,7 +64,8 @@ func unhealthy(t *testing.T, metrics string) {
 	}
 	_, says = trial.Get(t, metrics+"/metrics")
 	for _, line := range []string{
-		"rtr_cache_healthy 0\n", "rtr_cache_unhealthy{reason=\"unsaved\"} 1\n", "rtr_cache_unsaved_total 1\n",
+		"rtr_cache_healthy 0\n", "rtr_cache_unhealthy{reason=\"unsaved\"} 1\n",
+		"rtr_cache_unsaved_total 1\n",
 		"rtr_cache_serial 1\n",
 	} {
 		if !strings.Contains(says, line) {
@@ -106,7 +107,10 @@ func TestUnsavedState(t *testing.T) {
 			process.Says("state: the data are saved again", 1)
 			process.Says("serial 2: 5 payloads, 2 announced", 1)
 			leads(t, address, first, fetched(t, address, 2))
-			process.Await("good", func() bool { status, _ := trial.Get(t, metrics+"/health"); return status == http.StatusOK })
+			process.Await("good", func() bool {
+				status, _ := trial.Get(t, metrics+"/health")
+				return status == http.StatusOK
+			})
 			process.Kill()
 			process, address = started(t, folder, "--csv", "f", "--state", "state")
 			process.Says("f: nothing changed", 1)
@@ -150,7 +154,8 @@ func TestFirstDataUnsaved(t *testing.T) {
 	process, address := started(t, folder, "--csv", "f", "--state", "state", "--look", "1s")
 	process.Says(refusesUnsaved, 2)
 	connection := dialed(t, address)
-	if err := rtr.NewWriter(connection).Write(&rtr.Unit{Kind: rtr.ResetQuery, Version: 2}); err != nil {
+	query := &rtr.Unit{Kind: rtr.ResetQuery, Version: 2}
+	if err := rtr.NewWriter(connection).Write(query); err != nil {
 		t.Fatal(err)
 	}
 	report, err := rtr.NewReader(connection).Next()
@@ -176,7 +181,8 @@ func TestEndedReader(t *testing.T) {
 	if err != nil {
 		t.Skip("no rtr_make here")
 	}
-	script := "#!/bin/sh\nif [ -e " + folder + "/ends ]; then echo some text >&2; kill -9 $$; fi\nexec " + reader + ` "$@"` + "\n"
+	script := "#!/bin/sh\nif [ -e " + folder +
+		"/ends ]; then echo some text >&2; kill -9 $$; fi\nexec " + reader + ` "$@"` + "\n"
 	if err := os.MkdirAll(folder+"/bin", 0o700); err != nil {
 		t.Fatal(err)
 	}

@@ -3,13 +3,13 @@ package main
 import (
 	"errors"
 	"fmt"
-	"net"
 	"net/netip"
 	"os"
 	"strconv"
 	"strings"
 
 	"fishreef/programs/internal/beside"
+	"fishreef/programs/internal/payloads"
 	"fishreef/programs/internal/transport"
 	"fishreef/programs/internal/words"
 	"fishreef/rtr"
@@ -21,7 +21,7 @@ type route struct{ prefix, asn string }
 // options is the content of the command line.
 type options struct {
 	addresses  []string
-	version    int
+	version    uint8
 	json, once bool
 	times      bool     // lines have their time and cache
 	outPath    string   // a file; "" for none
@@ -37,7 +37,7 @@ type options struct {
 
 // arguments parses a command line.
 func arguments(line []string) (*options, error) {
-	o := &options{version: 2}
+	o := &options{version: payloads.Version}
 	program := words.Program{
 		Name:     "rtr-client",
 		Sentence: "follow the data of RTR caches",
@@ -55,7 +55,7 @@ protocol (RFC 6810, RFC 8210), and prints what is announced and withdrawn.`,
 
 // address parses the address of the next cache.
 func (o *options) address(word string) error {
-	if _, _, err := net.SplitHostPort(word); err != nil {
+	if !words.IsAddress(word) {
 		return fmt.Errorf("%q isn't HOST:PORT", word)
 	}
 	for _, before := range o.addresses {
@@ -67,29 +67,23 @@ func (o *options) address(word string) error {
 	return nil
 }
 
-// protocol parses the version of the protocol.
-func (o *options) protocol(text string) error {
-	version, err := strconv.ParseUint(text, 10, 8)
-	if err != nil || version > 2 {
-		return fmt.Errorf("%q isn't a version: 0, 1 or 2", text)
-	}
-	o.version = int(version)
-	return nil
-}
-
 // route parses the next route to validate.
 func (o *options) route(text string) error {
-	words := strings.Fields(text)
-	if len(words) != 2 {
+	parts := strings.Fields(text)
+	if len(parts) != 2 {
 		return fmt.Errorf("%q isn't a prefix and an AS number", text)
 	}
-	if _, err := netip.ParsePrefix(words[0]); err != nil {
-		return fmt.Errorf("%q isn't a prefix", words[0])
+	prefix, err := netip.ParsePrefix(parts[0])
+	if err != nil {
+		return fmt.Errorf("%q isn't a prefix", parts[0])
 	}
-	if _, err := strconv.ParseUint(strings.TrimPrefix(words[1], "AS"), 10, 32); err != nil {
-		return fmt.Errorf("%q isn't an AS number", words[1])
+	if prefix != prefix.Masked() {
+		return fmt.Errorf("%q has host bits", parts[0])
 	}
-	o.routes = append(o.routes, route{words[0], words[1]})
+	if _, err := strconv.ParseUint(strings.TrimPrefix(parts[1], "AS"), 10, 32); err != nil {
+		return fmt.Errorf("%q isn't an AS number", parts[1])
+	}
+	o.routes = append(o.routes, route{parts[0], parts[1]})
 	return nil
 }
 
@@ -108,6 +102,8 @@ func (o *options) check() (err error) {
 		return errors.New("--tls and --ssh exclude each other")
 	case o.ssh.Partial():
 		return errors.New("--ssh, --ssh-key and --ssh-known-hosts need each other")
+	case o.json && o.outPath != "" && len(o.routes) == 0:
+		return errors.New("--json with --out needs --validate, since no changes are printed")
 	}
 	if o.outPath != "" {
 		o.out, err = newOutFile(o.outPath)

@@ -7,6 +7,7 @@ import (
 	"testing"
 
 	"fishreef/programs/internal/trial"
+	"fishreef/programs/internal/words"
 )
 
 // On a terminal an announcement is green, unless the environment has NO_COLOR or a terminal without
@@ -29,14 +30,14 @@ func TestColours(t *testing.T) {
 		{"NO_COLOR= TERM=xterm", "--json", `"kind":"ipv4_prefix","action":"announce"`},
 		{"NO_COLOR= TERM=xterm", "| cat", line},
 	} {
-		words := "exec"
+		prefix := "exec"
 		if strings.HasPrefix(c.options, "|") {
-			words = ""
+			prefix = ""
 		}
-		command := c.environment + " " + words + " " + os.Args[0] + " --once " + address + " " + c.options
+		command := c.environment + " " + prefix + " " + os.Args[0] + " --once " + address + " " + c.options
 		on := trial.StartBy(t, t.TempDir(), nil, exec.Command(script, "-qec", command, "/dev/null"))
 		status, output := on.Status(), on.Output()
-		if status != 0 || !strings.Contains(output, c.shows) ||
+		if status != words.Well || !strings.Contains(output, c.shows) ||
 			strings.Contains(output, "\x1b[") != strings.Contains(c.shows, "\x1b[") {
 			t.Errorf("%s %s: status %d, %q", c.environment, c.options, status, output)
 		}

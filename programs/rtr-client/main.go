@@ -21,11 +21,11 @@ func main() { os.Exit(run(os.Args[1:])) }
 func run(line []string) int {
 	opts, err := arguments(line)
 	if errors.Is(err, words.ErrHelp) {
-		return words.Good
+		return words.Well
 	}
 	if err != nil {
 		say(err)
-		return words.Usage
+		return words.StatusOfLine(err)
 	}
 	ctx, stop := signal.NotifyContext(context.Background(), syscall.SIGINT, syscall.SIGTERM)
 	defer stop()
@@ -35,7 +35,7 @@ func run(line []string) int {
 		say(err)
 		return words.StatusOf(err)
 	}
-	return words.Good
+	return words.Well
 }
 
 // follows follows the caches until the context ends, or with --once until there are data.

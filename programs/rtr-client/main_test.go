@@ -62,9 +62,13 @@ var when = regexp.MustCompile(`20\d\d-\d\d-\d\dT\d\d:\d\d:\d\dZ`)
 // Changes are printed as lines or as JSON, as they come. JSON always has their time and cache, and
 // lines do with --times.
 func TestPrintsChanges(t *testing.T) {
-	const added, gone = "IPv6 prefix 2001:db8::/32-32 AS64496\n", "IPv4 prefix 192.0.2.0/24-26 AS64496\n"
+	const added = "IPv6 prefix 2001:db8::/32-32 AS64496\n"
+	const gone = "IPv4 prefix 192.0.2.0/24-26 AS64496\n"
+	const ipv4 = `"prefix":"192.0.2.0","prefix_length":24,"max_length":26,"asn":64496`
+	const ipv6 = `"prefix":"2001:db8::","prefix_length":32,"max_length":32,"asn":64496`
 	object := func(serial int, rest string) string {
-		return fmt.Sprintf(`{"time":"TIME","cache":"CACHE","session_id":7,"serial_number":%d,%s}`+"\n", serial, rest)
+		return fmt.Sprintf(`{"time":"TIME","cache":"CACHE","session_id":7,"serial_number":%d,%s}`+"\n",
+			serial, rest)
 	}
 	for option, says := range map[string][2]string{
 		"--version=1": {"+ " + gone, "+ " + added + "- " + gone},
@@ -73,9 +77,9 @@ func TestPrintsChanges(t *testing.T) {
 			"TIME CACHE session 7 serial 2: + " + added + "TIME CACHE session 7 serial 2: - " + gone,
 		},
 		"--json": {
-			object(1, `"kind":"ipv4_prefix","action":"announce","prefix":"192.0.2.0","prefix_length":24,"max_length":26,"asn":64496`),
-			object(2, `"kind":"ipv6_prefix","action":"announce","prefix":"2001:db8::","prefix_length":32,"max_length":32,"asn":64496`) +
-				object(2, `"kind":"ipv4_prefix","action":"withdraw","prefix":"192.0.2.0","prefix_length":24,"max_length":26,"asn":64496`),
+			object(1, `"kind":"ipv4_prefix","action":"announce",`+ipv4),
+			object(2, `"kind":"ipv6_prefix","action":"announce",`+ipv6) +
+				object(2, `"kind":"ipv4_prefix","action":"withdraw",`+ipv4),
 		},
 	} {
 		server, address := cached(t, "127.0.0.1:0", data(t, 1, vrp("192.0.2.0/24", 26)))
@@ -98,7 +102,7 @@ func TestPrintsChanges(t *testing.T) {
 				t.Errorf("%s: %s", option, text)
 			}
 		}
-		if status := process.End(); status != 0 {
+		if status := process.End(); status != words.Well {
 			t.Error(status)
 		}
 	}
@@ -111,7 +115,8 @@ func TestStamps(t *testing.T) {
 	if got := none.text() + "- x"; got != "TIME cache:323 no data: - x" {
 		t.Error(got)
 	}
-	if got := none.json(); got != `{"time":"TIME","cache":"cache:323","session_id":null,"serial_number":null,` {
+	const noSerial = `{"time":"TIME","cache":"cache:323","session_id":null,"serial_number":null,`
+	if got := none.json(); got != noSerial {
 		t.Error(got)
 	}
 	_, address := cached(t, "127.0.0.1:0", data(t, 1, vrp("192.0.2.0/24", 26)))
@@ -119,10 +124,11 @@ func TestStamps(t *testing.T) {
 		"--times": "TIME CACHE session 7 serial 1: 192.0.2.0/24 AS64496 valid\n",
 		"--json":  `{"time":"TIME","cache":"CACHE","session_id":7,"serial_number":1,"prefix":"192.0.2.0/24","asn":64496,"state":"valid"`,
 	} {
-		process := trial.Start(t, t.TempDir(), address, option, "--once", "--validate", "192.0.2.0/24", "AS64496")
+		process := trial.Start(t, t.TempDir(), address, option, "--once",
+			"--validate", "192.0.2.0/24", "AS64496")
 		status := process.Status()
 		output := strings.ReplaceAll(when.ReplaceAllString(process.Output(), "TIME"), address, "CACHE")
-		if status != 0 || !strings.HasPrefix(output, expected) || strings.Count(output, "\n") != 1 {
+		if status != words.Well || !strings.HasPrefix(output, expected) || strings.Count(output, "\n") != 1 {
 			t.Errorf("%s: status %d, %s", option, status, output)
 		}
 	}
@@ -138,15 +144,15 @@ func TestOnce(t *testing.T) {
 		status        int
 		says          []string
 	}{
-		{full, "+ IPv4 prefix 192.0.2.0/24-24 AS64496\n", 0, []string{full + ": session 7 serial 1 version 2: 1 payload"}},
-		{empty, "", 1, []string{empty + ": the cache reports an error: No Data Available", "there are no data"}},
-		{nobody, "", 1, []string{nobody + ": dial tcp", "connection refused"}},
+		{full, "+ IPv4 prefix 192.0.2.0/24-24 AS64496\n", words.Well, []string{full + ": session 7 serial 1 version 2: 1 payload"}},
+		{empty, "", words.Refused, []string{empty + ": the cache reports an error: No Data Available", "there are no data"}},
+		{nobody, "", words.Refused, []string{nobody + ": dial tcp", "connection refused"}},
 		{nobody + " " + empty + " " + full, "+ IPv4 prefix 192.0.2.0/24-24 AS64496\n", 0,
 			[]string{nobody + ": dial", empty + ": the cache reports an error", full + ": session 7"}},
 		{full + " --validate 192.0.2.0/25 AS64496",
-			"192.0.2.0/25 AS64496 invalid: 192.0.2.0/24-24 AS64496 (longer than 24)\n", 0, nil},
+			"192.0.2.0/25 AS64496 invalid: 192.0.2.0/24-24 AS64496 (longer than 24)\n", words.Well, nil},
 		{full + " --validate 192.0.2.0/24 64496 --validate 198.51.100.0/24 AS1",
-			"192.0.2.0/24 AS64496 valid\n198.51.100.0/24 AS1 not found\n", 0, nil},
+			"192.0.2.0/24 AS64496 valid\n198.51.100.0/24 AS1 not found\n", words.Well, nil},
 	} {
 		process := trial.Start(t, t.TempDir(), append(strings.Fields(row.words), "--once")...)
 		if status := process.Status(); status != row.status || process.Output() != row.output {
@@ -165,7 +171,8 @@ func TestOnce(t *testing.T) {
 func TestOut(t *testing.T) {
 	server, address := cached(t, "127.0.0.1:0", data(t, 1, vrp("192.0.2.0/24", 26)))
 	folder := t.TempDir()
-	const first, second = `{"prefix":"192.0.2.0/24","maxLength":26,"asn":64496}`, `{"prefix":"2001:db8::/32","maxLength":32,"asn":64496}`
+	const first = `{"prefix":"192.0.2.0/24","maxLength":26,"asn":64496}`
+	const second = `{"prefix":"2001:db8::/32","maxLength":32,"asn":64496}`
 	json := trial.Start(t, folder, address, "--out", "vrps.json")
 	csv := trial.Start(t, folder, address, "--out", "vrps.csv")
 	has := func(file, text string) func() bool {
@@ -204,7 +211,8 @@ func TestRecord(t *testing.T) {
 	folder := t.TempDir()
 	process := trial.Start(t, folder, address, "--version", "1", "--record", "r")
 	process.Says("serial 1", 1)
-	if err := server.Update(data(t, 2, vrp("192.0.2.0/24", 26), vrp("2001:db8::/32", 32))); err != nil {
+	next := data(t, 2, vrp("192.0.2.0/24", 26), vrp("2001:db8::/32", 32))
+	if err := server.Update(next); err != nil {
 		t.Fatal(err)
 	}
 	process.Says("serial 2", 1)
@@ -226,22 +234,24 @@ func TestRecord(t *testing.T) {
 	}
 	var ways []string
 	for _, line := range strings.Split(strings.TrimSpace(string(times)), "\n") {
-		words := strings.Fields(line)
-		at, err := time.Parse(time.RFC3339Nano, words[1])
+		fields := strings.Fields(line)
+		at, err := time.Parse(time.RFC3339Nano, fields[1])
 		if err != nil || time.Since(at) > trial.Wait {
 			t.Error(line, err)
 		}
-		ways = append(ways, words[0]+" "+words[2])
+		ways = append(ways, fields[0]+" "+fields[2])
 	}
 	joined := strings.Join(ways, ",")
-	if !strings.HasPrefix(joined, "0 sent,8 received,") || !strings.Contains(joined, "60 received,72 sent,84 received") {
+	if !strings.HasPrefix(joined, "0 sent,8 received,") ||
+		!strings.Contains(joined, "60 received,72 sent,84 received") {
 		t.Error(joined)
 	}
-	if info, err := os.Stat(folder + "/r.3"); err != nil || info.Size() == 0 || !trial.Same(folder+"/r.2", "of before") {
+	if info, err := os.Stat(folder + "/r.3"); err != nil || info.Size() == 0 ||
+		!trial.Same(folder+"/r.2", "of before") {
 		t.Error(info, err)
 	}
 	process = trial.Start(t, folder, address, "--record", "r", "--once")
-	if status := process.Status(); status != words.System || process.Lines("r: file exists") != 1 {
+	if status := process.Status(); status != words.Failed || process.Lines("r: file exists") != 1 {
 		t.Error(status, process.Stderr())
 	}
 }
@@ -303,10 +313,10 @@ func TestNoPayloads(t *testing.T) {
 		status int
 		output string
 	}{
-		{[]string{empty, second}, 0, line},
-		{[]string{silent.Addr().String(), second}, 0, line},
-		{[]string{empty, other}, 1, ""},
-		{[]string{empty}, 0, ""},
+		{[]string{empty, second}, words.Well, line},
+		{[]string{silent.Addr().String(), second}, words.Well, line},
+		{[]string{empty, other}, words.Refused, ""},
+		{[]string{empty}, words.Well, ""},
 	} {
 		began := time.Now()
 		process := trial.Start(t, t.TempDir(), append(row.words, "--once")...)
@@ -346,16 +356,16 @@ func TestTLS(t *testing.T) {
 	go server.Serve(listener)
 	t.Cleanup(server.Close)
 	address := listener.Addr().String()
-	for words, status := range map[string]int{
-		"--tls --tls-ca ca --tls-cert cert --tls-key key":                          0,
-		"--tls --tls-ca ca --tls-cert cert --tls-key key --tls-name cache.invalid": 1,
-		"--tls --tls-ca ca":     1,
-		"--tls --tls-ca others": 1,
-		"--tls":                 1,
+	for line, status := range map[string]int{
+		"--tls --tls-ca ca --tls-cert cert --tls-key key":                          words.Well,
+		"--tls --tls-ca ca --tls-cert cert --tls-key key --tls-name cache.invalid": words.Refused,
+		"--tls --tls-ca ca":     words.Refused,
+		"--tls --tls-ca others": words.Refused,
+		"--tls":                 words.Refused,
 	} {
-		process := trial.Start(t, folder, append(strings.Fields(words), address, "--once")...)
+		process := trial.Start(t, folder, append(strings.Fields(line), address, "--once")...)
 		if got := process.Status(); got != status {
-			t.Errorf("%s: status %d, %s", words, got, process.Stderr())
+			t.Errorf("%s: status %d, %s", line, got, process.Stderr())
 		}
 	}
 }
@@ -370,36 +380,39 @@ func TestWrongWords(t *testing.T) {
 		status int
 		says   string
 	}{
-		{"", 2, "no cache given: HOST:PORT"},
-		{"localhost", 2, `"localhost" isn't HOST:PORT`},
-		{"a:1 a:1", 2, "a:1 is given twice"},
-		{"a:1 a:2 a:3 a:4 a:5 a:6 a:7 a:8 a:9 b:1 b:2 b:3 b:4 b:5 b:6 b:7 b:8", 2,
+		{"", words.Usage, "no cache given: HOST:PORT"},
+		{"localhost", words.Usage, `"localhost" isn't HOST:PORT`},
+		{"localhost:65536", words.Usage, `"localhost:65536" isn't HOST:PORT`},
+		{"a:1 a:1", words.Usage, "a:1 is given twice"},
+		{"a:1 a:2 a:3 a:4 a:5 a:6 a:7 a:8 a:9 b:1 b:2 b:3 b:4 b:5 b:6 b:7 b:8", words.Usage,
 			"more than 16 caches given"},
-		{"a:1 --version 3", 2, `--version: "3" isn't a version`},
-		{"a:1 --version", 2, "--version needs 0|1|2"},
-		{"a:1 --nothing", 2, `unknown option "--nothing"`},
-		{"a:1 --out", 2, "--out needs FILE"},
-		{"a:1 --validate 10.0.0.0/8", 2, "--validate needs PREFIX ASN"},
-		{"a:1 --validate 10.0.0.0 AS1", 2, `--validate: "10.0.0.0" isn't a prefix`},
-		{"a:1 --validate 10.0.0.0/8 ASx", 2, `--validate: "ASx" isn't an AS number`},
-		{"a:1 --tls-ca x", 2, "the options about TLS need --tls"},
-		{"a:1 --tls --tls-cert x", 2, "--tls-cert and --tls-key need each other"},
-		{"a:1 --ssh rpki", 2, "--ssh, --ssh-key and --ssh-known-hosts need each other"},
-		{"a:1 --ssh rpki --tls", 2, "--tls and --ssh exclude each other"},
-		{"a:1 --ssh rpki --ssh-key none --ssh-known-hosts none", 3, "none: no such file"},
-		{"a:1 --ssh rpki --ssh-key file --ssh-known-hosts none", 1, "file: ssh: no key found"},
-		{"a:1 --once=1", 2, "--once takes no argument"},
-		{"a:1 --tls --tls-ca none", 3, "none: no such file"},
-		{"a:1 --tls --tls-ca file", 1, "file: there is no certificate in it"},
-		{"a:1 --tls --tls-cert file --tls-key file", 1, "file with file: "},
-		{"a:1 --record none/r", 3, "none/r: no such file"},
+		{"a:1 --version 3", words.Usage, `--version: "3" isn't a version`},
+		{"a:1 --version", words.Usage, "--version needs 0|1|2"},
+		{"a:1 --version 1 --version 2", words.Usage, "--version: it is given twice"},
+		{"a:1 --out a --out b", words.Usage, "--out: it is given twice"},
+		{"a:1 --json --out f", words.Usage,
+			"--json with --out needs --validate, since no changes are printed"},
+		{"a:1 --once --out f.csv --times --json", words.Usage, "--json with --out needs --validate"},
+		{"a:1 --nothing", words.Usage, `unknown option "--nothing"`},
+		{"a:1 --out", words.Usage, "--out needs FILE"},
+		{"a:1 --validate 10.0.0.0/8", words.Usage, "--validate needs PREFIX ASN"},
+		{"a:1 --validate 10.0.0.0 AS1", words.Usage, `--validate: "10.0.0.0" isn't a prefix`},
+		{"a:1 --validate 10.0.0.1/8 AS1", words.Usage, `--validate: "10.0.0.1/8" has host bits`},
+		{"a:1 --validate 10.0.0.0/8 ASx", words.Usage, `--validate: "ASx" isn't an AS number`},
+		{"a:1 --tls-ca x", words.Usage, "the options about TLS need --tls"},
+		{"a:1 --tls --tls-cert x", words.Usage, "--tls-cert and --tls-key need each other"},
+		{"a:1 --ssh rpki", words.Usage, "--ssh, --ssh-key and --ssh-known-hosts need each other"},
+		{"a:1 --ssh rpki --tls", words.Usage, "--tls and --ssh exclude each other"},
+		{"a:1 --ssh rpki --ssh-key none --ssh-known-hosts none", words.Failed, "none: no such file"},
+		{"a:1 --ssh rpki --ssh-key file --ssh-known-hosts none", words.Refused, "file: ssh: no key found"},
+		{"a:1 --once=1", words.Usage, "--once takes no argument"},
+		{"a:1 --tls --tls-ca none", words.Failed, "none: no such file"},
+		{"a:1 --tls --tls-ca file", words.Refused, "file: there is no certificate in it"},
+		{"a:1 --tls --tls-cert file --tls-key file", words.Refused, "file with file: "},
+		{"a:1 --record none/r", words.Failed, "none/r: no such file"},
 	} {
 		process := trial.Start(t, folder, strings.Fields(row.words)...)
-		status, stderr := process.Status(), process.Stderr()
-		if status != row.status || strings.Count(stderr, "\n") != 1 || !strings.Contains(stderr, row.says) ||
-			!strings.HasPrefix(stderr, "rtr-client: ") || process.Output() != "" {
-			t.Errorf("%q: status %d, %s", row.words, status, stderr)
-		}
+		process.Refuses(row.status, "rtr-client: ", row.says)
 	}
 }
 
@@ -408,7 +421,8 @@ func TestStatistics(t *testing.T) {
 	server, address := cached(t, "127.0.0.1:0", data(t, 1, vrp("192.0.2.0/24", 24)))
 	process := trial.Start(t, t.TempDir(), address, "--version", "1")
 	process.Says("serial 1", 1)
-	if err := server.Update(data(t, 2, vrp("198.51.100.0/24", 24), vrp("203.0.113.0/24", 24))); err != nil {
+	next := data(t, 2, vrp("198.51.100.0/24", 24), vrp("203.0.113.0/24", 24))
+	if err := server.Update(next); err != nil {
 		t.Fatal(err)
 	}
 	process.Says("serial 2", 1)
@@ -484,7 +498,8 @@ func TestCuts(t *testing.T) {
 		lines := strings.Split(strings.TrimSpace(string(text)), "\n")
 		from := strings.Split(lines[1], ".")[2]
 		first, err := strconv.Atoi(from)
-		if err != nil || len(lines) != 51 || !strings.Contains(lines[50], fmt.Sprintf("10.0.%d.0/24", first+49)) {
+		if err != nil || len(lines) != 51 ||
+			!strings.Contains(lines[50], fmt.Sprintf("10.0.%d.0/24", first+49)) {
 			t.Fatalf("%s", text)
 		}
 	}
@@ -498,7 +513,7 @@ func TestCuts(t *testing.T) {
 func TestNoOutput(t *testing.T) {
 	_, address := cached(t, "127.0.0.1:0", data(t, 1, vrp("192.0.2.0/24", 24)))
 	process := trial.Start(t, t.TempDir(), address, "--out", "none/vrps.json")
-	if status := process.Status(); status != words.System || process.Lines("none/") != 1 {
+	if status := process.Status(); status != words.Failed || process.Lines("none/") != 1 {
 		t.Error(status, process.Stderr())
 	}
 }
@@ -510,7 +525,8 @@ func TestDocumentedVersion(t *testing.T) {
 		t.Fatal(err)
 	}
 	process := trial.Start(t, t.TempDir(), "--help")
-	if process.Status(); !strings.Contains(process.Output(), "Ask in this protocol version at most (default 2)\n") ||
+	const version = "Ask in this protocol version at most (default 2)\n"
+	if process.Status(); !strings.Contains(process.Output(), version) ||
 		!strings.Contains(string(page), "\nThe highest version of the protocol to use (default 2);") {
 		t.Error(process.Output())
 	}
@@ -525,7 +541,8 @@ func TestDocumentedVersion(t *testing.T) {
 		t.Fatal(err)
 	}
 	defer connection.Close()
-	if unit, err := rtr.NewReader(connection).Next(); err != nil || unit.Version != 2 || unit.Kind != rtr.ResetQuery {
+	if unit, err := rtr.NewReader(connection).Next(); err != nil || unit.Version != 2 ||
+		unit.Kind != rtr.ResetQuery {
 		t.Error(unit, err)
 	}
 }

@@ -1,6 +1,9 @@
 package main
 
-import "fishreef/programs/internal/words"
+import (
+	"fishreef/programs/internal/payloads"
+	"fishreef/programs/internal/words"
+)
 
 // ofChanges returns the options for queries and output.
 func (o *options) ofChanges() []words.Option {
@@ -12,7 +15,7 @@ func (o *options) ofChanges() []words.Option {
 		},
 		{
 			Name: "times",
-			Help: "Begin lines with the time, the cache, the session and the serial\n" +
+			Help: "Begin lines with the time, the cache, the session and the serial " +
 				"number, which JSON objects always have",
 			Set: words.Yes(&o.times),
 		},
@@ -24,7 +27,7 @@ func (o *options) ofChanges() []words.Option {
 		{
 			Name: "version", Argument: "0|1|2",
 			Help: "Ask in this protocol version at most (default 2)",
-			Set:  o.protocol,
+			Set:  payloads.Protocol(&o.version),
 		},
 	}
 }
@@ -34,19 +37,19 @@ func (o *options) ofFiles() []words.Option {
 	return []words.Option{
 		{
 			Name: "out", Argument: "FILE",
-			Help: "Write the newest data to this file, as CSV if its name ends\n" +
+			Help: "Write the newest data to this file, as CSV if its name ends " +
 				"with .csv, else as JSON, instead of printing changes",
 			Set: words.Text(&o.outPath),
 		},
 		{
 			Name: "record", Argument: "FILE",
-			Help: "Record both directions of the connection in this file, and\n" +
+			Help: "Record both directions of the connection in this file, and " +
 				"the time of each piece in FILE.times",
 			Set: words.Text(&o.record),
 		},
 		{
-			Name: "validate", Argument: "PREFIX ASN",
-			Help: "Print the validity of this route instead of changes, and\n" +
+			Name: "validate", Argument: "PREFIX ASN", Repeats: true,
+			Help: "Print the validity of this route instead of changes, and " +
 				"again when it changes; may be repeated",
 			Set: o.route,
 		},

@@ -25,7 +25,7 @@ const (
 func written(t *testing.T, address, folder, path string) string {
 	t.Helper()
 	process := trial.Start(t, folder, address, "--once", "--out", path)
-	if status := process.Status(); status != 0 {
+	if status := process.Status(); status != words.Well {
 		t.Fatal(status, process.Stderr())
 	}
 	text, err := os.ReadFile(folder + "/" + path)
@@ -69,7 +69,7 @@ func TestOutCounts(t *testing.T) {
 	}
 	_, address := cached(t, "127.0.0.1:0", parsed)
 	process := trial.Start(t, t.TempDir(), address, "--once", "--out", "vrps.csv")
-	if status := process.Status(); status != 0 || process.Lines("vrps.csv: left out") != 1 ||
+	if status := process.Status(); status != words.Well || process.Lines("vrps.csv: left out") != 1 ||
 		process.Lines("ASPA") != 1 || process.Lines("2") == 0 {
 		t.Error(status, process.Stderr())
 	}
@@ -101,7 +101,7 @@ func TestOutPlaces(t *testing.T) {
 		t.Fatal(err)
 	}
 	unread := trial.Start(t, folder, address, "--once", "--out", "pipe")
-	if status := unread.Status(); status != words.System || unread.Lines("pipe: no such device or address") != 1 {
+	if status := unread.Status(); status != words.Failed || unread.Lines("pipe: no such device or address") != 1 {
 		t.Error(status, unread.Stderr())
 	}
 	reader, err := os.OpenFile(pipe, os.O_RDWR, 0)
@@ -110,7 +110,7 @@ func TestOutPlaces(t *testing.T) {
 	}
 	defer reader.Close()
 	read := trial.Start(t, folder, address, "--once", "--out", "pipe")
-	if status := read.Status(); status != 0 {
+	if status := read.Status(); status != words.Well {
 		t.Error(status, read.Stderr())
 	}
 	text := make([]byte, 1000)
@@ -119,7 +119,7 @@ func TestOutPlaces(t *testing.T) {
 	}
 
 	full := trial.Start(t, folder, address, "--once", "--out", "/dev/full")
-	if status := full.Status(); status != words.System || full.Lines("/dev/full: no space left on device") != 1 {
+	if status := full.Status(); status != words.Failed || full.Lines("/dev/full: no space left on device") != 1 {
 		t.Error(status, full.Stderr())
 	}
 	if info, err := os.Stat("/dev/full"); err != nil || info.Mode()&os.ModeCharDevice == 0 {

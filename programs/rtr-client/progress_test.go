@@ -10,6 +10,7 @@ import (
 	"time"
 
 	"fishreef/programs/internal/trial"
+	"fishreef/programs/internal/words"
 	"fishreef/rtr"
 )
 
@@ -61,12 +62,12 @@ func TestProgress(t *testing.T) {
 	_, address := cached(t, "127.0.0.1:0", data(t, 1, vrps...))
 	line := fmt.Sprintf("exec %s %s --once --out vrps.csv", os.Args[0], slowly(t, address))
 	on := trial.StartBy(t, t.TempDir(), nil, exec.Command(script, "-qec", line, "/dev/null"))
-	if status := on.Status(); status != 0 || !strings.Contains(on.Output(), "MB have come") ||
+	if status := on.Status(); status != words.Well || !strings.Contains(on.Output(), "MB have come") ||
 		!strings.Contains(on.Output(), "\r\x1b[Krtr-client: ") {
 		t.Errorf("status %d, %q", status, on.Output())
 	}
 	off := trial.Start(t, t.TempDir(), slowly(t, address), "--once", "--out", "vrps.csv")
-	if status := off.Status(); status != 0 || strings.Contains(off.Stderr(), "have come") {
+	if status := off.Status(); status != words.Well || strings.Contains(off.Stderr(), "have come") {
 		t.Errorf("status %d, %q", status, off.Stderr())
 	}
 }

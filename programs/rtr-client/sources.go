@@ -25,7 +25,7 @@ func (o *options) sources(counts *counts) ([]rtr.Source, error) {
 	var sources []rtr.Source
 	for _, address := range o.addresses {
 		client := rtr.NewClient(address)
-		client.AskIn(uint8(o.version))
+		client.AskIn(o.version)
 		client.Dial = counts.counted(connect)
 		sources = append(sources, rtr.Source{Name: address, Client: client})
 	}

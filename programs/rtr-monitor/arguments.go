@@ -6,7 +6,6 @@ import (
 	"os"
 	"time"
 
-	"fishreef/programs/internal/beside"
 	"fishreef/programs/internal/fetch"
 	"fishreef/programs/internal/logs"
 	"fishreef/programs/internal/monitor"
@@ -25,7 +24,7 @@ type options struct {
 func usual() *options {
 	return &options{
 		settings: monitor.Settings{
-			Fetch: fetch.Usual(), Version: 2, Look: 10 * time.Second, Grace: 30 * time.Minute,
+			Fetch: fetch.Usual(), Version: payloads.Version, Look: 10 * time.Second, Grace: 30 * time.Minute,
 		},
 		log: logs.Usual(),
 	}
@@ -41,8 +40,8 @@ func arguments(line []string) (*options, error) {
 		Name:     "rtr-monitor",
 		Sentence: "compare RTR caches and validators",
 		Calls:    []string{"SOURCE SOURCE.. [OPTION]..", "--help | --version"},
-		Help: `Compares the payloads of two or more sources, and reports which payload is missing
-in which of them, and since when. A SOURCE is one of these:
+		Help: `Compares the payloads of two or more sources, and reports which payload is
+missing in which of them, and since when. A SOURCE is one of these:
 
   HOST:PORT                  a cache, over TCP
   tls:HOST:PORT              a cache, over TLS
@@ -77,7 +76,7 @@ func (o *options) source(word string) error {
 }
 
 // check returns an error if the options don't fit together, and finds the programs that read lists.
-func (o *options) check() (err error) {
+func (o *options) check() error {
 	s := &o.settings
 	if s.HTTP == "" {
 		s.HTTP = usualHTTP
@@ -92,19 +91,37 @@ func (o *options) check() (err error) {
 	case s.SSH.Partial():
 		return errors.New("--ssh-user, --ssh-key and --ssh-known-hosts need each other")
 	}
+	var lists []payloads.File
+	used := map[transport.Kind]bool{}
 	for _, source := range s.Sources {
-		if err = s.Reader.CheckSlurm(source.List); err != nil {
-			return err
-		}
+		used[source.Transport] = true
 		switch {
 		case source.Transport == transport.SSH && s.SSH.User == "":
 			return fmt.Errorf("%s needs --ssh-user, --ssh-key and --ssh-known-hosts", source.Name)
-		case source.Transport != "" || source.List.Format == payloads.Sequence:
-		case s.Reader.Maker == "":
-			if s.Reader.Maker, err = beside.Find("rtr_make"); err != nil {
-				return err
-			}
+		case source.Transport == "":
+			lists = append(lists, source.List)
 		}
+	}
+	if err := o.unused(used); err != nil {
+		return err
+	}
+	if err := s.Fetch.Check(lists...); err != nil {
+		return err
+	}
+	return s.Reader.Check(lists...)
+}
+
+// unused returns an error if authorities, a certificate or a key were given and no source has their
+// transport: without it caches would be asked over TCP, although TLS or SSH was meant.
+func (o *options) unused(used map[transport.Kind]bool) error {
+	s := &o.settings
+	switch {
+	case s.TLS.Authority != "" && !used[transport.TLS]:
+		return errors.New("--tls-ca needs a source tls:HOST:PORT")
+	case s.TLS.Certificate != "" && !used[transport.TLS]:
+		return errors.New("--tls-cert needs a source tls:HOST:PORT")
+	case s.SSH.User != "" && !used[transport.SSH]:
+		return errors.New("--ssh-user needs a source ssh:HOST:PORT")
 	}
 	return nil
 }

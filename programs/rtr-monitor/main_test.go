@@ -12,6 +12,7 @@ import (
 
 	"fishreef/programs/internal/transport"
 	"fishreef/programs/internal/trial"
+	"fishreef/programs/internal/words"
 	"fishreef/rtr"
 )
 
@@ -77,15 +78,23 @@ func TestDifferences(t *testing.T) {
 	first, second := trial.Reserved(t), trial.Reserved(t)
 	cache(t, first, prefixes(t, 3, 1))
 	other := cache(t, second, prefixes(t, 3, 1))
-	process, page := monitoring(t, t.TempDir(), first, second, "--grace", "4s", "--refresh", "1s")
-	shows(t, process, page+"health", "good")
-	if status, _ := trial.Get(t, page+"health"); status != 200 || process.Lines("difference") != 0 {
-		t.Error(status, process.Stderr())
+	monitor := func(grace string) (*trial.Process, string) {
+		process, page := monitoring(t, t.TempDir(), first, second, "--grace", grace, "--refresh", "1s")
+		shows(t, process, page+"health", "good")
+		if status, _ := trial.Get(t, page+"health"); status != 200 || process.Lines("difference") != 0 {
+			t.Error(status, process.Stderr())
+		}
+		return process, page
 	}
+	process, page := monitor("1h")
 	updated(t, other, prefixes(t, 4, 2))
 	shows(t, process, page+"metrics", `rtr_monitor_missing{age="young",source="`+first+`"} 1`)
 	updated(t, other, prefixes(t, 3, 3))
 	shows(t, process, page+"metrics", `rtr_monitor_missing{age="young",source="`+first+`"} 0`)
+	if status := process.End(); status != 0 || process.Lines("10.0.3.0") != 0 {
+		t.Error(status, process.Stderr())
+	}
+	process, page = monitor("4s")
 	began := time.Now()
 	updated(t, other, prefixes(t, 2, 4))
 	process.Says(`msg="difference: IPv4 prefix 10.0.2.0/24-24 AS64496" missing="`+second+`" since=`, 1)
@@ -109,7 +118,7 @@ func TestDifferences(t *testing.T) {
 	updated(t, other, prefixes(t, 3, 5))
 	process.Says(`msg="difference ended: IPv4 prefix 10.0.2.0/24-24 AS64496"`, 1)
 	shows(t, process, page+"health", "good")
-	if status := process.End(); status != 0 {
+	if status := process.End(); status != words.Well {
 		t.Error(status)
 	}
 }
@@ -148,7 +157,8 @@ func TestLists(t *testing.T) {
 	web := httptest.NewServer(http.FileServer(http.Dir(folder)))
 	defer web.Close()
 	json := "json:" + web.URL + "/served"
-	process, page := monitoring(t, folder, address, "csv:f", json, "--grace", "1s", "--fetch", "1s", "--look", "1s",
+	process, page := monitoring(t, folder, address, "csv:f", json, "--grace", "1s", "--fetch", "1s",
+		"--look", "1s",
 		"--version", "1")
 	shows(t, process, page+"health", "good")
 	trial.Write(t, folder+"/f", rows+"AS64496,10.0.2.0/24,24\n")
@@ -185,7 +195,8 @@ func (nobody) Moved(*transport.Peer, transport.Direction, int)              {}
 func (nobody) Reported(*transport.Peer, transport.Direction, rtr.ErrorCode) {}
 
 // secured starts a cache over a transport.
-func secured(t *testing.T, kind transport.Kind, secure transport.Secured, data rtr.Data) (address string) {
+func secured(t *testing.T, kind transport.Kind, secure transport.Secured,
+	data rtr.Data) (address string) {
 	t.Helper()
 	listener, err := net.Listen("tcp", "127.0.0.1:0")
 	if err != nil {
@@ -194,7 +205,8 @@ func secured(t *testing.T, kind transport.Kind, secure transport.Secured, data r
 	gate := transport.NewGate(10, nil)
 	server := rtr.NewServer()
 	t.Cleanup(func() { gate.Close(); server.Close() })
-	go server.Serve(transport.Guarded(transport.Bound{Kind: kind, Listener: listener}, secure, gate, nobody{}))
+	go server.Serve(transport.Guarded(transport.Bound{Kind: kind, Listener: listener}, secure, gate,
+		nobody{}))
 	updated(t, server, data)
 	return listener.Addr().String()
 }
@@ -211,7 +223,8 @@ func TestTransports(t *testing.T) {
 	}
 	public := trial.ECDSA.Save(t, folder+"/host")
 	trial.Write(t, folder+"/routers", trial.ECDSA.Save(t, folder+"/router"))
-	host, err := transport.NewHost(transport.SSHFiles{HostKey: folder + "/host", Routers: folder + "/routers"})
+	files := transport.SSHFiles{HostKey: folder + "/host", Routers: folder + "/routers"}
+	host, err := transport.NewHost(files)
 	if err != nil {
 		t.Fatal(err)
 	}
@@ -219,7 +232,8 @@ func TestTransports(t *testing.T) {
 	overSSH := secured(t, transport.SSH, host.Secure, prefixes(t, 2, 1))
 	trial.Write(t, folder+"/known", "["+strings.Replace(overSSH, ":", "]:", 1)+" "+public)
 	trial.Write(t, folder+"/nobody", "")
-	line := []string{"tls:" + overTLS, "ssh:" + overSSH, "--grace", "1s", "--tls-ca", "ca", "--tls-cert", "cert",
+	line := []string{"tls:" + overTLS, "ssh:" + overSSH, "--grace", "1s", "--tls-ca", "ca",
+		"--tls-cert", "cert",
 		"--tls-key", "key", "--ssh-user", "rpki", "--ssh-key", "router", "--ssh-known-hosts"}
 	process, _ := monitoring(t, folder, append(line, "known")...)
 	process.Says(`msg="difference: IPv4 prefix 10.0.2.0/24-24 AS64496" missing="ssh:`+overSSH+`"`, 1)
@@ -234,38 +248,43 @@ func TestWrongWords(t *testing.T) {
 		words, says string
 		status      int
 	}{
-		{"", "at least two sources are needed", 2},
-		{"a:1", "at least two sources are needed", 2},
-		{"a:1 a:1", "a:1 is given twice", 2},
-		{"a:1 b", `"b" isn't a source: HOST:PORT`, 2},
-		{"a:1 http://b/c", `"http://b/c" isn't a source`, 2},
-		{"a:1 json:", "json: needs a file", 2},
-		{"a:1 json:ftp://b/c", "isn't an http:// or https:// URL", 2},
-		{"a:1 b:1 --grace 10", `--grace: "10" isn't a time`, 2},
-		{"a:1 b:1 --version 3", `--version: "3" isn't a version: 0, 1 or 2`, 2},
-		{"a:1 b:1 --http 80", `--http: "80" isn't ADDRESS:PORT`, 2},
-		{"a:1 ssh:b:1", "ssh:b:1 needs --ssh-user, --ssh-key and --ssh-known-hosts", 2},
-		{"a:1 b:1 --ssh-user me", "--ssh-user, --ssh-key and --ssh-known-hosts need each other", 2},
-		{"a:1 b:1 --tls-cert f", "--tls-cert and --tls-key need each other", 2},
-		{strings.TrimSpace(strings.Repeat("a:1 ", 1) + many(16)), "more than 16 sources given", 2},
-		{"a:1 sequence:f --slurm s", "--slurm filters the lists of validators, and no units (sequence)", 2},
-		{"a:1 tls:b:1 --tls-ca none", "none: no such file", 3},
-		{"a:1 b:1 --http 192.0.2.1:1", "cannot assign requested address", 3},
-		{"a:1 csv:http://127.0.0.1/ --fetch-ca none", "none: no such file", 3},
+		{"", "at least two sources are needed", words.Usage},
+		{"a:1", "at least two sources are needed", words.Usage},
+		{"a:1 a:1", "a:1 is given twice", words.Usage},
+		{"a:1 b", `"b" isn't a source: HOST:PORT`, words.Usage},
+		{"a:1 http://b/c", `"http://b/c" isn't a source`, words.Usage},
+		{"a:1 json:", "json: needs a file", words.Usage},
+		{"a:1 json:ftp://b/c", "isn't an http:// or https:// URL", words.Usage},
+		{"a:1 b:1 --grace 10", `--grace: "10" isn't a time`, words.Usage},
+		{"a:1 b:1 --version 3", `--version: "3" isn't a version: 0, 1 or 2`, words.Usage},
+		{"a:1 b:1 --http 80", `--http: "80" isn't ADDRESS:PORT`, words.Usage},
+		{"a:1 ssh:b:1", "ssh:b:1 needs --ssh-user, --ssh-key and --ssh-known-hosts", words.Usage},
+		{"a:1 b:1 --ssh-user me", "--ssh-user, --ssh-key and --ssh-known-hosts need each other", words.Usage},
+		{"a:1 b:1 --tls-cert f", "--tls-cert and --tls-key need each other", words.Usage},
+		{"a:1 b:1 --tls-ca f", "--tls-ca needs a source tls:HOST:PORT", words.Usage},
+		{"a:1 csv:f --tls-cert f --tls-key f", "--tls-cert needs a source tls:HOST:PORT", words.Usage},
+		{"a:1 tls:b:1 --ssh-user me --ssh-key f --ssh-known-hosts f",
+			"--ssh-user needs a source ssh:HOST:PORT", words.Usage},
+		{"a:1 csv:f --fetch-ca f", "--fetch-ca needs a list by URL", words.Usage},
+		{"a:1 b:1 --fetch-ca f", "--fetch-ca needs a list by URL", words.Usage},
+		{"a:1 b:1 --grace 10s --grace 20s", "--grace: it is given twice", words.Usage},
+		{"a:1 b:1 --version 0 --version 1", "--version: it is given twice", words.Usage},
+		{strings.TrimSpace(strings.Repeat("a:1 ", 1) + many(16)), "more than 16 sources given", words.Usage},
+		{"a:1 sequence:f --slurm s", "--slurm filters the lists of validators, and no units (sequence)", words.Usage},
+		{"a:1 tls:b:1 --tls-ca none", "none: no such file", words.Failed},
+		{"a:1 b:1 --http 192.0.2.1:1", "cannot assign requested address", words.Failed},
+		{"a:1 csv:http://127.0.0.1/ --fetch-ca none", "none: no such file", words.Failed},
 	} {
 		process := trial.Start(t, folder, strings.Fields(row.words)...)
-		status, stderr := process.Status(), process.Stderr()
-		if status != row.status || strings.Count(stderr, "\n") != 1 || !strings.Contains(stderr, row.says) {
-			t.Errorf("%q: status %d, %s", row.words, status, stderr)
-		}
+		process.Refuses(row.status, "", row.says)
 	}
 }
 
 // many returns arguments for this many caches.
 func many(count int) string {
-	var words []string
+	var all []string
 	for i := 0; i < count; i++ {
-		words = append(words, fmt.Sprintf("b:%d", i+1))
+		all = append(all, fmt.Sprintf("b:%d", i+1))
 	}
-	return strings.Join(words, " ")
+	return strings.Join(all, " ")
 }

@@ -1,11 +1,9 @@
 package main
 
 import (
-	"fmt"
-	"net"
-	"strconv"
 	"time"
 
+	"fishreef/programs/internal/payloads"
 	"fishreef/programs/internal/words"
 )
 
@@ -20,21 +18,14 @@ func (o *options) ofComparison() []words.Option {
 		},
 		{
 			Name: "version", Argument: "0|1|2",
-			Help: "Ask caches in this protocol version at most, and compare what\n" +
-				"it has: 0 only prefixes, 1 also router keys, 2 also ASPAs\n" +
+			Help: "Ask caches in this protocol version at most, and compare what " +
+				"it has: 0 only prefixes, 1 also router keys, 2 also ASPAs " +
 				"(default 2)",
-			Set: func(text string) error {
-				version, err := strconv.ParseUint(text, 10, 8)
-				if err != nil || version > 2 {
-					return fmt.Errorf("%q isn't a version: 0, 1 or 2", text)
-				}
-				s.Version = uint8(version)
-				return nil
-			},
+			Set: payloads.Protocol(&s.Version),
 		},
 		{
 			Name: "refresh", Argument: "TIME",
-			Help: "Ask caches at least this often, whatever refresh interval they\n" +
+			Help: "Ask caches at least this often, whatever refresh interval they " +
 				"send",
 			Set: words.Wait(&s.Refresh, time.Second),
 		},
@@ -62,14 +53,9 @@ func (o *options) ofPage() []words.Option {
 	return []words.Option{
 		{
 			Name: "http", Argument: "ADDRESS",
-			Help: "Serve the page, /diff.json, /metrics and /health at this\n" +
+			Help: "Serve the page, /diff.json, /metrics and /health at this " +
 				"ADDRESS:PORT (default 127.0.0.1:9324)",
-			Set: func(address string) error {
-				if _, _, err := net.SplitHostPort(address); err != nil {
-					return fmt.Errorf("%q isn't ADDRESS:PORT", address)
-				}
-				return words.Text(&o.settings.HTTP)(address)
-			},
+			Set: words.Address(&o.settings.HTTP),
 		},
 	}
 }

@@ -28,9 +28,9 @@ func arguments(line []string) (*options, error) {
 		Name:     "rtr-pcap",
 		Sentence: "list the RTR sessions of a packet capture",
 		Calls:    []string{"FILE [OPTION]..", "--help | --version"},
-		Help: `Lists the units (PDUs) of each connection of a pcap or pcapng file, of both sides in
-the order in which they came, and says which bytes are missing. tshark reads the
-packets, and rtr_list lists the units.`,
+		Help: `Lists the units (PDUs) of each connection of a pcap or pcapng file, of both
+sides in the order in which they came, and says which bytes are missing. tshark
+reads the packets, and rtr_list lists the units.`,
 		Options: words.Join(o.ofConnections(), o.ofForms()),
 		Operand: o.file,
 	}

@@ -22,11 +22,11 @@ func main() { os.Exit(run(os.Args[1:])) }
 func run(line []string) int {
 	opts, err := arguments(line)
 	if errors.Is(err, words.ErrHelp) {
-		return words.Good
+		return words.Well
 	}
 	if err != nil {
 		say(err)
-		return words.Usage
+		return words.StatusOfLine(err)
 	}
 	ctx, stop := signal.NotifyContext(context.Background(), syscall.SIGINT, syscall.SIGTERM)
 	defer stop()
@@ -36,7 +36,7 @@ func run(line []string) int {
 		}
 		return words.StatusOf(err)
 	}
-	return words.Good
+	return words.Well
 }
 
 // errPrinted is the error of a run whose failures were already printed.
@@ -52,7 +52,7 @@ func (o *options) list(ctx context.Context, output io.Writer) error {
 	for _, c := range connections {
 		for _, err := range o.listOne(ctx, c, output) {
 			err = fmt.Errorf("connection %s: %w", c.number, err)
-			if words.StatusOf(err) == words.System {
+			if words.StatusOf(err) == words.Failed {
 				return err
 			}
 			say(err)

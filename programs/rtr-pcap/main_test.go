@@ -144,7 +144,7 @@ func TestListsConnections(t *testing.T) {
 	path := capture(t, "it's.pcap", append(append(session(router, cache),
 		sent{router, 80, 0, "GET / HTTP/1.0\r\n\r\n", more{}}), session(router+1, cache)...)...)
 	process := trial.Start(t, t.TempDir(), path)
-	if status := process.Status(); status != 0 || process.Output() != lines+lines {
+	if status := process.Status(); status != words.Well || process.Output() != lines+lines {
 		t.Fatalf("status %d, %q, %q", status, process.Output(), process.Stderr())
 	}
 	process.Says("rtr-pcap: runs tshark -n -r '"+strings.ReplaceAll(path, "'", `'\''`)+"' ", 1)
@@ -167,14 +167,14 @@ func TestOptions(t *testing.T) {
 		options, says string
 		status        int
 	}{
-		{"--port 3323", lines, 0},
-		{"--connection 1", lines, 0},
-		{"--raw", query + response + prefix + end, 0},
-		{"--csv", "ASN,IP Prefix,Max Length\nAS64496,192.0.2.0/24,24\n", 0},
-		{"--check", "", 0},
-		{"--port 3324 --check", "offset 16: host bits of the prefix are not zero\n", words.Failed},
-		{"--connection 0", "", words.Failed},
-		{"--port 3325", "", words.Failed},
+		{"--port 3323", lines, words.Well},
+		{"--connection 1", lines, words.Well},
+		{"--raw", query + response + prefix + end, words.Well},
+		{"--csv", "ASN,IP Prefix,Max Length\nAS64496,192.0.2.0/24,24\n", words.Well},
+		{"--check", "", words.Well},
+		{"--port 3324 --check", "offset 16: host bits of the prefix are not zero\n", words.Refused},
+		{"--connection 0", "", words.Refused},
+		{"--port 3325", "", words.Refused},
 	} {
 		process := trial.Start(t, t.TempDir(), append([]string{path}, strings.Fields(c.options)...)...)
 		if status := process.Status(); status != c.status || process.Output() != c.says {
@@ -200,11 +200,13 @@ func TestRefuses(t *testing.T) {
 		{[]string{"a", "--raw", "--csv"}, "more than one output format given", words.Usage},
 		{[]string{"a", "--port", "0"}, `--port: "0" isn't a port`, words.Usage},
 		{[]string{"a", "--connection", "-1"}, `--connection: "-1" isn't a connection`, words.Usage},
+		{[]string{"a", "--port", "323", "--port", "3323"}, "--port: it is given twice", words.Usage},
+		{[]string{"a", "--connection=0", "--connection=1"}, "--connection: it is given twice", words.Usage},
 		{[]string{"a", "--pcap"}, `unknown option "--pcap"`, words.Usage},
-		{[]string{"missing"}, "open missing: no such file or directory", words.System},
-		{[]string{folder}, "read " + folder + ": is a directory", words.System},
-		{[]string{text}, "rtr-pcap: tshark: exit status ", words.Failed},
-		{[]string{empty}, empty + ": no connection of port 323 has data", words.Failed},
+		{[]string{"missing"}, "open missing: no such file or directory", words.Failed},
+		{[]string{folder}, "read " + folder + ": is a directory", words.Failed},
+		{[]string{text}, "rtr-pcap: tshark: exit status ", words.Refused},
+		{[]string{empty}, empty + ": no connection of port 323 has data", words.Refused},
 	} {
 		process := trial.Start(t, t.TempDir(), c.line...)
 		if status := process.Status(); status != c.status || process.Output() != "" {
@@ -221,7 +223,8 @@ func TestDocumentedPort(t *testing.T) {
 		t.Fatal(err)
 	}
 	process := trial.Start(t, t.TempDir(), "--help")
-	if process.Status(); !strings.Contains(process.Output(), "Read connections of this port of the cache (default 323)\n") ||
+	const port = "Read connections of this port of the cache (default 323)\n"
+	if process.Status(); !strings.Contains(process.Output(), port) ||
 		!strings.Contains(string(page), "\nThe port of the cache (default 323).\n") {
 		t.Error(process.Output())
 	}

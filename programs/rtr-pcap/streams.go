@@ -187,8 +187,9 @@ func (s *side) lacks() (lines []string) {
 		missing = s.acked - s.next()
 	}
 	if s.begun && missing > 0 {
-		lines = append(lines, fmt.Sprintf("%s: %s %s missing after byte %d, what it sent after that is left out",
-			s.node, words.Number(int(missing), "byte"), words.Are(int(missing)), len(s.stream)))
+		lines = append(lines,
+			fmt.Sprintf("%s: %s %s missing after byte %d, what it sent after that is left out",
+				s.node, words.Number(int(missing), "byte"), words.Are(int(missing)), len(s.stream)))
 	}
 	if rest := len(s.stream) - s.listed; rest > 0 && s.isCut() {
 		lines = append(lines, fmt.Sprintf("%s: %s after byte %d %s no whole unit, and %[4]s left out",

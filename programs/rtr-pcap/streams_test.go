@@ -23,7 +23,8 @@ func synchronises(from, to uint16) sent {
 // wasn't sent. The other side continues.
 func TestMissingBytes(t *testing.T) {
 	wants(t, "tshark", "rtr_list")
-	begins := []sent{synchronises(router, cache), synchronises(cache, router), {router, cache, 0, query, more{}}}
+	begins := []sent{synchronises(router, cache), synchronises(cache, router),
+		{router, cache, 0, query, more{}}}
 	later := sent{router, cache, 8, query, more{}}
 	all := response + prefix + prefix + end
 	for _, c := range []struct {
@@ -58,7 +59,7 @@ func TestMissingBytes(t *testing.T) {
 	} {
 		path := capture(t, "missing.pcap", append(append([]sent{}, begins...), c.packets...)...)
 		process := trial.Start(t, t.TempDir(), path, "--raw")
-		if status := process.Status(); status != words.Failed || process.Output() != c.units {
+		if status := process.Status(); status != words.Refused || process.Output() != c.units {
 			t.Errorf("%s: status %d, %q", c.name, status, process.Output())
 		}
 		if process.Lines("connection 0: "+c.says+", what it sent after that is left out") != 1 {
@@ -96,7 +97,7 @@ func TestReassembles(t *testing.T) {
 	} {
 		path := capture(t, "whole.pcap", packets...)
 		process := trial.Start(t, t.TempDir(), path, "--raw")
-		if status := process.Status(); status != 0 || process.Output() != all {
+		if status := process.Status(); status != words.Well || process.Output() != all {
 			t.Errorf("%s: status %d, %q, %s", name, status, process.Output(), process.Stderr())
 		}
 	}
@@ -108,7 +109,7 @@ func TestLongPacket(t *testing.T) {
 	all := response + strings.Repeat(prefix, 3200) + end
 	path := capture(t, "long.pcap", sent{cache, router, 0, all, more{}})
 	process := trial.Start(t, t.TempDir(), path, "--raw")
-	if status := process.Status(); status != 0 || process.Output() != all {
+	if status := process.Status(); status != words.Well || process.Output() != all {
 		t.Errorf("status %d, %d bytes, %s", status, len(process.Output()), process.Stderr())
 	}
 }
@@ -118,9 +119,10 @@ func TestSentAgain(t *testing.T) {
 	wants(t, "tshark", "rtr_list")
 	all := response + prefix + end
 	other := strings.Replace(all, "\xc0\x00\x02", "\xc0\x00\x03", 1)
-	path := capture(t, "again.pcap", sent{cache, router, 0, all, more{}}, sent{cache, router, 10, other[10:], more{}})
+	path := capture(t, "again.pcap", sent{cache, router, 0, all, more{}},
+		sent{cache, router, 10, other[10:], more{}})
 	process := trial.Start(t, t.TempDir(), path, "--raw")
-	if status := process.Status(); status != words.Failed || process.Output() != all {
+	if status := process.Status(); status != words.Refused || process.Output() != all {
 		t.Errorf("status %d, %q", status, process.Output())
 	}
 	process.Says("127.0.0.1:323: it sent other bytes again after byte 10, the first ones count", 1)
@@ -136,7 +138,7 @@ func TestCutSession(t *testing.T) {
 		{cache, router, 0, response + prefix[:5], more{}},
 	}
 	process := trial.Start(t, t.TempDir(), capture(t, "cut.pcap", cut...), "--raw")
-	if status := process.Status(); status != words.Failed || process.Output() != query+response {
+	if status := process.Status(); status != words.Refused || process.Output() != query+response {
 		t.Errorf("status %d, %q", status, process.Output())
 	}
 	process.Says("127.0.0.1:40000: 3 bytes after byte 8 are no whole unit, and are left out", 1)
@@ -148,7 +150,7 @@ func TestCutSession(t *testing.T) {
 
 	http := []sent{cut[0], {cache, router, 0, response + "HTTP/1.1 400 Bad Request\r\n", more{}}}
 	listed := trial.Start(t, t.TempDir(), capture(t, "http.pcap", http...))
-	if status := listed.Status(); status != words.Failed {
+	if status := listed.Status(); status != words.Refused {
 		t.Error(status)
 	}
 	listed.Says("rtr_list: offset 16: ", 1)
@@ -169,7 +171,7 @@ func TestQuoted(t *testing.T) {
 	text = text[:len(text)-len(last)-16] + header(len(icmp)) + string(icmp)
 	trial.Write(t, path, text)
 	process := trial.Start(t, t.TempDir(), path)
-	if status := process.Status(); status != 0 || process.Output() != lines {
+	if status := process.Status(); status != words.Well || process.Output() != lines {
 		t.Errorf("status %d, %q, %s", status, process.Output(), process.Stderr())
 	}
 }

@@ -136,6 +136,19 @@ func (c *Cache) secure(s *sockets) error {
 			s.reload = append(s.reload, host.Load)
 		}
 	}
+	return c.unused(s)
+}
+
+// unused returns an error if certificates or keys were given and no listener uses them: without it
+// routers would be served over TCP alone, although TLS or SSH was meant.
+func (c *Cache) unused(s *sockets) error {
+	if c.settings.TLS.Certificate != "" && s.secured[transport.TLS] == nil {
+		return errors.New("--tls-cert needs --listen tls:ADDRESS:PORT, or a socket of systemd named tls")
+	}
+	if c.settings.SSH.HostKey != "" && s.secured[transport.SSH] == nil {
+		return errors.New(
+			"--ssh-host-key needs --listen ssh:ADDRESS:PORT, or a socket of systemd named ssh")
+	}
 	return nil
 }
 

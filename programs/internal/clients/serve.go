@@ -33,7 +33,8 @@ td:first-child, th:first-child { text-align: left; }
 (UTC)<th>Connected (UTC)<th>Bytes received<th>Bytes sent</tr>
 {{range . -}}
 <tr><td>{{.Address}}<td>{{.Transport}}<td>{{with .Version}}{{.}}{{end -}}
-<td>{{with .Has}}{{.Session}}{{end}}<td>{{with .Has}}{{.Serial}}{{end}}<td>{{with .Behind}}{{.}}{{end -}}
+<td>{{with .Has}}{{.Session}}{{end}}<td>{{with .Has}}{{.Serial}}{{end -}}
+<td>{{with .Behind}}{{.}}{{end -}}
 <td>{{.Queries}}<td>{{time .Asked}}<td>{{time .Connected}}<td>{{.Received}}<td>{{.Sent}}</tr>
 {{end -}}
 </table>

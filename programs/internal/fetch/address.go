@@ -5,6 +5,8 @@ import (
 	"fmt"
 	"net/url"
 	"strings"
+
+	"fishreef/programs/internal/payloads"
 )
 
 // IsURL reports whether a word is a URL and not a file name: it has a scheme, or begins with one of
@@ -19,10 +21,22 @@ func isWeb(scheme string) bool {
 	return strings.EqualFold(scheme, "http") || strings.EqualFold(scheme, "https")
 }
 
-// Parse parses the URL of a list.
+// FileOf returns the list of a path or a URL.
 //
-// Errors: it isn't a URL of http or https, lacks a host, or has a fragment.
-func Parse(word string) (*url.URL, error) {
+// Errors: it is a URL, but not of http or https, lacks a host, or has a fragment.
+func FileOf(format payloads.Format, word string) (payloads.File, error) {
+	if !IsURL(word) {
+		return payloads.File{Format: format, Path: word}, nil
+	}
+	at, err := parse(word)
+	if err != nil {
+		return payloads.File{}, err
+	}
+	return payloads.File{Format: format, Path: at.Redacted(), URL: at}, nil
+}
+
+// parse parses the URL of a list.
+func parse(word string) (*url.URL, error) {
 	parsed, err := url.Parse(word)
 	var wrong *url.Error
 	switch {

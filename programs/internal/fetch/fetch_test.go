@@ -57,7 +57,7 @@ func TestRetryAfter(t *testing.T) {
 			answer.Header().Set("Retry-After", text)
 			answer.WriteHeader(http.StatusServiceUnavailable)
 		}))
-		at, err := Parse(server.URL)
+		at, err := parse(server.URL)
 		if err != nil {
 			t.Fatal(err)
 		}
@@ -87,8 +87,8 @@ func TestIsURL(t *testing.T) {
 	}
 }
 
-// In TLS 1.3 a server that requires a certificate reports that after the handshake (RFC 8446 section
-// 4.4.2.4): an alert is a failure of TLS, a reset connection a body that was cut off.
+// In TLS 1.3 a server that requires a certificate reports that after the handshake (RFC 8446
+// section 4.4.2.4): an alert is a failure of TLS, a reset connection a body that was cut off.
 func TestReasons(t *testing.T) {
 	for operation, reason := range map[string]Reason{
 		"remote error": Certificate, "local error": Certificate, "read": Cut, "dial": Connect,

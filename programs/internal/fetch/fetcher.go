@@ -5,17 +5,15 @@ package fetch
 import (
 	"context"
 	"crypto/tls"
-	"crypto/x509"
-	"fmt"
 	"math/rand"
 	"net/http"
 	"net/url"
-	"os"
 	"sync"
 	"sync/atomic"
 	"time"
 
 	"fishreef/programs/internal/payloads"
+	"fishreef/programs/internal/transport"
 )
 
 // Settings are the settings for all lists of a program.
@@ -61,16 +59,11 @@ func New(at *url.URL, settings Settings, notify chan<- struct{}) (*Fetcher, erro
 }
 
 // Load reloads the authorities. After an error the former ones stay in use.
-func (f *Fetcher) Load() error {
+func (f *Fetcher) Load() (err error) {
 	config := &tls.Config{MinVersion: tls.VersionTLS12}
 	if path := f.settings.Authority; path != "" {
-		text, err := os.ReadFile(path)
-		if err != nil {
+		if config.RootCAs, err = transport.Authorities(path); err != nil {
 			return err
-		}
-		config.RootCAs = x509.NewCertPool()
-		if !config.RootCAs.AppendCertsFromPEM(text) {
-			return fmt.Errorf("%s: there is no certificate in it", path)
 		}
 	}
 	f.client.Store(&http.Client{

@@ -1,9 +1,11 @@
 package fetch
 
 import (
+	"errors"
 	"fmt"
 	"time"
 
+	"fishreef/programs/internal/payloads"
 	"fishreef/programs/internal/words"
 	"fishreef/rtr"
 )
@@ -20,7 +22,7 @@ func (f *Settings) Options() []words.Option {
 	return []words.Option{
 		{
 			Name: "fetch", Argument: "TIME",
-			Help: "Fetch lists by URL this often, after a failure at first sooner\n" +
+			Help: "Fetch lists by URL this often, after a failure at first sooner " +
 				"(default 5m)",
 			Set: words.Wait(&f.Every, time.Second),
 		},
@@ -31,7 +33,7 @@ func (f *Settings) Options() []words.Option {
 		},
 		{
 			Name: "fetch-limit", Argument: "MB",
-			Help: "Refuse a list by URL of more than MB megabytes, uncompressed\n" +
+			Help: "Refuse a list by URL of more than MB megabytes, uncompressed " +
 				"(default 268)",
 			Set: func(text string) error {
 				megabytes := 0
@@ -47,11 +49,25 @@ func (f *Settings) Options() []words.Option {
 		},
 		{
 			Name: "fetch-ca", Argument: "FILE",
-			Help: "Trust these authorities for https (PEM; default those of the\n" +
+			Help: "Trust these authorities for https (PEM; default those of the " +
 				"system)",
 			Set: words.Text(&f.Authority),
 		},
 	}
+}
+
+// Check returns an error if there are authorities, and none of the lists is fetched. A server may
+// redirect from http to https.
+func (f *Settings) Check(lists ...payloads.File) error {
+	if f.Authority == "" {
+		return nil
+	}
+	for _, list := range lists {
+		if list.URL != nil {
+			return nil
+		}
+	}
+	return errors.New("--fetch-ca needs a list by URL: http://HOST/PATH or https://HOST/PATH")
 }
 
 // The limit for a fetched list is that of a file, in whole megabytes.

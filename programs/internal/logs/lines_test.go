@@ -27,7 +27,8 @@ func written(json bool, write func(log *logrus.Logger)) string {
 // A line is the same as logrus writes it, as text and as JSON, also if its level isn't written.
 func TestLinesAsLogrus(t *testing.T) {
 	for _, text := range []string{
-		"left", "reset query", "192.0.2.1:323", "[2001:db8::1%eth0]:323", "", "a=b", `"`, "\n\x00", "é", "\xff",
+		"left", "reset query", "192.0.2.1:323", "[2001:db8::1%eth0]:323", "", "a=b", `"`, "\n\x00", "é",
+		"\xff",
 		"-._/@^+", "left: a@b/c", "0", "\u2028",
 	} {
 		for _, level := range []logrus.Level{logrus.DebugLevel, logrus.InfoLevel, logrus.WarnLevel} {
@@ -71,7 +72,8 @@ func TestLinesStayWhole(t *testing.T) {
 			t.Errorf("%d of %q", count, line)
 		}
 	}
-	if count := bytes.Count([]byte(all), []byte("time=TIME level=info msg=other\n")); count != writers*each {
+	line := []byte("time=TIME level=info msg=other\n")
+	if count := bytes.Count([]byte(all), line); count != writers*each {
 		t.Errorf("%d other lines", count)
 	}
 }

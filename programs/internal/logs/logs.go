@@ -28,7 +28,7 @@ func (l *Logging) Options() []words.Option {
 		},
 		{
 			Name: "log-level", Argument: "LEVEL",
-			Help: "Log lines of this level and above: debug, info, warning or\n" +
+			Help: "Log lines of this level and above: debug, info, warning or " +
 				"error (default info)",
 			Set: l.setLevel,
 		},

@@ -23,9 +23,5 @@ func (m *Metrics) Serve(
 
 // health serves /health: "good", or the faults.
 func (m *Metrics) health(answer http.ResponseWriter, _ *http.Request) {
-	var lines []string
-	for _, fault := range m.faults() {
-		lines = append(lines, fault.Text)
-	}
-	web.Health(answer, lines)
+	web.Health(answer, m.faults())
 }

@@ -54,7 +54,8 @@ func unitFor(line string) *rtr.Unit {
 	switch words[0] {
 	case "key":
 		fmt.Sscan(words[1], &asn)
-		return &rtr.Unit{Kind: rtr.RouterKey, Version: 2, Announce: true, ASN: asn, KeyInfo: []byte("key")}
+		return &rtr.Unit{Kind: rtr.RouterKey, Version: 2, Announce: true, ASN: asn,
+			KeyInfo: []byte("key")}
 	case "aspa":
 		var providers []uint32
 		for _, word := range words[2:] {
@@ -216,7 +217,8 @@ func TestAges(t *testing.T) {
 	if d.counts[0] != (numbers{0, 1}) || d.counts[1] != (numbers{1, 0}) {
 		t.Error(d.counts)
 	}
-	if list := d.list(10, true); len(list) != 1 || list[0].missing != a || !list[0].Since.Equal(at(0)) {
+	if list := d.list(10, true); len(list) != 1 || list[0].missing != a ||
+		!list[0].Since.Equal(at(0)) {
 		t.Error(list)
 	}
 	if list := d.list(1, false); len(list) != 1 || list[0].missing != a {
@@ -240,7 +242,8 @@ func TestEarliest(t *testing.T) {
 		e := &earliest{most: most}
 		for i := 0; i < 50; i++ {
 			rank := i * 37 % 50
-			e.offer(&Difference{missing: missing{fmt.Sprint(rank), rank % 3}, Since: start.Add(time.Duration(rank / 2))})
+			e.offer(&Difference{missing: missing{fmt.Sprint(rank), rank % 3},
+				Since: start.Add(time.Duration(rank / 2))})
 		}
 		list := e.list()
 		if expected := most; len(list) != expected && len(list) != 50 {
@@ -279,7 +282,8 @@ func TestParseSource(t *testing.T) {
 		}
 	}
 	for _, word := range []string{
-		"", "host", ":323", "host:", "tls:host", "tls:324", "json:", "json", "http://h/f", "json:http:/f", "/file", "a:b:c",
+		"", "host", ":323", "host:", "tls:host", "tls:324", "json:", "json", "http://h/f", "json:http:/f",
+		"/file", "a:b:c",
 	} {
 		if source, err := ParseSource(word); err == nil {
 			t.Errorf("%q: %+v", word, source)

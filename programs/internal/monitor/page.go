@@ -82,20 +82,21 @@ svg .old { fill: #b00020; stroke: none; }
 {{- range .Kinds}}<th>{{.}}{{end}}<th>Changed (UTC)<th>Lacks<th>over {{.Grace}}</tr>
 {{range .Rows -}}
 <tr><td class="name"><span class="swatch" style="background: {{.Colour}}"></span>{{.Name -}}
-<td class="text state {{if .Good}}good{{else}}bad{{end}}">{{.State}}<td>{{.Version}}<td>{{.Session -}}
-<td>{{.Serial}}{{range .Kinds}}<td>{{.}}{{end}}<td class="time">{{.Changed}}<td>{{.Lacks -}}
+<td class="text state {{if .Good}}good{{else}}bad{{end}}">{{.State}}<td>{{.Version -}}
+<td>{{.Session}}<td>{{.Serial}}{{range .Kinds}}<td>{{.}}{{end}}<td class="time">{{.Changed}}<td>{{.Lacks -}}
 <td{{if .Missing.Old}} class="bad"{{end}}>{{.Old}}</tr>
 {{end -}}
 </table></div>
 <h2>The last day</h2>
 {{.Picture}}
 {{if .Differences -}}
-<h2>Differences{{if lt (len .Differences) .All}}: the {{len .Differences}} that have lasted longest{{end}}</h2>
+<h2>Differences
+{{- if lt (len .Differences) .All}}: the {{len .Differences}} that have lasted longest{{end}}</h2>
 <table>
 <tr><th>Payload<th class="text">Missing in<th>Since (UTC)<th>For</tr>
 {{range .Differences -}}
-<tr{{if not .Old}} class="recent"{{end}}><td>{{.Payload}}<td class="text">{{.Missing}}<td class="time">{{.Since -}}
-<td class="time">{{.Lasts}}</tr>
+<tr{{if not .Old}} class="recent"{{end}}><td>{{.Payload}}<td class="text">{{.Missing -}}
+<td class="time">{{.Since}}<td class="time">{{.Lasts}}</tr>
 {{end -}}
 </table>
 {{end -}}

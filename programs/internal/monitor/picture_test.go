@@ -69,10 +69,12 @@ func TestPicture(t *testing.T) {
 	wellFormed(t, text)
 	inside(t, text)
 	lines := regexp.MustCompile(`<path d="([^"]*)" class="line"`).FindAllStringSubmatch(text, -1)
-	if len(lines) != 2 || strings.Count(lines[0][1], "M") != 1 || strings.Count(lines[1][1], "M") != 2 {
+	if len(lines) != 2 || strings.Count(lines[0][1], "M") != 1 ||
+		strings.Count(lines[1][1], "M") != 2 {
 		t.Error(lines)
 	}
-	if !strings.HasPrefix(lines[0][1], "M90.0 ") || !strings.HasSuffix(lines[0][1], "H985.0") || len(lines[0][1]) > 40 {
+	if !strings.HasPrefix(lines[0][1], "M90.0 ") || !strings.HasSuffix(lines[0][1], "H985.0") ||
+		len(lines[0][1]) > 40 {
 		t.Error(lines[0][1])
 	}
 	for _, says := range []string{
@@ -108,14 +110,16 @@ func TestSmallPictures(t *testing.T) {
 func TestPage(t *testing.T) {
 	log := logrus.New()
 	log.SetOutput(io.Discard)
-	m, err := New(Settings{Sources: []Source{{Name: "<i>a</i>"}, {Name: "b"}}, Grace: time.Minute}, log)
+	m, err := New(Settings{Sources: []Source{{Name: "<i>a</i>"}, {Name: "b"}}, Grace: time.Minute},
+		log)
 	if err != nil {
 		t.Fatal(err)
 	}
 	now := time.Now()
 	m.handle(event{source: 0, failure: `<script>"no"`}, now)
 	for source, lines := range [][]string{{"10.0.0.0/8 1"}, {"10.0.0.0/8 1", "2001:db8::/32 2"}} {
-		m.handle(event{source: source, data: sideOf(t, 2, lines...).data, version: 2}, now.Add(-time.Hour))
+		m.handle(event{source: source, data: sideOf(t, 2, lines...).data, version: 2},
+			now.Add(-time.Hour))
 	}
 	m.logAged(now)
 	m.handle(event{source: 0, failure: `<script>"no"`}, now.Add(-2*time.Minute))
@@ -147,15 +151,22 @@ func TestPage(t *testing.T) {
 	}
 }
 
-// The news of a source lead to the right state: data, their loss, and failures.
-func TestStates(t *testing.T) {
-	var logged strings.Builder
+// ofTwo returns a monitor of two sources, with what it logs.
+func ofTwo(t *testing.T) (*Monitor, *strings.Builder) {
+	t.Helper()
+	logged := new(strings.Builder)
 	log := logrus.New()
-	log.SetOutput(&logged)
+	log.SetOutput(logged)
 	m, err := New(Settings{Sources: []Source{{Name: "a"}, {Name: "b"}}, Grace: time.Minute}, log)
 	if err != nil {
 		t.Fatal(err)
 	}
+	return m, logged
+}
+
+// The news of a source lead to the right state: data, their loss, and failures.
+func TestStates(t *testing.T) {
+	m, logged := ofTwo(t)
 	start := time.Now()
 	at := func(seconds int) time.Time { return start.Add(time.Duration(seconds) * time.Second) }
 	faults := func(now time.Time) string {
@@ -203,13 +214,7 @@ func TestStates(t *testing.T) {
 
 // Many differences at one time have a hundred lines, and one for the rest.
 func TestManyLines(t *testing.T) {
-	var logged strings.Builder
-	log := logrus.New()
-	log.SetOutput(&logged)
-	m, err := New(Settings{Sources: []Source{{Name: "a"}, {Name: "b"}}, Grace: time.Minute}, log)
-	if err != nil {
-		t.Fatal(err)
-	}
+	m, logged := ofTwo(t)
 	var lines []string
 	for i := 0; i < 250; i++ {
 		lines = append(lines, fmt.Sprintf("10.0.%d.0/24 1", i))

@@ -24,11 +24,7 @@ func (m *Monitor) paths() http.Handler {
 	paths.Handle("/metrics", promhttp.HandlerFor(m.registry(), promhttp.HandlerOpts{}))
 	paths.HandleFunc("/diff.json", m.serveDifferences)
 	paths.HandleFunc("/health", func(answer http.ResponseWriter, _ *http.Request) {
-		var lines []string
-		for _, fault := range m.faults(time.Now()) {
-			lines = append(lines, fault.Text)
-		}
-		web.Health(answer, lines)
+		web.Health(answer, m.faults(time.Now()))
 	})
 	return paths
 }

@@ -11,6 +11,7 @@ import (
 	"fishreef/programs/internal/payloads"
 	"fishreef/programs/internal/transport"
 	"fishreef/programs/internal/trust"
+	"fishreef/programs/internal/words"
 	"fishreef/rtr"
 )
 
@@ -40,7 +41,8 @@ func ParseSource(word string) (Source, error) {
 		source.Transport, source.Address = kind, rest
 	}
 	host, port, err := net.SplitHostPort(source.Address)
-	if err != nil || host == "" || port == "" || fetch.IsURL(word) {
+	if err != nil || host == "" || port == "" || fetch.IsURL(word) ||
+		!words.IsAddress(source.Address) {
 		return Source{}, fmt.Errorf("%q isn't a source: HOST:PORT, tls:HOST:PORT, "+
 			"ssh:HOST:PORT, json:FILE, csv:FILE or sequence:FILE, where a URL may stand for FILE", word)
 	}
@@ -52,13 +54,9 @@ func parseList(begins string, format payloads.Format, path string) (Source, erro
 	if path == "" {
 		return Source{}, errors.New(begins + ": needs a file")
 	}
-	list := payloads.File{Format: format, Path: path}
-	if fetch.IsURL(path) {
-		at, err := fetch.Parse(path)
-		if err != nil {
-			return Source{}, err
-		}
-		list.URL, list.Path = at, at.Redacted()
+	list, err := fetch.FileOf(format, path)
+	if err != nil {
+		return Source{}, err
 	}
 	return Source{Name: begins + ":" + list.Path, List: list}, nil
 }

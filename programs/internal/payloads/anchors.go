@@ -88,8 +88,8 @@ func jsonAnchors(input *bufio.Reader) (Anchors, error) {
 	}
 }
 
-// countWhole counts the members whose string is whole in a chunk. It returns the offset of the first
-// other member, or the length of the chunk.
+// countWhole counts the members whose string is whole in a chunk. It returns the offset of the
+// first other member, or the length of the chunk.
 func (c *counter) countWhole(chunk []byte) int {
 	for at := 0; ; {
 		next := memberIn(chunk[at:])

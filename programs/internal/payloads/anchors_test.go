@@ -15,9 +15,10 @@ import (
 func TestAnchors(t *testing.T) {
 	const (
 		header    = "ASN,IP Prefix,Max Length,Trust Anchor"
-		routinate = header + "\nAS64496,10.0.0.0/16,16,ripe\nAS64496,10.1.0.0/16,16,apnic\nAS64496,10.2.0.0/16,16,ripe\n"
-		fort      = "ASN,Prefix,Max prefix length\nAS64496,10.0.0.0/16,16\n"
-		client    = `{"metadata": {"ta": 3, "buildtime": "x"}, "roas": [
+		routinate = header +
+			"\nAS64496,10.0.0.0/16,16,ripe\nAS64496,10.1.0.0/16,16,apnic\nAS64496,10.2.0.0/16,16,ripe\n"
+		fort   = "ASN,Prefix,Max prefix length\nAS64496,10.0.0.0/16,16\n"
+		client = `{"metadata": {"ta": 3, "buildtime": "x"}, "roas": [
 			{ "asn": 64496, "prefix": "10.0.0.0/16", "maxLength": 16, "ta": "ripe", "expires": 1 },
 			{ "asn": 64496, "prefix": "10.1.0.0/16", "maxLength": 16, "ta" : "apnic", "expires": 1 },
 			{ "asn": 64496, "prefix": "10.2.0.0/16", "maxLength": 16, "ta":
@@ -70,7 +71,8 @@ func TestAnchorsAnywhere(t *testing.T) {
 	for size := 16; size < 24; size++ {
 		for before := 0; before < 50; before++ {
 			text := strings.Repeat("x", before) + `{"ta": "ripe"}, {"ta":"apnic"}`
-			for _, input := range []io.Reader{strings.NewReader(text), iotest.OneByteReader(strings.NewReader(text))} {
+			byteByByte := iotest.OneByteReader(strings.NewReader(text))
+			for _, input := range []io.Reader{strings.NewReader(text), byteByByte} {
 				got, err := jsonAnchors(bufio.NewReaderSize(input, size))
 				if err != nil || !reflect.DeepEqual(got, Anchors{"ripe": 1, "apnic": 1}) {
 					t.Fatal(size, before, got, err)

@@ -2,25 +2,47 @@ package payloads
 
 import (
 	"errors"
+	"fmt"
+	"strconv"
 
+	"fishreef/programs/internal/beside"
 	"fishreef/programs/internal/words"
 )
 
-// CheckSlurm returns an error if there are SLURM files, and a file that they can't filter.
-func (r *Reader) CheckSlurm(files ...File) error {
+// Check returns an error if there are SLURM files, and a file that they can't filter. It finds
+// rtr_make, if a file needs it.
+func (r *Reader) Check(files ...File) (err error) {
 	for _, file := range files {
-		if file.Format == Sequence && len(r.Slurm) != 0 {
+		switch {
+		case file.Format == Sequence && len(r.Slurm) != 0:
 			return errors.New("--slurm filters the lists of validators, and no units (sequence)")
+		case file.Format == Sequence || r.Maker != "":
+		default:
+			if r.Maker, err = beside.Find("rtr_make"); err != nil {
+				return err
+			}
 		}
 	}
 	return nil
+}
+
+// Protocol is an option whose argument is a version of the protocol, at most Version.
+func Protocol(to *uint8) func(string) error {
+	return func(argument string) error {
+		version, err := strconv.ParseUint(argument, 10, 8)
+		if err != nil || version > Version {
+			return fmt.Errorf("%q isn't a version: 0, 1 or 2", argument)
+		}
+		*to = uint8(version)
+		return nil
+	}
 }
 
 // Options returns the options for the content of files.
 func (r *Reader) Options() []words.Option {
 	return []words.Option{
 		{
-			Name: "ignore", Argument: "NAME",
+			Name: "ignore", Argument: "NAME", Repeats: true,
 			Help: "Ignore what the JSON has under this name",
 			Set: func(name string) error {
 				r.Ignored = append(r.Ignored, name)
@@ -28,8 +50,8 @@ func (r *Reader) Options() []words.Option {
 			},
 		},
 		{
-			Name: "slurm", Argument: "FILE",
-			Help: "Filter payloads, and add others, by this SLURM file (RFC 8416);\n" +
+			Name: "slurm", Argument: "FILE", Repeats: true,
+			Help: "Filter payloads, and add others, by this SLURM file (RFC 8416); " +
 				"several must not overlap",
 			Set: func(path string) error {
 				r.Slurm = append(r.Slurm, path)

@@ -8,6 +8,8 @@ import (
 	"strings"
 
 	"github.com/coreos/go-systemd/v22/activation"
+
+	"fishreef/programs/internal/words"
 )
 
 // Kind is a transport.
@@ -38,7 +40,7 @@ func ParseAddress(word string) (Address, error) {
 			address = Address{kind, rest}
 		}
 	}
-	if _, _, err := net.SplitHostPort(address.Address); err != nil {
+	if !words.IsAddress(address.Address) {
 		return Address{}, fmt.Errorf(
 			"%q isn't ADDRESS:PORT, tls:ADDRESS:PORT or ssh:ADDRESS:PORT", word)
 	}

@@ -20,6 +20,27 @@ type SSHFiles struct {
 	Routers string // public keys of routers, as in authorized_keys
 }
 
+// Check returns an error if something is missing.
+func (f SSHFiles) Check() error {
+	if (f.HostKey == "") != (f.Routers == "") {
+		return errors.New("--ssh-host-key and --ssh-routers need each other")
+	}
+	return nil
+}
+
+// privateKey loads a private key.
+func privateKey(path string) (ssh.Signer, error) {
+	text, err := os.ReadFile(path)
+	if err != nil {
+		return nil, err
+	}
+	key, err := ssh.ParsePrivateKey(text)
+	if err != nil {
+		return nil, fmt.Errorf("%s: %w", path, err)
+	}
+	return key, nil
+}
+
 // Host is a cache's host key for SSH, and the keys that it trusts. Load reloads them.
 type Host struct {
 	files   SSHFiles
@@ -34,13 +55,9 @@ func NewHost(files SSHFiles) (*Host, error) {
 
 // Load reloads the files, as Identity.Load does.
 func (h *Host) Load() error {
-	text, err := os.ReadFile(h.files.HostKey)
+	key, err := privateKey(h.files.HostKey)
 	if err != nil {
 		return err
-	}
-	key, err := ssh.ParsePrivateKey(text)
-	if err != nil {
-		return fmt.Errorf("%s: %w", h.files.HostKey, err)
 	}
 	trusted, err := publicKeys(h.files.Routers)
 	if err != nil {

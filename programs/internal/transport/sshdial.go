@@ -5,7 +5,6 @@ import (
 	"fmt"
 	"io"
 	"net"
-	"os"
 	"sync"
 	"time"
 
@@ -50,13 +49,9 @@ type Dial func(ctx context.Context, network, address string) (net.Conn, error)
 //
 // Errors: those of the files.
 func (r SSHRouter) Dialer() (Dial, error) {
-	text, err := os.ReadFile(r.Key)
+	key, err := privateKey(r.Key)
 	if err != nil {
 		return nil, err
-	}
-	key, err := ssh.ParsePrivateKey(text)
-	if err != nil {
-		return nil, fmt.Errorf("%s: %w", r.Key, err)
 	}
 	trusted, err := knownhosts.New(r.KnownHosts)
 	if err != nil {

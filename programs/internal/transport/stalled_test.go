@@ -19,6 +19,18 @@ const wait = 120 * time.Second
 // stalls are the bytes that a peer sends before it stalls.
 var stalls = []string{"", "SSH-2.0-x", "SSH-2.0-x\r\n", "SSH-2.0-x\r\n\x00\x00\x01\x00"}
 
+// stall connects to a cache, and sends these bytes and then nothing.
+func stall(t *testing.T, address, front string) net.Conn {
+	t.Helper()
+	connection, err := net.Dial("tcp", address)
+	if err != nil {
+		t.Fatal(err)
+	}
+	t.Cleanup(func() { connection.Close() })
+	io.WriteString(connection, front)
+	return connection
+}
+
 // Routers that stall in a handshake are closed after the time limit of a first query, and another
 // one is served meanwhile.
 func TestStalledRouters(t *testing.T) {
@@ -38,13 +50,7 @@ func TestStalledRouters(t *testing.T) {
 	}
 	var stalled []net.Conn
 	for _, front := range stalls {
-		connection, err := net.Dial("tcp", address)
-		if err != nil {
-			t.Fatal(err)
-		}
-		defer connection.Close()
-		io.WriteString(connection, front)
-		stalled = append(stalled, connection)
+		stalled = append(stalled, stall(t, address, front))
 	}
 	client, err := dialed(folder, address)
 	if err != nil {
@@ -137,12 +143,7 @@ func TestHandshakeTime(t *testing.T) {
 	began := time.Now()
 	lasted := make(chan time.Duration, len(stalls))
 	for _, front := range stalls {
-		connection, err := net.Dial("tcp", address)
-		if err != nil {
-			t.Fatal(err)
-		}
-		defer connection.Close()
-		io.WriteString(connection, front)
+		connection := stall(t, address, front)
 		connection.SetReadDeadline(began.Add(wait))
 		go func() {
 			io.Copy(io.Discard, connection)

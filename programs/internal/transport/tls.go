@@ -20,6 +20,44 @@ type TLSFiles struct {
 	AnyAddress bool
 }
 
+// Check returns an error if something is missing.
+func (f TLSFiles) Check() error {
+	if f.ClientCA != "" && f.Certificate == "" && f.Key == "" {
+		return errors.New("--tls-client-ca needs --tls-cert and --tls-key")
+	}
+	return checkPair(f.Certificate, f.Key)
+}
+
+// checkPair returns an error if one of a certificate and its key is missing.
+func checkPair(certificate, key string) error {
+	if (certificate == "") != (key == "") {
+		return errors.New("--tls-cert and --tls-key need each other")
+	}
+	return nil
+}
+
+// Authorities loads a file with authorities (PEM).
+func Authorities(path string) (*x509.CertPool, error) {
+	text, err := os.ReadFile(path)
+	if err != nil {
+		return nil, err
+	}
+	pool := x509.NewCertPool()
+	if !pool.AppendCertsFromPEM(text) {
+		return nil, fmt.Errorf("%s: there is no certificate in it", path)
+	}
+	return pool, nil
+}
+
+// loadPair loads a certificate and its key.
+func loadPair(certificate, key string) ([]tls.Certificate, error) {
+	pair, err := tls.LoadX509KeyPair(certificate, key)
+	if err != nil {
+		return nil, fmt.Errorf("%s with %s: %w", certificate, key, err)
+	}
+	return []tls.Certificate{pair}, nil
+}
+
 // Identity is a cache's certificate for TLS, and the authorities that it trusts. Load reloads them.
 type Identity struct {
 	files   TLSFiles
@@ -33,22 +71,15 @@ func NewIdentity(files TLSFiles) (*Identity, error) {
 }
 
 // Load reloads the files, for new connections. After an error the former ones stay in use.
-func (i *Identity) Load() error {
-	certificate, err := tls.LoadX509KeyPair(i.files.Certificate, i.files.Key)
+func (i *Identity) Load() (err error) {
+	config := &tls.Config{MinVersion: tls.VersionTLS12}
+	config.Certificates, err = loadPair(i.files.Certificate, i.files.Key)
 	if err != nil {
-		return fmt.Errorf("%s with %s: %w", i.files.Certificate, i.files.Key, err)
-	}
-	config := &tls.Config{
-		Certificates: []tls.Certificate{certificate}, MinVersion: tls.VersionTLS12,
+		return err
 	}
 	if i.files.ClientCA != "" {
-		text, err := os.ReadFile(i.files.ClientCA)
-		if err != nil {
+		if config.ClientCAs, err = Authorities(i.files.ClientCA); err != nil {
 			return err
-		}
-		config.ClientCAs = x509.NewCertPool()
-		if !config.ClientCAs.AppendCertsFromPEM(text) {
-			return fmt.Errorf("%s: there is no certificate in it", i.files.ClientCA)
 		}
 		config.ClientAuth = tls.RequireAndVerifyClientCert
 	}

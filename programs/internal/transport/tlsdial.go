@@ -2,10 +2,6 @@ package transport
 
 import (
 	"crypto/tls"
-	"crypto/x509"
-	"errors"
-	"fmt"
-	"os"
 
 	"fishreef/programs/internal/words"
 )
@@ -41,33 +37,23 @@ func (r *TLSRouter) Options() []words.Option {
 
 // Check returns an error if something is missing.
 func (r TLSRouter) Check() error {
-	if (r.Certificate == "") != (r.Key == "") {
-		return errors.New("--tls-cert and --tls-key need each other")
-	}
-	return nil
+	return checkPair(r.Certificate, r.Key)
 }
 
 // Dialer returns a dial function over TLS.
 //
 // Errors: those of the files.
-func (r TLSRouter) Dialer() (Dial, error) {
+func (r TLSRouter) Dialer() (dial Dial, err error) {
 	config := &tls.Config{ServerName: r.Name, MinVersion: tls.VersionTLS12}
 	if r.Authority != "" {
-		text, err := os.ReadFile(r.Authority)
-		if err != nil {
+		if config.RootCAs, err = Authorities(r.Authority); err != nil {
 			return nil, err
-		}
-		config.RootCAs = x509.NewCertPool()
-		if !config.RootCAs.AppendCertsFromPEM(text) {
-			return nil, fmt.Errorf("%s: there is no certificate in it", r.Authority)
 		}
 	}
 	if r.Certificate != "" {
-		certificate, err := tls.LoadX509KeyPair(r.Certificate, r.Key)
-		if err != nil {
-			return nil, fmt.Errorf("%s with %s: %w", r.Certificate, r.Key, err)
+		if config.Certificates, err = loadPair(r.Certificate, r.Key); err != nil {
+			return nil, err
 		}
-		config.Certificates = []tls.Certificate{certificate}
 	}
 	return (&tls.Dialer{Config: config}).DialContext, nil
 }

@@ -20,7 +20,8 @@ type Exported struct {
 
 // NewExported returns the metrics that a registry or a collector describes, of a program whose
 // metrics and rules have these prefixes.
-func NewExported(prefix, rules string, of interface{ Describe(chan<- *prometheus.Desc) }) *Exported {
+func NewExported(prefix, rules string,
+	of interface{ Describe(chan<- *prometheus.Desc) }) *Exported {
 	e := &Exported{prefix, rules, map[string]string{}}
 	descriptions := make(chan *prometheus.Desc)
 	go func() {
@@ -147,7 +148,8 @@ func (e *Exported) Alerts(t *testing.T, least int) {
 		t.Errorf("there is no rule about %v", lacking)
 	}
 	named := set("`("+e.Rules+"\\w+)`", page(t, "METRICS.md"))
-	if lacking, other := missing(defined, named), missing(named, defined); lacking != nil || other != nil {
+	lacking, other := missing(defined, named), missing(named, defined)
+	if lacking != nil || other != nil {
 		t.Errorf("the page lacks %v, and has %v that are no rules", lacking, other)
 	}
 }

@@ -231,6 +231,17 @@ func (p *Process) Status() int {
 	return p.status
 }
 
+// Refuses waits for the end of the process, and checks that it has this status, printed nothing but
+// one line on standard error, and that this line begins so and has this text.
+func (p *Process) Refuses(status int, begins, text string) {
+	p.t.Helper()
+	got, stderr := p.Status(), p.Stderr()
+	if got != status || strings.Count(stderr, "\n") != 1 || !strings.HasPrefix(stderr, begins) ||
+		!strings.Contains(stderr, text) || p.Output() != "" {
+		p.t.Errorf("%q: status %d, %s", p.run.Args[1:], got, stderr)
+	}
+}
+
 // End sends SIGTERM, and returns the status.
 func (p *Process) End() int {
 	p.t.Helper()

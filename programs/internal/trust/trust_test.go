@@ -52,7 +52,8 @@ func TestJudge(t *testing.T) {
 		{"a name of two lines", rules, Offer{Had: all, Anchors: []Anchor{{"a\nb", 1, 0}, {"c", 1, 1}}},
 			`1 of 1 item of trust anchor "a\nb",`},
 		{"a kind before an anchor", rules,
-			Offer{Had: all, Withdrawn: of(0, 0, 0, 6), Anchors: []Anchor{{"ripe", 30, 0}, {"c", 1, 1}}}, "6 of 10 ASPAs"},
+			Offer{Had: all, Withdrawn: of(0, 0, 0, 6),
+				Anchors: []Anchor{{"ripe", 30, 0}, {"c", 1, 1}}}, "6 of 10 ASPAs"},
 		{"an anchor's items have expired", rules,
 			Offer{Had: all, Expiry: true, Anchors: []Anchor{{"ripe", 30, 0}, {"c", 1, 1}}}, ""},
 		{"nothing may go", Rules{}, Offer{Had: all, Withdrawn: of(1, 0, 0, 0)}, "1 of 1020 payloads, which is more than 0%"},
@@ -141,9 +142,11 @@ func TestClock(t *testing.T) {
 	} {
 		var clock Clock
 		for i, reading := range c.looks {
-			clock = clock.Look(start.Add(reading.after+reading.system), reading.after, c.rules, reading.confirmed)
+			clock = clock.Look(start.Add(reading.after+reading.system), reading.after, c.rules,
+				reading.confirmed)
 			says := clock.Fault(c.rules)
-			if !clock.Now().Equal(start.Add(reading.after+reading.counts)) || (says == "") != (reading.says == "") ||
+			if !clock.Now().Equal(start.Add(reading.after+reading.counts)) ||
+				(says == "") != (reading.says == "") ||
 				!strings.Contains(says, reading.says) {
 				t.Errorf("%s: look %d: %v, %q", name, i, clock.Now(), says)
 			}
@@ -182,12 +185,16 @@ func TestHealth(t *testing.T) {
 		{"a file is wrong", func(s *State) { s.Files = with(func(f *File) { f.Problem = errors.New("line 3") }) },
 			[]Fault{{Refused, "f: line 3"}}},
 		{"a list can't be fetched", func(s *State) {
-			s.Files = with(func(f *File) { f.Unfetched, f.Written = errors.New("refused"), now.Add(-3*time.Hour) })
+			s.Files = with(func(f *File) {
+				f.Unfetched, f.Written = errors.New("refused"), now.Add(-3*time.Hour)
+			})
 		}, []Fault{{Fetch, "f: it can't be fetched: refused"}, {Stale, "f: it was written 3h0m0s ago"}}},
 		{"a list that never came", func(s *State) { s.Files = with(func(f *File) { *f = File{Path: "f", Unfetched: errors.New("no")} }) },
 			[]Fault{{Fetch, "f: it can't be fetched: no"}}},
 		{"a list is held and can't be fetched", func(s *State) {
-			s.Files = with(func(f *File) { f.Problem, f.Held, f.Unfetched = errors.New("much"), true, errors.New("no") })
+			s.Files = with(func(f *File) {
+				f.Problem, f.Held, f.Unfetched = errors.New("much"), true, errors.New("no")
+			})
 		}, []Fault{{Holding, "f: much"}, {Fetch, "f: it can't be fetched: no"}}},
 		{"a file is old", func(s *State) { s.Files = with(func(f *File) { f.Written = now.Add(-2*time.Hour - time.Second) }) },
 			[]Fault{{Stale, "f: it was written 2h0m1s ago"}}},
@@ -204,7 +211,9 @@ func TestHealth(t *testing.T) {
 			s.Payloads, s.Unsaved, s.Clock = 0, errors.New("read-only"), ahead
 			s.Files = append(with(func(f *File) { f.Problem = errors.New("gone") }),
 				with(func(f *File) { f.Problem, f.Held = errors.New("too much"), true })...)
-			s.Files = append(s.Files, with(func(f *File) { f.Written, f.Taken, f.Expired = now.Add(-3*time.Hour), 0, 3 })...)
+			s.Files = append(s.Files, with(func(f *File) {
+				f.Written, f.Taken, f.Expired = now.Add(-3*time.Hour), 0, 3
+			})...)
 		}, []Fault{
 			{Empty, "no payloads are left"}, {Unsaved, "new data can't be saved, and aren't served: read-only"},
 			{Clocks, ahead.Fault(rules)}, {Holding, "f: too much"}, {Refused, "f: gone"},

@@ -8,6 +8,8 @@ import (
 	"net"
 	"net/http"
 	"time"
+
+	"fishreef/programs/internal/trust"
 )
 
 // The time limits for a client's request, and for reading the answer.
@@ -34,13 +36,13 @@ func Serve(ctx context.Context, listener net.Listener, paths http.Handler) error
 }
 
 // Health answers "good", or with status 503 and a line for each fault.
-func Health(answer http.ResponseWriter, faults []string) {
+func Health(answer http.ResponseWriter, faults []trust.Fault) {
 	answer.Header().Set("Content-Type", "text/plain; charset=utf-8")
 	if len(faults) > 0 {
 		answer.WriteHeader(http.StatusServiceUnavailable)
 	}
 	for _, fault := range faults {
-		fmt.Fprintln(answer, fault)
+		fmt.Fprintln(answer, fault.Text)
 	}
 	if len(faults) == 0 {
 		fmt.Fprintln(answer, "good")

@@ -10,21 +10,29 @@ import (
 
 // The exit statuses of all programs, as on their man pages.
 const (
-	Good   = 0
-	Failed = 1 // the input is at fault, or the data didn't come
-	Usage  = 2 // the arguments are wrong
-	System = 3 // a file, an address or another resource of the system isn't available
+	Well    = 0
+	Refused = 1 // the input is at fault, or the data didn't come
+	Usage   = 2 // the arguments are wrong
+	Failed  = 3 // a file, an address or another resource of the system isn't available
 )
+
+// StatusOfLine returns the exit status for an error of a command line.
+func StatusOfLine(err error) int {
+	if errors.As(err, new(Unwritten)) {
+		return Failed
+	}
+	return Usage
+}
 
 // StatusOf returns the exit status for an error. The status of a program that it ran is passed on.
 func StatusOf(err error) int {
 	var other *exec.ExitError
 	switch {
-	case errors.As(err, &other) && other.ExitCode() == System:
-		return System
+	case errors.As(err, &other) && other.ExitCode() == Failed:
+		return Failed
 	case errors.As(err, new(syscall.Errno)), errors.As(err, new(*net.DNSError)),
-		errors.As(err, new(*os.PathError)):
-		return System
+		errors.As(err, new(*net.AddrError)), errors.As(err, new(*os.PathError)):
+		return Failed
 	}
-	return Failed
+	return Refused
 }

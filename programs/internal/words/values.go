@@ -3,6 +3,9 @@ package words
 import (
 	"errors"
 	"fmt"
+	"math"
+	"net"
+	"regexp"
 	"strconv"
 	"time"
 )
@@ -29,9 +32,6 @@ func Text(to *string) func(string) error {
 		if argument == "" {
 			return errors.New("it is empty")
 		}
-		if *to != "" {
-			return errors.New("it is given twice")
-		}
 		*to = argument
 		return nil
 	}
@@ -45,12 +45,36 @@ func Yes(to *bool) func(string) error {
 	}
 }
 
+// Address is an option whose argument is ADDRESS:PORT.
+func Address(to *string) func(string) error {
+	return func(argument string) error {
+		if !IsAddress(argument) {
+			return fmt.Errorf("%q isn't ADDRESS:PORT", argument)
+		}
+		return Text(to)(argument)
+	}
+}
+
+// The name of a service (RFC 6335 section 5.1), which has a letter.
+var service = regexp.MustCompile(`^[A-Za-z0-9-]*[A-Za-z][A-Za-z0-9-]*$`)
+
+// IsAddress reports whether a text is a host or an address, a colon, and the number of a port or
+// the name of a service, which the system may not know.
+func IsAddress(text string) bool {
+	_, port, err := net.SplitHostPort(text)
+	if err != nil {
+		return false
+	}
+	_, err = strconv.ParseUint(port, 10, 16)
+	return err == nil || service.MatchString(port)
+}
+
 // Seconds is an option whose argument is a number of seconds of a unit of the protocol.
 func Seconds(to *uint32) func(string) error {
 	return func(argument string) error {
 		number, err := strconv.ParseUint(argument, 10, 32)
 		if err != nil {
-			return fmt.Errorf("%q isn't a number of seconds", argument)
+			return fmt.Errorf("%q isn't a number of seconds up to %d", argument, math.MaxUint32)
 		}
 		*to = uint32(number)
 		return nil
@@ -62,7 +86,7 @@ func Count(to *int, least int) func(string) error {
 	return func(argument string) error {
 		number, err := strconv.ParseInt(argument, 10, 32)
 		if err != nil || int(number) < least {
-			return fmt.Errorf("%q isn't a number of at least %d", argument, least)
+			return fmt.Errorf("%q isn't a number from %d to %d", argument, least, math.MaxInt32)
 		}
 		*to = int(number)
 		return nil

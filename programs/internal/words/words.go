@@ -16,7 +16,8 @@ const Version = "0.3.0"
 type Option struct {
 	Name     string // without the dashes
 	Argument string // the names of its arguments; "" for none
-	Help     string // its text, with line breaks
+	Repeats  bool   // whether it may be given more than once, with other arguments
+	Help     string // its text, in one line
 	Set      func(argument string) error
 }
 
@@ -34,7 +35,7 @@ type Program struct {
 	Name     string
 	Sentence string   // what it does
 	Calls    []string // its usage lines
-	Help     string   // a longer description
+	Help     string   // a longer description, with line breaks
 	Options  []Option
 	// Operand takes an argument that isn't an option. It is nil if there may be none.
 	Operand func(word string) error
@@ -43,21 +44,27 @@ type Program struct {
 // ErrHelp is returned for a command line that only asks for the help or the version.
 var ErrHelp = errors.New("the help or the version was asked for")
 
+// Unwritten is returned if the help or the version can't be written.
+type Unwritten struct{ error }
+
 // Parse calls each option of a command line with its argument. If only the help or the version is
 // asked for, it writes that.
 //
-// Errors: ErrHelp; one that names the wrong argument.
+// Errors: ErrHelp; Unwritten; one that names the wrong argument.
 func (p *Program) Parse(line []string, output io.Writer) error {
-	if len(line) == 1 && (line[0] == "--help" || line[0] == "-h") {
-		fmt.Fprint(output, p.help())
+	if len(line) == 1 && isAlone(line[0]) {
+		text := p.Name + " " + Version + "\n"
+		if line[0] != "--version" {
+			text = p.help()
+		}
+		if _, err := io.WriteString(output, text); err != nil {
+			return Unwritten{err}
+		}
 		return ErrHelp
 	}
-	if len(line) == 1 && line[0] == "--version" {
-		fmt.Fprintln(output, p.Name, Version)
-		return ErrHelp
-	}
+	given := map[string]bool{}
 	for len(line) > 0 {
-		taken, err := p.take(line)
+		taken, err := p.take(line, given)
 		if err != nil {
 			return err
 		}
@@ -66,8 +73,9 @@ func (p *Program) Parse(line []string, output io.Writer) error {
 	return nil
 }
 
-// take calls the option at the start of the arguments, and returns how many arguments it used.
-func (p *Program) take(line []string) (int, error) {
+// take calls the option at the start of the arguments, and returns how many arguments it used. The
+// names of the options before it are given.
+func (p *Program) take(line []string, given map[string]bool) (int, error) {
 	word := line[0]
 	if !strings.HasPrefix(word, "-") || word == "-" {
 		if p.Operand == nil {
@@ -78,17 +86,19 @@ func (p *Program) take(line []string) (int, error) {
 	name, argument, joined := strings.Cut(strings.TrimPrefix(word, "--"), "=")
 	option := p.option(name)
 	switch {
+	case option == nil && isAlone(word):
+		return 0, fmt.Errorf("%s has to stand alone", word)
 	case option == nil || !strings.HasPrefix(word, "--"):
 		return 0, fmt.Errorf("unknown option %q", word)
 	case option.Argument == "" && joined:
 		return 0, fmt.Errorf("--%s takes no argument", name)
 	case joined && option.count() == 1:
-		return 1, named(name, option.Set(argument))
+		return 1, option.call(argument, given)
 	case joined || len(line) <= option.count():
 		return 0, fmt.Errorf("--%s needs %s", name, option.Argument)
 	}
 	taken := 1 + option.count()
-	return taken, named(name, option.Set(strings.Join(line[1:taken], " ")))
+	return taken, option.call(strings.Join(line[1:taken], " "), given)
 }
 
 // count returns how many arguments the option takes.
@@ -104,12 +114,18 @@ func (p *Program) option(name string) *Option {
 	return nil
 }
 
-// named returns an error of an option.
-func named(name string, err error) error {
-	if err == nil {
-		return nil
+// call calls the option with its argument, unless it was given before and may not be repeated: only
+// one of its arguments would count.
+func (o *Option) call(argument string, given map[string]bool) error {
+	err := errors.New("it is given twice")
+	if o.Argument == "" || o.Repeats || !given[o.Name] {
+		err = o.Set(argument)
 	}
-	return fmt.Errorf("--%s: %w", name, err)
+	given[o.Name] = true
+	if err != nil {
+		return fmt.Errorf("--%s: %w", o.Name, err)
+	}
+	return nil
 }
 
 // help returns the text of --help.
@@ -128,19 +144,40 @@ func (p *Program) help() string {
 	}
 	for _, option := range all {
 		word := option.words()
-		for _, line := range strings.Split(option.Help, "\n") {
-			line = fmt.Sprintf("  %-*s  %s", width, word, line)
-			text.WriteString(strings.TrimRight(line, " ") + "\n")
+		for _, line := range wrapped(option.Help, columns-width-4) {
+			fmt.Fprintf(&text, "  %-*s  %s\n", width, word, line)
 			word = ""
 		}
 	}
 	return text.String() + "\nExamples are in the man page: man " + p.Name + "\n"
 }
 
+// columns is the width of a terminal, which no line of the help exceeds.
+const columns = 80
+
+// wrapped breaks a text into lines of at most this width.
+func wrapped(text string, width int) []string {
+	var lines []string
+	for _, word := range strings.Fields(text) {
+		last := len(lines) - 1
+		if last >= 0 && len(lines[last])+1+len(word) <= width {
+			lines[last] += " " + word
+		} else {
+			lines = append(lines, word)
+		}
+	}
+	return lines
+}
+
 // alone returns the options that are used alone.
 var alone = []Option{
 	{Name: "help", Help: "Print this help and exit; also -h"},
 	{Name: "version", Help: "Print the version and exit, if it stands alone"},
+}
+
+// isAlone reports whether a word asks for the help or the version if it stands alone.
+func isAlone(word string) bool {
+	return word == "--help" || word == "-h" || word == "--version"
 }
 
 // words returns the option and its arguments.
