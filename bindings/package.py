@@ -97,7 +97,8 @@ SOURCES = (*(file for name in ENDS for file in (f"rtr_{name}.c", f"{name}.c")), 
 # The pages that comments name, and how files and folders of the repository are named.
 DOCUMENTS = ("PROTOCOL.md", "SESSIONS.md")
 NAMED = re.compile(r"(?<![\w./-])([A-Z]{4,}\.md|"
-                   r"(?:docs|bindings|crates|bench|fuzz|interop|prebuilt|programs|tests|\.ci)/(?:[\w./*-]*\w)?)")
+                   r"(?:docs|bindings|crates|bench|fuzz|interop|prebuilt|programs|tests|\.ci)/"
+                   r"(?:[\w./*-]*\w)?)")
 
 # The entries of CHANGELOG.md that a package has, by its language.
 ENTRIES = {"go": re.compile(r".*\bGo\b", re.DOTALL), "rust": re.compile(r".*\bRust\b", re.DOTALL),
@@ -305,8 +306,8 @@ def portable(archives, to):
     """Puts the C file for platforms without an archive below a folder."""
     found = portable_file(archives)
     if found is None:
-        print(f"bindings/package.py: no portable/{NAME}.c here: {to.name} is for Linux on x86-64 and "
-              "aarch64 alone", file=sys.stderr)
+        print(f"bindings/package.py: no portable/{NAME}.c here: {to.name} is only for Linux on "
+              "x86-64 and aarch64", file=sys.stderr)
         return
     copy(found, to / "portable" / found.name)
 
@@ -416,8 +417,8 @@ def c_folder(archives, to):
     documents("c", to)
     cmake_files(to / "lib" / "cmake" / NAME)
     write(to / f"{NAME}.pc", pkg_config(
-        "# --define-variable=machine=aarch64 for that machine; --variable=client is the client, and",
-        "# --variable=cache the cache.",
+        "# --define-variable=machine=aarch64 for that machine; --variable=client is the client,",
+        "# and --variable=cache the cache.",
         "machine=x86_64", "includedir=${pcfiledir}/include", "libdir=${pcfiledir}/lib/${machine}",
         *(f"{name}=${{pcfiledir}}/src/rtr_{name}.c" for name in ENDS),
         flags=["Cflags: -I${includedir}", f"Libs: -L${{libdir}} -l{NAME}"]))
@@ -460,7 +461,8 @@ def archive_of(name, to):
     with tempfile.TemporaryDirectory() as folder:
         made = pathlib.Path(folder, f"rtr_{name}.o")
         flags = " ".join(os.environ.get(name, "") for name in ("CPPFLAGS", "CFLAGS")).split()
-        command = [os.environ.get("CC", "cc"), "-std=c11", "-O2", *flags, "-fPIC", "-I", sources, "-c",
+        command = [os.environ.get("CC", "cc"), "-std=c11", "-O2", *flags, "-fPIC", "-I", sources,
+                   "-c",
                    sources / f"rtr_{name}.c", "-o", made]
         if subprocess.run(command).returncode != 0:
             sys.exit(f"the {name} wasn't compiled: for another machine set CC to its compiler")

@@ -62,7 +62,7 @@ def refuse(reason):
 
 
 def translated(module):
-    """The C file that wasm2c makes of a module."""
+    """Returns the C file that wasm2c makes of a module."""
     try:
         version = subprocess.run(["wasm2c", "--version"], capture_output=True, text=True).stdout
     except FileNotFoundError:
@@ -76,7 +76,8 @@ def translated(module):
 
 
 def parts(text):
-    """The functions' declarations, the address of the data, their bytes, and the functions."""
+    """Returns the functions' declarations, the address of the data, their bytes, and the
+    functions."""
     declared = re.search(r"^static u32 w2c_f0\(.*?(?=^static void init_globals)", text,
                          re.MULTILINE | re.DOTALL)[0]
     data = re.findall(r"^static const u8 data_segment_data_w2c_d\d+\[\] = \{(.*?)\};$", text,
@@ -96,7 +97,7 @@ def parts(text):
 # ---- addresses of the module's data
 
 def placed(functions, moved, start, by, size):
-    """The functions, in which AT(n) is the address of byte n of the data."""
+    """Returns the functions, in which AT(n) is the address of byte n of the data."""
     if NUMBER.sub("", functions) != NUMBER.sub("", moved):
         refuse("the two modules differ in more than addresses")
     others = iter(NUMBER.findall(moved))
@@ -113,7 +114,7 @@ def placed(functions, moved, start, by, size):
 
 
 def cells(data, moved, start, by):
-    """The data in rows of eight bytes, for C: each eight bytes or an address in the data."""
+    """Yields the data in rows of eight bytes, for C: each eight bytes or an address in the data."""
     data, moved = (part + bytes(-len(part) % 8) for part in (data, moved))
     for at in range(0, len(data), 8):
         number, other = (int.from_bytes(part[at:at + 8], "little") for part in (data, moved))
@@ -128,7 +129,8 @@ def cells(data, moved, start, by):
 # ---- 64-bit addresses, and the host's memory
 
 def widened(function):
-    """A function whose loads and stores take the 64-bit addresses that it narrows before them."""
+    """Returns a function whose loads and stores take the 64-bit addresses that it narrows before
+    them."""
     lines, narrowed = [], {}
 
     def wide(depth):
@@ -154,7 +156,8 @@ def widened(function):
 
 
 def shortened(text):
-    """The functions with shorter names, without the lines that wasm2c has for other hosts."""
+    """Returns the functions with shorter names, without the lines that wasm2c has for other
+    hosts."""
     for old, new in ((r"^\s*FUNC_(PROLOGUE|EPILOGUE);\n", ""), (r"Z_rtr_wire_instance_t\*", "M *"),
                      (r"\bM \* instance\b", "M *m"), (r"instance->w2c_", "m->"),
                      (r"\binstance\b", "m"), (r"\bUNREACHABLE;", "abort();"),
@@ -165,7 +168,7 @@ def shortened(text):
 
 
 def frame(name, body):
-    """How many bytes of the stack a function takes."""
+    """Returns how many bytes of the stack a function takes."""
     frames = FRAME.findall(body)
     if len(TOP.findall(body)) != len(LEFT.findall(body)) or len(frames) > 1:
         refuse(f"{name} doesn't look once at how much of the stack is left")
@@ -173,7 +176,7 @@ def frame(name, body):
 
 
 def depths(functions):
-    """How many bytes of the stack each function needs, with those that it calls."""
+    """Returns how many bytes of the stack each function needs, with those that it calls."""
     bodies = dict(re.findall(r"^static \w+ (w2c_\w+)\([^)]*\) \{\n(.*?)^\}", functions,
                              re.MULTILINE | re.DOTALL))
     known = {}
@@ -193,7 +196,8 @@ def depths(functions):
 # ---- the calls of rtr.h
 
 def fields(name, structs, prefix="", start=0):
-    """The numbers of a struct: name, how many bytes each has in the module, where, and how many."""
+    """Yields the numbers of a struct: its name, its size and offset in the module, and its
+    count."""
     for field in structs[name].fields:
         path, at = f"{prefix}{field.name}", start + field.offset
         if field.kind in structs:
@@ -228,7 +232,8 @@ def layouts(structs, used):
 
 
 def lent(kind, name, after):
-    """What a pointer points at, and the parameter with the count of it; None for bytes."""
+    """Returns the type that a pointer points at, and the parameter with the count of it; None for
+    bytes."""
     if not kind.endswith("*") or kind.removeprefix("const ") == "uint8_t *":
         return None
     what = kind.removeprefix("const ").removeprefix("struct ").rstrip(" *")
@@ -236,7 +241,7 @@ def lent(kind, name, after):
 
 
 def call(name, answer, taken, depth):
-    """The C code of a call."""
+    """Returns the C code of a call."""
     before, behind, passed, counts = [], [], ["&m"], {}
     names = [parameter for _, parameter in taken] + [None]
     for (kind, parameter), after in zip(taken, names[1:]):
@@ -261,7 +266,8 @@ def call(name, answer, taken, depth):
 
 
 def in_c(call):
-    """A function of the archive in C: its name, its result, and each parameter's type and name."""
+    """Returns a function of the archive in C: its name, its result, and each parameter's type and
+    name."""
     taken = []
     for param in call.parameters:
         kind = model.TYPES[param.kind][0] if param.kind in model.TYPES else f"struct {param.kind}"
@@ -272,7 +278,7 @@ def in_c(call):
 
 
 def calls(depth):
-    """The code of all calls of rtr.h, which are those that the module has."""
+    """Yields the code of all calls of rtr.h, which are those that the module has."""
     declared = [in_c(call) for call in model.calls()]
     exported = {name[4:] for name in depth if name.startswith(CALLED)}
     if exported != {name for name, _, _ in declared}:
@@ -287,7 +293,7 @@ def calls(depth):
 
 
 def portable(module, moved):
-    """The whole file."""
+    """Returns the whole file."""
     declared, start, data, functions = parts(module)
     _, other_start, other_data, others = parts(moved)
     by = other_start - start

@@ -72,7 +72,7 @@ static char *addresses[LISTENERS];
 static int poller, listeners[LISTENERS], listening, named;
 static volatile sig_atomic_t ended;
 
-/* The time by a monotonic clock, and since 1970. */
+/* Returns the time by a monotonic clock, and since 1970. */
 static int64_t time_of(clockid_t clock)
 {
     struct timespec time;
@@ -414,8 +414,8 @@ static bool closes(int file, bool done)
     return done && closed;
 }
 
-/* Syncs the folder of a file, if its file system can sync folders; returns false, with the reason in
- * errno, if that fails. */
+/* Syncs the folder of a file, if its file system can sync folders; returns false, with the reason
+ * in errno, if that fails. */
 static bool sync_folder(const char *path)
 {
     char copy[4096];

@@ -34,7 +34,7 @@ def unit(version, kind, field, body=b""):
 
 
 def prefix(asn, announce=1, version=1):
-    """10.0.0.0/8-24 of an AS."""
+    """Returns 10.0.0.0/8-24 of an AS."""
     return unit(version, 4, 0, bytes([announce, 8, 24, 0, 10, 0, 0, 0]) + struct.pack(">I", asn))
 
 
@@ -128,7 +128,7 @@ class Cache:
 
 @contextlib.contextmanager
 def started(content, folder=None, **settings):
-    """A cache over a file with this content, in a folder or in a temporary one."""
+    """Starts a cache over a file with this content, in a folder or in a temporary one."""
     with contextlib.ExitStack() as stack:
         folder = folder or stack.enter_context(tempfile.TemporaryDirectory())
         put(os.path.join(folder, "data"), content)
@@ -530,7 +530,7 @@ def test_sessions():
 
 
 def sets(serial):
-    """The ASes of the data of a serial number."""
+    """Returns the ASes of the data of a serial number."""
     return set(range(serial, serial + 40))
 
 

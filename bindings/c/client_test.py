@@ -335,9 +335,10 @@ def test_stops():
 def test_hostile():
     """Single bytes with pauses, and endless units."""
     def send(peer, what):
+        many = max(1, (1 << 16) // len(what))  # in few calls, so that the limit of time isn't first
         try:
-            for _ in range(20000):
-                peer.sendall(what)
+            for _ in range(20000 // many):
+                peer.sendall(what * many)
         except OSError:
             pass
 

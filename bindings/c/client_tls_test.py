@@ -191,7 +191,7 @@ def test_other_cache():
 
 
 def refused(run):
-    """The script of a client that refuses the best cache, and asks the other."""
+    """Plays a cache for a client that refuses the best cache, and asks the other."""
     try:
         with run.accept() as best:
             assert received(best) == b""

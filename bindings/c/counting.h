@@ -129,7 +129,7 @@ static inline void add_report(struct text *to, uint8_t version, uint16_t code)
 
 static const uint32_t usual[] = {3600, 600, 7200};
 
-/* A response with the prefix of each of these ASes, in order. */
+/* Returns a response with the prefix of each of these ASes, in order. */
 static inline struct text *whole(uint8_t version, uint32_t serial, uint32_t first, uint32_t last)
 {
     static struct text text;

@@ -1,7 +1,7 @@
 /* Follows a cache over TCP, and prints what changes (RFC 8210): a loop over the calls of rtr.h for
  * a router's end.
  *
- * usage: link HOST:PORT [0|1|2]   with the version to ask in first (default 2)
+ * usage: link HOST:PORT [0|1|2]   with the version to ask in first (default 1)
  *
  * It prints the lines of rtr_diff. On standard error it reports the data at each end of data, and
  * failures. It runs until a signal. */
@@ -270,13 +270,27 @@ static void drop(void)
     shown = none;
 }
 
+/* Prints the error report of the cache that is at this offset of the input, which had `filled`
+ * bytes. */
+static void print_report(size_t offset, size_t filled)
+{
+    char text[200];
+    struct rtr_unit unit;
+    rtr_next(buffers.input + offset, filled - offset, &unit);
+    rtr_reported_text(rtr_cause_text(RTR_CAUSE_REPORTED), &unit, buffers.input + offset, text,
+                      sizeof text);
+    fprintf(stderr, "%s:%s: %s\n", host, port, text);
+}
+
 /* Reports why the connection ends. */
-static void explain(const struct rtr_todo *todo)
+static void explain(const struct rtr_todo *todo, size_t filled)
 {
     uint8_t text[RTR_TEXT_ROOM];
     size_t length;
     rtr_text(todo->status, todo->detail, text, sizeof text, &length);
-    if (todo->status != RTR_OK)
+    if (todo->cause == RTR_CAUSE_REPORTED)
+        print_report(todo->offset, filled);
+    else if (todo->status != RTR_OK)
         fprintf(stderr, "%s:%s: %.*s\n", host, port, (int)length, (const char *)text);
     else if (todo->cause != RTR_CAUSE_LOWER && todo->cause != RTR_CAUSE_HIGHER)
         fprintf(stderr, "%s:%s: %s\n", host, port, rtr_cause_text(todo->cause));
@@ -287,6 +301,7 @@ static void follow(void)
 {
     struct rtr_todo todo;
     for (;;) {
+        size_t filled = state().filled;
         must(rtr_link_next(&session, &buffers, now(), &todo));
         if (todo.kind >= RTR_TODO_INPUT_ROOM)
             grow_buffer(&todo);
@@ -297,9 +312,9 @@ static void follow(void)
         if (todo.kind == RTR_TODO_DATA)
             show();
         if (todo.kind == RTR_TODO_NO_DATA)
-            fprintf(stderr, "%s:%s: the cache has no data yet\n", host, port);
+            print_report(todo.offset, filled);
         if (todo.kind == RTR_TODO_CLOSE) {
-            explain(&todo);
+            explain(&todo, filled);
             finish();
         }
         if (todo.kind == RTR_TODO_DROPPED || todo.drops)
@@ -311,7 +326,7 @@ int main(int count, char **words)
 {
     struct rtr_settings settings;
     char *colon = count > 1 ? strrchr(words[1], ':') : NULL;
-    uint8_t version = count > 2 ? (uint8_t)(words[2][0] - '0') : RTR_HIGHEST_VERSION;
+    uint8_t version = count > 2 ? (uint8_t)(words[2][0] - '0') : 1;
     if (!colon || count > 3) {
         fprintf(stderr, "usage: link HOST:PORT [0|1|2]\n");
         return 2;

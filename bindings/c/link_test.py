@@ -135,7 +135,7 @@ def test_no_data():
 
     lines, log = followed(script)
     assert lines == [f"+ {PAYLOADS[0][1]}"], (lines, log)
-    assert log == ["the cache has no data yet", LOADED.format(5)], log
+    assert log == ['the cache reports an error: No Data Available, "no"', LOADED.format(5)], log
 
 
 def main():

@@ -165,7 +165,7 @@ static inline u64 I64_POPCNT(u64 x)
     return count;
 }
 
-/* How many bits are zero above the highest that is set, and below the lowest. */
+/* Count the zero bits above the highest that is set, and below the lowest. */
 static inline u64 I64_CLZ(u64 x)
 {
 #ifdef __GNUC__
@@ -260,7 +260,7 @@ static void set_number(u8 *at, u64 number, size_t size)
     memcpy(at, from, size);
 }
 
-/* The same in the module's order of bytes. */
+/* Returns the number in the module's order of bytes. */
 static u64 number_there(u64 number, size_t size)
 {
     return size == 1   ? number

@@ -847,10 +847,10 @@ static inline uint8_t rtr_validate(const struct rtr_data *data, const struct rtr
 }
 
 /* Validates many routes: writes what rtr_validate returns for each to `validities`, in the same
- * order, and returns how many these are: `count`, the length of both arrays. Only the file for other
- * platforms may return fewer, where it has no memory to copy routes to: call it again for the rest.
- * The routes may come in any order; it is fastest if those of each family are in the order of their
- * addresses, as in a routing table. */
+ * order, and returns how many these are: `count`, the length of both arrays. Only the file for
+ * other platforms may return fewer, where it has no memory to copy routes to: call it again for the
+ * rest. The routes may come in any order; it is fastest if those of each family are in the order of
+ * their addresses, as in a routing table. */
 static inline size_t rtr_validate_many(const struct rtr_data *data,
                                        const struct rtr_route *routes, size_t count,
                                        uint8_t *validities)
@@ -1680,8 +1680,8 @@ uint64_t rtr_cache_wakes(const struct rtr_cache *cache, const struct rtr_present
 
 /* Tells the cache of the unit at the start of the input. `kept` are the serial numbers of the
  * present session from which the program can send changes, in any order; the present one, from
- * which there are none, needn't be among them. If the router has closed, `ended`, an incomplete unit
- * is refused. RTR_SERVE_WAIT with nothing taken means that there is no whole unit. */
+ * which there are none, needn't be among them. If the router has closed, `ended`, an incomplete
+ * unit is refused. RTR_SERVE_WAIT with nothing taken means that there is no whole unit. */
 static inline void rtr_cache_read(struct rtr_cache *cache, uint64_t now,
                                   const struct rtr_present *present,
                                   const uint32_t *kept, size_t kept_length,
@@ -2010,8 +2010,8 @@ uint8_t rtr_stores_saved(struct rtr_stores *stores);
  * what is served stays. RTR_STORES_OK or RTR_STORES_NOT_MADE. */
 uint8_t rtr_stores_give_up(struct rtr_stores *stores);
 
-/* What the two buffers have. RTR_STORES_OK, _NOT_MADE or _SHORT_BUFFER; if the call is refused, all
- * fields are 0. */
+/* Sets `state` to what the two buffers hold. RTR_STORES_OK, _NOT_MADE or _SHORT_BUFFER; if the
+ * call is refused, all fields are 0. */
 static inline uint8_t rtr_stores_state(const struct rtr_stores *stores,
                                        const struct rtr_stores_buffers *buffers,
                                        struct rtr_stores_state *state)
@@ -2020,7 +2020,7 @@ static inline uint8_t rtr_stores_state(const struct rtr_stores *stores,
                                     rtr_readable(buffers->second), buffers->second_length, state);
 }
 
-/* The history that is served, of `length` bytes; a null pointer if none is. */
+/* Returns the history that is served, of `length` bytes; a null pointer if none is. */
 static inline const uint8_t *rtr_stores_served(const struct rtr_stores_buffers *buffers,
                                                const struct rtr_stores_state *state,
                                                size_t *length)
@@ -2030,7 +2030,7 @@ static inline const uint8_t *rtr_stores_served(const struct rtr_stores_buffers *
                           : (state->second ? buffers->second : buffers->first) + state->offset;
 }
 
-/* The store to save, of `length` bytes; a null pointer if none waits. */
+/* Returns the store to save, of `length` bytes; a null pointer if none waits. */
 static inline const uint8_t *rtr_stores_to_save(const struct rtr_stores_buffers *buffers,
                                                 const struct rtr_stores_state *state,
                                                 size_t *length)
@@ -2062,8 +2062,8 @@ static inline uint8_t rtr_history_since(const uint8_t *history, size_t history_l
                                      rtr_writable(output), output_length, answer);
 }
 
-/* The present data of a history, in canonical form, of `length` bytes: what a router gets that has
- * none, in the version of the data. A null pointer if the bytes aren't a history. */
+/* Returns the present data of a history, in canonical form, of `length` bytes: what a router gets
+ * that has none, in the version of the data. A null pointer if the bytes aren't a history. */
 static inline const uint8_t *rtr_history_data(const uint8_t *history, size_t history_length,
                                               size_t *length)
 {

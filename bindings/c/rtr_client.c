@@ -6,8 +6,8 @@
 #include <string.h>
 #include "rtr_client.h"
 
-/* The sizes of buffers. The output holds two queries and a report: while they are unsent, no more
- * queries are made. The input shrinks to INPUT bytes between two answers. */
+/* The sizes of buffers at first. The output holds two queries and a report. The input shrinks to
+ * INPUT bytes between two answers. */
 enum { OUTPUT = 2 * RTR_SERIAL_SIZE + RTR_LONGEST_UNIT, INPUT = RTR_LONGEST_UNIT };
 
 /* The rtr_client_failure for each rtr_cause. */
@@ -100,7 +100,7 @@ static void forget_output(struct rtr_client *c)
 }
 
 /* Grows the buffer that the link asks for; returns false without memory. The input doubles, so
- * that a long answer is copied only a few times. The output doesn't grow. */
+ * that a long answer is copied only a few times. */
 static bool grow_buffer(struct rtr_client *c, const struct rtr_todo *todo)
 {
     struct rtr_link_buffers *b = &c->buffers;
@@ -114,11 +114,8 @@ static bool grow_buffer(struct rtr_client *c, const struct rtr_todo *todo)
         return resize(&b->second, &b->second_length, todo->room);
     case RTR_TODO_INDEX_ROOM:
         return new_index(c, todo->room);
-    default: /* the cache doesn't read */
-        rtr_client_lost(c, rtr_cause_text(RTR_CAUSE_SLOW));
-        c->unread = true;
-        forget_output(c);
-        return true;
+    default:
+        return resize(&b->output, &b->output_length, todo->room);
     }
 }
 
@@ -291,10 +288,8 @@ static void explain(struct rtr_client *c, const struct rtr_todo *todo, size_t fi
         explain_refused(c, todo, filled);
         fail(c, failure, NULL);
     } else {
-        const char *text = failure == RTR_CLIENT_LOST ? c->reason : rtr_cause_text(todo->cause);
-        fail(c, c->unread ? RTR_CLIENT_SLOW : failure, text);
+        fail(c, failure, failure == RTR_CLIENT_LOST ? c->reason : rtr_cause_text(todo->cause));
     }
-    c->unread = false;
 }
 
 /* Ends the connection, and drops the data if the link says so. A change of version is no failure:
@@ -336,14 +331,13 @@ static void act(struct rtr_client *c, const struct rtr_todo *todo, size_t filled
 static void ask_link(struct rtr_client *c, const struct rtr_link_state *held, struct rtr_todo *todo)
 {
     uint64_t now = (uint64_t)c->now;
-    bool asks = c->wished && !held->answers && held->wakes > now;
     c->starved = held->answers && !reserve_changes(c, held->second);
     if (!c->starved) {
-        must(asks ? rtr_link_ask_now(&c->link, &c->buffers, now, todo)
-                  : rtr_link_next(&c->link, &c->buffers, now, todo));
+        must(c->wished ? rtr_link_ask_now(&c->link, &c->buffers, now, todo)
+                       : rtr_link_next(&c->link, &c->buffers, now, todo));
         if (todo->kind >= RTR_TODO_INPUT_ROOM)
             c->starved = !grow_buffer(c, todo);
-        else if (asks)
+        else
             c->wished = false;
     }
     if (c->starved)
@@ -509,8 +503,7 @@ bool rtr_client_lost(struct rtr_client *c, const char *reason)
 {
     if (!c->begun || !in_turn(rtr_link_lost(&c->link)))
         return false;
-    snprintf(c->reason, sizeof c->reason, "%s",
-             reason ? reason : "the cache closed the connection");
+    snprintf(c->reason, sizeof c->reason, "%s", reason ? reason : rtr_cause_text(RTR_CAUSE_LOST));
     c->broken = reason != NULL;
     return true;
 }
@@ -523,13 +516,14 @@ uint8_t *rtr_client_room(struct rtr_client *c, size_t *length)
 
 bool rtr_client_received(struct rtr_client *c, size_t length)
 {
-    size_t most;
-    rtr_client_room(c, &most);
-    if (length > most) {
+    if (!c->begun)
+        return false;
+    uint8_t status = rtr_link_received(&c->link, &c->buffers, length);
+    if (status == RTR_LINK_TOO_LONG) {
         rtr_client_lost(c, "more bytes were read than there is room for");
         return false;
     }
-    if (!c->begun || !in_turn(rtr_link_received(&c->link, &c->buffers, length)))
+    if (!in_turn(status))
         return false;
     c->received += length;
     return true;
@@ -543,11 +537,13 @@ const uint8_t *rtr_client_output(const struct rtr_client *c, size_t *length)
 
 bool rtr_client_sent(struct rtr_client *c, size_t length)
 {
-    if (length > state(c).unsent) {
+    if (!c->begun)
+        return !length;
+    uint8_t status = rtr_link_sent(&c->link, &c->buffers, length);
+    if (status == RTR_LINK_TOO_LONG) {
         rtr_client_lost(c, "more bytes were sent than there are");
         return false;
     }
-    if (length)
-        must(rtr_link_sent(&c->link, &c->buffers, length));
+    must(status);
     return true;
 }

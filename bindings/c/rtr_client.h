@@ -26,10 +26,11 @@
  *                       follows when it is time to reconnect
  *
  * Each call returns at once. A client is one struct of at most 1.25 KiB. Several clients may run at
- * once, each used by one thread at a time. A client allocates 128 KiB for input and output. While
- * it loads an answer, it allocates memory for the answer, at most `most_bytes`, the new data and
- * the changes, but never by a length that a header claims; then it keeps the data. Without memory
- * the connection ends, and the data stay unchanged.
+ * once, each used by one thread at a time. A client allocates 128 KiB for input and output, and 12
+ * bytes for each query that the cache doesn't take. While it loads an answer, it allocates memory
+ * for the answer, at most `most_bytes`, the new data and the changes, but never by a length that a
+ * header claims; then it keeps the data. Without memory the connection ends, and the data stay
+ * unchanged.
  */
 #ifndef FISHREEF_RTR_CLIENT_H
 #define FISHREEF_RTR_CLIENT_H
@@ -53,7 +54,7 @@ enum rtr_client_event {
 /* Why there is no connection. docs/SESSIONS.md has what is reported to the cache. */
 enum rtr_client_failure {
     RTR_CLIENT_LOST,     /* connecting failed, or the connection broke or was closed */
-    RTR_CLIENT_SLOW,     /* the cache didn't answer, take a query or finish an answer in time */
+    RTR_CLIENT_SLOW,     /* the cache didn't answer or finish an answer in time */
     RTR_CLIENT_TOO_LONG, /* an answer has too many units or bytes */
     RTR_CLIENT_REFUSED,  /* a unit or the changes are refused for `status` */
     RTR_CLIENT_BREACH,   /* a unit breaks the rules of a session */
@@ -100,7 +101,7 @@ struct rtr_client {
     int64_t now, tries;
     uint64_t received; /* bytes on the connection */
     uint8_t events[4], count;
-    bool begun, wished, broken, closing, starved, unread;
+    bool begun, wished, broken, closing, starved;
     bool untold, unmade; /* a group wasn't told of `todo`; or of a failure without a link's todo */
     char reason[200];
 };

@@ -265,21 +265,30 @@ static void test_lower_answer(void)
     }
 }
 
-/* A cache that answers, but doesn't read the next queries. */
+/* A cache that answers, but doesn't read the next queries: these wait, in their order. */
 static void test_queries_not_taken(void)
 {
+    enum { ANSWERS = 9 };
+    size_t length;
     begins(1);
-    for (uint32_t serial = 5; event() != RTR_CLIENT_CLOSE; serial++) {
+    for (uint32_t serial = 5; serial < 5 + ANSWERS; serial++) {
         struct text next = {.length = 0};
         add_serial(&next, 1, 0, SESSION, serial + 1);
         const struct text *answer = serial == 5 ? whole(1, 5, 1, 1) : whole(1, serial, 2, 1);
+        EXPECT(WAIT);
         comes(answer->bytes, answer->length);
         comes(next.bytes, next.length);
         EXPECT(DATA);
         EXPECT(WAIT);
         now = c.wakes;
-        CHECK(serial < 10);
     }
+    EXPECT(WAIT);
+    const uint8_t *output = rtr_client_output(&c, &length);
+    CHECK(length == ANSWERS * 12);
+    for (uint8_t i = 0; i < ANSWERS; i++)
+        CHECK(output[i * 12 + 1] == 1 && output[i * 12 + 11] == 5 + i);
+    now = c.wakes; /* no answer came */
+    EXPECT(CLOSE);
     EXPECT(FAILED);
     CHECK(c.failure == RTR_CLIENT_SLOW && !strcmp(c.text, "the cache is too slow"));
     ends();

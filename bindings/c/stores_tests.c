@@ -36,7 +36,7 @@ struct cache {
     size_t file_length;
 };
 
-/* The bytes that hexadecimal digits say, in an input. */
+/* Returns the bytes of hexadecimal digits, in an input. */
 static const uint8_t *bytes_of(const struct cache *k, const char *digits, size_t *length)
 {
     uint8_t bytes[1024];
@@ -141,7 +141,7 @@ static struct rtr_stores_state state_of(const struct cache *k)
     return *state;
 }
 
-/* The history that is served. */
+/* Returns the history that is served. */
 static const uint8_t *served(const struct cache *k, size_t *length)
 {
     struct rtr_stores_state state = state_of(k);
@@ -150,7 +150,7 @@ static const uint8_t *served(const struct cache *k, size_t *length)
     return history;
 }
 
-/* Whether these data are served. */
+/* Reports whether these data are served. */
 static bool serves(const struct cache *k, const char *digits)
 {
     size_t history_length, data_length, length;
@@ -197,7 +197,7 @@ static uint8_t since(struct cache *k, uint32_t serial, uint8_t version)
     return RTR_STORES_NO_ROOM;
 }
 
-/* Whether these are the changes since data of a serial number. */
+/* Reports whether these are the changes since data of a serial number. */
 static bool changes(struct cache *k, uint32_t serial, uint8_t version, const char *digits)
 {
     size_t length, history_length;
@@ -208,7 +208,7 @@ static bool changes(struct cache *k, uint32_t serial, uint8_t version, const cha
     return k->answer.length == length && memcmp(output, bytes, length) == 0;
 }
 
-/* The FNV-1a hash of 64 bits. */
+/* Returns the FNV-1a hash of 64 bits. */
 static uint64_t hash(const uint8_t *bytes, size_t length)
 {
     uint64_t sum = 0xcbf29ce484222325;
@@ -252,7 +252,7 @@ static void take_and_save(struct cache *k, const char *digits)
     CHECK(!state_of(k).waits && serves(k, digits));
 }
 
-/* Whether the earlier data of the history that is served have just these serial numbers. */
+/* Reports whether the earlier data of the history that is served have just these serial numbers. */
 static bool lists(struct cache *k, const uint32_t *serials, size_t count)
 {
     size_t length;
@@ -499,7 +499,7 @@ static void check_limits(struct cache *k)
     CHECK(since(k, 2, 1) == RTR_STORES_UNKNOWN_SERIAL && since(k, 3, 1) == RTR_STORES_OK);
 }
 
-/* Whether all calls refuse the struct, and change nothing. */
+/* Reports whether all calls refuse the struct, and change nothing. */
 static bool refuses(struct cache *k, uint8_t status)
 {
     size_t length;
