@@ -150,8 +150,8 @@ func (b *Breach) Unwrap() error {
 	return b.Reason
 }
 
-// Report returns the error report that is owed to the peer, and whether one is owed: it isn't if the
-// unit is an error report itself (RFC 8210 section 5.11).
+// Report returns the error report that is owed to the peer, and whether one is owed: it isn't if
+// the unit is an error report itself (RFC 8210 section 5.11).
 func (b *Breach) Report() (report *Unit, owed bool) {
 	if len(b.Unit) >= 2 && Kind(b.Unit[1]) == ErrorReport {
 		return nil, false
@@ -212,8 +212,8 @@ func owned(err error) error {
 	return err
 }
 
-// reportedIn returns the content of the error report at the start of these bytes, which a cache or a
-// router sent.
+// reportedIn returns the content of the error report at the start of these bytes, which a cache or
+// a router sent.
 func reportedIn(input []byte, router bool) error {
 	unit, _, err := Next(input)
 	if err != nil {

@@ -172,8 +172,8 @@ func (p *cacheEnd) next() error {
 	return nil
 }
 
-// update gives the server data, which it saves nowhere. For a scene that goes back to a session, the
-// server forgets which ones it left.
+// update gives the server data, which it saves nowhere. For a scene that goes back to a session,
+// the server forgets which ones it left.
 func (p *cacheEnd) update(data Data) error {
 	nowhere := func([]byte) error { return nil }
 	err := p.server.update(data, nowhere, func() {})

@@ -19,7 +19,10 @@ func TestDocumentedDefaults(t *testing.T) {
 	server, client := NewServer().Limits, NewClient("").Limits
 	refused := uint32(server.settings().most_refused)
 	words := func(span time.Duration) string {
-		for unit, size := range map[string]time.Duration{"hour": time.Hour, "minute": time.Minute, "second": time.Second} {
+		units := map[string]time.Duration{
+			"hour": time.Hour, "minute": time.Minute, "second": time.Second,
+		}
+		for unit, size := range units {
 			count := span / size
 			switch whole := span == count*size; {
 			case whole && count == 1:
@@ -31,16 +34,19 @@ func TestDocumentedDefaults(t *testing.T) {
 		return span.String()
 	}
 	for _, row := range []string{
-		fmt.Sprintf("| clients at the same time | %d; %d above that get a report at a time,", server.Connections, refused),
+		fmt.Sprintf("| clients at the same time | %d; %d above that get a report at a time,",
+			server.Connections, refused),
 		"| until the first query | " + words(server.First) + " |",
 		"| from a unit's first byte to its last | " + words(server.Unit) + " |",
 		"| between queries | " + words(server.Idle) + ":",
 		"| a write of which no byte is taken | " + words(server.Write) + " |",
 		"| a whole response | " + words(server.Response) + " |",
 		"| between notifies to a client | " + words(server.Notify) + " |",
-		fmt.Sprintf("| deltas that are kept | %s, the recommended expire time, and %d MiB;", words(server.Keep), server.KeepBytes>>20),
-		fmt.Sprintf("A client has %s to connect, %s for a response of at most %d million units and %d MiB, and a pause of %s\n",
-			words(client.Dial), words(client.Response), (client.Units-1)/1000000, client.Bytes>>20, words(client.Pause)),
+		fmt.Sprintf("| deltas that are kept | %s, the recommended expire time, and %d MiB;",
+			words(server.Keep), server.KeepBytes>>20),
+		fmt.Sprintf("A client has %s to connect, %s for a response of at most %d million units "+
+			"and %d MiB, and a pause of %s\n", words(client.Dial), words(client.Response),
+			(client.Units-1)/1000000, client.Bytes>>20, words(client.Pause)),
 	} {
 		if !strings.Contains(string(page), "\n"+row) {
 			t.Errorf("the page doesn't say %q", row)

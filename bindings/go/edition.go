@@ -48,7 +48,8 @@ func newEdition(number C.uint64_t, history []byte, limits ServerLimits) *edition
 		number: number, present: present,
 		data: data, history: history, known: serialsOf(history),
 		// An answer to a client that has the present data is never computed again.
-		files: map[string][2]piece{}, deltas: map[question][]byte{}, deltaSpace: limits.KeepBytes + versions*longestEnd,
+		files: map[string][2]piece{}, deltas: map[question][]byte{},
+		deltaSpace: limits.KeepBytes + versions*longestEnd,
 	}
 }
 

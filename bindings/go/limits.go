@@ -4,8 +4,8 @@ package rtr
 
 import "time"
 
-// ClientLimits limit the time and the memory that a cache can cost a Client. Zero, or less, stands for
-// the default.
+// ClientLimits limit the time and the memory that a cache can cost a Client. Zero, or less, stands
+// for the default.
 type ClientLimits struct {
 	Dial     time.Duration // to connect, at most
 	Response time.Duration // from a query to the end of data that answers it, at most

@@ -13,7 +13,8 @@ import (
 func TestLongLines(t *testing.T) {
 	long := append([]byte{1, 10, 0, 0, 0, 0, 4, 16, 0, 0, 0, 0, 0, 0, 4, 0}, make([]byte, 1024)...)
 	line, _, err := UnitLine(nil, long, 0)
-	want := `0 v1 error report code 0 (Corrupt Data) pdu "" text "` + strings.Repeat(`\x00`, 1024) + `"`
+	want := `0 v1 error report code 0 (Corrupt Data) pdu "" text "` +
+		strings.Repeat(`\x00`, 1024) + `"`
 	if err != nil || string(line) != want {
 		t.Errorf("%v, a line of %d bytes, but expected are %d", err, len(line), len(want))
 	}

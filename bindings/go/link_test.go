@@ -260,7 +260,8 @@ func (m miscounting) Write(bytes []byte) (int, error) {
 // A connection that returns an impossible count is closed.
 func TestImpossibleCounts(t *testing.T) {
 	noLeaks(t)
-	for _, row := range []miscounting{{read: 1 << 20}, {read: -1 << 20}, {written: 1}, {written: -20}} {
+	rows := []miscounting{{read: 1 << 20}, {read: -1 << 20}, {written: 1}, {written: -20}}
+	for _, row := range rows {
 		row := row
 		client := quick(fakeCache(t, func(connection *net.TCPConn) {
 			// The client may have left, and the test ended, before the query is read.

@@ -81,7 +81,8 @@ func checkFault(t *testing.T, input []byte, offset int64, text string) {
 		t.Fatalf("%d %x", fault.Offset, fault.Unit)
 	}
 	_, _, unread := Next(input[offset:])
-	if whole := unitLength(append(input[offset:], make([]byte, 8)...)); unread == nil && len(fault.Unit) != whole {
+	whole := unitLength(append(input[offset:], make([]byte, 8)...))
+	if unread == nil && len(fault.Unit) != whole {
 		t.Fatalf("%x", fault.Unit)
 	}
 }
@@ -99,7 +100,8 @@ func TestLoad(t *testing.T) {
 			if err != nil || !bytes.Equal(data.Bytes(), rec.data) || hasCut != rec.hasCut {
 				t.Fatalf("%x %v %v", data.Bytes(), hasCut, err)
 			}
-			if parsed, err := ParseData(rec.data); err != nil || !data.Equal(parsed) || data.Len() != parsed.Len() {
+			if parsed, err := ParseData(rec.data); err != nil || !data.Equal(parsed) ||
+				data.Len() != parsed.Len() {
 				t.Fatal(parsed, err)
 			}
 			again, hasCut, err := Load(data.Bytes())
@@ -132,7 +134,8 @@ func TestLoadCutOff(t *testing.T) {
 func TestLoadMany(t *testing.T) {
 	const count = 5000
 	unit := func(flags byte, asn int) []byte {
-		return []byte{1, 4, 0, 0, 0, 0, 0, 20, flags, 8, 8, 0, 10, 0, 0, 0, 0, 0, byte(asn >> 8), byte(asn)}
+		return []byte{1, 4, 0, 0, 0, 0, 0, 20, flags, 8, 8, 0, 10, 0, 0, 0,
+			0, 0, byte(asn >> 8), byte(asn)}
 	}
 	var first, second, left []byte
 	for asn := count; asn > 0; asn-- {

@@ -31,7 +31,8 @@ const emptyReads = 100
 // ErrNoReader: the Reader has no io.Reader, like the zero one.
 var ErrNoReader = errors.New("rtr: the Reader has no io.Reader: NewReader makes one that has")
 
-var errCount = errors.New("rtr: the io.Reader or the connection returned an impossible count of bytes")
+var errCount = errors.New(
+	"rtr: the io.Reader or the connection returned an impossible count of bytes")
 
 // NewReader returns a Reader that reads from an io.Reader.
 func NewReader(reader io.Reader) *Reader {

@@ -97,7 +97,8 @@ func unitSize(input []byte) (size int, status Status, detail uint8) {
 
 // line writes the line of the first unit of input, as far as it fits, and returns the length of the
 // whole line, and the unit's size.
-func line(input []byte, offset uint64, output []byte) (length, size int, status Status, detail uint8) {
+func line(input []byte, offset uint64, output []byte) (
+	length, size int, status Status, detail uint8) {
 	in, n := cBytes(input)
 	out, capacity := cBytes(output)
 	a := C.line(in, n, C.uint64_t(offset), out, capacity)

@@ -103,8 +103,8 @@ type saver func(store []byte) error
 // of another session are closed. If the data are the present ones, nothing happens.
 //
 // A server with a file, which Restore or UpdateSaved named, first saves the data to it, as
-// UpdateSaved does. One without a file doesn't save: all its data are of one session, under which it
-// never served data, at no earlier start either (RFC 8210 section 5.1).
+// UpdateSaved does. One without a file doesn't save: all its data are of one session, under which
+// it never served data, at no earlier start either (RFC 8210 section 5.1).
 //
 // Serial number 0 is logged as a warning: after a cut in the first answer BIRD 2.0 asks for the
 // changes since serial number 0, and keeps the part of the data that it has.
@@ -194,8 +194,8 @@ func (s *Server) update(data Data, save saver, before func()) error {
 	return nil
 }
 
-// begin sets how the server saves, if save isn't nil. It does so even if saving then fails, since the
-// file may have the data all the same.
+// begin sets how the server saves, if save isn't nil. It does so even if saving then fails, since
+// the file may have the data all the same.
 func (s *Server) begin(save saver) error {
 	if save == nil {
 		return nil

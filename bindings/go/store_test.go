@@ -453,7 +453,8 @@ func TestParseLengths(t *testing.T) {
 			t.Errorf("%s: %v, not %v", name, err, expected)
 		}
 	}
-	if data, err := ParseData(append(whole, 1, 2, 3)); err != nil || !bytes.Equal(data.Bytes(), whole) {
+	if data, err := ParseData(append(whole, 1, 2, 3)); err != nil ||
+		!bytes.Equal(data.Bytes(), whole) {
 		t.Error(data, err)
 	}
 }

@@ -412,7 +412,8 @@ func TestNextMany(t *testing.T) {
 				}
 				got = append(got, units[:n]...)
 			}
-			if !reflect.DeepEqual(got, expected) || !reflect.DeepEqual(err, refused) || len(rest) != len(end) {
+			if !reflect.DeepEqual(got, expected) || !reflect.DeepEqual(err, refused) ||
+				len(rest) != len(end) {
 				t.Fatal(places, len(got), err, len(rest))
 			}
 		}
@@ -547,7 +548,8 @@ func TestTextRows(t *testing.T) {
 
 func TestKinds(t *testing.T) {
 	for kind, text := range []string{
-		"serial notify", "serial query", "reset query", "cache response", "IPv4 prefix", "type 5", "IPv6 prefix",
+		"serial notify", "serial query", "reset query", "cache response", "IPv4 prefix", "type 5",
+		"IPv6 prefix",
 		"end of data", "cache reset", "router key", "error report", "ASPA", "type 12",
 	} {
 		if Kind(kind).String() != text {
@@ -556,7 +558,8 @@ func TestKinds(t *testing.T) {
 	}
 	// By RFC 8210 section 12, and those above 8 as in the Rust crate rpki.
 	for code, text := range []string{
-		"Corrupt Data", "Internal Error", "No Data Available", "Invalid Request", "Unsupported Protocol Version",
+		"Corrupt Data", "Internal Error", "No Data Available", "Invalid Request",
+		"Unsupported Protocol Version",
 		"Unsupported PDU Type", "Withdrawal of Unknown Record", "Duplicate Announcement Received",
 		"Unexpected Protocol Version", "ASPA Provider List Error", "Transport Error", "Ordering Error",
 		"error code 12",

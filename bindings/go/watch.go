@@ -59,9 +59,9 @@ func LoadData(path string) (Data, error) {
 // error if data couldn't be loaded; the server then keeps its data. After an error of the system it
 // retries at each interval, and reports the same error only once.
 //
-// Before new data are served it saves what a restart needs beside the file, with KeptSuffix after its
-// name. If that fails, the server keeps its data. When the server starts again, Restore that file
-// first.
+// Before new data are served it saves what a restart needs beside the file, with KeptSuffix after
+// its name. If that fails, the server keeps its data. When the server starts again, Restore that
+// file first.
 func (s *Server) Watch(
 	ctx context.Context, path string, interval time.Duration, report func(Data, error),
 ) {

@@ -1,6 +1,6 @@
-// Cache serves the data of a file to RTR clients of versions 0 to 2, and reloads it when it changes.
-// What it needs after a restart is saved beside the file, with ".kept" after its name. SIGINT and
-// SIGTERM end it.
+// Cache serves the data of a file to RTR clients of versions 0 to 2, and reloads it when it
+// changes. What it needs after a restart is saved beside the file, with ".kept" after its name.
+// SIGINT and SIGTERM end it.
 package main
 
 import (
