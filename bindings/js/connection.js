@@ -112,7 +112,7 @@ export class Connection {
         }
     }
 
-    /** Whether no more bytes come. */
+    /** Reports whether no more bytes come. */
     get isOver() {
         return this.#isOver;
     }

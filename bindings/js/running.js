@@ -59,7 +59,6 @@ export class Run {
     #connection = null;
     #closing = null; // the connection to which a last report is sent
     #unread = null; // received bytes for which the link's input had no space
-    #isLossReported = false; // whether the link knows that the connection is over
     #isConnected = false; // whether a `connect` event is due
     #isAsked = false;
     #data = null;
@@ -178,10 +177,9 @@ export class Run {
             this.#unread = rest.length > 0 ? rest : null;
             return true;
         }
-        if (!this.#connection.isOver || this.#isLossReported) {
+        if (!this.#connection.isOver) {
             return false;
         }
-        this.#isLossReported = true;
         this.#link.lost(this.#connection.error);
         return true;
     }
@@ -206,7 +204,6 @@ export class Run {
             this.#link.lost(error);
         } else {
             this.#connection = new Connection(stream, () => this.#bell.ring());
-            this.#isLossReported = false;
             this.#link.opened();
             this.#isConnected = true;
         }

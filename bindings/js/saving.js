@@ -34,7 +34,7 @@ export async function replace(path, pieces) {
         }
         await rename(beside, path);
     } catch (error) {
-        await forgetNew(path).catch(() => {});
+        await forgetNew(path);
         throw error;
     }
     await syncFolder(path).catch((error) => {
@@ -43,7 +43,8 @@ export async function replace(path, pieces) {
 }
 
 /** Returns the bytes of a file that `replace` wrote. It syncs the folder and removes the new file
- * beside it, since the process that wrote may have ended before it did. */
+ * beside it, if the folder can be written, since the process that wrote may have ended before it
+ * did. */
 export async function restored(path) {
     const bytes = await readFile(path);
     await syncFolder(path);
@@ -51,8 +52,9 @@ export async function restored(path) {
     return bytes;
 }
 
+/** Removes the new file, if there is one and it can be removed. */
 async function forgetNew(path) {
-    await rm(besideOf(path), { force: true });
+    await rm(besideOf(path), { force: true }).catch(() => {});
 }
 
 /** Syncs the folder of a file, if its file system can sync folders. */

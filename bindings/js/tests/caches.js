@@ -105,7 +105,7 @@ export class Peer {
 }
 
 /** Starts a cache that serves each connection by the next script, or by the last one if there are
- * no more. It has a `port`, the `errors` of scripts, and `close`. With options of TLS it uses TLS. */
+ * no more. It has a `port`, the `errors` of scripts, and `close`. It uses TLS if `tls` is set. */
 export async function cache(scripts, { tls, port = 0, host = "127.0.0.1" } = {}) {
     const [open, errors] = [new Set(), []];
     let count = 0;

@@ -8,7 +8,6 @@ import { createServer } from "node:net";
 import { tmpdir } from "node:os";
 import { join } from "node:path";
 import { createInterface } from "node:readline";
-import { setTimeout as sleep } from "node:timers/promises";
 import { fileURLToPath } from "node:url";
 import { Client, follow } from "../client.js";
 import { GroupShown } from "../rtr_wire.js";
@@ -218,13 +217,13 @@ export const TESTS = {
             { stdio: ["ignore", "ignore", "pipe"] });
         try {
             const port = Number((await lineOf(served.stderr, /listening on .*:(\d+)$/))[1]);
-            served.stderr.resume();
             const [client] = clientsOf(rtr, [port]);
             const updates = client[Symbol.asyncIterator]();
             assert.equal((await updates.next()).value.data.count, 2);
             writeFileSync(next, Buffer.concat([prefix(2), prefix(3), end(2)]));
             renameSync(next, file);
-            await sleep(1000);
+            await lineOf(served.stderr, /serial 2: /);
+            served.stderr.resume();
             client.askNow(); // its notify may come a minute later
             const { value } = await updates.next();
             assert.deepEqual(Array.from(value.changes(), ({ announce, asn }) => [announce, asn]),

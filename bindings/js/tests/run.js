@@ -79,7 +79,8 @@ function missing(name) {
     if (rtr === null) {
         return `node ${process.version} has no 64-bit memory for WebAssembly`;
     }
-    return (name in SCRIPTS || name === "scenes") && !python && "no python3 here, whose scripts make the rows";
+    return (name in SCRIPTS || name === "scenes") && !python &&
+        "no python3 here, whose scripts make the rows";
 }
 
 /** The tests of JavaScript only. */

@@ -3,7 +3,7 @@
 import assert from "node:assert/strict";
 import { spawn } from "node:child_process";
 import { once } from "node:events";
-import fs, { existsSync, mkdtempSync, readFileSync, rmSync, writeFileSync } from "node:fs";
+import fs, { existsSync, mkdirSync, mkdtempSync, readFileSync, rmSync, writeFileSync } from "node:fs";
 import { syncBuiltinESMExports } from "node:module";
 import { connect, createServer } from "node:net";
 import { tmpdir } from "node:os";
@@ -43,8 +43,8 @@ function manyOf(rtr, serial, count = MANY) {
     return rtr.data(bytes);
 }
 
-/** Returns a file of a version before 0.3.0: `rtrkept1`, the 64-bit FNV-1a hash of what follows, and
- * the data and the steps back, each behind its time and its length. */
+/** Returns a file of a version before 0.3.0: `rtrkept1`, the 64-bit FNV-1a hash of what follows,
+ * and the data and the steps back, each behind its time and its length. */
 function formerFile(...parts) {
     const history = Buffer.concat(parts.flatMap((bytes) => {
         const head = Buffer.alloc(16);
@@ -593,6 +593,20 @@ export const TESTS = {
         });
     },
 
+    /** What is beside the saved file, and can't be removed, keeps no server from restoring it. */
+    async restoresBeside(rtr) {
+        await withFolder(async (folder) => {
+            const path = join(folder, "state");
+            await withServer(rtr, {}, (server) => server.updateSaved(dataOf(rtr, 1, 1), path));
+            for (const beside of [`${path}.new`, join(`${path}.new`, "full")]) {
+                mkdirSync(beside);
+                await withServer(rtr, {}, async (server) => {
+                    assert.equal((await server.restore(path)).serial, 1);
+                });
+            }
+        });
+    },
+
     /** A file of a version before 0.3.0 is restored with its steps back, and replaced with the next
      * data. */
     async restoresFormerFiles(rtr) {
@@ -623,8 +637,8 @@ export const TESTS = {
         });
     },
 
-    /** Such a file is refused if a byte changed or bytes are missing, or if its steps don't lead back
-     * from its data. */
+    /** Such a file is refused if a byte changed or bytes are missing, or if its steps don't lead
+     * back from its data. */
     async refusesFormerFiles(rtr) {
         const [first, second, third] = [1, 2, 3].map((n) => dataOf(rtr, n, n, n + 1));
         const steps = [rtr.delta(third, second), rtr.delta(second, first)];
