@@ -1,7 +1,6 @@
 """A Server with a simulated clock and loop, as an end of a connection (tests/joined/README.md)."""
 import ctypes
 import selectors
-import sys
 
 from rtr_wire import server as server_module
 from rtr_wire._rtr import Entry
@@ -9,6 +8,8 @@ from rtr_wire.data import Data
 from rtr_wire.server import Server, UpdateError
 from rtr_wire.serving import ServerLimits
 from rtr_wire.store import Store
+
+from .scene_input import play
 
 NEVER = 2**64 - 1
 
@@ -215,22 +216,5 @@ class Over:
         return True
 
 
-def main():
-    end = None
-    for line in sys.stdin:
-        words = line.split()
-        if words[0] == "scene":
-            end = End()
-        elif words[0] == "cache":
-            end.set(words[1].replace("-", "_"), int((words[2:] or [1])[0]))
-        else:
-            if words[0] == "at":
-                end.passes(int(words[1]))
-            else:
-                end.passes(int(words[0]))
-                end.take_step(words[1], words[2:])
-            print("wakes", end.wakes, flush=True)
-
-
 if __name__ == "__main__":
-    main()
+    play(End, "cache")

@@ -1,7 +1,7 @@
 """A Router with a simulated clock, as an end of a connection (tests/joined/README.md)."""
-import sys
-
 from rtr_wire.router import Close, Connect, Failed, NoData, Router, Settings, Update
+
+from .scene_input import play
 
 TIMES = ("refresh", "retry", "expire", "pause", "connect_limit", "response_limit")
 
@@ -18,6 +18,10 @@ class End:
         if self._router is None:
             self._router = Router(Settings(**self.settings), chance=self.chance)
         return self._router
+
+    @property
+    def wakes(self):
+        return self.router.wakes
 
     def does(self, what):
         print(self.now, what)
@@ -50,8 +54,8 @@ class End:
 
     def passes(self, time):
         """Advances the clock to this time."""
-        while self.router.wakes <= time:
-            self.now = max(self.now, self.router.wakes)
+        while self.wakes <= time:
+            self.now = max(self.now, self.wakes)
             self.settle()
         self.now = time
 
@@ -78,22 +82,5 @@ class End:
             self.settings[name] = value / 1000 if name in TIMES else value
 
 
-def main():
-    end = None
-    for line in sys.stdin:
-        words = line.split()
-        if words[0] == "scene":
-            end = End()
-        elif words[0] == "router":
-            end.set(words[1].replace("-", "_"), int(words[2]))
-        else:
-            if words[0] == "at":
-                end.passes(int(words[1]))
-            else:
-                end.passes(int(words[0]))
-                end.take_step(words[1], words[2:])
-            print("wakes", end.router.wakes, flush=True)
-
-
 if __name__ == "__main__":
-    main()
+    play(End, "router")

@@ -16,7 +16,9 @@ TESTS = BINDINGS.parent / "tests"
 SAMPLES = BINDINGS.parent / "crates"
 
 sys.path.insert(0, str(TESTS))
-import samples  # noqa: E402  (the sample units of all languages)
+import findings  # noqa: E402,F401  (recordings that break rules, and what is found in them)
+import listed_units  # noqa: E402,F401  (expected objects, and random units)
+import samples  # noqa: E402,F401  (the sample units of all languages)
 
 
 def rows(variable: str, *script: str) -> bytes:

@@ -3,7 +3,7 @@ import unittest
 
 from rtr_wire import EmptyProvidersError, Finding, Rule, ShortError, check
 
-from .test_listings import LISTINGS
+from .rows import findings
 
 # A cache response, and a prefix with host bits (RFC 8210 sections 5.5 and 5.6).
 RESPONSE = bytes([1, 3, 0, 7, 0, 0, 0, 8])
@@ -14,10 +14,10 @@ class Checks(unittest.TestCase):
     """Findings."""
 
     def test_rows(self):
-        for recording, lines in LISTINGS.CHECKS:
+        for recording, lines in findings.CHECKS:
             units = bytes.fromhex(recording)
             self.assertEqual([str(found) for found in check(units)],
-                             lines + LISTINGS.missing(units), recording)
+                             lines + findings.missing(units), recording)
 
     def test_findings(self):
         self.assertEqual(list(check(RESPONSE + PREFIX + PREFIX)), [

@@ -21,6 +21,7 @@ from rtr_wire import (AsyncClient, CacheResponse, Cause, Client, Data, Duplicate
                       SerialNotify, SerialQuery, SessionError, Settings, UnitTypeError, units)
 
 SOON = Settings(pause=0.01, retry=0.01, response_limit=20)
+LATE = 10  # seconds for what ends after two: others use the machine too
 ONE = IPv4Prefix(ipaddress.IPv4Network("10.0.0.0/8"), max_length=8, asn=1)
 TWO = replace(ONE, asn=2)
 KEY = RouterKey(bytes(20), 1, b"key")
@@ -70,7 +71,7 @@ class Cache:
 
 
 def says(query, *sent):
-    """A script: expects this query, and sends these bytes."""
+    """Returns a script that expects this query, and sends these bytes."""
     def script(connection, queries):
         assert next(queries) == query
         for part in sent:
@@ -110,7 +111,7 @@ def closes_all(test):
 
 
 def both(*scripts):
-    """A script that runs several scripts, one after the other."""
+    """Returns a script that runs several scripts, one after the other."""
     def script(connection, queries):
         for script in scripts:
             script(connection, queries)
@@ -129,7 +130,7 @@ def is_read(connection):
 
 
 def waits(connection, queries):
-    """A script: waits until the client closes."""
+    """Plays a cache that waits until the client closes."""
     assert next(queries, None) is None
 
 
@@ -147,7 +148,7 @@ def patient(callback=None):
 
 
 def is_silent(connection, queries):
-    """A script: ignores all queries."""
+    """Plays a cache that ignores all queries."""
     for _ in queries:
         pass
 
@@ -235,20 +236,22 @@ class Following:
         self.assertLess(sent[0], most)
 
     def test_report_time(self):
-        """After a report it reads for up to two seconds, and then closes."""
+        """After a report it reads for two seconds, and then closes."""
         seen = []
 
         def script(connection, queries):
+            began = time.monotonic()
             says(RESET, b"\1\5\0\0\0\0\0\10")(connection, queries)
             seen.extend(report.code for report in queries)
-            time.sleep(1)
-            seen.append(is_read(connection))
-            time.sleep(2)
-            seen.append(is_read(connection))
+            while is_read(connection) and time.monotonic() < began + LATE:
+                pass
+            seen.append(time.monotonic() - began)
 
         with Cache(script) as cache, self.assertRaises(UnitTypeError):
             self.fetch(cache)
-        self.assertEqual(seen, [5, True, False])
+        code, lasted = seen
+        self.assertEqual(code, 5)
+        self.assertTrue(2 <= lasted < LATE, lasted)
 
     def test_reported(self):
         report = ErrorReport(1, text=b"it rains")

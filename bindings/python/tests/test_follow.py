@@ -18,7 +18,8 @@ THIRD = Data([ONE, TWO], EndOfData(9, 1))
 
 
 def stays(connection, queries):
-    """A script: ignores all queries until the client closes; it asks again soon."""
+    """Plays a cache that ignores all queries until the client closes; the client asks again
+    soon."""
     for _ in queries:
         pass
 
@@ -31,11 +32,11 @@ class Scripted(Cache):
         self.goes_on = threading.Event()
 
     def then(self, connection, queries):
-        """A script: waits until the test continues."""
+        """Plays a cache that waits until the test continues."""
         self.goes_on.wait(60)
 
     def answers_and_closes(self, data):
-        """A script: sends data, waits until the test continues, and closes."""
+        """Returns a script that sends data, waits until the test continues, and closes."""
         return both(says(RESET, answer(data)), self.then)
 
 

@@ -1,27 +1,13 @@
-"""Lines, objects and texts of faults, by tests/samples and tests/programs/listings.py."""
+"""Lines, objects and texts of faults, by tests/samples and tests/listed_units.py."""
 import json
 import random
 import unittest
-from importlib.machinery import SourceFileLoader
-from importlib.util import module_from_spec, spec_from_loader
 
 from rtr_wire import Fault, unit_lines, unit_objects, units
 from rtr_wire._library import CALLS
 from rtr_wire.lines import _change, change_json, change_line
 
-from . import rows
-from .rows import samples
-
-
-def _listings():
-    """The script that computes expected values without the library."""
-    loader = SourceFileLoader("listings", str(rows.TESTS / "programs" / "listings.py"))
-    module = module_from_spec(spec_from_loader("listings", loader))
-    loader.exec_module(module)
-    return module
-
-
-LISTINGS = _listings()
+from .rows import listed_units, samples
 
 
 def _written(unit):
@@ -40,7 +26,7 @@ def _written(unit):
 
 def _change_of(unit):
     """Returns the change of a unit as an object, as rtr_diff(1) prints it."""
-    listed = LISTINGS.object_of(0, _written(unit))
+    listed = listed_units.object_of(0, _written(unit))
     if "action" not in listed:
         return ""
     parts = list(listed.items())[list(listed).index("zero") + 1:]
@@ -80,9 +66,9 @@ class Listings(unittest.TestCase):
     """The calls for the output of the programs."""
 
     def test_lines(self):
-        data = b"".join(sample.bytes for sample in LISTINGS.LISTED)
+        data = b"".join(sample.bytes for sample in listed_units.LISTED)
         lines, offset = [], 0
-        for sample in LISTINGS.LISTED:
+        for sample in listed_units.LISTED:
             lines.append(sample.line_at(offset))
             offset += len(sample.bytes)
         self.assertEqual(list(unit_lines(data)), lines)
@@ -113,19 +99,19 @@ class Listings(unittest.TestCase):
 
     def test_objects(self):
         random_units = random.Random(9)
-        forms = [LISTINGS.some_unit(random_units) for _ in range(2000)]
+        forms = [listed_units.some_unit(random_units) for _ in range(2000)]
         forms = [form for form in forms if form[1] != 11 or len(form) > 12 or form[2] % 2 == 0]
         objects, offset = list(unit_objects(b"".join(forms))), 0
         self.assertEqual(len(objects), len(forms))
         for text, form in zip(objects, forms):
-            expected = LISTINGS.object_of(offset, form)
+            expected = listed_units.object_of(offset, form)
             self.assertEqual(list(json.loads(text).items()), list(expected.items()), form.hex())
             self.assertFalse(any("\x7f" <= char <= "\x9f" for char in text), form.hex())
             offset += len(form)
 
     def test_changes(self):
         random_units = random.Random(7)
-        for form in [LISTINGS.some_unit(random_units) for _ in range(500)]:
+        for form in [listed_units.some_unit(random_units) for _ in range(500)]:
             self.assertEqual(_change(CALLS.rtr_change_json_nonnull, form), _change_of(form),
                              form.hex())
 

@@ -1,5 +1,6 @@
 """The command line: output and exit status."""
 import ipaddress
+import os
 import pathlib
 import subprocess
 import sys
@@ -37,6 +38,20 @@ class Commands(unittest.TestCase):
         status, printed, error = runs("fetch", address)
         self.assertEqual((status, printed), (1, b""))
         self.assertIn("Connection refused", error)
+
+    def test_unwritten(self):
+        """A full disk, or a closed standard output, is named on one line, with status 1."""
+        usual = {name: os.environ[name] for name in os.environ if name != "PYTHONUNBUFFERED"}
+        for words in ("list -", "validate - 192.0.2.0/24 AS65551"):
+            for output, text in ((">/dev/full", "No space left on device"),
+                                 (">&-", "standard output is closed")):
+                with self.subTest(words=words, output=output):
+                    done = subprocess.run(
+                        ["sh", "-c", f'exec "$0" -m rtr_wire {words} {output}', sys.executable],
+                        input=bytes(DATA), stderr=subprocess.PIPE, env=usual, timeout=300)
+                    self.assertEqual(done.returncode, 1, done.stderr)
+                    self.assertEqual(done.stderr.count(b"\n"), 1, done.stderr)
+                    self.assertIn(text, done.stderr.decode())
 
     def test_fetch_over_tls(self):
         """--tls verifies the CA and the name of the cache's certificate; --ca names the CA."""
@@ -106,16 +121,17 @@ class Commands(unittest.TestCase):
             self.assertEqual(runs("list", file.name)[:2], (0, lines.encode()))
 
     def test_no_data(self):
-        for data, prefix, asn in ((b"", "192.0.2.0/24", "1"), (b"text", "192.0.2.0/24", "1"),
-                                   (bytes(DATA), "192.0.2.0/33", "1"),
-                                   (bytes(DATA), "192.0.2.0/24", str(2**32))):
-            status, printed, error = runs("validate", "-", prefix, asn, stdin=data)
+        for data in (b"", b"text"):
+            status, printed, error = runs("validate", "-", "192.0.2.0/24", "1", stdin=data)
             self.assertEqual((status, printed, error[:10]), (1, b"", "rtr_wire: "))
         self.assertEqual(runs("validate", "/nowhere", "::/0", "1")[0], 1)
 
     def test_arguments(self):
         for words in ((), ("fetch",), ("fetch", "host"), ("fetch", ":1"), ("fetch", "h:p"),
-                      ("fetch", "h:1", "--version", "3"), ("validate", "-", "::/0"), ("list",), ("list", "-", "-"),
+                      ("fetch", "h:65536"), ("validate", "-", "192.0.2.0/33", "1"),
+                      ("validate", "-", "192.0.2.1/24", "1"), ("validate", "-", "::/0", str(2**32)),
+                      ("fetch", "h:1", "--version", "3"), ("validate", "-", "::/0"), ("list",),
+                      ("list", "-", "-"),
                       ("validate", "-", "::/0", "x")):
             self.assertEqual(runs(*words)[:2], (2, b""), words)
         self.assertEqual(runs("--version")[:2], (0, f"rtr_wire {__version__}\n".encode()))

@@ -34,8 +34,8 @@ def response(version=2, session=SESSION):
 
 
 def former_file(*parts):
-    """Returns a file of a library before 0.3.0: rtrkept1, the 64-bit FNV-1a hash of what follows, and
-    the data and the steps back, each behind its time and its length."""
+    """Returns a file of a library before 0.3.0: rtrkept1, the 64-bit FNV-1a hash of what follows,
+    and the data and the steps back, each behind its time and its length."""
     now = (time.time_ns() // 1_000_000).to_bytes(8, "big")
     history = b"".join(now + len(part).to_bytes(8, "big") + part for part in map(bytes, parts))
     checksum = 0xcbf29ce484222325
@@ -78,6 +78,15 @@ class Saving(Case):
                 after.update_saved(data(2, [4]), path)
         self.assertEqual(os.listdir(self.folder), ["kept"])
 
+    def test_a_folder_that_can_only_be_read(self):
+        """What a killed save left stays there, and the data are restored."""
+        Server().update_saved(data(1, [1]), self.path)
+        for number in errno.EROFS, errno.EACCES:
+            failing = OSError(number, os.strerror(number))
+            with mock.patch("os.unlink", side_effect=failing) as removes:
+                self.assertEqual(Server().restore(self.path), data(1, [1]))
+            removes.assert_called()
+
     def test_save(self):
         server = Server()
         server.save(self.path)
@@ -116,7 +125,8 @@ class Saving(Case):
         server.change_session()
         self.assertEqual(server.end.session, SESSION)
         self.refuses(server, data(6, [7]), StoresStatus.OLD_SERIAL,
-                     "the serial number isn't later than that of the present data: new 6, present 6")
+                     "the serial number isn't later than that of the present data: "
+                     "new 6, present 6")
         server.update(data(1, [1], session=7))
         self.refuses(server, data(9, [1]), StoresStatus.OTHER_SESSION, text)
         self.assertEqual(answer(server, SerialQuery(7, 1, version=2)),
@@ -128,7 +138,8 @@ class Saving(Case):
         server.update(data(1, [1]))
         for call in (lambda: server.save(self.path),
                      lambda: server.update_saved(data(2, [2]), self.path)):
-            with self.assertRaisesRegex(RuntimeError, "^the cache serves data that it didn't save$"):
+            with self.assertRaisesRegex(RuntimeError,
+                                        "^the cache serves data that it didn't save$"):
                 call()
         self.assertEqual((os.listdir(self.folder), server.end.serial), ([], 1))
         self.assertTrue(server.update(data(2, [2])))

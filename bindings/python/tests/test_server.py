@@ -81,6 +81,11 @@ class Router:
             await self.writer.wait_closed()
 
 
+def held():
+    """Returns how many descriptors and tasks the process has."""
+    return len(os.listdir("/proc/self/fd")), len(asyncio.all_tasks())
+
+
 class Servers(unittest.IsolatedAsyncioTestCase):
     """A server that is served in a task."""
 
@@ -233,8 +238,7 @@ class Answers(Servers):
             listener.bind(os.path.join(folder, "socket"))
             listener.listen()
             self.tasks.append(asyncio.ensure_future(server.serve(sock=listener)))
-            await asyncio.sleep(0.1)
-            for streams in (await asyncio.open_connection("127.0.0.1", port),
+            for streams in (await self.connected(port),
                             await asyncio.open_unix_connection(os.path.join(folder, "socket"))):
                 self.routers.append(Router(*streams))
                 self.routers[-1].asks_all()
@@ -424,12 +428,14 @@ class Ends(Servers):
 
     async def test_a_router_that_does_not_close(self):
         """The connection stays for the router to read the report, but not for longer than that."""
-        server = self.serves(ServerLimits(report_limit=0.5))
-        router = await self.router()
-        router.writer.write(bytes(CacheResponse(1)) * 1000)
-        self.assertEqual((await router.reads()).code, 3)
-        self.assertIsNone(await router.reads())
-        self.assertEqual((server._door.served, self.ended), (1, []))
+        for limit in LONG, 0.5:
+            server = self.serves(ServerLimits(report_limit=limit))
+            router = await self.router()
+            router.writer.write(bytes(CacheResponse(1)) * 1000)
+            self.assertEqual((await router.reads()).code, 3)
+            self.assertIsNone(await router.reads())
+            if limit == LONG:
+                self.assertEqual((server._door.served, self.ended), (1, []))
         await self.has(lambda: server._door.served == 0)
         self.assertEqual((await self.reason()).reason, Reason.NO_QUERY)
 
@@ -530,7 +536,7 @@ class Doors(Servers):
         first = await self.router()
         first.asks_all()
         await first.answer()
-        before = len(os.listdir("/proc/self/fd")), len(asyncio.all_tasks())
+        before = held()
         for number in range(200):
             router = await self.router(number % 3)
             if number % 4:
@@ -544,8 +550,7 @@ class Doors(Servers):
         await self.has(lambda: server._door.served == 1)
         run, = server._runs
         self.assertEqual(len(run._connections), 1)
-        after = len(os.listdir("/proc/self/fd")), len(asyncio.all_tasks())
-        self.assertEqual(after, before)
+        await self.has(lambda: held() == before)
         server.update(data(2, [1]))
         self.assertEqual((await first.reads()).serial, 2)
 
@@ -571,7 +576,7 @@ class Doors(Servers):
             await self.router()
 
     async def test_cancellation(self):
-        before = len(os.listdir("/proc/self/fd")), len(asyncio.all_tasks())
+        before = held()
         server = self.serves()
         server.update(many(1, 200_000))
         routers = [await self.router(buffer=1 << 12) for _ in range(3)]
@@ -584,8 +589,7 @@ class Doors(Servers):
         for router in self.routers:
             await router.leaves()
         self.routers.clear()
-        await asyncio.sleep(0.05)
-        self.assertEqual((len(os.listdir("/proc/self/fd")), len(asyncio.all_tasks())), before)
+        await self.has(lambda: held() == before)
         self.assertEqual((server._door.served, server._runs), (0, set()))
 
     async def test_a_callback_that_raises(self):

@@ -19,10 +19,13 @@ a rule; 2 for wrong arguments.
 from __future__ import annotations
 
 import argparse
+import errno
+import ipaddress
+import os
 import pathlib
 import ssl
 import sys
-from typing import List, Optional, Tuple
+from typing import List, Optional, TextIO, Tuple
 
 from . import Client, Fault, SessionError, Settings, check, load_data, unit_lines, unit_objects
 from ._rtr import VERSION
@@ -31,16 +34,25 @@ from ._rtr import VERSION
 def _address(text: str) -> Tuple[str, int]:
     """Splits HOST:PORT; the host may be in brackets."""
     host, _, port = text.rpartition(":")
-    if not host or not port.isdecimal():
+    if not host or not port.isdecimal() or int(port) >= 2**16:
         raise argparse.ArgumentTypeError(f"{text!r} isn't HOST:PORT")
     return host.strip("[]"), int(port)
+
+
+def _prefix(text: str) -> str:
+    """Checks a prefix, which has no host bits."""
+    try:
+        ipaddress.ip_network(text)
+    except ValueError as error:
+        raise argparse.ArgumentTypeError(str(error)) from None
+    return text
 
 
 def _asn(text: str) -> int:
     """Parses the number of an AS, with or without AS before it."""
     digits = text[2:] if text[:2].upper() == "AS" else text
-    if not digits.isdecimal():
-        raise argparse.ArgumentTypeError(f"{text!r} is no AS")
+    if not digits.isdecimal() or int(digits) >= 1 << 32:
+        raise argparse.ArgumentTypeError(f"{text!r} isn't an AS number")
     return int(digits)
 
 
@@ -63,12 +75,12 @@ def _arguments(words: Optional[List[str]]) -> argparse.Namespace:
     checked.add_argument("file", metavar="FILE")
     validate = commands.add_parser("validate", allow_abbrev=False)
     validate.add_argument("file", metavar="FILE")
-    validate.add_argument("prefix", metavar="PREFIX")
+    validate.add_argument("prefix", metavar="PREFIX", type=_prefix)
     validate.add_argument("asn", metavar="ASN", type=_asn)
     arguments = parser.parse_args(words)
     if arguments.command == "fetch":
         arguments.tls = arguments.tls or arguments.ca is not None
-        if arguments.output is None and sys.stdout.isatty():
+        if arguments.output is None and sys.stdout and sys.stdout.isatty():
             fetch.error("data aren't text for a terminal: name a file by --output")
     return arguments
 
@@ -79,13 +91,20 @@ def _fetch(arguments: argparse.Namespace) -> None:
     host, port = arguments.address
     data = Client(host, port, Settings(version=arguments.version), ssl=context).fetch()
     if arguments.output is None:
-        sys.stdout.buffer.write(bytes(data))
-        sys.stdout.buffer.flush()
+        _output().buffer.write(bytes(data))
+        _output().flush()
     else:
         arguments.output.write_bytes(bytes(data))
     payloads = "payload" if len(data) == 1 else "payloads"
     print(f"session {data.session} serial {data.serial} version {data.version}: "
           f"{len(data)} {payloads}", file=sys.stderr)
+
+
+def _output() -> TextIO:
+    """Returns standard output. Raises OSError if it is closed."""
+    if not sys.stdout:
+        raise OSError(errno.EBADF, "standard output is closed")
+    return sys.stdout
 
 
 def _input(name: str) -> bytes:
@@ -125,23 +144,41 @@ def _words(name: str) -> str:
     return name.lower().replace("_", " ")
 
 
+def _run(arguments: argparse.Namespace) -> int:
+    """Runs a command, and returns the exit status."""
+    if arguments.command == "fetch":
+        _fetch(arguments)
+    elif arguments.command == "list":
+        _list(arguments)
+    elif arguments.command == "check":
+        return _check(arguments)
+    else:
+        _validate(arguments)
+    return 0
+
+
 def main(words: Optional[List[str]] = None) -> int:
     """Runs the command in these words, or in the command line, and returns the exit status."""
     arguments = _arguments(words)
     try:
-        if arguments.command == "fetch":
-            _fetch(arguments)
-        elif arguments.command == "list":
-            _list(arguments)
-        elif arguments.command == "check":
-            return _check(arguments)
-        else:
-            _validate(arguments)
+        try:
+            return _run(arguments)
+        finally:
+            if arguments.command != "fetch" or arguments.output is None:
+                _output().flush()
     except (OSError, Fault, SessionError, ValueError) as error:
         print(f"rtr_wire: {error}", file=sys.stderr)
         return 1
-    return 0
+
+
+def _program() -> int:
+    """Runs the command line, and returns the exit status."""
+    status = main()
+    if status:
+        # Python writes what standard output didn't take again at its exit: into nothing.
+        os.dup2(os.open(os.devnull, os.O_WRONLY), 1)
+    return status
 
 
 if __name__ == "__main__":
-    sys.exit(main())
+    sys.exit(_program())

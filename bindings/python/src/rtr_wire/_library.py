@@ -130,10 +130,10 @@ def octet(version: int) -> int:
     return found if 0 <= found <= 255 else 255
 
 
-def unit_size(data: bytes, at: int = 0) -> Tuple[int, int, int]:
+def unit_size(data: bytes, offset: int = 0) -> Tuple[int, int, int]:
     """Returns the status, the size and the detail of rtr_unit_size for the unit at this offset."""
     size, detail = ctypes.c_size_t(), ctypes.c_uint8()
-    status = CALLS.rtr_unit_size_nonnull(address_of(data) + at, len(data) - at,
+    status = CALLS.rtr_unit_size_nonnull(address_of(data) + offset, len(data) - offset,
                                          ctypes.byref(size), ctypes.byref(detail))
     return status, size.value, detail.value
 

@@ -34,32 +34,32 @@ def check(data: Buffer) -> Iterator[Finding]:
 
 def _findings(data: bytes) -> Iterator[Finding]:
     """Yields the findings in these bytes."""
-    at = 0
+    offset = 0
     state, checked, named = _rtr.rtr_check(), _rtr.rtr_checked(), _rtr.rtr_naming()
     output = ctypes.create_string_buffer(NAME_ROOM)
     names: Set[bytes] = set()
-    while at < len(data):
-        address, left = address_of(data) + at, len(data) - at
+    while offset < len(data):
+        address, left = address_of(data) + offset, len(data) - offset
         status = CALLS.rtr_check_name_nonnull(address, left, output, NAME_ROOM, ctypes.byref(named))
         if status != Status.OK:
-            raise refusal(status, named.detail, data, at)
+            raise refusal(status, named.detail, data, offset)
         name = ctypes.string_at(output, named.length)
         CALLS.rtr_check_unit_nonnull(ctypes.byref(state), address, left, name in names,
                                      ctypes.byref(checked))
         for found in checked.findings:
             if found.rule:
-                yield _finding(found, at)
+                yield _finding(found, offset)
         if named.begins:
             names.clear()
         if named.announces:
             names.add(name)
         else:
             names.discard(name)
-        at += named.size
+        offset += named.size
     last = _rtr.rtr_finding()
     CALLS.rtr_check_end(ctypes.byref(state), ctypes.byref(last))
     if last.rule:
-        yield _finding(last, at)
+        yield _finding(last, offset)
 
 
 def _finding(found: _rtr.rtr_finding, offset: int) -> Finding:

@@ -34,9 +34,10 @@ def _all_of(data: bytes) -> Part:
     return Part(data, len(data))
 
 
-def _piece(part: Part, at: int, most: int) -> bytes:
+def _piece(part: Part, offset: int, most: int) -> bytes:
     """Returns at most this many bytes of a part, from an offset on."""
-    return ctypes.string_at(_library.address_of(part.memory) + at, min(most, part.length - at))
+    length = min(most, part.length - offset)
+    return ctypes.string_at(_library.address_of(part.memory) + offset, length)
 
 
 def fitted(output: Any, written: int, capacity: int) -> Part:
@@ -201,11 +202,11 @@ def end_of(address: int, length: int) -> EndOfData:
 
 def _pieces(data: bytes) -> Iterator[bytes]:
     """Yields the bytes of each unit of data."""
-    at = 0
-    while at < len(data):
-        _, size, _ = _library.unit_size(data, at)
-        yield data[at:at + size]
-        at += size
+    offset = 0
+    while offset < len(data):
+        _, size, _ = _library.unit_size(data, offset)
+        yield data[offset:offset + size]
+        offset += size
 
 
 def _end_in(sequence: bytes) -> bytes:

@@ -189,14 +189,15 @@ def fault(status: int, detail: int = 0) -> Fault:
     return _CLASSES[status](detail)
 
 
-def refusal(status: int, detail: int, data: bytes, at: int, *, offset: Optional[int] = None,
+def refusal(status: int, detail: int, data: bytes, start: int, *, offset: Optional[int] = None,
             side: int = 0) -> Fault:
-    """Returns the fault of the unit at `at` in these bytes. `offset` is its offset in the input, if
-    the bytes are only a part of that.
+    """Returns the fault of the unit at `start` in these bytes. `offset` is its offset in the input,
+    if the bytes are only a part of that.
     """
-    known, size, _ = _library.unit_size(data, at)
+    known, size, _ = _library.unit_size(data, start)
     if status in (Status.TOO_MANY, Status.NO_ROOM):
         size = 0
     elif known not in (Status.OK, Status.SHORT):
         size = _library.HEADER
-    return _CLASSES[status](detail, at if offset is None else offset, data[at:at + size], side)
+    return _CLASSES[status](detail, start if offset is None else offset,
+                            data[start:start + size], side)

@@ -27,17 +27,17 @@ def unit_objects(data: Buffer) -> Iterator[str]:
 
 def _each(call: Any, data: bytes) -> Iterator[str]:
     """Yields the text that a call writes for each unit."""
-    at, output, line = 0, ctypes.create_string_buffer(LINE_ROOM), _rtr.rtr_line()
-    while at < len(data):
-        status = call(address_of(data) + at, len(data) - at, at, output, len(output),
+    offset, output, line = 0, ctypes.create_string_buffer(LINE_ROOM), _rtr.rtr_line()
+    while offset < len(data):
+        status = call(address_of(data) + offset, len(data) - offset, offset, output, len(output),
                       ctypes.byref(line))
         if status == Status.NO_ROOM:
             output = ctypes.create_string_buffer(line.length)
         elif status != Status.OK:
-            raise refusal(status, line.detail, data, at)
+            raise refusal(status, line.detail, data, offset)
         else:
             yield ctypes.string_at(output, line.length).decode()
-            at += line.size
+            offset += line.size
 
 
 def change_line(unit: Unit) -> str:

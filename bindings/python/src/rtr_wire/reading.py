@@ -67,13 +67,13 @@ class Units(Iterator[AnyUnit]):
         count, taken = ctypes.c_size_t(), ctypes.c_size_t()
         counted, all_taken = ctypes.byref(count), ctypes.byref(taken)
         while True:
-            data, at = self._data, self._at
-            status = _next_units(self._address + at, len(data) - at, shown, _BATCH, counted,
+            data, offset = self._data, self._at
+            status = _next_units(self._address + offset, len(data) - offset, shown, _BATCH, counted,
                                  all_taken)
             for fields in fields_of(view[:size * count.value]):
-                self._at = at + fields[0]
-                yield MAKERS[fields[KIND_INDEX]](fields, data, at)
-                at = self._at
+                self._at = offset + fields[0]
+                yield MAKERS[fields[KIND_INDEX]](fields, data, offset)
+                offset = self._at
             if not status or status == Status.SHORT and self._grown():
                 continue
             if self._ends(status, shown[count.value]):
@@ -94,12 +94,12 @@ class Units(Iterator[AnyUnit]):
     def _ends(self, status: int, refused: _rtr.rtr_unit) -> bool:
         """Reports whether there is no next unit; raises the fault of the next unit if there is
         one."""
-        data, at = self._data, self._at
-        if status == Status.SHORT and at == len(data):
+        data, start = self._data, self._at
+        if status == Status.SHORT and start == len(data):
             return True
         # The size is 0, except after a PrefixError, which skips the prefix.
         self._at += refused.size
-        raise refusal(status, refused.detail, data, at, offset=self._before + at)
+        raise refusal(status, refused.detail, data, start, offset=self._before + start)
 
 
 def _reads_of(source: Any) -> Callable[[], Optional[bytes]]:
@@ -130,12 +130,12 @@ def _slices(view: memoryview) -> Iterator[bytes]:
 def count_units(memory: Any, length: int) -> int:
     """Counts the units in memory of this length, which have to be valid."""
     shown, address = (_rtr.rtr_unit * _BATCH)(), address_of(memory)
-    count, taken, at, total = ctypes.c_size_t(), ctypes.c_size_t(), 0, 0
-    while at < length:
-        _next_units(address + at, length - at, shown, _BATCH, ctypes.byref(count),
+    count, taken, offset, total = ctypes.c_size_t(), ctypes.c_size_t(), 0, 0
+    while offset < length:
+        _next_units(address + offset, length - offset, shown, _BATCH, ctypes.byref(count),
                     ctypes.byref(taken))
         assert count.value, "a unit is refused"
-        at, total = at + taken.value, total + count.value
+        offset, total = offset + taken.value, total + count.value
     return total
 
 
@@ -187,14 +187,14 @@ def normalise(sequence: Buffer, *, version: Optional[int] = None,
         status = CALLS.rtr_normalise_for_slice_nonnull(
             data, len(data), output, len(output), most, version, answer)
     form = _library.front(output, answer.written)
-    done = Normalised(form, answer.units, answer.forms, answer.taken)
+    result = Normalised(form, answer.units, answer.forms, answer.taken)
     if status == Status.OK:
-        return done
+        return result
     if version is None or CALLS.rtr_version_has(version, Kind.END_OF_DATA):
         refused = refusal(status, answer.detail, data, answer.taken)
     else:
         refused = fault(status, answer.detail)  # there is no such version
-    refused.before = done
+    refused.before = result
     raise refused
 
 

@@ -259,10 +259,10 @@ class Served:
     @property
     def output(self) -> Union[bytes, memoryview]:
         """The next bytes to send. They stay the same until `sent` is called."""
-        at = self._sent - len(self._head)
-        if at < 0:
-            return self._head[at:] + bytes(self._body[:CHUNK])
-        return self._body[at:at + CHUNK]
+        offset = self._sent - len(self._head)
+        if offset < 0:
+            return self._head[offset:] + bytes(self._body[:CHUNK])
+        return self._body[offset:offset + CHUNK]
 
     @property
     def has_ended(self) -> bool:

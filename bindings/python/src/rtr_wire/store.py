@@ -112,20 +112,20 @@ class History:
                  Room.SPARE: span.length, Room.OUTPUT: 2 * steps + _rtr.LONGEST_END}
         answer = _rtr.rtr_stores_answer()
         while True:
-            rooms = {room: memory(_size(room, count)) for room, count in sizes.items()}
-            given = [one for room in sizes for one in (rooms[room], sizes[room])]
+            buffers = {kind: memory(_size(kind, count)) for kind, count in sizes.items()}
+            arguments = [argument for kind in sizes for argument in (buffers[kind], sizes[kind])]
             status = CALLS.rtr_history_since_nonnull(span.address, span.length, serial, version,
-                                                     *given, answer)
+                                                     *arguments, answer)
             if status != StoresStatus.NO_ROOM:
                 break
             sizes[Room(answer.room)] = answer.wanted
         assert status == StoresStatus.OK, StoresStatus(status).name
-        return _library.front(rooms[Room.OUTPUT], answer.length)
+        return _library.front(buffers[Room.OUTPUT], answer.length)
 
 
-def _size(room: Room, count: int) -> int:
+def _size(kind: Room, count: int) -> int:
     """Returns the bytes of a buffer, whose index has entries."""
-    return _ENTRY * count if room == Room.INDEX else count
+    return _ENTRY * count if kind == Room.INDEX else count
 
 
 def _first_of(history: Span) -> Optional[Tuple[int, Span]]:
@@ -153,21 +153,21 @@ class Store:
     def unsaved(cls, session: int) -> Store:
         """Returns the store of a cache that doesn't save: it takes data of this session only, and
         serves them at once."""
-        made = cls()
-        CALLS.rtr_stores_unsaved(made._stores, session)
-        return made
+        store = cls()
+        CALLS.rtr_stores_unsaved(store._stores, session)
+        return store
 
     @classmethod
     def start(cls, store: bytes) -> Optional[Store]:
         """Returns the store with which a cache starts that saved these bytes; None if they aren't
         a store."""
-        made, answer, size = cls(), _rtr.rtr_stores_answer(), len(store)
+        stores, answer, size = cls(), _rtr.rtr_stores_answer(), len(store)
         entries = size // _rtr.SHORTEST_PAYLOAD
         status = CALLS.rtr_stores_start_nonnull(
-            made._stores, size, store, size, memory(_ENTRY * (entries + 1)), entries, memory(size),
-            size, answer)
-        made._buffers[0] = Part(store, size)
-        return made if status == StoresStatus.OK else None
+            stores._stores, size, store, size, memory(_ENTRY * (entries + 1)), entries,
+            memory(size), size, answer)
+        stores._buffers[0] = Part(store, size)
+        return stores if status == StoresStatus.OK else None
 
     def take(self, data: Data, now: int, limits: _rtr.rtr_history_limits) -> _rtr.rtr_stores_answer:
         """Takes new data at this time, in milliseconds since 1970. If the answer's status is OK,
@@ -260,9 +260,9 @@ def save(store: Span, path: Path) -> None:
 
 
 def load(path: Path) -> Tuple[Store, History]:
-    """Returns what `save` wrote. It removes the new file of a save that was killed, and syncs the
-    folder, since that save may have ended before it did."""
-    with contextlib.suppress(FileNotFoundError):
+    """Returns what `save` wrote. It removes the new file of a save that was killed, if the folder
+    can be written, and syncs the folder, since that save may have ended before it did."""
+    with contextlib.suppress(OSError):
         os.unlink(_beside(path))
     with open(path, "rb") as file:
         content = file.read()
@@ -276,8 +276,8 @@ def load(path: Path) -> Tuple[Store, History]:
 
 
 def _unsealed(content: bytes) -> Optional[bytes]:
-    """Returns the store in a file, also in one that begins with rtrkept1, of libraries before 0.3.0;
-    None if the file isn't whole."""
+    """Returns the store in a file, also in one that begins with rtrkept1, of libraries before
+    0.3.0; None if the file isn't whole."""
     size = len(content)
     if CALLS.rtr_store_open_nonnull(content, size):
         return content[_HEAD:]

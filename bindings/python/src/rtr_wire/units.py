@@ -357,7 +357,7 @@ AnyUnit = Union[IPv4Prefix, IPv6Prefix, RouterKey, Aspa, EndOfData, ErrorReport,
 
 # ---- decoding: units from the fields of a struct rtr_unit, their bytes and their offset
 
-def _of_ipv4(fields: _Fields, data: bytes, at: int) -> IPv4Prefix:
+def _of_ipv4(fields: _Fields, data: bytes, offset: int) -> IPv4Prefix:
     unit: IPv4Prefix = object.__new__(IPv4Prefix)
     unit.__dict__.update(
         prefix=ipaddress.IPv4Network((fields[_ADDRESS][:4], fields[_PREFIX_LENGTH])),
@@ -366,7 +366,7 @@ def _of_ipv4(fields: _Fields, data: bytes, at: int) -> IPv4Prefix:
     return unit
 
 
-def _of_ipv6(fields: _Fields, data: bytes, at: int) -> IPv6Prefix:
+def _of_ipv6(fields: _Fields, data: bytes, offset: int) -> IPv6Prefix:
     unit: IPv6Prefix = object.__new__(IPv6Prefix)
     unit.__dict__.update(
         prefix=ipaddress.IPv6Network((fields[_ADDRESS], fields[_PREFIX_LENGTH])),
@@ -375,30 +375,30 @@ def _of_ipv6(fields: _Fields, data: bytes, at: int) -> IPv6Prefix:
     return unit
 
 
-def _part(fields: _Fields, data: bytes, at: int) -> bytes:
+def _part(fields: _Fields, data: bytes, offset: int) -> bytes:
     """Returns the part of a unit: key info, providers or an enclosed unit."""
-    start = at + fields[_PART]
+    start = offset + fields[_PART]
     return data[start:start + fields[_PART_LENGTH]]
 
 
-def _of_key(fields: _Fields, data: bytes, at: int) -> RouterKey:
+def _of_key(fields: _Fields, data: bytes, offset: int) -> RouterKey:
     return _new(RouterKey, {
         "key_identifier": fields[_KEY_IDENTIFIER], "asn": fields[_ASN],
-        "key_info": _part(fields, data, at), "announce": fields[_ACTION] == 1,
+        "key_info": _part(fields, data, offset), "announce": fields[_ACTION] == 1,
         "version": fields[_VERSION]})
 
 
-def _of_aspa(fields: _Fields, data: bytes, at: int) -> Aspa:
-    part = _part(fields, data, at)
+def _of_aspa(fields: _Fields, data: bytes, offset: int) -> Aspa:
+    part = _part(fields, data, offset)
     return _new(Aspa, {
         "customer": fields[_CUSTOMER], "providers": struct.unpack(f">{len(part) // 4}I", part),
         "announce": fields[_ACTION] == 1, "version": fields[_VERSION]})
 
 
-def _of_report(fields: _Fields, data: bytes, at: int) -> ErrorReport:
-    start = at + fields[_TEXT]
+def _of_report(fields: _Fields, data: bytes, offset: int) -> ErrorReport:
+    start = offset + fields[_TEXT]
     return _new(ErrorReport, {
-        "code": fields[_CODE], "enclosed": _part(fields, data, at),
+        "code": fields[_CODE], "enclosed": _part(fields, data, offset),
         "text": data[start:start + fields[_TEXT_LENGTH]], "version": fields[_VERSION]})
 
 
@@ -406,7 +406,7 @@ def _of_numbers(kind: Type[_Unit]) -> Callable[[_Fields, bytes, int], _Unit]:
     """Returns the decoder of a kind whose attributes have the names of fields of rtr_unit."""
     names = [field.name for field in fields_of(kind)]
 
-    def decode(fields: _Fields, data: bytes, at: int) -> _Unit:
+    def decode(fields: _Fields, data: bytes, offset: int) -> _Unit:
         return _new(kind, {name: fields[_INDEXES[name]] for name in names})
     return decode
 
