@@ -53,7 +53,8 @@ fn check_compiler() {
     }
 }
 
-/// Where an archive for the target may lie: nowhere but for Linux on two processors.
+/// Returns the folders that may have an archive for the target: none but for Linux on two
+/// processors.
 fn folders_with_archives() -> Vec<PathBuf> {
     let arch = setting("CARGO_CFG_TARGET_ARCH");
     let kind =
@@ -126,7 +127,7 @@ fn here() -> PathBuf {
     setting("CARGO_MANIFEST_DIR").into()
 }
 
-/// What cargo says of the target or of this crate.
+/// Returns a variable that cargo sets, about the target or this crate.
 fn setting(name: &str) -> String {
     std::env::var(name).expect("cargo sets it for build scripts")
 }

@@ -112,6 +112,7 @@ extern "C" {
     fn madvise(at: *mut c_void, size: usize, how: c_int) -> c_int;
     fn getrlimit(which: c_int, limit: *mut Limit) -> c_int;
     fn sendfile(socket: c_int, file: c_int, from: *mut i64, most: usize) -> isize;
+    fn send(socket: c_int, bytes: *const c_void, length: usize, flags: c_int) -> isize;
 }
 
 /// A resource limit of the process: the soft and the hard limit.
@@ -223,6 +224,17 @@ pub(crate) fn send_from(
     let mut from = i64::try_from(from).unwrap_or(i64::MAX);
     // SAFETY: the number is live, borrowed mutably.
     let count = unsafe { sendfile(socket.as_raw_fd(), file.as_raw_fd(), &mut from, most) };
+    usize::try_from(count).map_err(|_| io::Error::last_os_error())
+}
+
+/// Sends bytes to a socket that more follow at once, so that they needn't have a packet of their
+/// own; returns how many were sent.
+pub(crate) fn send_before(bytes: &[u8], socket: &impl AsRawFd) -> io::Result<usize> {
+    const NO_SIGNAL: c_int = 0x4000;
+    const MORE: c_int = 0x8000;
+    let (at, length) = (bytes.as_ptr().cast(), bytes.len());
+    // SAFETY: this many bytes are borrowed.
+    let count = unsafe { send(socket.as_raw_fd(), at, length, NO_SIGNAL | MORE) };
     usize::try_from(count).map_err(|_| io::Error::last_os_error())
 }
 

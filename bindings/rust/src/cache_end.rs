@@ -132,7 +132,8 @@ impl Joined {
         }
     }
 
-    /// Whether the connection has nothing to do now; `comes` reports whether it has bytes to read.
+    /// Reports whether the connection has nothing to do now; `is_ready` says whether it has
+    /// bytes to read.
     fn rests(&self, moment: &Moment, is_ready: bool) -> bool {
         let connection = &self.connection;
         let is_held = connection.is_sending() && self.readable.load(Ordering::Relaxed) == 0;
@@ -140,14 +141,14 @@ impl Joined {
         connection.is_over() || waits && connection.wakes(moment) > moment.now
     }
 
-    /// Whether bytes, or the end of the stream, can be read.
+    /// Reports whether bytes, or the end of the stream, can be read.
     fn is_ready(&self) -> bool {
         let mut awaited = [Awaited::to_read(&self.connection.socket())];
         wait(&mut awaited, 0);
         !self.connection.is_sending() && awaited[0].is_ready()
     }
 
-    /// Whether all bytes before the end were sent.
+    /// Reports whether all bytes before the end were sent.
     fn has_ended(&self) -> bool {
         !self.connection.is_served() && !self.connection.is_sending()
     }
@@ -205,7 +206,7 @@ impl CacheEnd {
         }
     }
 
-    /// When the connection acts by itself, if there is one.
+    /// Returns when the connection acts by itself, if there is one.
     fn wakes(&mut self) -> Option<u64> {
         let moment = self.moment();
         let joined = self.joined.as_ref().filter(|joined| !joined.has_ended())?;

@@ -124,13 +124,13 @@ impl Changes {
         self.computed().end
     }
 
-    /// How many payloads are announced or withdrawn.
+    /// Returns how many payloads are announced or withdrawn.
     #[must_use]
     pub fn len(&self) -> usize {
         self.computed().payloads
     }
 
-    /// Whether no payload is announced or withdrawn.
+    /// Reports whether no payload is announced or withdrawn.
     #[must_use]
     pub fn is_empty(&self) -> bool {
         self.len() == 0

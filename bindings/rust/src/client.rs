@@ -98,13 +98,13 @@ impl Client {
     ///
     /// Any except `Expired`.
     pub fn fetch(&self) -> Result<Data, ClientError> {
-        Follower::new(self).fetch()
+        Follower::new(self, None).fetch()
     }
 
     /// Follows the data of the cache until the client is stopped or `on` breaks, and returns the
     /// data that it has then, if they haven't expired.
     pub fn run(&self, on: impl FnMut(Event<'_>) -> ControlFlow<()>) -> Option<Data> {
-        Follower::new(self).run(on)
+        Follower::new(self, None).run(on)
     }
 
     /// Requests current data, from any thread: [`run`](Client::run), also under

@@ -38,7 +38,7 @@ impl Connection {
         connection
     }
 
-    /// Whether neither the machine nor a report has ended it.
+    /// Reports whether neither the machine nor a report has ended it.
     pub(crate) fn is_open(&self) -> bool {
         self.state == OPEN
     }
@@ -75,7 +75,7 @@ impl Connection {
         calls::connection_sent(self, now, size)
     }
 
-    /// What the host does now; `number` is that of the present data.
+    /// Returns what the host has to do now; `number` is that of the present data.
     pub(crate) fn next(&self, now: u64, machine: &Cache, present: Present, number: u64) -> Next {
         match calls::connection_next(self, now, machine, &present, number) {
             (_, step::STEP_WAIT) => Next::Wait,
@@ -91,7 +91,7 @@ impl Connection {
         }
     }
 
-    /// When to call `next`, if nothing happens before.
+    /// Returns when to call `next`, if nothing happens before.
     pub(crate) fn wakes(&self, machine: &Cache, present: Present) -> u64 {
         calls::connection_wakes(self, machine, &present)
     }

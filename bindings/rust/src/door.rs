@@ -62,7 +62,7 @@ impl Door {
         calls::door_leave(&mut self.0, entry.number())
     }
 
-    /// How many connections are served: each counts until it is closed.
+    /// Returns how many connections are served: each counts until it is closed.
     #[must_use]
     pub fn clients(&self) -> usize {
         usize::try_from(self.0.served).unwrap_or(usize::MAX)

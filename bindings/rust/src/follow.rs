@@ -193,7 +193,7 @@ impl<C: FnMut(usize) -> Arc<Client>> Followed<C> {
                 sender,
             };
             let mut kept = kept.lock().unwrap_or_else(PoisonError::into_inner);
-            let follower = Follower::after(&client, kept.take());
+            let follower = Follower::new(&client, kept.take());
             let router = follower.steps(|step, data| outlet.tell(Some((step, data.cloned()))));
             *kept = Some(router);
         })?;

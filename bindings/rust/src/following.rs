@@ -55,19 +55,9 @@ pub(crate) struct Follower<'c> {
 }
 
 impl<'c> Follower<'c> {
-    pub(crate) fn new(client: &'c Client) -> Self {
-        Follower::of(client, Timed::new(&client.options))
-    }
-
     /// Returns a follower that continues with the router of an earlier run, if there is one.
-    pub(crate) fn after(client: &'c Client, earlier: Option<Timed>) -> Self {
-        Follower::of(
-            client,
-            earlier.unwrap_or_else(|| Timed::new(&client.options)),
-        )
-    }
-
-    fn of(client: &'c Client, Timed { router, begun }: Timed) -> Self {
+    pub(crate) fn new(client: &'c Client, earlier: Option<Timed>) -> Self {
+        let Timed { router, begun } = earlier.unwrap_or_else(|| Timed::new(&client.options));
         let (asking, woken) = client.askings.add();
         Follower {
             client,

@@ -114,7 +114,7 @@ impl Group {
         }
     }
 
-    /// When to call [`Group::tick`] if nothing happens before; `u64::MAX` for never.
+    /// Returns when to call [`Group::tick`] if nothing happens before; `u64::MAX` for never.
     #[must_use]
     pub fn wakes(&self) -> u64 {
         calls::group_wakes(&self.0)

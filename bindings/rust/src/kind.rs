@@ -82,7 +82,7 @@ impl Kind {
         calls::version_has(version, self.into())
     }
 
-    /// Whether a sequence may have units of this type: payload units and the end of data.
+    /// Reports whether a sequence may have units of this type: payload units and the end of data.
     #[must_use]
     pub fn is_in_sequences(self) -> bool {
         matches!(

@@ -41,8 +41,8 @@
 //!
 //! # Data and deltas
 //!
-//! [`Data`] are the data of a cache or a router, in canonical form. [`load_data`] loads a recording or
-//! a list. [`Data::delta_to`] computes the answer to a serial query, [`Data::apply_in_order`]
+//! [`Data`] are the data of a cache or a router, in canonical form. [`load_data`] loads a recording
+//! or a list. [`Data::delta_to`] computes the answer to a serial query, [`Data::apply_in_order`]
 //! applies the changes that a cache sends, and [`Data::apply`] those that [`order`] brings into
 //! canonical form. [`delta_into`], [`apply_in_order`], [`order_into`] and [`apply_into`] do the
 //! same over slices, and allocate nothing.
@@ -50,8 +50,8 @@
 //! # Routes
 //!
 //! [`Data::validate`] reports whether a route is valid by the data ([RFC 6811]), and
-//! [`Data::covering`] which VRPs cover it, and why each doesn't match. [`Tables`] does the same over
-//! slices.
+//! [`Data::covering`] which VRPs cover it, and why each doesn't match. [`Tables`] does the same
+//! over slices.
 //!
 //! # Sessions
 //!

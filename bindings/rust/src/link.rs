@@ -120,7 +120,7 @@ impl Link {
         self.state(now).has_data
     }
 
-    /// When to call [`Link::next`] if nothing happens before.
+    /// Returns when to call [`Link::next`] if nothing happens before.
     pub(crate) fn wakes(&self) -> u64 {
         self.state(self.now).wakes
     }

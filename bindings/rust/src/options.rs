@@ -58,9 +58,9 @@ impl Default for ClientOptions {
 }
 
 impl ClientOptions {
-    /// The most bytes that a client reads from the cache, and ignores, before it closes a connection
-    /// to which it sent a report: one that is closed with unread bytes is reset, and the report may
-    /// be lost.
+    /// The most bytes that a client reads from the cache, and ignores, before it closes a
+    /// connection to which it sent a report: one that is closed with unread bytes is reset, and the
+    /// report may be lost.
     pub const LAST_BYTES: usize = LAST_REPORT_BYTES;
 
     /// The settings of a router's machine with these options and this random number.

@@ -23,7 +23,7 @@ impl Output {
         }
     }
 
-    /// How many bytes it has, sent or not.
+    /// Returns how many bytes it has, sent or not.
     pub(crate) fn size(&self) -> usize {
         self.head.len() + self.body.len()
     }

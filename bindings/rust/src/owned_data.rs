@@ -155,7 +155,7 @@ impl Data {
         self.0.payloads
     }
 
-    /// Whether there are no payloads.
+    /// Reports whether there are no payloads.
     #[must_use]
     pub fn is_empty(&self) -> bool {
         self.0.payloads == 0

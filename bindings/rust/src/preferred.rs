@@ -63,7 +63,7 @@ impl Preferred {
         })
     }
 
-    /// When to call [`Preferred::tick`] if nothing happens before; `u64::MAX` for never.
+    /// Returns when to call [`Preferred::tick`] if nothing happens before; `u64::MAX` for never.
     #[must_use]
     pub fn wakes(&self) -> u64 {
         self.group.wakes()

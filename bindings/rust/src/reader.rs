@@ -27,7 +27,7 @@ pub enum Error {
 }
 
 impl Error {
-    /// What is wrong with the unit, or none if the reader or the writer failed.
+    /// Returns the fault of the unit; none if the reader or the writer failed.
     #[must_use]
     pub fn fault(&self) -> Option<Fault> {
         match self {

@@ -114,8 +114,8 @@ impl Router {
     }
 
     /// Reports whether it has data that haven't expired at this time (RFC 8210 section 6), even if
-    /// [`Router::next`] hasn't dropped expired ones yet. The time must not be earlier than that of the
-    /// last call.
+    /// [`Router::next`] hasn't dropped expired ones yet. The time must not be earlier than that of
+    /// the last call.
     #[must_use]
     pub fn has_data(&self, now: u64) -> bool {
         self.link.has_data(now)
@@ -146,13 +146,13 @@ impl Router {
     }
 
     /// Takes what the last step means to a group: call it after each [`Step::Data`],
-    /// [`Step::Dropped`] and [`Step::Failed`], before the next call of another method. Several steps
-    /// may be one event of a group, which comes with the first of them.
+    /// [`Step::Dropped`] and [`Step::Failed`], before the next call of another method. Several
+    /// steps may be one event of a group, which comes with the first of them.
     pub fn take_news(&mut self) -> News {
         take(&mut self.news)
     }
 
-    /// When to call [`Router::next`] if nothing happens before.
+    /// Returns when to call [`Router::next`] if nothing happens before.
     #[must_use]
     pub fn wakes(&self) -> u64 {
         self.link.wakes()

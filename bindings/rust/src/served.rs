@@ -106,13 +106,13 @@ impl Served {
         self.perform(&serving, moment);
     }
 
-    /// Whether the connection is still open.
+    /// Reports whether the connection is still open.
     #[must_use]
     pub fn is_served(&self) -> bool {
         self.connection.is_open() && !self.is_over
     }
 
-    /// When to call [`Served::next`] if nothing happens before.
+    /// Returns when to call [`Served::next`] if nothing happens before.
     #[must_use]
     pub fn wakes(&self, moment: &Moment) -> u64 {
         if self.ended.is_some() || self.is_over {

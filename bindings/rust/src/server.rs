@@ -262,7 +262,7 @@ impl Server {
         Ok(())
     }
 
-    /// How many clients are served.
+    /// Returns how many clients are served.
     pub fn clients(&self) -> usize {
         self.shared.clients.load(Ordering::Relaxed)
     }
@@ -413,8 +413,8 @@ impl Host {
         ready
     }
 
-    /// Whether another client is accepted now. Whether the system has a descriptor beside that of
-    /// the client is known once it is accepted.
+    /// Reports whether another client is accepted now. Whether the system then has another
+    /// descriptor is known only after that.
     fn accepts(&self) -> bool {
         self.door.next(true) != Entry::Wait
     }

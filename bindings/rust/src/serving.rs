@@ -54,18 +54,18 @@ impl Connection {
         self.served.refuse(moment);
     }
 
-    /// Whether the connection is still open.
+    /// Reports whether the connection is still open.
     #[cfg(test)]
     pub(crate) fn is_served(&self) -> bool {
         self.served.is_served()
     }
 
-    /// Whether nothing is left to do.
+    /// Reports whether nothing is left to do.
     pub(crate) fn is_over(&self) -> bool {
         self.is_over
     }
 
-    /// Whether it waits to write, not to read.
+    /// Reports whether it waits to write, not to read.
     pub(crate) fn is_sending(&self) -> bool {
         self.is_sending
     }
@@ -92,18 +92,17 @@ impl Connection {
         if is_ready && !self.is_sending {
             self.receive(moment);
         }
-        let mut has_sent = false;
+        let mut sends = true;
         loop {
             match self.served.next(moment) {
-                ServedStep::Send if !has_sent => self.send(moment, &clock),
-                ServedStep::Finish => self.left = Left::Last,
-                ServedStep::Ended(error) => {
-                    ended(self.from, &error);
-                    continue;
+                ServedStep::Send if sends => sends = self.send(moment, &clock),
+                ServedStep::Finish => {
+                    self.left = Left::Last;
+                    sends = false;
                 }
+                ServedStep::Ended(error) => ended(self.from, &error),
                 step => return self.rest(&step, moment),
             }
-            has_sent = true;
         }
     }
 
@@ -124,8 +123,12 @@ impl Connection {
         }
     }
 
-    /// Sends unsent bytes.
-    fn send(&mut self, moment: &mut Moment, clock: impl Fn() -> u64) {
+    /// Sends unsent bytes; returns whether they were those before a file's, which follow at once.
+    fn send(&mut self, moment: &mut Moment, clock: impl Fn() -> u64) -> bool {
+        let before_file = match self.served.file() {
+            Some(_) => self.served.output()[0].len(),
+            None => 0,
+        };
         let written = self.write();
         moment.now = clock();
         match written {
@@ -133,9 +136,11 @@ impl Connection {
             Ok(count) => {
                 self.left = Left::Bytes;
                 self.served.sent(moment, count);
+                return count == before_file;
             }
             Err(error) => self.lost(error),
         }
+        false
     }
 
     /// Writes some unsent bytes, from a file if the socket can. The bytes before the file's go in a
@@ -144,7 +149,7 @@ impl Connection {
         let [head, body] = self.served.output();
         if let Some((file, from)) = self.served.file() {
             if !head.is_empty() {
-                return self.socket.write(head);
+                return self.socket.write_before_file(head);
             }
             let sent = self.socket.send_file(file.as_fd(), from as u64, body.len());
             if let Some(sent) = sent {
@@ -186,8 +191,22 @@ mod tests {
     use std::net::{Ipv4Addr, Shutdown};
     use std::os::unix::io::{AsFd, BorrowedFd};
     use std::os::unix::net::UnixStream;
+    use std::sync::atomic::{AtomicU32, Ordering};
+    use std::sync::{Arc, Mutex};
     use std::time::Duration;
     use std::vec::Vec;
+
+    /// Data with this many IPv4 prefixes.
+    fn prefixes(count: u32) -> Data {
+        let mut bytes = Vec::new();
+        for number in 0..count {
+            bytes.extend([2, 4, 0, 0, 0, 0, 0, 20, 1, 32, 32, 0]);
+            bytes.extend(number.to_be_bytes());
+            bytes.extend([0, 1, 0, 15]);
+        }
+        bytes.extend(Data::new(2, 4660, 1, None).unwrap().into_bytes());
+        Data::parse(&bytes).unwrap()
+    }
 
     /// The write deadline starts when an answer has been made and sent.
     #[test]
@@ -197,14 +216,7 @@ mod tests {
             ..ServerOptions::default()
         });
         // More than the buffers of a socket hold.
-        let mut bytes = Vec::new();
-        for number in 0..100_000_u32 {
-            bytes.extend([2, 4, 0, 0, 0, 0, 0, 20, 1, 32, 32, 0]);
-            bytes.extend(number.to_be_bytes());
-            bytes.extend([0, 1, 0, 15]);
-        }
-        bytes.extend(Data::new(2, 4660, 1, None).unwrap().into_bytes());
-        cache.update(Data::parse(&bytes).unwrap()).unwrap();
+        cache.update(prefixes(100_000)).unwrap();
 
         let (mut router, stream) = UnixStream::pair().unwrap();
         stream.set_nonblocking(true).unwrap();
@@ -216,6 +228,101 @@ mod tests {
         connection.go_on(&mut moment, || 5000, &ended, true);
         assert!(connection.is_sending());
         assert_eq!(connection.wakes(&moment), 5600);
+    }
+
+    /// A socket that takes all bytes before a file's, and what `file` returns of these. It notes how
+    /// many it was given of each.
+    struct Filing {
+        stream: UnixStream,
+        given: Arc<Mutex<Vec<(&'static str, usize)>>>,
+        file: fn(usize) -> io::Result<usize>,
+    }
+
+    impl Read for Filing {
+        fn read(&mut self, bytes: &mut [u8]) -> io::Result<usize> {
+            self.stream.read(bytes)
+        }
+    }
+
+    impl Write for Filing {
+        fn write(&mut self, bytes: &[u8]) -> io::Result<usize> {
+            self.given.lock().unwrap().push(("alone", bytes.len()));
+            Ok(bytes.len())
+        }
+
+        fn flush(&mut self) -> io::Result<()> {
+            Ok(())
+        }
+    }
+
+    impl Socket for Filing {
+        fn socket(&self) -> BorrowedFd<'_> {
+            self.stream.as_fd()
+        }
+
+        fn finish(&mut self) -> io::Result<()> {
+            Ok(())
+        }
+
+        fn send_file(
+            &mut self,
+            _: BorrowedFd<'_>,
+            _: u64,
+            most: usize,
+        ) -> Option<io::Result<usize>> {
+            self.given.lock().unwrap().push(("file", most));
+            Some((self.file)(most))
+        }
+
+        fn write_before_file(&mut self, bytes: &[u8]) -> io::Result<usize> {
+            self.given.lock().unwrap().push(("before", bytes.len()));
+            Ok(bytes.len())
+        }
+    }
+
+    /// Serves a router all data once, which fill a file, over a `Filing`; returns what it was
+    /// given, whether the connection waits to write, and how often it ended.
+    fn filed(file: fn(usize) -> io::Result<usize>) -> (Vec<(&'static str, usize)>, bool, u32) {
+        let cache = Cache::new(ServerOptions::default());
+        cache.update(prefixes(5000)).unwrap();
+        let (mut router, stream) = UnixStream::pair().unwrap();
+        stream.set_nonblocking(true).unwrap();
+        let given = Arc::default();
+        let socket = Filing {
+            stream,
+            given: Arc::clone(&given),
+            file,
+        };
+        let mut moment = cache.at(0);
+        let from = (Ipv4Addr::LOCALHOST, 0).into();
+        let mut connection = Connection::new(Box::new(socket), from, &moment);
+        router.write_all(&[2, 2, 0, 0, 0, 0, 0, 8]).unwrap();
+        let ends = Arc::new(AtomicU32::new(0));
+        let counted = Arc::clone(&ends);
+        let ended = move |_, _: &ServerError| {
+            counted.fetch_add(1, Ordering::Relaxed);
+        };
+        connection.go_on(&mut moment, || 0, &ended, true);
+        let waits = connection.is_sending();
+        connection.go_on(&mut moment, || 0, &ended, true);
+        let given = given.lock().unwrap().clone();
+        (given, waits, ends.load(Ordering::Relaxed))
+    }
+
+    /// The first unit of an answer and the file behind it are sent in one step, also where the
+    /// socket takes only a part of the file; an error of the file ends the connection.
+    #[test]
+    fn the_first_unit_goes_with_its_file() {
+        // 5000 prefixes of 20 bytes, and the end of data of 24.
+        let whole = [("before", 8), ("file", 100_024)];
+        assert_eq!(filed(Ok), (whole.to_vec(), false, 0));
+        let parts = [whole[0], whole[1], ("file", 50_012)];
+        assert_eq!(filed(|most| Ok(most / 2)), (parts.to_vec(), true, 0));
+        let failed = filed(|_| Err(ErrorKind::BrokenPipe.into()));
+        assert_eq!(failed, (whole.to_vec(), false, 1));
+        let twice = [whole[0], whole[1], whole[1]];
+        let waits = filed(|_| Err(ErrorKind::WouldBlock.into()));
+        assert_eq!(waits, (twice.to_vec(), true, 0));
     }
 
     /// A socket that holds what is written to it.

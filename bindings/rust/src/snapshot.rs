@@ -82,7 +82,7 @@ impl Snapshot {
         }
     }
 
-    /// Whether a later snapshot has the delta from this one.
+    /// Reports whether a later snapshot has the delta from this one.
     fn leads_to(&self, later: &Snapshot) -> bool {
         self.present.session == later.present.session && later.known.contains(&self.present.serial)
     }

@@ -1,6 +1,6 @@
 //! The transport of clients and caches in threads.
 
-use crate::body::send_from;
+use crate::body::{send_before, send_from};
 use std::boxed::Box;
 use std::io::{self, Read, Write};
 use std::net::{Shutdown, TcpStream};
@@ -74,6 +74,16 @@ pub trait Socket: Read + Write + Send {
         let _ = (file, from, most);
         None
     }
+
+    /// Writes bytes that those of a file follow at once ([`Socket::send_file`]). TCP can wait for
+    /// these before it sends a packet; the default writes.
+    ///
+    /// # Errors
+    ///
+    /// Those of the socket.
+    fn write_before_file(&mut self, bytes: &[u8]) -> io::Result<usize> {
+        self.write(bytes)
+    }
 }
 
 impl Socket for TcpStream {
@@ -88,6 +98,10 @@ impl Socket for TcpStream {
         most: usize,
     ) -> Option<io::Result<usize>> {
         Some(send_from(file, from, most, self))
+    }
+
+    fn write_before_file(&mut self, bytes: &[u8]) -> io::Result<usize> {
+        send_before(bytes, self)
     }
 
     fn finish(&mut self) -> io::Result<()> {
@@ -121,5 +135,9 @@ impl Socket for Box<dyn Socket> {
         most: usize,
     ) -> Option<io::Result<usize>> {
         (**self).send_file(file, from, most)
+    }
+
+    fn write_before_file(&mut self, bytes: &[u8]) -> io::Result<usize> {
+        (**self).write_before_file(bytes)
     }
 }

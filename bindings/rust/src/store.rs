@@ -99,7 +99,7 @@ impl Store {
         })
     }
 
-    /// Whether it has, or had, data or a file.
+    /// Reports whether it has, or had, data or a file.
     pub(crate) fn has_begun(&self) -> bool {
         self.has_begun
     }
@@ -252,7 +252,7 @@ impl Store {
         Ok(())
     }
 
-    /// Whether a store waits to be saved.
+    /// Reports whether a store waits to be saved.
     pub(crate) fn waits(&self) -> bool {
         let stores = self.stores.as_ref();
         stores.map_or(false, |stores| self.state(stores).waits)
@@ -279,7 +279,7 @@ fn places(state: &StoresState) -> (usize, usize) {
     (usize::from(state.second), usize::from(!state.second))
 }
 
-/// What the two buffers hold.
+/// Returns what the two buffers hold.
 fn state_of(stores: &Stores, [first, second]: &[Arc<Memory>; 2]) -> StoresState {
     calls::stores_state(stores, first, second).0
 }

@@ -83,7 +83,7 @@ fn left(until: Instant) -> Duration {
     until.saturating_duration_since(Instant::now())
 }
 
-/// Whether a call would have blocked, or was interrupted by a signal.
+/// Reports whether a call would have blocked, or was interrupted by a signal.
 pub(crate) fn has_to_wait(error: &io::Error) -> bool {
     matches!(error.kind(), ErrorKind::WouldBlock | ErrorKind::Interrupted)
 }

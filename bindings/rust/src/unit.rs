@@ -311,7 +311,8 @@ impl<B> Unit<B> {
         }
     }
 
-    /// Whether a payload unit announces; false if it withdraws, none for units of other types.
+    /// Reports whether a payload unit announces; false if it withdraws, none for units of other
+    /// types.
     pub fn announces(&self) -> Option<bool> {
         match self {
             Unit::Ipv4Prefix(prefix) => Some(prefix.announce),

@@ -204,8 +204,8 @@ impl<'a> Tables<'a> {
         sys::validate(self.data, &self.lookup, route)
     }
 
-    /// The validity of each route, as [`Tables::validate`] returns it, in the same order. The routes
-    /// may come in any order; it is fastest if those of a family are in the order of their
+    /// The validity of each route, as [`Tables::validate`] returns it, in the same order. The
+    /// routes may come in any order; it is fastest if those of a family are in the order of their
     /// addresses, as in a routing table.
     #[cfg(feature = "alloc")]
     #[must_use]

@@ -66,7 +66,7 @@ impl Awaited {
         }
     }
 
-    /// Whether the socket is ready, or has failed.
+    /// Reports whether the socket is ready, or has failed.
     #[cfg(test)]
     pub(crate) fn is_ready(self) -> bool {
         self.came != 0

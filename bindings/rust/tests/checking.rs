@@ -1,6 +1,6 @@
 //! The recordings of `tests/programs/listings.py --findings`, with the lines on the rules they
-//! break: from the file that `RTR_FINDINGS` names, or computed by python3. Without python3 nothing is
-//! tested here.
+//! break: from the file that `RTR_FINDINGS` names, or computed by python3. Without python3 nothing
+//! is tested here.
 #![cfg(feature = "alloc")]
 
 mod computed;

@@ -105,7 +105,7 @@ fn follow<T>(
     log.into_inner().unwrap().told
 }
 
-/// Whether this is the client's last event.
+/// Reports whether this is the client's last event.
 fn told_last(log: &Mutex<Log>, wanted: &Told) -> bool {
     holds(|| log.lock().unwrap().told.last() == Some(wanted))
 }
@@ -303,16 +303,17 @@ fn no_data_and_expired_data() {
             peer.send(&report(2, ErrorCode::NO_DATA_AVAILABLE));
             peer.expect(&reset_query(2));
         }
+        let before = Instant::now();
         peer.send(&all(2, 1));
         assert!(told_last(log, &Told::Data(data(1))));
-        let came = Instant::now();
         drop(peer);
         // It connects again and again. After a serial query without an answer it asks for all data,
         // in the version that the cache answered in.
         drop(cache.asked(&serial_query(2, SESSION, 1)));
         drop(cache.asked(&reset_query(2)));
         assert!(holds(|| log.lock().unwrap().told.contains(&expired)));
-        assert!(came.elapsed() >= milliseconds(2400));
+        // The client's clock counts whole milliseconds.
+        assert!(before.elapsed() >= milliseconds(2499));
     });
     let place = told.iter().position(|told| *told == Told::Dropped).unwrap();
     assert_eq!(told[..2], [told[0].clone(), told[0].clone()]);

@@ -19,7 +19,7 @@ fn expected(row: &Load) -> Outcome {
     }
 }
 
-/// Whether only the whole recording results in data.
+/// Reports whether only the whole recording results in data.
 fn is_one_answer(row: &Load) -> bool {
     let ends = row.units.iter().filter(|unit| unit[1] == 7).count();
     row.refused.is_none() && ends == 1

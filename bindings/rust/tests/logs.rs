@@ -86,8 +86,8 @@ fn serial_zero() {
     }
     lines.are(&[
         "Info data session=4660 serial=0 version=1 payloads=0",
-        "Warn serial number 0: a router that lost its first answer may ask with it, and keep a part \
-         of the data session=4660",
+        "Warn serial number 0: a router that lost its first answer may ask with it, and keep a \
+         part of the data session=4660",
         "Info data session=4660 serial=1 version=1 payloads=0",
     ]);
 }

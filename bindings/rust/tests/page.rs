@@ -45,7 +45,7 @@ fn read(reader: &mut Reader<impl Read>) -> Result<(Vec<String>, u32), Error> {
     Ok((prefixes, serial))
 }
 
-/// What the data are after a cache has sent these bytes in answer to a serial query.
+/// Returns the data after a cache has sent these bytes in answer to a serial query.
 fn after(data: &Data, sent: &[u8]) -> Result<Data, DataError> {
     data.apply_in_order(sent)
 }

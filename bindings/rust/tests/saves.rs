@@ -207,7 +207,7 @@ fn saves_that_fail() {
             .iter()
             .map(|(name, field)| format!(" {name}={field}"));
         let line = message.to_string() + &fields.collect::<String>();
-        let _ = sender.lock().unwrap().send(line);
+        let _ = sender.lock().unwrap().send((line, Instant::now()));
     });
     let address = server.listen("127.0.0.1:0").unwrap();
     let cache = Cache { server, address };
@@ -224,15 +224,16 @@ fn saves_that_fail() {
     std::fs::create_dir(&blocked).unwrap();
     let failure = std::fs::File::create(&blocked).unwrap_err();
     let refused = Err(UpdateError::NotSaved((&failure).into()));
+    let began = Instant::now();
     for serial in [2, 3, 3] {
-        let began = Instant::now();
         let error = server.update(data(serial));
         assert_eq!(error, refused);
         let text = format!("the data aren't saved: {failure}");
         assert_eq!(error.unwrap_err().to_string(), text);
-        assert!(began.elapsed() < milliseconds(900), "it waits");
         assert_eq!(server.end(), Some(data(1).end()));
     }
+    // Until the next three retries they would wait for 1, 2 and 4 seconds.
+    assert!(began.elapsed() < milliseconds(7000), "it waits");
     // Refused data change nothing.
     assert!(matches!(
         server.update(data(0)),
@@ -241,12 +242,12 @@ fn saves_that_fail() {
     cache.serves(1);
     assert_eq!(saved_serial(&file), Some(1));
     // It retries after 1, 2, 4 .. seconds.
-    let is_retry = |line: &String| line.starts_with("not saved");
+    let is_retry = |(line, _): &(String, Instant)| line.starts_with("not saved");
     let retries = || logged.iter().find(is_retry).expect("a line");
-    assert_eq!(retries(), format!("not saved error={failure}"));
-    let began = Instant::now();
-    retries();
-    assert!((1500..3500).contains(&(began.elapsed().as_millis() as u64)));
+    let (line, first) = retries();
+    assert_eq!(line, format!("not saved error={failure}"));
+    let pause = retries().1 - first;
+    assert!((2000..4000).contains(&pause.as_millis()), "{pause:?}");
     assert_eq!(threads("rtr save"), 1);
     std::fs::remove_dir(&blocked).unwrap();
     // The waiting client is notified of the data that were saved then.
@@ -254,7 +255,7 @@ fn saves_that_fail() {
     assert_eq!(server.end(), Some(data(3).end()));
     assert!(logged
         .iter()
-        .any(|line| line.contains("data") && line.contains("serial=3")));
+        .any(|(line, _)| line.contains("data") && line.contains("serial=3")));
     assert_eq!(saved_serial(&file), Some(3));
     assert_eq!(file.names(), ["kept"]);
     assert!(holds(|| threads("rtr save") == 0));

@@ -12,7 +12,7 @@ use std::io::Read;
 use std::net::TcpStream;
 use std::sync::mpsc::{channel, Receiver};
 use std::sync::{Arc, Mutex};
-use std::time::Instant;
+use std::time::{Duration, Instant};
 
 #[test]
 fn reset_queries() {
@@ -50,17 +50,28 @@ fn what_is_kept() {
     knows(&cache, 2, 3..=6);
     knows(&cache, 0, 3..=6);
     drop(cache);
-    let cache = Cache::new(ServerOptions {
-        keep: milliseconds(300),
-        ..options()
+    let cache = within(milliseconds(300), |keep| {
+        let cache = Cache::new(ServerOptions { keep, ..options() });
+        for serial in 1..=3 {
+            assert_eq!(cache.server.update(data(serial)), Ok(true));
+        }
+        cache
     });
-    for serial in 1..=3 {
-        assert_eq!(cache.server.update(data(serial)), Ok(true));
-    }
     knows(&cache, 1, 1..=3);
     std::thread::sleep(milliseconds(400));
     assert_eq!(cache.server.update(data(4)), Ok(true));
     knows(&cache, 1, 3..=4);
+}
+
+/// Repeats something that a busy machine may not do within a limit, until it does.
+fn within<T>(limit: Duration, what: impl Fn(Duration) -> T) -> T {
+    loop {
+        let began = Instant::now();
+        let done = what(limit);
+        if began.elapsed() < limit {
+            return done;
+        }
+    }
 }
 
 /// The serial number wraps from the highest to the lowest (RFC 1982); changes from at most half of
@@ -612,7 +623,7 @@ fn answers_that_are_cut() {
         server.update(data_of(session, 4, 20)).unwrap();
         let began = Instant::now(); // the data are saved and served now
         assert_eq!(told.recv_timeout(PATIENCE).as_deref(), Ok(texts));
-        assert!(began.elapsed() < milliseconds(2000), "it ended late");
+        assert!(began.elapsed() < LATE, "it ended late");
         assert!(holds(|| server.clients() == 0));
     }
 }

@@ -106,7 +106,7 @@ const fn digit(character: u8) -> u8 {
     }
 }
 
-/// Where the digits of the sample of this name begin.
+/// Returns the offset of the digits of the sample of this name.
 const fn digits_of(name: &str) -> usize {
     let (all, name) = (SAMPLES.as_bytes(), name.as_bytes());
     let mut at = 0;
@@ -124,7 +124,7 @@ const fn digits_of(name: &str) -> usize {
     panic!("there is no sample of this name")
 }
 
-/// How many bytes the sample of this name has.
+/// Returns how many bytes the sample of this name has.
 const fn length_of(name: &str) -> usize {
     let (mut at, mut digits) = (digits_of(name), 0);
     while SAMPLES.as_bytes()[at] != b'\n' {

@@ -64,8 +64,8 @@ pub fn data(serial: u32) -> Data {
     data_of(SESSION, serial, 20)
 }
 
-/// A connection as the tests have one. It reads ahead: a call of the system for each unit would take
-/// so long where others use the machine too that a cache ends it.
+/// A connection as the tests have one. It reads ahead: a call of the system for each unit would
+/// take so long where others use the machine too that a cache ends it.
 pub struct Peer {
     pub stream: BufReader<TcpStream>,
 }
@@ -190,7 +190,7 @@ impl Peer {
         }
     }
 
-    /// Whether the peer closes, with nothing sent before.
+    /// Reports whether the peer closes, with nothing sent before.
     pub fn is_closed(&mut self) -> bool {
         match self.stream.read(&mut [0]) {
             Ok(count) => count == 0,
@@ -211,7 +211,7 @@ pub fn holds(mut what: impl FnMut() -> bool) -> bool {
     false
 }
 
-/// How many threads of this process have a name that begins with this.
+/// Returns how many threads of this process have a name that begins with this.
 pub fn threads(name: &str) -> usize {
     let tasks = std::fs::read_dir("/proc/self/task").into_iter().flatten();
     let names =
@@ -219,7 +219,7 @@ pub fn threads(name: &str) -> usize {
     names.filter(|found| found.starts_with(name)).count()
 }
 
-/// How often threads of this name began to wait.
+/// Returns how often threads of this name began to wait.
 pub fn waits(name: &str) -> u64 {
     let tasks = std::fs::read_dir("/proc/self/task").unwrap();
     let statuses =
@@ -237,8 +237,9 @@ pub fn waits(name: &str) -> u64 {
     named.filter_map(count).sum()
 }
 
-/// Whether threads of these names are there, and stay asleep: for two seconds each wakes twice at
-/// most. On a busy machine it takes a while until all has been sent, and nothing more comes.
+/// Reports whether threads of these names are there, and stay asleep: for two seconds each wakes
+/// twice at most. On a busy machine it takes a while until all has been sent, and nothing more
+/// comes.
 pub fn stay_asleep(names: &[&str]) -> bool {
     let counts = || names.iter().map(|name| waits(name)).collect::<Vec<u64>>();
     let began = Instant::now();

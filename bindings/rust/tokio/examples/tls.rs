@@ -35,7 +35,7 @@ fn identify(
     context.set_ca_file(authority)
 }
 
-/// What a cache takes clients by: each has to show a certificate.
+/// Returns the acceptor of a cache, which wants a certificate of each client.
 pub(crate) fn acceptor(files: [&Path; 3]) -> Result<SslAcceptor, ErrorStack> {
     let mut acceptor = SslAcceptor::mozilla_intermediate_v5(SslMethod::tls_server())?;
     identify(&mut acceptor, files)?;
@@ -43,7 +43,7 @@ pub(crate) fn acceptor(files: [&Path; 3]) -> Result<SslAcceptor, ErrorStack> {
     Ok(acceptor.build())
 }
 
-/// What a client connects by.
+/// Returns the connector of a client.
 pub(crate) fn connector(files: [&Path; 3]) -> Result<SslConnector, ErrorStack> {
     let mut connector = SslConnector::builder(SslMethod::tls_client())?;
     identify(&mut connector, files)?;

@@ -56,7 +56,7 @@ async fn a_client_that_waits() {
     drop(playing.await.unwrap());
 }
 
-/// Where connections can't be made, it makes the next one after a pause, not when its time comes,
+/// If connections can't be made, it makes the next one after a pause, not when its time comes,
 /// which grows.
 #[tokio::test(start_paused = true)]
 async fn a_client_that_is_refused() {

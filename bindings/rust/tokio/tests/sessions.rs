@@ -598,7 +598,7 @@ fn fifty_clients() {
     assert!(holds(|| host.server.clients() == 0));
 }
 
-/// What a server has is there after a restart, also of one in a thread.
+/// A server has its data after a restart, also one in a thread.
 #[test]
 fn restarts() {
     let _alone = alone();

@@ -59,7 +59,7 @@ fn options() -> ClientOptions {
     }
 }
 
-/// What comes first of a cache of this name.
+/// Returns the first result of a cache of this name.
 async fn fetched(
     address: SocketAddr,
     name: &'static str,
@@ -97,7 +97,7 @@ fn good(folder: &Folder) -> [[PathBuf; 3]; 2] {
     ]
 }
 
-/// Where both are who they say, data come, and their changes.
+/// If both ends prove their names, data come, and their changes.
 #[tokio::test]
 async fn data_that_change() {
     let folder = Folder::new("tls-good");

@@ -84,7 +84,7 @@ impl OpenSsl {
         panic!("{wanted:?} never came");
     }
 
-    /// Whether the program ends.
+    /// Reports whether the program ends.
     pub fn ends(&mut self) -> bool {
         let began = Instant::now();
         while began.elapsed() < PATIENCE {
