@@ -9,12 +9,13 @@ import subprocess
 import time
 
 import held
-from units import END, LONG, NOTIFY, REPORT, RESET_QUERY, RESPONSE, SERIAL_QUERY, SESSION
+from units import END, LONG, NO_DATA, NOTIFY, REPORT, RESET_QUERY, RESPONSE, SERIAL_QUERY, SESSION
 from units import Wrong, end, prefix, size_of, unit
 
 # Errors that end the connection on whose call they are injected.
 ENDING = {"EPIPE", "ECONNRESET", "ETIMEDOUT", "EHOSTUNREACH", "EIO"}
 
+MINUTE = 60  # the least seconds between two notifies of a connection
 STATE = "STATE"  # the word of a command for the folder that rtr-cache saves in
 
 
@@ -38,7 +39,8 @@ class Cache:
         self.path = os.path.join(folder, "data")
         self.calls = calls and os.path.join(folder, calls)
         self.kept = kept(command, folder)
-        self.session = None if STATE in command else SESSION
+        self.draws_session = STATE in command
+        self.session = None if self.draws_session else SESSION
         self.seen, self.log = os.path.join(folder, "seen"), os.path.join(folder, "log")
         self.state = os.path.join(folder, "state")
         with open(self.log, "wb") as log:
@@ -163,7 +165,7 @@ class Router:
 
     def __init__(self, cache, version=2, buffer=None):
         self.version, self.session, self.held, self.offset = version, cache.session, b"", 0
-        self.is_notified = False
+        self.is_notified, self.began = False, time.monotonic()
         self.socket = socket.socket()
         if buffer:
             self.socket.setsockopt(socket.SOL_SOCKET, socket.SO_RCVBUF, buffer)
@@ -235,14 +237,22 @@ class Router:
         self.gets(self.notify(serial))
         self.is_notified = True
 
-    def gets_report(self, code, about):
-        """Expects a report of this code about this unit, and then the end of the connection, not a
-        reset, by which a system may drop what wasn't read yet."""
+    def gets_none(self):
+        """Expects a report that there are no data (RFC 8210 section 8.4) about a reset query."""
+        self.gets_one_report(NO_DATA, self.unit(RESET_QUERY))
+
+    def gets_one_report(self, code, about):
+        """Expects a report of this code about this unit."""
         got = self.reads()
         size = struct.unpack(">I", got[8:12])[0]
         head = struct.pack(">BBH", self.version, REPORT, code)
         if got[:4] != head or got[12:12 + size] != about:
             raise Wrong(f"a router got {got.hex()}, not a report of code {code}")
+
+    def gets_report(self, code, about):
+        """Expects a report of this code about this unit, and then the end of the connection, not a
+        reset, by which a system may drop what wasn't read yet."""
+        self.gets_one_report(code, about)
         try:
             rest = self.held[self.offset:] + self.socket.recv(1)
         except ConnectionError as error:
@@ -250,15 +260,18 @@ class Router:
         if rest:
             raise Wrong(f"after a report a router got {rest.hex()}")
 
+    def may_be_notified(self):
+        """Reports whether a notify may have come: the first of a connection, or another one if the
+        connection has lasted for a minute (RFC 8210 section 5.2)."""
+        return not self.is_notified or time.monotonic() > self.began + MINUTE
+
     def gets_answer(self, serial, prefixes, withdrawn=()):
-        """Expects a whole answer: these units in any order between a response and an end. The first
-        notify of a connection may come before it."""
+        """Expects a whole answer: these units in any order between a response and an end. A notify
+        may come before it."""
         wanted = collections.Counter(prefix(one, 1, self.version) for one in prefixes)
         wanted += collections.Counter(prefix(one, 0, self.version) for one in withdrawn)
-        first = self.reads()
-        if first == self.notify(serial) and not self.is_notified:
+        while (first := self.reads()) == self.notify(serial) and self.may_be_notified():
             self.is_notified = True
-            first = self.reads()
         if first != self.unit(RESPONSE, self.session):
             raise Wrong(f"a router got {first.hex()}, not a response")
         got = collections.Counter()

@@ -6,6 +6,7 @@ and threads that it had at the start.
 import os
 import threading
 import time
+from concurrent.futures import ThreadPoolExecutor
 
 from cache import ENDING, Cache, Lost, Router, is_of_edges, put
 from units import INVALID_REQUEST, RESPONSE, SESSION, Wrong, end, prefix, unit
@@ -25,7 +26,7 @@ MEMORY = 1 << 17  # bytes by which a cache may grow from one hundred connections
 SLOW_BUFFER = 1 << 17
 SLOW_READS = (3_000, 0.1)  # bytes and a pause in seconds: a cache closes if it can send none
 SOON = 15  # seconds, half of the shortest limit of a connection that waits to send
-PAUSES = 100  # the most failed accepts in a second and a bit: the shortest pause is 20 ms
+PAUSES = 100  # the most failed accepts in a second: the shortest pause is 20 ms
 
 # A fault that is injected, and whether the data are many. The crate tokio waits for edges: the
 # system has to have moved less than a call asked for, or it isn't told when it may go on. So no
@@ -92,9 +93,9 @@ def names(program):
     return [name for name in faults if program != "tokio cache" or is_of_edges(faults[name])]
 
 
-def content(serial, prefixes):
-    """The file of data."""
-    return b"".join(prefix(one, 1) for one in prefixes) + end(serial)
+def content(serial, prefixes, session=SESSION):
+    """Returns the file of data."""
+    return b"".join(prefix(one, 1) for one in prefixes) + end(serial, session=session)
 
 
 class Routers:
@@ -106,20 +107,27 @@ class Routers:
         self.serials = [None for _ in versions]  # of the data that each has
 
     def each(self, asks, reads, serial, prefixes):
-        """Has each router that hasn't the newest data ask, then each read; one whose connection
-        ends connects again and asks for all data."""
+        """Has each router that hasn't the newest data ask, then each read, at once, since a cache
+        closes a connection that takes nothing for long; one whose connection ends connects again
+        and asks for all data."""
         places = [place for place, has in enumerate(self.serials) if has != serial]
         lost = set()
-        for step in asks, reads:
-            for place in places:
-                try:
-                    step(self.routers[place])
-                except Lost:
-                    lost.add(place)
+        with ThreadPoolExecutor(len(self.routers)) as pool:
+            for step in asks, reads:
+                loses = list(pool.map(lambda place, step=step: self.loses(place, step), places))
+                lost.update(place for place, is_lost in zip(places, loses) if is_lost)
         for place in places:
             if place in lost:
                 self.reconnects(place, serial, prefixes)
             self.serials[place] = serial
+
+    def loses(self, place, step):
+        """Has a router do this; returns whether its connection ended."""
+        try:
+            step(self.routers[place])
+        except Lost:
+            return True
+        return False
 
     def reconnects(self, place, serial, prefixes):
         version = self.routers[place].version
@@ -267,16 +275,17 @@ def play_slow(cache, first):
 def play_no_accept(cache, _):
     """While the system has no descriptors, the router that is there is served, and the cache pauses
     between its tries, and goes on with them."""
+    began = time.monotonic()
     router, other = Router(cache), Router(cache)
     other.asks_all()
-    until = time.monotonic() + 1
-    while time.monotonic() < until:
+    while time.monotonic() < began + 1:
         router.asks_all()
         router.gets_answer(1, FEW)
         time.sleep(0.05)
-    if not 1 <= len(cache.injected()) <= PAUSES:
-        raise Wrong(f"it tried {len(cache.injected())} times to accept in a second")
     tried = len(cache.injected())
+    seconds = time.monotonic() - began
+    if not 1 <= tried <= PAUSES * seconds:
+        raise Wrong(f"it tried {tried} times to accept in {seconds} seconds")
     cache.waits(lambda: len(cache.injected()) > tried, "it tries again to accept")
     router.close()
     other.close()

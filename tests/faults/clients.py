@@ -20,17 +20,25 @@ from units import AS, LONG, NOTIFY, REPORT, RESET_QUERY, RESPONSE, SERIAL_QUERY,
 from units import end, prefix, size_of, unit
 
 RECONNECTS = 4
+LINES = 20  # of what a client wrote to standard error, that a failure shows
 
-# Two hundred connects of a client, whose memory after the second hundred is that after the first.
+# Two hundred connects of a client. It counts what it has allocated when a connection has ended: at
+# the second hundredth end that is what it was at the first.
 CONNECTS = "two hundred connects"
 PAUSE = "10"  # milliseconds between two connections
-COUNTING = {"C client", "asyncio"}  # beside that in Go
-MEMORY = 1 << 15  # bytes by which it may grow; a connection alone has more than 200
+HUNDRED = 100
+MORE = (HUNDRED // 2, 1 << 12)  # fewer objects than one for each second connection, and bytes
+COUNTING = ("C client", "Python", "asyncio", "Node", "Rust that counts", "Go", "tokio")
 
 # A cache whose first answer is a unit of a type that nobody knows: the client has to send a whole
 # report of this code about it (RFC 8210 section 12), and asks again.
 REFUSED = "a report by sends of a byte"
 UNKNOWN, UNKNOWN_TYPE = unit(5, 0), 5
+
+# A name whose first address takes no connection and refuses none: a client has to leave it in time
+# to try the second, where the cache is.
+SILENT = "a first address that doesn't answer"
+SILENT_RECONNECTS = 1  # each takes some fifteen seconds, half of the time to connect
 
 # What is injected: faults that end a connection, or keep one from being opened, and all.
 BREAKING = {
@@ -45,6 +53,7 @@ BREAKING = {
 }
 FAULTS = {
     "nothing": "",
+    SILENT: "",
     "sends of a byte": "send:1:0:1",
     REFUSED: "send:1:0:1",
     "reads of a byte": "receive:1:0:1",
@@ -74,7 +83,7 @@ class Cache:
         self.lock = threading.Lock()
         self.serial, self.had = 1, {1: ["10.0.0.0/8", "192.0.2.0/24", "2001:db8::/32"]}
         self.connections, self.accepted = [], 0
-        self.refused, self.reports = refused, []
+        self.refused, self.reports, self.queries = refused, [], []
         threading.Thread(target=self.accept, daemon=True).start()
 
     def accept(self):
@@ -108,6 +117,7 @@ class Cache:
             self.reports.append(query)
         if query[1] not in (SERIAL_QUERY, RESET_QUERY):
             return b""
+        self.queries.append(query)
         if self.refused:
             refused, self.refused = self.refused, b""
             return refused
@@ -142,12 +152,28 @@ class Cache:
         self.hang_up()
 
 
-class Run:
-    """Runs a client beside a cache, with these faults; one that counts its memory reconnects after
-    a short pause."""
+def silent_at(port):
+    """Returns sockets that keep the queue of the first address full."""
+    listener = socket.socket()
+    listener.bind(("127.0.0.2", port))
+    listener.listen(0)
+    return listener, socket.create_connection(("127.0.0.2", port))
 
-    def __init__(self, command, faults, library, folder, refused=b"", counts=False):
+
+def is_connecting(port):
+    """Reports whether a connection to the first address is still being opened."""
+    with open("/proc/net/tcp", encoding="ascii") as file:
+        return any(line.split()[2:4] == [f"0200007F:{port:04X}", "02"] for line in file)
+
+
+class Run:
+    """Runs a client beside a cache, with these faults; one that counts what it has allocated
+    reconnects after a short pause."""
+
+    def __init__(self, command, faults, library, folder, name):
+        refused, counts = UNKNOWN if name == REFUSED else b"", name == CONNECTS
         self.cache = Cache(socket.AF_INET, refused)
+        self.silent = silent_at(self.cache.port) if name == SILENT else ()
         self.seen, self.state, self.memory = (os.path.join(folder, name)
                                               for name in ("seen", "state", "memory"))
         counting = {"FAULTS_PAUSE": PAUSE, "FAULTS_MEMORY": self.memory} if counts else {}
@@ -202,16 +228,19 @@ class Run:
 
     def play(self, may_break, reconnects):
         self.read([line(one, "+") for one in self.cache.had[1]])
-        first, sizes = self.holds(), []
+        if self.silent and is_connecting(self.cache.port):
+            raise Wrong("it has data, and still opens a connection to the first address")
+        first = self.holds()
         for number in range(1 + reconnects):
             self.change(number)
             if may_break and not number:
                 first = self.holds()  # the first connection may have ended before it was counted
-            if number and number % 100 == 0:
+            if not may_break and not number:
+                self.has_asked_soon()
+            if number and number % HUNDRED == 0:
                 self.settles(first)
-                sizes.append(held.memory(self.process, self.state, self.memory))
-        if sizes and sizes[1] > sizes[0] + MEMORY:
-            raise Wrong(f"it has {sizes[1]} bytes of memory, and had {sizes[0]}")
+        if reconnects > HUNDRED:
+            self.has_as_much()
         self.settles(first)
         if not may_break and self.cache.accepted != 1 + reconnects:
             raise Wrong(f"it connected {self.cache.accepted} times, not {1 + reconnects}")
@@ -221,6 +250,22 @@ class Run:
             raise Wrong(f"it ended with status {status} at SIGTERM")
         if self.lines or self.held:
             raise Wrong(f"it printed more: {list(self.lines)}")
+
+    def has_asked_soon(self):
+        """It has asked for all data, and at the notify for what changed (RFC 8210 section 8.2), on
+        one connection: the refresh time is an hour."""
+        asked, accepted = self.cache.queries, self.cache.accepted
+        if asked != [unit(RESET_QUERY, 0), unit(SERIAL_QUERY, SESSION, struct.pack(">I", 1))]:
+            raise Wrong(f"its queries are {[query.hex() for query in asked]}")
+        if accepted != 1:
+            raise Wrong(f"it connected {accepted} times before a connection ended")
+
+    def has_as_much(self):
+        """It had allocated as much at the end of the 200th connection as at that of the 100th."""
+        with open(self.memory, encoding="ascii") as file:
+            earlier, later = ([int(word) for word in counted.split()] for counted in file)
+        if any(now > then + more for now, then, more in zip(later, earlier, MORE)):
+            raise Wrong(f"it has {later} objects and bytes, and had {earlier} before")
 
     def has_reported(self):
         """The client has sent one report, about the unit of a type that nobody knows."""
@@ -234,8 +279,10 @@ class Run:
         self.process.wait()
         self.process.stdout.close()
         self.cache.end()
+        for one in self.silent:
+            one.close()
         self.said.seek(0)
-        said = self.said.read().decode(errors="replace")
+        said = b"".join(collections.deque(self.said, LINES)).decode(errors="replace")
         self.said.close()
         return said
 
@@ -243,12 +290,11 @@ class Run:
 def play(command, name, library, folder):
     """Plays a client with the faults of this name; returns what was wrong, or nothing."""
     faults = FAULTS.get(name, "")
-    run = Run(command, faults, library, folder, UNKNOWN if name == REFUSED else b"",
-              name == CONNECTS)
+    run = Run(command, faults, library, folder, name)
     wrong = None
     try:
-        connects = 200 if name == CONNECTS else RECONNECTS
-        run.play(name in BREAKING or name in (CONNECTS, REFUSED), connects)
+        reconnects = {CONNECTS: 2 * HUNDRED, SILENT: SILENT_RECONNECTS}.get(name, RECONNECTS)
+        run.play(name in BREAKING or name in (CONNECTS, REFUSED), reconnects)
         if name == REFUSED:
             run.has_reported()
         if faults and not os.path.exists(run.seen):
@@ -261,10 +307,12 @@ def play(command, name, library, folder):
 
 def names(program):
     """Returns the names of the runs of a client. In Go only calls of connections get faults, and a
-    short write is one whose time is over, after which no more of a report is sent. The crate tokio
-    waits for edges."""
+    short write is one whose time is over, after which no more of a report is sent; and names are
+    looked up by Go itself. The crate tokio waits for edges."""
+    counts = [CONNECTS] if program in COUNTING else []
     if program == "tokio":
-        return [name for name in FAULTS if is_of_edges(FAULTS[name])]
-    if program != "Go":
-        return [*FAULTS, *([CONNECTS] if program in COUNTING else [])]
-    return [*(name for name in FAULTS if name not in ("interrupted waits", REFUSED)), CONNECTS]
+        return [*(name for name in FAULTS if is_of_edges(FAULTS[name])), *counts]
+    if program == "Go":
+        others = ("interrupted waits", REFUSED, SILENT)
+        return [*(name for name in FAULTS if name not in others), *counts]
+    return counts if program == "Rust that counts" else [*FAULTS, *counts]

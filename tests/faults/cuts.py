@@ -1,8 +1,10 @@
 """Runs a cache whose machine loses its power while it saves: what is synced stays, and of the rest
 each part may be lost. The tracer (`traced.c`) lists the calls of a saving, from which follows what
 a cut between two of them may leave. A cache that is started over each of these folders has the data
-before, or the new data, whole; and the new ones if a router may have had them before the cut.
+before, or the new data, whole; and the new ones if a router may have had them before the cut. After
+a cut in its first saving it has no data, and begins with others, or it has the first data whole.
 """
+import errno
 import itertools
 import os
 import threading
@@ -11,11 +13,13 @@ from typing import NamedTuple, Optional
 
 from cache import Lost, Router
 from caches import content
-from saves import DATA, Saved
-from units import END, NOTIFY, Wrong
+from saved import BESIDE, DATA, Saved, read
+from units import END, NOTIFY, REPORT, Wrong
 
-CUTS = "cuts of the power in a saving"
+CUTS, FIRST = "cuts of the power in a saving", "cuts of the power in the first saving"
 TRACER = None  # the path of the tracer, if it may trace
+# Calls of a start that looks for files of an earlier one, and finds none: they change nothing.
+FINDS_NONE = ("remove", -errno.ENOENT), ("load", -errno.ENOENT)
 KEPT, NEW = 0, 1  # the names in the folder: of the saved file, and of the one that replaces it
 
 
@@ -37,25 +41,26 @@ class State(NamedTuple):
 
 
 def names(_):
-    return [CUTS] if TRACER else []
+    return [CUTS, FIRST] if TRACER else []
 
 
 # ---- the calls
 
-def calls_of(path):
+def calls_of(path, first):
     """Returns the calls in a list of the tracer, and the time of each line in nanoseconds, both
-    from where the new file is opened."""
+    from this call on a path."""
     with open(path, encoding="utf-8") as file:
         lines = [line.split() for line in file]
-    opened = [number for number, words in enumerate(lines) if words[3] == "open"]
-    if not opened:
-        raise Wrong("it opened no file")
-    lines, calls, begun = lines[opened[0]:], [], {}
+    found = [number for number, words in enumerate(lines) if (words[3], words[5]) == first]
+    if not found:
+        raise Wrong(f"it made no call {first}")
+    lines, calls, begun = lines[found[0]:], [], {}
     for number, (_, thread, what, name, returned, path, *_) in enumerate(lines):
         if what == "begins":
             begun[thread] = number
         else:
             calls.append(Call(name, path, begun.pop(thread), number, int(returned)))
+    calls = [call for call in calls if (call.name, call.returned) not in FINDS_NONE]
     failed = [call for call in calls if call.returned < 0]
     if begun or failed:
         raise Wrong(f"it has calls that failed, or didn't end: {failed} {begun}")
@@ -82,15 +87,18 @@ def contents(calls, whole, new, line):
 
 def entries(calls, new, line):
     """Returns which of both names the new file may have. A rename that isn't synced may have made
-    its new name, and not yet removed the old one."""
-    may, must = {}, {}
+    its new name, and not yet removed the old one. A folder that was created may be lost with all
+    that is in it, until the one above is synced."""
+    may, must = {}, {"mkdir": True}
     for call in calls:
-        if call.name in ("open", "rename") and call.begins <= line:
+        creates_folder = call.name == "mkdir" and call.path == os.path.dirname(new)
+        if call.begins <= line and (call.name in ("open", "rename") or creates_folder):
             may[call.name] = True
-            must[call.name] = is_synced(calls, call, os.path.dirname(new), line)
+            must[call.name] = is_synced(calls, call, os.path.dirname(call.path), line)
+    without_folder = set() if must["mkdir"] else {()}
     if must.get("rename"):
-        return {(KEPT,)}
-    possible = {(NEW,)} if must.get("open") else {(), (NEW,)}
+        return {(KEPT,)} | without_folder
+    possible = without_folder | ({(NEW,)} if must.get("open") else {(), (NEW,)})
     if "open" not in may:
         return {()}
     return possible | {(KEPT,), (KEPT, NEW)} if "rename" in may else possible
@@ -124,51 +132,63 @@ def all_states(calls, times, old, whole, told):
 # ---- playing
 
 class Follower(threading.Thread):
-    """A router that asks all the time until it is told of the second serial number; `told` is when,
-    in nanoseconds."""
+    """A router that asks all the time until it is told of a serial number; `told` is when, in
+    nanoseconds."""
 
-    def __init__(self, cache):
+    def __init__(self, cache, serial):
         super().__init__(daemon=True)
-        self.router, self.told, self.wrong = Router(cache), None, None
+        self.router, self.serial, self.told, self.wrong = Router(cache), serial, None, None
 
     def run(self):
         try:
             while not self.told:
-                self.router.asks_after(1)
-                while (came := self.router.reads())[1] not in (NOTIFY, END):
+                if self.serial == 1:
+                    self.router.asks_all()
+                else:
+                    self.router.asks_after(self.serial - 1)
+                while (came := self.router.reads())[1] not in (NOTIFY, REPORT, END):
                     pass
-                if came[8:12] == bytes((0, 0, 0, 2)):
+                if came[1] != REPORT and came[8:12] == bytes((0, 0, 0, self.serial)):
                     self.told = time.monotonic_ns()
                 time.sleep(0.001)
         except (Lost, Wrong) as error:
             self.wrong = error
 
 
-def read(path):
-    """Returns the bytes of a file."""
-    with open(path, "rb") as file:
-        return file.read()
+class Traced(NamedTuple):
+    """A saving that was traced: its calls, the time of each line of the list, the bytes of the
+    saved file before and after it, when a router had the data, and the session."""
+
+    calls: list
+    times: list
+    old: Optional[bytes]
+    whole: bytes
+    told: int
+    session: int
 
 
-def saving(saved):
-    """Traces a saving; returns the calls, the time of each line, the former and the new bytes, and
-    when a router was told."""
-    cache = saved.started("", calls="calls")
+def saving(saved, serial):
+    """Traces the saving of the data of this serial number."""
+    cache = saved.begins("", "calls") if serial == 1 else saved.started("", "calls")
+    first = "open", cache.kept + BESIDE
+    if serial == 1 and saved.draws_session:
+        first = "mkdir", os.path.dirname(cache.kept)
     try:
-        cache.serves(1)
-        old = read(cache.kept)
-        follower = Follower(cache)
+        if serial > 1:
+            cache.serves(serial - 1)
+        old = read(cache.kept) if serial > 1 else None
+        follower = Follower(cache, serial)
         follower.start()
-        cache.puts(content(2, DATA[2]))
-        cache.serves(2)
+        cache.puts(content(serial, DATA[serial]))
+        cache.serves(serial)
         cache.waits(lambda: follower.told or follower.wrong, "a router gets the data")
         if follower.wrong:
             raise follower.wrong
         follower.join()
         follower.router.close()
         cache.ends()
-        calls, times = calls_of(cache.calls)
-        return calls, times, old, read(cache.kept), follower.told
+        calls, times = calls_of(cache.calls, first)
+        return Traced(calls, times, old, read(cache.kept), follower.told, cache.session)
     finally:
         cache.kill()
 
@@ -177,10 +197,13 @@ def play(command, name, _, folder):
     """Plays a cache; returns what was wrong, or nothing."""
     try:
         saved = Saved(command if command[0] == TRACER else [TRACER, *command], "", folder)
-        calls, times, old, whole, told = saving(saved)
+        serial = 1 if name == FIRST else 2
+        *traced, session = saving(saved, serial)
         saved.command = [word for word in command if word != TRACER]
-        for state in all_states(calls, times, old, whole, told):
-            saved.goes_on(state.kept, state.new, 2 if state.kept == whole else 1)
+        former = None if serial == 1 else 1
+        for state in all_states(*traced):
+            saved.goes_on(state.kept, state.new, serial if state.kept == traced[3] else former,
+                          session)
     except (Wrong, Lost, OSError) as error:
         return f"{error!r}"
     return None

@@ -4,26 +4,31 @@
  * FAULTS is a list of words CALL:FIRST:LAST:FAULT or CALL:FIRST:LAST:FAULT:STEP. CALL is connect,
  * accept, send, receive or wait, counted over all sockets from 1, or open, write, sync, close,
  * rename or save, counted over calls on files that a cache saves before it renames them, and syncs
- * of folders; save is any of these. The calls from FIRST to LAST get the fault, to the end if LAST
- * is 0; with a STEP only each STEP-th of them. FAULT is the name of an error, a number, the most
- * bytes that the call moves, or KILL, which kills the process before the call, or in the middle of
- * a write. EAGAIN is injected only where the socket doesn't block. FAULTS_SEEN is a file that gets
- * a line for each of the first faults that were injected. */
+ * of folders; save is any of these. CALL may also be remove, counted over removals of such a file,
+ * load, over openings of a saved file, to read it, or folder, over those of its folder. The calls
+ * from FIRST to LAST get the fault, to the end if LAST is 0; with a STEP only each STEP-th of them.
+ * FAULT is the name of an error, a number, the most bytes that the call moves, or KILL, which kills
+ * the process before the call, or in the middle of a write. EAGAIN is injected only where the
+ * socket doesn't block. FAULTS_SEEN is a file that gets a line for each of the first faults that
+ * were injected. */
 #define _GNU_SOURCE
 #include <dlfcn.h>
 #include <errno.h>
 #include <fcntl.h>
+#include <limits.h>
 #include <pthread.h>
 #include <stdio.h>
 #include <stdlib.h>
 #include <string.h>
+#include <sys/stat.h>
 #include <unistd.h>
 #include "faults.h"
 
 enum { MOST_RECORDED = 1000 };
 
-static const char *const names[CALLS] = {"connect", "accept", "send",  "receive", "wait", "open",
-                                         "write",   "sync",   "close", "rename",  "save"};
+static const char *const names[CALLS] = {"connect", "accept", "send",   "receive", "wait",
+                                         "mkdir",   "load",   "folder", "remove",  "open",
+                                         "write",   "sync",   "close",  "rename",  "save"};
 static const struct {
     const char *name;
     int number;
@@ -43,6 +48,8 @@ static const struct {
               {"EACCES", EACCES},
               {"EIO", EIO},
               {"ENOSPC", ENOSPC},
+              {"EDQUOT", EDQUOT},
+              {"EROFS", EROFS},
               {"EINVAL", EINVAL},
               {"KILL", KILLED}};
 
@@ -65,16 +72,52 @@ const char *name_of(enum call call)
     return names[call];
 }
 
-int is_saved_path(const char *path)
+/* Reports whether a path ends with one of two texts. */
+static int ends_with(const char *path, const char *const texts[2])
 {
-    static const char *const suffixes[] = {".kept.new", "/editions.new"};
     size_t length = strlen(path);
-    for (size_t i = 0; i < sizeof suffixes / sizeof suffixes[0]; i++) {
-        size_t end = strlen(suffixes[i]);
-        if (length >= end && !strcmp(path + length - end, suffixes[i]))
+    for (size_t i = 0; i < 2; i++) {
+        size_t end = strlen(texts[i]);
+        if (length >= end && !strcmp(path + length - end, texts[i]))
             return 1;
     }
     return 0;
+}
+
+int is_saved_path(const char *path)
+{
+    static const char *const suffixes[] = {".kept.new", "/editions.new"};
+    return ends_with(path, suffixes);
+}
+
+/* Reports whether this is a folder with a file that a cache saved. */
+static int is_saved_folder(const char *path)
+{
+    static const char *const files[] = {"data.kept", "editions"};
+    char file[PATH_MAX];
+    struct stat found;
+    int error_before = errno, has_file = 0;
+    int is_folder = !stat(path, &found) && S_ISDIR(found.st_mode);
+    for (size_t i = 0; is_folder && i < sizeof files / sizeof files[0]; i++) {
+        int length = snprintf(file, sizeof file, "%s/%s", path, files[i]);
+        has_file |= length < (int)sizeof file && !stat(file, &found);
+    }
+    errno = error_before;
+    return has_file;
+}
+
+int is_opening(const char *path, int creates, enum call *call)
+{
+    static const char *const suffixes[] = {".kept", "/editions"};
+    if (creates) {
+        *call = OPEN;
+        return is_saved_path(path);
+    }
+    *call = LOAD;
+    if (ends_with(path, suffixes))
+        return 1;
+    *call = FOLDER;
+    return is_saved_folder(path);
 }
 
 /* Writes which fault was injected, so that a test sees that it was. */
@@ -114,7 +157,7 @@ static int concerns(const struct word *word, enum call call, unsigned long count
         && (!word->last || count <= word->last) && (count - word->first) % word->step == 0;
 }
 
-/* The error of this name; 0 if there is none. */
+/* Returns the error of this name; 0 if there is none. */
 static int error_of(const char *name)
 {
     for (size_t i = 0; i < sizeof errors / sizeof errors[0]; i++)
@@ -147,4 +190,10 @@ int fault_of(enum call call, int can_block, size_t *most)
     }
     errno = error_before; /* a call that succeeds leaves it */
     return 0;
+}
+
+int fault_on_file(enum call call, size_t *most)
+{
+    int fault = call < OPEN ? 0 : fault_of(SAVE, 1, NULL);
+    return fault ? fault : fault_of(call, 1, most);
 }

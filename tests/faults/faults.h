@@ -8,8 +8,25 @@
 
 #pragma GCC visibility push(hidden) /* the program may have functions of these names */
 
-/* The calls of which each kind is counted for itself; SAVE counts all those on a file. */
-enum call { CONNECT, ACCEPT, SEND, RECEIVE, WAIT, OPEN, WRITE, SYNC, CLOSE, RENAME, SAVE, CALLS };
+/* The calls of which each kind is counted for itself; SAVE counts those from OPEN to RENAME. */
+enum call {
+    CONNECT,
+    ACCEPT,
+    SEND,
+    RECEIVE,
+    WAIT,
+    MKDIR,
+    LOAD,
+    FOLDER,
+    REMOVE,
+    OPEN,
+    WRITE,
+    SYNC,
+    CLOSE,
+    RENAME,
+    SAVE,
+    CALLS
+};
 
 /* What fault_of returns where the process is to be killed: no error has this number. */
 enum { KILLED = -1 };
@@ -26,6 +43,13 @@ const char *name_of(enum call call);
 
 /* Reports whether a file of this path is one that a cache writes, and renames once it is whole. */
 int is_saved_path(const char *path);
+
+/* Sets which call it is to open a path: OPEN or LOAD of a file that a cache saves, or FOLDER of its
+ * folder; returns 0 if it is another path. */
+int is_opening(const char *path, int creates, enum call *call);
+
+/* Counts a call on a file, as fault_of does; those from OPEN on are counted as SAVE, too. */
+int fault_on_file(enum call call, size_t *most);
 
 /* Writes to something else than a socket. */
 ssize_t write_file(int fd, const void *bytes, size_t size);

@@ -1,5 +1,5 @@
-/* Calls on the file that a cache saves before it is renamed, and syncs of a folder, in which faults
- * are injected, as faults.c says. */
+/* Calls on the file that a cache saves before it is renamed, and on its folder, in which faults are
+ * injected, as faults.c says. */
 #define _GNU_SOURCE
 #include <errno.h>
 #include <fcntl.h>
@@ -36,14 +36,8 @@ static int is_folder(int fd)
     return !failed && S_ISDIR(found.st_mode);
 }
 
-/* Counts a call on the file, and returns the fault to inject, or 0. */
-static int fault_on_file(enum call call, size_t *most)
-{
-    int fault = fault_of(SAVE, 1, NULL);
-    return fault ? fault : fault_of(call, 1, most);
-}
-
-/* The same for calls that move no bytes, before which the process may be killed. */
+/* Counts a call that moves no bytes, before which the process may be killed, and returns the fault
+ * to inject, or 0. */
 static int fails(enum call call)
 {
     int fault = fault_on_file(call, NULL);
@@ -68,7 +62,8 @@ ssize_t write_file(int fd, const void *bytes, size_t size)
 static int open_file(const char *name, const char *path, int flags, mode_t mode)
 {
     int (*next)(const char *, int, ...) = real(name);
-    if (is_saved_path(path) && (flags & O_CREAT) && fails(OPEN))
+    enum call call;
+    if (is_opening(path, flags & O_CREAT, &call) && fails(call))
         return -1;
     return next(path, flags, mode);
 }
@@ -158,4 +153,10 @@ int rename(const char *from, const char *to)
 {
     int (*next)(const char *, const char *) = real("rename");
     return is_saved_path(from) && fails(RENAME) ? -1 : next(from, to);
+}
+
+int unlink(const char *path)
+{
+    int (*next)(const char *) = real("unlink");
+    return is_saved_path(path) && fails(REMOVE) ? -1 : next(path);
 }

@@ -1,16 +1,72 @@
 // Follows a cache with the client for Node, and prints the lines of rtr_diff for changes.
 //
 // usage: node follow.js HOST:PORT MODULE
+//
+// If FAULTS_PAUSE has milliseconds, it reconnects after these. If FAULTS_MEMORY names a file, that
+// gets a line at each hundredth end of a connection: how many objects and bytes are reachable, by a
+// heap snapshot, which begins with a collection. Code and what the engine notes about it aren't
+// counted; bytes in the memory of the module are.
 
+import { appendFileSync } from "node:fs";
 import { readFile } from "node:fs/promises";
+import { getHeapSnapshot } from "node:v8";
 import { Client } from "../../bindings/js/client.js";
+import { Heap } from "../../bindings/js/memory.js";
 import { load } from "../../bindings/js/rtr_wire.js";
+
+const { FAULTS_PAUSE: pause, FAULTS_MEMORY: path } = process.env;
+
+// The types of a snapshot's nodes that are objects of programs, and what these have outside of the
+// heap, as buffers.
+const COUNTED = new Set(["bigint", "closure", "native", "number", "object", "regexp"]);
+
+// The bytes of each part of the module's memory that is taken, by its address.
+const taken = new Map();
+const { take, release } = Heap.prototype;
+Heap.prototype.take = function (length) {
+    const start = take.call(this, length);
+    taken.set(start, length);
+    return start;
+};
+Heap.prototype.release = function (start) {
+    taken.delete(start);
+    return release.call(this, start);
+};
+
+/** Appends a line to the file. */
+async function writeMemory() {
+    let text = "";
+    for await (const part of getHeapSnapshot()) {
+        text += part;
+    }
+    const { snapshot: { meta }, nodes } = JSON.parse(text);
+    const [size, type, bytes] = [meta.node_fields.length, meta.node_fields.indexOf("type"),
+        meta.node_fields.indexOf("self_size")];
+    const sizes = [...taken.values()];
+    for (let at = 0; at < nodes.length; at += size) {
+        if (COUNTED.has(meta.node_types[0][nodes[at + type]])) {
+            sizes.push(nodes[at + bytes]);
+        }
+    }
+    appendFileSync(path, `${sizes.length} ${sizes.reduce((all, one) => all + one)}\n`);
+}
 
 const [address, module] = process.argv.slice(2);
 const [, host, port] = /^(.*):(\d+)$/.exec(address);
 const rtr = await load(await readFile(module));
-const client = new Client({ host, port: Number(port), settings: { highest: 2 }, rtr });
-client.on("failed", (error) => console.error(error.message));
+const settings = { highest: 2, ...pause && { pause: Number(pause) } };
+const client = new Client({ host, port: Number(port), settings, rtr });
+let ends = 0;
+client.on("failed", async (error) => {
+    console.error(error.message);
+    ends += 1;
+    if (path && ends % 100 === 0) {
+        await writeMemory();
+    }
+    if (pause) {
+        client.askNow();
+    }
+});
 for await (const update of client) {
     for (const unit of update.changes()) {
         console.log(rtr.changeLine(unit));

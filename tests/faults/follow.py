@@ -2,13 +2,13 @@
 
 usage: follow.py HOST:PORT --version N [--asyncio]
 
-If FAULTS_PAUSE has milliseconds, it reconnects after these. If FAULTS_MEMORY names a file, that gets
-a line at each SIGUSR2: how many bytes of memory are in use.
+If FAULTS_PAUSE has milliseconds, it reconnects after these. If FAULTS_MEMORY names a file, that
+gets a line at each hundredth end of a connection: how many objects and bytes are allocated. At
+another time there may be a buffer of 64 KiB, into which a thread reads.
 """
 import asyncio
 import gc
 import os
-import signal
 import sys
 import tracemalloc
 
@@ -29,27 +29,33 @@ async def show_all(client):
         show(update)
 
 
-def counts(path):
-    """Starts to count memory, and to write it to a file."""
-    tracemalloc.start()
-    file = open(path, "w", encoding="ascii")
+class Counter:
+    """Counts what is allocated, and writes it to a file."""
 
-    def write(*_):
-        gc.collect()
-        print(tracemalloc.get_traced_memory()[0], file=file, flush=True)
-    signal.signal(signal.SIGUSR2, write)
+    def __init__(self, path):
+        self.ends, self.file = 0, open(path, "w", encoding="ascii")
+        tracemalloc.start()
+
+    def write(self):
+        """Writes a line at each hundredth call."""
+        self.ends += 1
+        if self.ends % 100 == 0:
+            gc.collect()
+            sizes = [trace.size for trace in tracemalloc.take_snapshot().traces]
+            print(len(sizes), sum(sizes), file=self.file, flush=True)
 
 
 def main():
     host, _, port = sys.argv[1].rpartition(":")
     made = rtr_wire.AsyncClient if "--asyncio" in sys.argv else rtr_wire.Client
-    pause = os.environ.get("FAULTS_PAUSE")
+    pause, path = os.environ.get("FAULTS_PAUSE"), os.environ.get("FAULTS_MEMORY")
     settings = rtr_wire.Settings(int(sys.argv[3]), pause=pause and int(pause) / 1000)
-    if "FAULTS_MEMORY" in os.environ:
-        counts(os.environ["FAULTS_MEMORY"])
+    counter = Counter(path) if path else None
 
     def failed(error):
         print(error, file=sys.stderr, flush=True)
+        if counter:
+            counter.write()
         if pause:
             client.ask_now()
     client = made(host.strip("[]"), int(port), settings, failed=failed)

@@ -8,8 +8,8 @@ from units import LONG, Wrong
 
 def state(process, path, asked=signal.SIGUSR1):
     """Returns the numbers that a program writes to this file at a signal, in Go those of goroutines
-    and of bytes of memory; nothing for a program without such a file. No garbage is collected, which
-    would close forgotten descriptors, unless the signal is SIGUSR2."""
+    and of bytes of memory; nothing for a program without such a file. No garbage is collected,
+    which would close forgotten descriptors, unless the signal is SIGUSR2."""
     if not os.path.exists(path):
         return None
     before, until = count(path), time.monotonic() + LONG
@@ -44,12 +44,11 @@ def tasks(process, path):
     return goroutines[0] if goroutines else len(threads)
 
 
-def memory(process, *paths):
-    """Returns the memory that a program counts, after a collection if it collects any, and writes
-    to one of these files; the resident memory of one that doesn't count."""
-    for path in paths:
-        counted = state(process, path, signal.SIGUSR2)
-        if counted:
-            return counted[-1]
+def memory(process, path):
+    """Returns the memory that a program counts, after a collection, and writes to this file; the
+    resident memory of one that doesn't count."""
+    counted = state(process, path, signal.SIGUSR2)
+    if counted:
+        return counted[-1]
     with open(f"/proc/{process.pid}/statm", encoding="ascii") as file:
         return int(file.read().split()[1]) * os.sysconf("SC_PAGESIZE")

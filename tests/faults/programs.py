@@ -15,8 +15,20 @@ TOP = os.path.dirname(os.path.dirname(HERE))
 BINDINGS = os.path.join(TOP, "bindings")
 REGISTRY = "/usr/share/cargo/registry"  # of Debian's crates
 
-# The project of the client and the cache over tokio.
-CARGO_TOML = """[package]
+# The projects of the client in Rust that counts, and of the client and the cache over tokio.
+OVER_THREADS = """[package]
+name = "over_threads"
+version = "0.0.0"
+edition = "2021"
+
+[[bin]]
+name = "rust_client"
+path = "{here}/rust_client.rs"
+
+[dependencies]
+rtr-wire = {{ path = "{rust}" }}
+"""
+OVER_TOKIO = """[package]
 name = "over_tokio"
 version = "0.0.0"
 edition = "2021"
@@ -92,7 +104,8 @@ def c_program(name, sources, archives, work):
 
 
 def c_clients(archives, work):
-    """The program over rtr_client.h, and the shortest loop over the calls for a router's end."""
+    """Yields the program over rtr_client.h, and the shortest loop over the calls for a router's
+    end."""
     hurried = os.path.join(work, "client.o")
     in_c(hurried, ["client.c"], os.path.join(BINDINGS, "c"), "-c", "-I.", "-include",
          os.path.join(HERE, "soon.h"))
@@ -126,7 +139,7 @@ def python_caches(archives, work):
 
 
 def node_caches(*_):
-    """The example; it reads the module of the repository."""
+    """Yields the example; it reads the module of the repository."""
     node = shutil.which("node")
     if not node:
         return skipped("node", "the cache in JavaScript")
@@ -151,10 +164,32 @@ def rust_example(name, archives, work):
     return os.path.join(target, "debug", "examples", name)
 
 
+def rust_project(name, manifest, archives, work):
+    """Builds a project of its own over the crates; returns the folder of its programs."""
+    project, target = os.path.join(work, name), os.path.join(work, "rust")
+    rust = os.path.join(project, "rust")
+    shutil.copytree(os.path.join(BINDINGS, "rust"), rust, ignore=shutil.ignore_patterns("target"))
+    os.mkdir(os.path.join(project, ".cargo"))
+    for path, text in ((".cargo/config.toml", CARGO_CONFIG), ("Cargo.toml", manifest)):
+        with open(os.path.join(project, path), "w", encoding="utf-8") as file:
+            file.write(text.format(here=HERE, rust=rust))
+    run([shutil.which("cargo"), "build", "--offline", "--quiet", "--target-dir", target], project,
+        RTR_LIB_DIR=archives, CARGO_PROFILE_DEV_DEBUG="0")
+    return os.path.join(target, "debug")
+
+
 def rust_clients(archives, work):
     if not shutil.which("cargo"):
         return skipped("cargo", "the client in Rust")
     yield "Rust", [rust_example("client", archives, work), "ADDRESS", "--version", "2"]
+
+
+def counting_rust_clients(archives, work):
+    """A client that counts what it has allocated; one without it tells of a missing cargo."""
+    if not shutil.which("cargo"):
+        return
+    folder = rust_project("over_threads", OVER_THREADS, archives, work)
+    yield "Rust that counts", [os.path.join(folder, "rust_client"), "ADDRESS", "--version", "2"]
 
 
 def c_caches(archives, work):
@@ -168,7 +203,8 @@ def rust_caches(archives, work):
 
 
 def go_programs(archives, work):
-    """A client and a cache in Go, one program with faults of its own, built in a project."""
+    """Returns a client and a cache in Go, one program with faults of its own, built in a
+    project."""
     if not shutil.which("go"):
         return skipped("go", "the client and the cache in Go")
     project, program = os.path.join(work, "faulty"), os.path.join(work, "faulty_go")
@@ -195,7 +231,7 @@ def go_caches(archives, work):
 
 
 def traced_go_caches(archives, work):
-    """The same cache, traced, since its calls on files aren't those of the C library; and
+    """Yields the same cache, traced, since its calls on files aren't those of the C library; and
     rtr-cache, which programs/build builds."""
     if not shutil.which("go"):
         return
@@ -215,21 +251,10 @@ def traced_go_caches(archives, work):
 
 
 def tokio_programs(archives, work):
-    """Builds a client and a cache over the crate for tokio, in a project of their own; returns the
-    folder of both."""
-    cargo = shutil.which("cargo")
-    if not cargo or not glob.glob(f"{REGISTRY}/tokio-[0-9]*"):
+    """Builds a client and a cache over the crate for tokio; returns the folder of both."""
+    if not shutil.which("cargo") or not glob.glob(f"{REGISTRY}/tokio-[0-9]*"):
         return skipped("crate tokio (librust-tokio-dev)", "the client and the cache with tokio")
-    project, target = os.path.join(work, "over_tokio"), os.path.join(work, "rust")
-    rust = os.path.join(project, "rust")
-    shutil.copytree(os.path.join(BINDINGS, "rust"), rust, ignore=shutil.ignore_patterns("target"))
-    os.mkdir(os.path.join(project, ".cargo"))
-    for path, text in ((".cargo/config.toml", CARGO_CONFIG), ("Cargo.toml", CARGO_TOML)):
-        with open(os.path.join(project, path), "w", encoding="utf-8") as file:
-            file.write(text.format(here=HERE, rust=rust))
-    run([cargo, "build", "--offline", "--quiet", "--target-dir", target], project,
-        RTR_LIB_DIR=archives, CARGO_PROFILE_DEV_DEBUG="0")
-    return os.path.join(target, "debug")
+    return rust_project("over_tokio", OVER_TOKIO, archives, work)
 
 
 def tokio_clients(archives, work):

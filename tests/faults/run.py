@@ -2,9 +2,10 @@
 """Runs clients of C, Rust, Go, Python and Node, in Rust also that over tokio, in Python that for
 asyncio, beside a cache on the loopback interface, and caches of the same languages beside routers,
 with faults in their system calls: short reads and writes, interrupted calls, spurious wakes, broken
-connections, addresses that refuse, no descriptors left, failing files, kills. A preloaded library
-(`faults.c`) injects them. A program in Go makes its system calls itself: its connections are
-wrapped (`go/faults.go`), and a tracer (`traced.c`) injects faults into calls on files.
+connections, addresses that refuse or don't answer, no descriptors left, failing files, kills. A
+preloaded library (`faults.c`) injects them. A program in Go makes its system calls itself: its
+connections are wrapped (`go/faults.go`), and a tracer (`traced.c`) injects faults into calls on
+files.
 `clients.py`, `caches.py` and `saves.py` say what must happen, `cuts.py` what a cut of the power may
 leave, and `waits.py` how the waits of clients differ.
 
@@ -26,7 +27,7 @@ import programs
 import saves
 import waits
 
-AT_ONCE = 24  # runs; most of their time they wait
+AT_ONCE = 16  # runs; most of their time they wait, but all are played by one process
 
 # The names of programs, what builds them, in this order, and what is run with them.
 PLAYS = (
@@ -36,12 +37,13 @@ PLAYS = (
     (["Node cache"], programs.node_caches, (caches, saves, cuts)),
     (["C cache"], programs.c_caches, (caches, saves, cuts)),
     (["Rust"], programs.rust_clients, (clients, waits)),
+    (["Rust that counts"], programs.counting_rust_clients, (clients,)),
     (["Go"], programs.go_clients, (clients, waits)),
     (["Go cache"], programs.go_caches, (caches,)),
     (["Go cache that saves", "rtr-cache"], programs.traced_go_caches, (saves, cuts)),
     (["Rust cache"], programs.rust_caches, (caches, saves, cuts)),
     (["tokio"], programs.tokio_clients, (clients, waits)),
-    (["tokio cache"], programs.tokio_caches, (caches,)),
+    (["tokio cache"], programs.tokio_caches, (caches, saves, cuts)),
     (["Python cache"], programs.python_caches, (caches, saves, cuts)),
 )
 

@@ -1,68 +1,94 @@
 """Runs a cache whose saving of its data fails, or that is killed in it: the cache says why, serves
 the data before, and tries again; it serves data only once they are saved; and a cache that is
-started again finds older or newer data whole, never a part.
+started again finds older or newer data whole, never a part. The same holds of the first saving of
+a cache, with no data in the place of those before.
 """
 import errno
+import itertools
 import os
 import re
-import shutil
+import resource
 import signal
 import time
 
-from cache import Cache, Lost, Router, kept, put
-from caches import NEW, content
+from cache import STATE, Lost, Router
+from caches import content
+from saved import BESIDE, DATA, Saved, answers_changes
 from units import LONG, Wrong
 
 CLOSE = "a saving with a failing close"
-# What is injected into the first saving, and the error that the cache logs, if any. The first sync
-# is that of the folder at the start.
+# What is injected into the next saving, and the error that the cache logs, if any. Syncs are
+# numbered below, since one comes at a start: a cache that saved syncs the folder, and rtr-cache,
+# where it created its folder, that above.
 FAULTS = {
     "a saving": ("", None),
     "a saving by short writes": ("write:1:0:4000", None),
+    "a saving without a descriptor": ("open:1:1:EMFILE", errno.EMFILE),
+    "a saving without a file of the system": ("open:1:1:ENFILE", errno.ENFILE),
     "a saving without space for the file": ("open:1:1:ENOSPC", errno.ENOSPC),
     "a saving that isn't allowed": ("open:1:1:EACCES", errno.EACCES),
     "a saving without space": ("write:1:1:ENOSPC", errno.ENOSPC),
     "a saving without space for all": ("write:1:1:100 write:2:2:ENOSPC", errno.ENOSPC),
     "a saving with a failing write": ("write:1:1:100 write:2:2:EIO", errno.EIO),
-    "a saving with a failing sync": ("sync:2:2:EIO", errno.EIO),
+    "a saving with a failing sync": ("sync:{file}:{file}:EIO", errno.EIO),
+    "a saving without space at its sync": ("sync:{file}:{file}:ENOSPC", errno.ENOSPC),
     "a saving with a failing rename": ("rename:1:1:EIO", errno.EIO),
     "a saving without space for the name": ("rename:1:1:ENOSPC", errno.ENOSPC),
-    "a saving with a failing sync of the folder": ("sync:3:3:EIO", errno.EIO),
+    "a saving without a descriptor for the folder": ("folder:{opened}:{opened}:EMFILE",
+                                                     errno.EMFILE),
+    "a saving with a failing sync of the folder": ("sync:{folder}:{folder}:EIO", errno.EIO),
     # As file systems say that can't sync folders.
-    "a saving without syncs of the folder": ("sync:1:0:EINVAL:2", None),
+    "a saving without syncs of the folder": ("sync:{folders}:0:EINVAL:2", None),
     # Once a file is synced its close has nothing left to report.
     CLOSE: ("close:1:1:EIO", None),
 }
+# The same in a folder that can be read alone at first, and whether a file beside can't be removed.
+READ_ONLY = {
+    "a saving in a folder that can only be read": ("remove:1:0:EROFS open:1:1:EROFS", False),
+    "a saving in a folder that has to stay": ("remove:1:0:EROFS open:1:1:EROFS", True),
+}
 # What is injected into each saving, its error, and whether the file is replaced all the same.
 LASTING = {
+    "savings without descriptors": ("open:1:0:EMFILE", errno.EMFILE, False),
+    "savings in a folder that can only be read": ("open:1:0:EROFS", errno.EROFS, False),
     "savings without space": ("write:1:0:ENOSPC", errno.ENOSPC, False),
-    "savings with failing syncs": ("sync:2:0:EIO", errno.EIO, False),
+    "savings without space at their syncs": ("sync:{file}:0:ENOSPC", errno.ENOSPC, False),
+    "savings with failing syncs": ("sync:{file}:0:EIO", errno.EIO, False),
     "savings with failing renames": ("rename:1:0:EIO", errno.EIO, False),
-    "savings with failing syncs of the folder": ("sync:3:0:EIO:2", errno.EIO, True),
+    "savings with failing syncs of the folder": ("sync:{folder}:0:EIO:2", errno.EIO, True),
+}
+# What is injected into a start over a saved file, and its error.
+STARTS = {
+    "a start with a failing sync of the folder": ("sync:1:1:EIO", errno.EIO),
+    "a start without a descriptor for the folder": ("folder:1:1:EMFILE", errno.EMFILE),
+    "a start without a descriptor for the file": ("load:1:1:EMFILE", errno.EMFILE),
+    "a start that may not read the file": ("load:1:1:EACCES", errno.EACCES),
 }
 KILLS = "killed savings"
-START = "a start with a failing sync of the folder"
 MINUTE = "savings that fail for a minute"
 PAUSES = (1, 2, 4, 8, 16, 32, 60)  # seconds between two of them
 FULL = "a saving to a full disk"  # the system's own: what is written there has no space
-NAMED = r"\.kept(?:\.new)?|: sync /.*"  # what an error of the system is about
+DESCRIPTORS = "a saving of a process without descriptors"  # the system's own, too
+FIRST = "first "  # before "saving" in the name of a run
+# What an error of the system is about.
+NAMED = r"(?:\.kept|editions)(?:\.new)?|: (?:open|sync) /.*"
 LEAST_CALLS = 5  # of a saving: open, write, sync, rename, and sync of the folder
-
-# The data of each serial number: enough for several writes of a stream.
-OLD = [f"10.{i >> 8}.{i & 255}.0/24" for i in range(1_000)]
-OTHERS = OLD[5:]  # of none of these serial numbers
-DATA = {1: OLD, 2: [NEW[0], *OLD[1:]], 3: [*NEW, *OLD[1:]]}
 
 
 def names(program):
-    """Returns the names of the runs of a cache. rtr-cache serves also data that it can't save: its
-    own tests have the faults, but for kills. Node makes the call to close a file itself."""
-    if program == "rtr-cache":
-        return [KILLS]
-    every = [KILLS, START, *LASTING, FULL, *FAULTS]
-    if program == "C cache":
-        every.insert(0, MINUTE)  # it says how long it pauses
-    return [name for name in every if program != "Node cache" or name != CLOSE]
+    """Returns the names of the runs of a cache. Node makes the call to close a file itself."""
+    savings = [KILLS, *LASTING, FULL, DESCRIPTORS, *READ_ONLY, *FAULTS]
+    if program == "Node cache":
+        savings.remove(CLOSE)
+    every = [*STARTS, *savings, *(name.replace("saving", FIRST + "saving") for name in savings)]
+    return [MINUTE, *every] if program == "C cache" else every  # it says how long it pauses
+
+
+def numbered(faults, command, is_first):
+    """Returns the faults with the numbers of syncs and of openings of the folder."""
+    before = 0 if is_first and STATE not in command else 1
+    return faults.format(file=before + 1, folder=before + 2, folders=before or 2,
+                         opened=1 if is_first else 2)
 
 
 def text_of(number):
@@ -71,135 +97,143 @@ def text_of(number):
     return f"({os.strerror(number)}|{errno.errorcode[number]}: )"
 
 
-class Saved:
-    """A folder with what a cache saved of the first data."""
+class Saving:
+    """A cache that is to save: data of the first serial number, if it is a first saving, or those
+    of the second, after it served the first ones."""
 
-    def __init__(self, command, library, folder):
-        self.command, self.library, self.folder = command, library, folder
-        self.count = 0
-        first = self.started("", 1)
-        try:
-            first.serves(1)
-            first.waits(lambda: os.path.exists(first.kept), "it saves its data")
-            first.ends()
-        finally:
-            first.kill()
-        self.first = first
+    def __init__(self, cache, is_first):
+        self.cache, self.is_first = cache, is_first
+        self.serial = 1 if is_first else 2
+        if not is_first:
+            cache.serves(1)
+        self.held, self.routers = self.holds(), []
 
-    def started(self, faults, serial=None, calls=None):
-        """Starts a cache, over a file with these data, or over none after what was saved."""
-        self.count += 1
-        folder = os.path.join(self.folder, str(self.count))
-        os.mkdir(folder)
-        os.makedirs(os.path.dirname(kept(self.command, folder)), exist_ok=True)
-        if serial:
-            put(f"{folder}/data", content(serial, DATA[serial]))
-        else:
-            shutil.copy(self.first.kept, kept(self.command, folder))
-        return Cache(self.command, faults, self.library, folder, calls)
+    def holds(self):
+        """Returns what the cache holds; nothing of rtr-cache, which starts processes and doesn't say
+        how many goroutines it has."""
+        return None if self.cache.draws_session else self.cache.holds()
 
-    def finds(self, cache, serials):
-        """A cache that is started over what this one has left has the data of one of these serial
-        numbers, and the changes from the first."""
-        self.count += 1
-        folder = os.path.join(self.folder, str(self.count))
-        shutil.copytree(os.path.dirname(cache.path), folder)
-        for name in "data", "log", "seen":
-            if os.path.exists(f"{folder}/{name}"):
-                os.remove(f"{folder}/{name}")
-        self.restarts(folder, serials)
+    def is_followed(self):
+        """Two routers connect, and get the data before; returns this."""
+        for version in 2, 1:
+            self.routers.append(Router(self.cache, version))
+            self.has_former(self.routers[-1])
+        return self
 
-    def goes_on(self, saved, beside, serial):
-        """A cache that is started over a file of these bytes, and one beside it, if these aren't
-        None, has the data of this serial number, and goes on with others."""
-        self.count += 1
-        folder = os.path.join(self.folder, str(self.count))
-        os.mkdir(folder)
-        path = kept(self.command, folder)
-        os.makedirs(os.path.dirname(path), exist_ok=True)
-        for name, content_of in (path, saved), (f"{path}.new", beside):
-            if content_of is not None:
-                with open(name, "wb") as file:
-                    file.write(content_of)
-        self.restarts(folder, (serial,), goes_on=True)
-
-    def restarts(self, folder, serials, goes_on=False):
-        """Checks what a cache has that is started over this folder, and whether it serves others
-        afterwards."""
-        after = Cache(self.command, "", self.library, folder)
-        try:
-            after.waits(lambda: re.search(r"(?i)No such file", after.said()),
-                        "it looks for its file")
-            found = re.search(r"session (\d+) serial (\d+): \d+ payload", after.said())
-            if found and int(found[1]) != self.first.session:
-                raise Wrong(f"a restart found another session: {after.said()}")
-            serial, after.session = found and int(found[2]), self.first.session
-            if serial not in serials:
-                raise Wrong(f"a restart found serial {serial}, not one of {serials}: "
-                            + after.said())
-            router = Router(after)
+    def has_former(self, router):
+        """A router gets the data before, or learns that there are none."""
+        if self.is_first:
             router.asks_all()
-            router.gets_answer(serial, DATA[serial])
-            router.asks_after(1)
-            new, old = DATA[serial], DATA[1]
-            router.gets_answer(serial, [one for one in new if one not in old],
-                               [one for one in old if one not in new])
-            if os.path.exists(f"{after.kept}.new"):
-                raise Wrong("a file that a killed cache left stays beside")
-            if goes_on:
-                after.puts(content(serial + 1, OTHERS))
-                after.serves(serial + 1)
-                router.asks_after(serial)
-                router.gets_answer(serial + 1, [one for one in OTHERS if one not in new],
-                                   [one for one in new if one not in OTHERS])
+            router.gets_none()
+        else:
+            answers_changes(router, DATA[1], DATA[1], 1, 1)
+
+    def have_former(self):
+        """All routers do."""
+        for router in self.routers:
+            self.has_former(router)
+
+    def comes(self):
+        """Gives the cache the data."""
+        self.cache.puts(content(self.serial, DATA[self.serial]))
+
+    def succeeds(self):
+        """The cache serves the data, once they are saved, and routers get them."""
+        self.cache.serves(self.serial)
+        for router in self.routers:
+            if self.serial == 1:
+                router.session = self.cache.session
+                router.asks_all()
+                router.gets_answer(1, DATA[1])
+            else:
+                answers_changes(router, DATA[self.serial - 1], DATA[self.serial], self.serial - 1,
+                                self.serial)
+
+    def takes(self):
+        """Gives the cache the data, which it saves, and then serves."""
+        before = inode(self.cache)
+        self.comes()
+        self.cache.serves(self.serial)
+        if inode(self.cache) == before:
+            raise Wrong(f"it serves serial {self.serial}, and hasn't saved it")
+        self.succeeds()
+
+    def takes_next(self):
+        """The same with the next data."""
+        self.serial += 1
+        self.takes()
+
+    def ends(self):
+        """The routers leave, and the cache has what it had before them, and ends."""
+        for router in self.routers:
             router.close()
-            after.ends()
-        finally:
-            after.kill()
+        if self.held:
+            self.cache.settles(self.held, 1)
+        self.cache.ends()
 
 
 def inode(cache):
-    return os.stat(cache.kept).st_ino
+    """Returns the inode of the saved file; nothing if there is none."""
+    return os.stat(cache.kept).st_ino if os.path.exists(cache.kept) else None
 
 
-def answers_changes(router, old, new):
-    """A router gets the changes from the data of one serial number to those of another."""
-    router.asks_after(old)
-    router.gets_answer(new, [one for one in DATA[new] if one not in DATA[old]],
-                       [one for one in DATA[old] if one not in DATA[new]])
+def is_said(cache, number):
+    """The cache says why it can't save: a failure about a file, by the system's text."""
+    cache.says(rf"(?i)({NAMED}): {text_of(number)}.*")
 
 
-def takes(cache, router, serial):
-    """Gives the cache the next data, which a router that has those before gets, once they are
-    saved."""
-    before = inode(cache)
-    cache.puts(content(serial, DATA[serial]))
-    cache.serves(serial)
-    if inode(cache) == before:
-        raise Wrong(f"it serves serial {serial}, and hasn't saved it")
-    answers_changes(router, serial - 1, serial)
-
-
-def play_fault(saved, faults, number):
-    """The first saving fails, or doesn't; the next try succeeds."""
-    cache = saved.started("" if faults == FULL else faults)
+def play_fault(saved, cache, is_first, number):
+    """The next saving fails, or doesn't; the next try succeeds."""
     try:
-        cache.serves(1)
-        first = cache.holds()
-        router = Router(cache)
-        if faults == FULL:
-            os.symlink("/dev/full", f"{cache.kept}.new")
-        takes(cache, router, 2)
+        saving = Saving(cache, is_first).is_followed()
+        saving.takes()
         if number:
-            cache.says(rf"(?i)({NAMED}): {text_of(number)}.*")
-        saved.finds(cache, (2,))
-        takes(cache, router, 3)
-        if faults not in ("", FULL) and not cache.injected():
-            raise Wrong("the fault wasn't injected")
-        saved.finds(cache, (3,))
-        router.close()
-        cache.settles(first, 1)
-        cache.ends()
+            is_said(cache, number)
+        saved.finds(cache, (saving.serial,))
+        saving.takes_next()
+        saved.finds(cache, (saving.serial,))
+        saving.ends()
+    finally:
+        cache.kill()
+
+
+def play_injected(saved, cache, is_first, faults, number):
+    """The same with faults that have to be injected."""
+    play_fault(saved, cache, is_first, number)
+    if faults and not cache.injected():
+        raise Wrong("the fault wasn't injected")
+
+
+def play_full(saved, cache, is_first):
+    """The same on a full disk."""
+    os.symlink("/dev/full", cache.kept + BESIDE)
+    play_fault(saved, cache, is_first, errno.ENOSPC)
+
+
+def starve(cache):
+    """Leaves a process no other descriptors than those that it has; returns its limits."""
+    used = {int(name) for name in os.listdir(f"/proc/{cache.process.pid}/fd")}
+    free = next(number for number in itertools.count() if number not in used)
+    soft, hard = resource.prlimit(cache.process.pid, resource.RLIMIT_NOFILE)
+    resource.prlimit(cache.process.pid, resource.RLIMIT_NOFILE, (free, hard))
+    return soft, hard
+
+
+def play_descriptors(saved, cache, is_first):
+    """A process without descriptors says so, and serves the data before, or has one in reserve by
+    which it saves; once it has descriptors it serves the data."""
+    try:
+        saving = Saving(cache, is_first).is_followed()
+        limits = starve(cache)
+        saving.comes()
+        lacks, serves = text_of(errno.EMFILE), f"serial {saving.serial}: {len(DATA[1])}"
+        cache.waits(lambda: re.search(f"(?i){lacks}|{serves}", cache.said()), "it has tried")
+        if serves not in cache.said():
+            saving.have_former()
+        resource.prlimit(cache.process.pid, resource.RLIMIT_NOFILE, limits)
+        saving.succeeds()
+        saved.finds(cache, (saving.serial,))
+        saving.ends()
     finally:
         cache.kill()
 
@@ -211,23 +245,21 @@ def failures(cache, number):
     return len(cache.injected()) if logged and os.path.exists(cache.state) else logged
 
 
-def play_lasting(saved, faults, number, replaces):
+def play_lasting(saved, cache, is_first, number, replaces):
     """All savings fail: routers get the data before, and no other file is left."""
-    cache = saved.started(faults)
     try:
-        cache.serves(1)
-        cache.puts(content(2, DATA[2]))
+        saving = Saving(cache, is_first)
+        saving.comes()
         cache.waits(lambda: failures(cache, number), "it logs the failure")
-        # In Rust with a thread that waits for the next try.
-        first, router = cache.holds(), Router(cache)
+        saving.held = saving.holds()  # in Rust with a thread that waits for the next try
+        saving.is_followed()
         for count in 1, 2:
             cache.waits(lambda wanted=count: failures(cache, number) >= wanted, "it tries again")
-            answers_changes(router, 1, 1)
-        cache.waits(lambda: not os.path.exists(f"{cache.kept}.new"), "it removes its file")
-        saved.finds(cache, (2,) if replaces else (1,))
-        router.close()
-        cache.settles(first, 1)
-        cache.ends()
+            saving.have_former()
+        cache.waits(lambda: not os.path.exists(cache.kept + BESIDE), "it removes its file")
+        former = None if is_first else 1
+        saved.finds(cache, (saving.serial if replaces else former,))
+        saving.ends()
     finally:
         cache.kill()
 
@@ -245,12 +277,12 @@ def play_minute(saved):
         cache.kill()
 
 
-def play_start(saved):
-    """The cache can't sync the folder at a start: it says why, and serves nothing. Its last run may
-    have ended between the rename and the sync, and after a power cut the file would be an older
-    one."""
+def play_start(saved, faults, number):
+    """The cache can't read its file at a start, or sync the folder: it says why, and serves
+    nothing. Its last run may have ended between the rename and the sync, and after a power cut the
+    file would be an older one."""
     try:
-        cache = saved.started("sync:1:1:EIO")
+        cache = saved.started(faults)
     except Wrong:
         pass
     else:
@@ -258,31 +290,31 @@ def play_start(saved):
         raise Wrong("it listens")
     with open(os.path.join(saved.folder, str(saved.count), "log"), encoding="utf-8") as log:
         said = log.read()
-    if not re.search(f"(?i){text_of(errno.EIO)}", said) or "serial 1" in said:
+    if not re.search(f"(?i){text_of(number)}", said) or "serial 1" in said:
         raise Wrong(said)
 
 
-def play_kills(saved):
-    """The cache is killed at each call of a saving, until none is left. The first call is that of
-    the start."""
+def play_kills(saved, is_first):
+    """The cache is killed at each call of a saving, until none is left."""
     count = 0
     is_killed = True
+    at_start = 0 if is_first and not saved.draws_session else 1
     while is_killed:
-        cache = saved.started(f"save:{count + 2}:{count + 2}:KILL")
+        number = at_start + count + 1
+        cache = starts(saved, is_first, f"save:{number}:{number}:KILL")
         try:
-            cache.serves(1)
-            router = Router(cache)
-            answers_changes(router, 1, 1)
-            cache.puts(content(2, DATA[2]))
-            until = time.monotonic() + LONG
-            while cache.process.poll() is None and f"serial 2: {len(DATA[2])}" not in cache.said():
+            saving = Saving(cache, is_first).is_followed()
+            saving.comes()
+            until, serves = time.monotonic() + LONG, f"serial {saving.serial}: {len(DATA[1])}"
+            while cache.process.poll() is None and serves not in cache.said():
                 if time.monotonic() > until:
                     raise Wrong("it neither ended nor served the data")
                 time.sleep(0.01)
             is_killed = cache.process.poll() == -signal.SIGKILL
             if is_killed != bool(cache.injected()):
                 raise Wrong(f"its status is {cache.process.poll()}")
-            saved.finds(cache, (1, 2) if is_killed else (2,))
+            former = None if is_first else 1
+            saved.finds(cache, (former, saving.serial) if is_killed else (saving.serial,))
             count += is_killed
         finally:
             cache.kill()
@@ -290,22 +322,44 @@ def play_kills(saved):
         raise Wrong(f"it was killed at {count} calls")
 
 
+def starts(saved, is_first, faults):
+    """Starts a cache that is to save with these faults."""
+    return saved.begins(faults) if is_first else saved.started(faults)
+
+
+def play_savings(saved, command, name, is_first):
+    """Plays the savings of this name."""
+    if name == KILLS:
+        play_kills(saved, is_first)
+    elif name == FULL:
+        play_full(saved, starts(saved, is_first, ""), is_first)
+    elif name == DESCRIPTORS:
+        play_descriptors(saved, starts(saved, is_first, ""), is_first)
+    elif name in READ_ONLY:
+        faults, has_beside = READ_ONLY[name]
+        cache = (saved.begins_beside(faults, not is_first) if has_beside
+                 else starts(saved, is_first, faults))
+        play_injected(saved, cache, is_first, faults, errno.EROFS)
+    elif name in LASTING:
+        faults, number, replaces = LASTING[name]
+        faults = numbered(faults, command, is_first)
+        play_lasting(saved, starts(saved, is_first, faults), is_first, number, replaces)
+    else:
+        faults, number = FAULTS[name]
+        faults = numbered(faults, command, is_first)
+        play_injected(saved, starts(saved, is_first, faults), is_first, faults, number)
+
+
 def play(command, name, library, folder):
     """Plays a cache with the faults of this name; returns what was wrong, or nothing."""
     try:
         saved = Saved(command, library, folder)
-        if name == KILLS:
-            play_kills(saved)
-        elif name == START:
-            play_start(saved)
+        if name in STARTS:
+            play_start(saved, *STARTS[name])
         elif name == MINUTE:
             play_minute(saved)
-        elif name == FULL:
-            play_fault(saved, FULL, errno.ENOSPC)
-        elif name in LASTING:
-            play_lasting(saved, *LASTING[name])
         else:
-            play_fault(saved, *FAULTS[name])
+            play_savings(saved, command, name.replace(FIRST, ""), FIRST in name)
     except (Wrong, Lost, OSError) as error:
         return f"{error!r}"
     return None

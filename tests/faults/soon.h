@@ -1,44 +1,83 @@
 /* Is included before bindings/c/client.c: if FAULTS_PAUSE has milliseconds, the client reconnects
- * after these. If FAULTS_MEMORY names a file, that gets a line at each SIGUSR2: how many bytes are
- * allocated. The client waits when the signal comes. */
+ * after these. If FAULTS_MEMORY names a file, that gets a line at each hundredth end of a
+ * connection: how many objects and bytes are allocated. They are counted exactly, by functions in
+ * the place of the C library's, whose own count has what it keeps for itself, too. */
 #define _POSIX_C_SOURCE 200809L
 #define _DEFAULT_SOURCE
-#include <fcntl.h>
 #include <malloc.h>
-#include <signal.h>
 #include <stdio.h>
 #include <stdlib.h>
-#include <unistd.h>
 #include "rtr_client.h"
 
-static int memory_fd;
+void *__libc_malloc(size_t size);
+void *__libc_calloc(size_t count, size_t size);
+void *__libc_realloc(void *memory, size_t size);
+void __libc_free(void *memory);
 
-/* Writes how many bytes are allocated. */
-static void write_memory(int number)
+static long objects, bytes;
+
+static void *counted(void *memory)
 {
-    char line[32];
-    int length = snprintf(line, sizeof line, "%zu\n", mallinfo2().uordblks);
-    if (write(memory_fd, line, (size_t)length) != length)
-        _exit(number);
+    objects += memory != NULL;
+    bytes += (long)malloc_usable_size(memory);
+    return memory;
 }
 
-/* Initializes a client, and starts to count memory. */
+static void uncount(void *memory)
+{
+    objects -= memory != NULL;
+    bytes -= (long)malloc_usable_size(memory);
+}
+
+void *malloc(size_t size)
+{
+    return counted(__libc_malloc(size));
+}
+
+void *calloc(size_t count, size_t size)
+{
+    return counted(__libc_calloc(count, size));
+}
+
+void *realloc(void *memory, size_t size)
+{
+    uncount(memory);
+    void *moved = __libc_realloc(memory, size);
+    counted(moved || !size ? moved : memory);
+    return moved;
+}
+
+void free(void *memory)
+{
+    uncount(memory);
+    __libc_free(memory);
+}
+
+/* Appends a line to the file at each hundredth call. */
+static void write_memory(const char *path)
+{
+    static int ends;
+    FILE *file = ++ends % 100 ? NULL : fopen(path, "a");
+    if (file && (fprintf(file, "%ld %ld\n", objects, bytes) < 0 || fclose(file)))
+        abort();
+}
+
+/* Initializes a client that waits for the pause between connections. */
 static void init_soon(struct rtr_client *client, uint8_t version)
 {
-    const char *pause = getenv("FAULTS_PAUSE"), *path = getenv("FAULTS_MEMORY");
+    const char *pause = getenv("FAULTS_PAUSE");
     rtr_client_init(client, version);
     if (pause)
         client->settings.pause = (uint32_t)strtoul(pause, NULL, 10);
-    if (path) {
-        memory_fd = open(path, O_WRONLY | O_CREAT | O_APPEND | O_CLOEXEC, 0600);
-        signal(SIGUSR2, write_memory);
-    }
 }
 
 /* Returns what to do next; after a failure, that is to connect after the pause. */
 static enum rtr_client_event next_soon(struct rtr_client *client, int64_t now)
 {
     enum rtr_client_event event = rtr_client_next(client, now);
+    const char *path = getenv("FAULTS_MEMORY");
+    if (event == RTR_CLIENT_FAILED && path)
+        write_memory(path);
     if (event == RTR_CLIENT_FAILED && getenv("FAULTS_PAUSE"))
         rtr_client_ask_now(client);
     return event;

@@ -104,14 +104,27 @@ static int is_folder(const char *path)
     return !stat(path, &found) && S_ISDIR(found.st_mode);
 }
 
-/* Reports whether a call opens the file that is saved, for writing. */
+/* Reports whether a call opens the file that is saved, or its folder. */
 static int opens(struct thread *t, uint64_t path, uint64_t flags)
 {
-    t->call = OPEN;
-    if (!(flags & O_CREAT))
-        return 0;
+    read_text(t->id, path, t->path);
+    return is_opening(t->path, flags & O_CREAT, &t->call);
+}
+
+/* Reports whether a call removes that file. */
+static int removes(struct thread *t, uint64_t path)
+{
+    t->call = REMOVE;
     read_text(t->id, path, t->path);
     return is_saved_path(t->path);
+}
+
+/* A call creates a folder: only the list of calls has it. */
+static int creates(struct thread *t, uint64_t path)
+{
+    t->call = MKDIR;
+    read_text(t->id, path, t->path);
+    return calls != NULL;
 }
 
 /* Reports whether a call is one on a descriptor of this file, or of a folder if it syncs that. */
@@ -140,6 +153,14 @@ static int concerns_saving(struct thread *t, uint64_t number, const uint64_t wor
         return opens(t, words[0], words[1]);
     case SYS_openat:
         return opens(t, words[1], words[2]);
+    case SYS_unlink:
+        return removes(t, words[0]);
+    case SYS_unlinkat:
+        return removes(t, words[1]);
+    case SYS_mkdir:
+        return creates(t, words[0]);
+    case SYS_mkdirat:
+        return creates(t, words[1]);
     case SYS_write:
         return is_on(t, WRITE, words[0]);
     case SYS_fsync:
@@ -190,8 +211,7 @@ static void change(pid_t id, int is_skipped, uint64_t size)
 static void begin(struct thread *t, uint64_t size)
 {
     size_t most = size;
-    int fault = fault_of(SAVE, 1, NULL);
-    t->fault = fault ? fault : fault_of(t->call, 1, t->call == WRITE ? &most : NULL);
+    t->fault = fault_on_file(t->call, t->call == WRITE ? &most : NULL);
     if (t->fault == KILLED && t->call != WRITE)
         kill_program();
     else if (t->fault == KILLED)

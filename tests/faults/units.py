@@ -11,7 +11,8 @@ LONG = 300  # seconds for what has to happen
 # The types of units.
 NOTIFY, SERIAL_QUERY, RESET_QUERY, RESPONSE, IPV4, IPV6, END, REPORT = 0, 1, 2, 3, 4, 6, 7, 10
 
-INVALID_REQUEST = 3  # the code of a report about a unit that a router doesn't send (section 12)
+# Codes of reports (section 12): the cache has no data yet; about a unit that a router doesn't send.
+NO_DATA, INVALID_REQUEST = 2, 3
 
 
 class Wrong(Exception):
@@ -31,7 +32,7 @@ def prefix(text, announce, version=2):
 
 
 def end(serial, version=2, session=SESSION):
-    """An end of data; that of version 0 has no timings (RFC 6810 section 5.8)."""
+    """Returns an end of data; that of version 0 has no timings (RFC 6810 section 5.8)."""
     timings = struct.pack(">III", *TIMINGS) if version else b""
     return unit(END, session, struct.pack(">I", serial) + timings, version)
 

@@ -130,8 +130,9 @@ func (c conn) Write(bytes []byte) (int, error) {
 }
 
 // socket is a connection of a server, which writes answers to the descriptor itself. Their faults
-// are real: a write that has to wait goes to a full socket first, one that breaks to a socket without
-// a peer, and short ones to a small buffer of the system. A write that doesn't wait is then over.
+// are real: a write that has to wait goes to a full socket first, one that breaks to a socket
+// without a peer, and short ones to a small buffer of the system. A write that doesn't wait is then
+// over.
 type socket struct{ conn }
 
 // Write writes all, as net does after short writes.

@@ -6,7 +6,9 @@
 //	faulty ADDRESS --version N     prints the lines of rtr_diff
 //	faulty FILE --listen ADDRESS
 //
-// If FAULTS_PAUSE has milliseconds, the client reconnects after these.
+// If FAULTS_PAUSE has milliseconds, the client reconnects after these. If FAULTS_MEMORY names a
+// file, that gets a line at each hundredth end of a connection: how many objects and bytes are
+// allocated, after garbage collections.
 // At SIGUSR1 it writes the number of goroutines and the bytes of its heap to the file that
 // FAULTS_STATE names, at SIGUSR2 after a garbage collection: that also closes what the package
 // forgot to close. Stacks aren't counted, whose sizes vary: each goroutine is.
@@ -68,6 +70,55 @@ func states(path string) {
 	}()
 }
 
+// memoryPath names the file that gets what is allocated; then each allocation is in the profile.
+var memoryPath = os.Getenv("FAULTS_MEMORY")
+
+func init() {
+	if memoryPath != "" {
+		runtime.MemProfileRate = 1
+	}
+}
+
+// writeMemory appends a line to the file at each hundredth end of a connection.
+func writeMemory(ends int) {
+	if memoryPath == "" || ends%100 > 0 {
+		return
+	}
+	for i := 0; i < 4; i++ {
+		runtime.GC() // the profile is that of an earlier one, and a pool keeps objects for one more
+	}
+	var objects, bytes int64
+	for _, record := range profile() {
+		if !isKept(record.Stack()) {
+			objects += record.InUseObjects()
+			bytes += record.InUseBytes()
+		}
+	}
+	file, err := os.OpenFile(memoryPath, os.O_CREATE|os.O_APPEND|os.O_WRONLY, 0o600)
+	if err != nil {
+		panic(err)
+	}
+	defer file.Close()
+	fmt.Fprintln(file, objects, bytes)
+}
+
+// isKept reports whether the runtime keeps what is allocated here, to use it again: for goroutines,
+// which are counted, and for their waits.
+func isKept(stack []uintptr) bool {
+	first, _ := runtime.CallersFrames(stack).Next()
+	return first.Function == "runtime.malg" || first.Function == "runtime.acquireSudog"
+}
+
+// profile returns what is allocated, by where that was done.
+func profile() []runtime.MemProfileRecord {
+	for length := 1 << 12; ; length *= 2 {
+		records := make([]runtime.MemProfileRecord, length)
+		if count, isWhole := runtime.MemProfile(records, false); isWhole {
+			return records[:count]
+		}
+	}
+}
+
 // follow prints the changes of a cache's data.
 func follow(ctx context.Context, injected *faults, words []string) error {
 	client := rtr.NewClient(words[0])
@@ -76,10 +127,17 @@ func follow(ctx context.Context, injected *faults, words []string) error {
 		return err
 	}
 	client.AskIn(uint8(version))
-	client.Failed = func(err error) { fmt.Fprintln(os.Stderr, err) }
-	if pause, err := strconv.Atoi(os.Getenv("FAULTS_PAUSE")); err == nil {
+	pause, err := strconv.Atoi(os.Getenv("FAULTS_PAUSE"))
+	isCounted, ends := err == nil, 0
+	if isCounted {
 		client.Limits.Pause = time.Duration(pause) * time.Millisecond
-		client.Failed = func(error) { client.AskNow() }
+	}
+	client.Failed = func(err error) {
+		fmt.Fprintln(os.Stderr, err)
+		if ends++; isCounted {
+			writeMemory(ends)
+			client.AskNow()
+		}
 	}
 	client.Dial = func(ctx context.Context, network, address string) (net.Conn, error) {
 		return injected.dialed(func() (net.Conn, error) {
