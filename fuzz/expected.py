@@ -30,12 +30,13 @@ TIMINGS = struct.pack(">III", 3600, 600, 7200)
 
 
 def number(piece):
-    """The number in the bytes, big-endian."""
+    """Returns the number in the bytes, big-endian."""
     return int.from_bytes(piece, "big")
 
 
 def has_length(version, kind, length):
-    """Whether a unit of this type (an end of data: of this version) may have this length."""
+    """Reports whether a unit of this type (an end of data: of this version) may have this
+    length."""
     if kind == 9:
         return length >= 32
     if kind == 11:
@@ -44,7 +45,7 @@ def has_length(version, kind, length):
 
 
 def when_refused(data):
-    """The number of the first row that applies to the bytes, or 0, and what is printed."""
+    """Returns the number of the first row that applies to the bytes, or 0, and what is printed."""
     if len(data) < 8:
         return 1, "unexpected end of input"
     version, kind, flags, _, length = struct.unpack(">BBBBI", data[:8])
@@ -66,7 +67,7 @@ def when_refused(data):
 
 
 def written_form(unit, version):
-    """The payload unit in canonical form, in this version."""
+    """Returns the payload unit in canonical form, in this version."""
     kind = unit[1]
     if kind in WIDTHS:
         flags, length, max_length = unit[8] % 2, unit[9], unit[10]
@@ -80,14 +81,14 @@ def written_form(unit, version):
 
 
 def end_for(end, version):
-    """The end of data in this version."""
+    """Returns the end of data in this version."""
     timings = b"" if version == 0 else end[12:] or TIMINGS
     header = bytes([version, 7, *end[2:4]]) + struct.pack(">I", 12 + len(timings))
     return header + end[8:12] + timings
 
 
 def answer(data, to_version=None):
-    """Output, status, line on standard error, and the row of the refusal, or 0.
+    """Returns output, status, line on standard error, and the row of the refusal, or 0.
 
     If `to_version` is given, the sequence is written for this version.
     """

@@ -38,7 +38,7 @@ MANY_UNITS = 2000
 
 
 def free(rng, bits):
-    """A number of this many bits: zero, all ones or any."""
+    """Returns a number of this many bits: zero, all ones or any."""
     return rng.choice([0, 2**bits - 1, rng.getrandbits(bits)])
 
 
@@ -48,18 +48,18 @@ def flags(rng):
 
 
 def count(rng, most):
-    """A small number, or now and then one up to `most`."""
+    """Returns a small number, or now and then one up to `most`."""
     small = [0, 1, 2, 3, 4, rng.randint(0, 40)]
     return rng.choice([most, most - 1, rng.randint(0, most)] if rng.random() < 0.004 else small)
 
 
 def unit(version, kind, session, body):
-    """A unit whose length field fits its body."""
+    """Returns a unit whose length field fits its body."""
     return struct.pack(">BBHI", version, kind, session, 8 + len(body)) + body
 
 
 def prefix(rng, kind):
-    """A prefix with random free bytes and host bits."""
+    """Returns a prefix with random free bytes and host bits."""
     width = WIDTHS[kind]
     length = rng.choice([0, width, rng.randint(0, width), rng.randint(0, width)])
     max_length = rng.choice([length, width, rng.randint(length, width)])
@@ -69,13 +69,13 @@ def prefix(rng, kind):
 
 
 def router_key(rng):
-    """A router key with a random free byte."""
+    """Returns a router key with a random free byte."""
     session = flags(rng) << 8 | free(rng, 8)
     return unit(rng.choice(VERSIONS), 9, session, rng.randbytes(24 + count(rng, MOST_KEY_INFO)))
 
 
 def aspa(rng):
-    """An ASPA, often with repeated providers; a withdrawal may have none."""
+    """Returns an ASPA, often with repeated providers; a withdrawal may have none."""
     action = flags(rng)
     providers = max(action % 2, count(rng, MOST_PROVIDERS))
     pool = [bytes(4), bytes([255] * 4), rng.randbytes(4), rng.randbytes(4)]
@@ -84,13 +84,13 @@ def aspa(rng):
 
 
 def end_of_data(rng):
-    """An end of data of a known version."""
+    """Returns an end of data of a known version."""
     version = rng.randint(0, 2)
     return unit(version, 7, free(rng, 16), rng.randbytes(4 if version == 0 else 16))
 
 
 def payload_unit(rng):
-    """An acceptable payload unit of any type."""
+    """Returns an acceptable payload unit of any type."""
     kind = rng.choice([4, 6, 9, 9, 11, 11])
     if kind in WIDTHS:
         return prefix(rng, kind)
@@ -98,7 +98,8 @@ def payload_unit(rng):
 
 
 def other_unit(rng):
-    """A unit that no sequence may have: of another type, or an ASPA announced without providers."""
+    """Returns a unit that no sequence may have: of another type, or an ASPA announced without
+    providers."""
     kind = rng.choice([0, 1, 2, 3, 5, 8, 10, 11, 11, 11, 12, 255])
     if kind == 11:
         return unit(rng.choice(VERSIONS), kind, (flags(rng) | 1) << 8, rng.randbytes(4))
@@ -110,28 +111,28 @@ def other_unit(rng):
 
 
 def sequence(rng):
-    """Some payload units and an end of data."""
+    """Returns some payload units and an end of data."""
     units = [payload_unit(rng) for _ in range(rng.choice([0, 0, 1, 1, 2, 3, 6]))]
     return [*units, end_of_data(rng)]
 
 
 def stray(rng):
-    """Some bytes after the end of data, or none."""
+    """Returns some bytes after the end of data, or none."""
     return rng.choice([b"", b"", rng.randbytes(rng.randint(1, 40)), b"".join(sequence(rng))])
 
 
 def put(data, offset, piece):
-    """The bytes, overwritten with a piece at an offset."""
+    """Returns the bytes, overwritten with a piece at an offset."""
     return data[:offset] + piece + data[offset + len(piece) :]
 
 
 def length_for(rng, kind):
-    """A length at a bound, mostly at one of this type."""
+    """Returns a length at a bound, mostly at one of this type."""
     return rng.choice(BOUNDS[kind] if kind in BOUNDS and rng.random() < 0.7 else LENGTHS)
 
 
 def with_length(rng, old):
-    """The unit with another length field, and often cut or padded to that length."""
+    """Returns the unit with another length field, and often cut or padded to that length."""
     near = len(old) + rng.choice([-4, -1, 1, 4])
     length = near if rng.random() < 0.1 else length_for(rng, old[1])
     if rng.random() < (0.7 if length < 100 else 0.1 if length < 70000 else 0):
@@ -140,14 +141,14 @@ def with_length(rng, old):
 
 
 def with_prefix_lengths(rng, old):
-    """The unit with other prefix lengths."""
+    """Returns the unit with other prefix lengths."""
     length = rng.choice(PREFIX_LENGTHS)
     near = [max(0, length - 1), length, min(255, length + 1)]
     return put(old, 9, bytes([length, rng.choice([*near, *PREFIX_LENGTHS])]))
 
 
 def with_altered_field(rng, old):
-    """The unit with another value in one field."""
+    """Returns the unit with another value in one field."""
     fields = ["version", "type", "session", "length", "length", "length"]
     if old[1] in WIDTHS:
         fields = ["version", "type", "session", "length", *["prefix lengths"] * 6]
@@ -162,12 +163,12 @@ def with_altered_field(rng, old):
 
 
 def whole(rng):
-    """A sequence with random free bytes."""
+    """Returns a sequence with random free bytes."""
     return b"".join(sequence(rng)) + stray(rng)
 
 
 def altered(rng):
-    """A sequence in which one unit has other values in some fields."""
+    """Returns a sequence in which one unit has other values in some fields."""
     units = sequence(rng)
     index = rng.choice([0, 0, rng.randrange(len(units)), len(units) - 1])
     for _ in range(rng.choice([1, 1, 2])):
@@ -176,13 +177,13 @@ def altered(rng):
 
 
 def cut(rng):
-    """A sequence that ends early, at any byte."""
+    """Returns a sequence that ends early, at any byte."""
     data = b"".join(sequence(rng))
     return data[: rng.randrange(len(data))]
 
 
 def joined(rng):
-    """Units and parts of units in any order."""
+    """Returns units and parts of units in any order."""
     makers = rng.choices([payload_unit, end_of_data, other_unit], [8, 2, 1], k=rng.randint(1, 6))
     pieces = [maker(rng) for maker in makers]
     if rng.random() < 0.3:
@@ -192,8 +193,8 @@ def joined(rng):
 
 
 def headers(rng):
-    """A header with random fields, perhaps after some units, and bytes that may complete its
-    unit."""
+    """Returns a header with random fields, perhaps after some units, and bytes that may complete
+    its unit."""
     kind = rng.choice(list(BOUNDS) if rng.random() < 0.8 else TYPES)
     fields = (rng.choice(VERSIONS), kind, free(rng, 16), length_for(rng, kind))
     units = [payload_unit(rng) for _ in range(rng.choice([0, 0, 1, 2]))]
@@ -202,7 +203,7 @@ def headers(rng):
 
 
 def broken(rng, data):
-    """The bytes with one bit flipped, or a byte more or less."""
+    """Returns the bytes with one bit flipped, or a byte more or less."""
     offset = rng.randrange(len(data))
     change = rng.choice(["bit", "more", "less"])
     if change == "bit":
@@ -213,7 +214,7 @@ def broken(rng, data):
 
 
 def mutated(rng):
-    """A recording of a sequence with a few broken bits or bytes."""
+    """Returns a recording of a sequence with a few broken bits or bytes."""
     data = whole(rng)
     for _ in range(rng.choice([1, 1, 2, 4])):
         data = broken(rng, data) or b"\0"
@@ -221,7 +222,8 @@ def mutated(rng):
 
 
 def sampled(rng):
-    """Samples in any order, perhaps with a broken bit or byte, and mostly an end of data."""
+    """Returns samples in any order, perhaps with a broken bit or byte, and mostly an end of
+    data."""
     units = [sample.bytes for sample in samples.SAMPLES]
     if rng.random() < 0.7:
         units = [unit for unit in units if unit[1:2] in (b"\4", b"\6", b"\x09", b"\x0b")]
@@ -232,7 +234,7 @@ def sampled(rng):
 
 
 def long(rng):
-    """A sequence longer than the buffers of the program, perhaps broken or cut."""
+    """Returns a sequence longer than the buffers of the program, perhaps broken or cut."""
     units = [payload_unit(rng) for _ in range(rng.randint(MANY_UNITS // 2, MANY_UNITS))]
     data = b"".join(units) + end_of_data(rng)
     deed = rng.choice(["none", "broken", "cut"])
@@ -255,6 +257,6 @@ KINDS = {
 
 
 def make(rng):
-    """The name of a kind, and an input of this kind."""
+    """Returns the name of a kind, and an input of this kind."""
     kind = rng.choices(list(KINDS), weights=list(KINDS.values()))[0]
     return kind.__name__, kind(rng)

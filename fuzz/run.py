@@ -46,7 +46,7 @@ FOUND = threading.Event()
 
 
 def input_of(seed, number):
-    """The kind and the bytes of an input of this seed."""
+    """Returns the kind and the bytes of an input of this seed."""
     return inputs.make(random.Random(f"{seed} {number}"))
 
 
@@ -62,7 +62,8 @@ def run_on_open(command, data):
 
 
 def program_answer(args, data, row):
-    """Output, status and line of the program. A small input that isn't short is kept open."""
+    """Returns output, status and line of the program. A small input that isn't short is kept
+    open."""
     command = [args.program]
     if args.version is not None:
         command += ["--version", str(args.version)]
@@ -77,13 +78,13 @@ def program_answer(args, data, row):
 
 
 def first_difference(left, right):
-    """The first offset at which two byte strings differ."""
+    """Returns the first offset at which two byte strings differ."""
     shorter = min(len(left), len(right))
     return next((offset for offset in range(shorter) if left[offset] != right[offset]), shorter)
 
 
 def difference(args, number, data, got, model):
-    """What differs, and the file with the input."""
+    """Writes the input to a file, and returns a text with the difference and the file's name."""
     path = os.path.join(tempfile.gettempdir(), f"rtr_normalise-{args.seed}-{number}.hex")
     with open(path, "w", encoding="ascii") as file:
         file.write(data.hex("\n", -32) + "\n")
@@ -101,7 +102,8 @@ def difference(args, number, data, got, model):
 
 
 def try_input(args, number):
-    """The kind of an input, the row that refuses it or 0, and the difference, if there is one."""
+    """Returns the kind of an input, the row that refuses it or 0, and the difference, if there is
+    one."""
     kind, data = input_of(args.seed, number)
     *model, row = expected.answer(data, args.version)
     got = program_answer(args, data, row)
@@ -122,7 +124,7 @@ def work(args, number, end):
 
 
 def totals(seen, seconds):
-    """How many inputs of each kind were tried, and what was expected of them."""
+    """Returns how many inputs of each kind were tried, and what was expected of them."""
     kinds, rows = collections.Counter(), collections.Counter()
     for (kind, row), times in seen.items():
         kinds[kind] += times

@@ -96,7 +96,8 @@ class Cache:
         self.serve(listed)
 
     def serves(self, listed):
-        """Returns the part of the list that it serves in its version."""
+        """Returns the payloads of version 1 or lower: its ASPAs have another layout, and are
+        compared separately."""
         return payloads.in_version(listed, self.version)
 
 
@@ -280,9 +281,9 @@ class RtrCache(Ours):
         words = [*self.example.words(), "--json", os.path.join(self.folder, self.json)]
         for name, seconds in zip(("--refresh", "--retry", "--expire"), times):
             words += [name, str(seconds)]
-        done = subprocess.run([*words, "--listen", "127.0.0.1:0"], capture_output=True, text=True,
-                              timeout=READY_SECONDS, check=False)
-        return done.returncode == 2 and "time has to be" in done.stderr
+        result = subprocess.run([*words, "--listen", "127.0.0.1:0"], capture_output=True, text=True,
+                                timeout=READY_SECONDS, check=False)
+        return result.returncode == 2 and "time has to be" in result.stderr
 
     def serve_again(self):
         """Starts it with the present list."""

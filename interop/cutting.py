@@ -130,7 +130,7 @@ class Keeper(routers.Router):
         super().__init__(folder, port)
         self.looks, self.wrong = 0, []
         self.lists = None
-        self.done = threading.Event()
+        self.ended = threading.Event()
 
     def start(self):
         """Starts it, and checks its file continuously."""
@@ -140,7 +140,7 @@ class Keeper(routers.Router):
         self.watching.start()
 
     def __exit__(self, *words):
-        self.done.set()
+        self.ended.set()
         self.watching.join(END_SECONDS)
         super().__exit__(*words)
 
@@ -159,7 +159,7 @@ class Keeper(routers.Router):
 
     def watch(self):
         """Checks that the file is one of the lists."""
-        while not self.done.wait(0.05):
+        while not self.ended.wait(0.05):
             held = frozenset(self.table())
             self.looks += 1
             if held and self.lists is not None and held not in self.lists:
@@ -355,8 +355,8 @@ def asked(scene, query, name):
     return scene.answers.take(query, answer.units)
 
 
-def has(scene, number, listed):
-    """Reports whether the data of a serial number are a list."""
+def is_list(scene, number, listed):
+    """Reports whether the data of a serial number are those of a list."""
     expected = {answers.announced(each, 1) for each in payloads.in_version(listed, 1)}
     return set(scene.answers.served[number].values()) == expected
 
@@ -378,7 +378,7 @@ def killed(scene, turn, phase):
 
     def current():
         number = asked(scene, reset, "current")
-        return number if has(scene, number, listed) else None
+        return number if is_list(scene, number, listed) else None
 
     after = until(current, DIES_SECONDS, "the changed list")
     delta = asked(scene, recorder.serial_query(1, *before[1:]), "delta")

@@ -38,7 +38,8 @@ SCENES = (BURST, RESTART, SESSION)
 
 @contextlib.contextmanager
 def beginning(results, maker, folder, name, lists, retry=None):
-    """A cache that serves the first of these lists, and its routers, which hold it."""
+    """Starts a cache that serves the first of these lists, and its routers, and waits until they
+    hold it."""
     with Pair(results, PART, maker.name, "v1", maker.release()), contextlib.ExitStack() as stack:
         cache = maker(os.path.join(folder, f"{name}.{maker.__name__.lower()}"), 1)
         cache.retry = retry or cache.retry
@@ -84,7 +85,7 @@ def note(each, scene, took, seconds, how=""):
 
 
 def burst(results, maker, folder):
-    """A burst of changes."""
+    """Plays a burst of changes."""
     listed, _ = payloads.made_up()
     lists = [listed, payloads.varied(listed, CHANGES - 1), payloads.varied(listed, CHANGES)]
     with beginning(results, maker, folder, "burst", lists) as (cache, beside):
@@ -125,7 +126,7 @@ def kind_of_answer(each, since, changed):
 
 
 def restart(results, maker, folder):
-    """A restart of the cache with a later serial number."""
+    """Plays a restart of the cache with a later serial number."""
     listed, _ = payloads.made_up()
     lists = [listed, payloads.varied(listed, 1)]
     with beginning(results, maker, folder, "restart", lists, RETRY) as (cache, beside):
@@ -147,8 +148,8 @@ def restart(results, maker, folder):
 
 
 def new_session(results, maker, folder):
-    """A file of another session. The result is compared with the page, if that is of this release:
-    a close, after which most routers wait for their retry time."""
+    """Plays a file of another session. The result is compared with the page, if that is of this
+    release: a close, after which most routers wait for their retry time."""
     listed, _ = payloads.made_up()
     lists = [listed, payloads.varied(listed, 1)]
     with beginning(results, maker, folder, "session", lists) as (cache, beside):

@@ -51,7 +51,8 @@ KINDS = {
 
 
 def packet(content, stream, offset):
-    """A packet of IPv4 and TCP from the port of caches that carries these bytes of a stream."""
+    """Returns a packet of IPv4 and TCP from the port of caches that carries these bytes of a
+    stream."""
     port = 40000 + stream
     segment = struct.pack(">HHIIBBHHH", PORT, port, offset + 1, 1, 0x50, 0x18, 65535, 0, 0)
     home = bytes([127, 0, 0, 1])
@@ -74,8 +75,8 @@ def dissected(path):
     """Returns the units that tshark shows of a capture: the values of each, by the name of its
     field."""
     words = [program("tshark"), "-n", "-r", path, "-d", f"tcp.port=={PORT},rpkirtr", "-T", "pdml"]
-    done = subprocess.run(words, capture_output=True, timeout=SECONDS, check=True)
-    for proto in tree.fromstring(done.stdout).iter("proto"):
+    result = subprocess.run(words, capture_output=True, timeout=SECONDS, check=True)
+    for proto in tree.fromstring(result.stdout).iter("proto"):
         if proto.get("name") == "rpkirtr":
             fields = {}
             for field in proto.iter("field"):
@@ -131,7 +132,7 @@ def shown_of(fields, expected):
 
 
 def both(streams, path):
-    """The units that tshark and rtr_list list of these streams, in the same form."""
+    """Returns the units that tshark and rtr_list list of these streams, in the same form."""
     known = [
         b"".join(unit for unit in recorder.units(content) if unit[1] != ASPA) for content in streams
     ]
@@ -156,20 +157,20 @@ def compare_streams(pair, what, name, source, path):
     """Compares what both list of these streams."""
     words = [sys.executable, os.path.abspath(__file__), what, source, path]
     with at_once:
-        done = subprocess.run(words, capture_output=True, timeout=2 * SECONDS, check=False)
-    if done.returncode:
-        raise OSError(f"{name}: {done.stderr[-500:].decode(errors='replace')}")
-    pair.equal(f"lists {name} as rtr_list does", *json.loads(done.stdout))
+        result = subprocess.run(words, capture_output=True, timeout=2 * SECONDS, check=False)
+    if result.returncode:
+        raise OSError(f"{name}: {result.stderr[-500:].decode(errors='replace')}")
+    pair.equal(f"lists {name} as rtr_list does", *json.loads(result.stdout))
 
 
 def read(path):
-    """The bytes of a file."""
+    """Returns the bytes of a file."""
     with open(path, "rb") as file:
         return file.read()
 
 
 def names(results):
-    """The pair of all comparisons."""
+    """Returns the pair of all comparisons."""
     return Pair(results, PART, "tshark", "", package_version("tshark"))
 
 
@@ -188,7 +189,7 @@ def files_below(top, endings):
 
 
 def recorded(folder):
-    """The folders in which pairs of a run left recordings, the largest first."""
+    """Returns the folders in which pairs of a run left recordings, the largest first."""
     sizes = {}
     for path in (os.path.join(folder, name) for name in sorted(os.listdir(folder))):
         if found := files_below(path, (*SESSIONS, FORMS)):

@@ -30,8 +30,8 @@ LISTED = [
     RouterKey(SECOND, 64497, INFO),
 ]
 
-# The examples of RFC 8416 sections 3.3.1, 3.3.2, 3.4.1 and 3.4.2, which section 3.5 has in one file,
-# with an identifier and a key where the RFC has "<some base64 SKI>" and
+# The examples of RFC 8416 sections 3.3.1, 3.3.2, 3.4.1 and 3.4.2, which section 3.5 has in one
+# file, with an identifier and a key where the RFC has "<some base64 SKI>" and
 # "<some base64 public key>".
 PREFIX_FILTERS = [
     {"prefix": "192.0.2.0/24", "comment": "All VRPs encompassed by prefix"},
@@ -85,7 +85,7 @@ SCENES = {
 
 
 def slurm(prefix_filters, key_filters, prefixes, keys):
-    """A SLURM file (RFC 8416 section 3.2)."""
+    """Returns a SLURM file (RFC 8416 section 3.2)."""
     return json.dumps({
         "slurmVersion": 1,
         "validationOutputFilters": {
@@ -96,7 +96,8 @@ def slurm(prefix_filters, key_filters, prefixes, keys):
 
 
 def padded(entry):
-    """The entry with the base64 of RFC 4648 section 4, with padding, which stayrtr reads."""
+    """Returns the entry with the base64 of RFC 4648 section 4, with padding, which stayrtr
+    reads."""
     return {name: base64.b64encode(base64.urlsafe_b64decode(value + "==")).decode()
             if name in ("SKI", "routerPublicKey") else value for name, value in entry.items()}
 
@@ -113,12 +114,12 @@ class SlurmStayRTR(caches.StayRTR):
 
 
 def lines_of(units):
-    """The payloads among units, as a set of lines."""
+    """Returns the payloads among units, as a set of lines."""
     return set(theirs.payload_lines(units))
 
 
 def made_with_slurm(cache):
-    """What `rtr_make` makes of the list and the SLURM file of a cache."""
+    """Returns what `rtr_make` makes of the list and the SLURM file of a cache."""
     with open(os.path.join(cache.folder, cache.json), "rb") as file:
         listed = file.read()
     words = ["rtr_make", "--json", "--version", str(cache.version), "--empty"]
@@ -130,7 +131,7 @@ def made_with_slurm(cache):
 
 
 def sent_by(cache, exceptions):
-    """What stayrtr sends for the list and this SLURM file."""
+    """Returns what stayrtr sends for the list and this SLURM file."""
     cache.exceptions = exceptions
     with cache.serve(LISTED), recorder.Session(cache.port, cache.folder, "all") as session:
         return session.ask(recorder.reset_query(1)).sequence()

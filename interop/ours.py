@@ -78,17 +78,17 @@ class Example:
         return out
 
     def words(self):
-        """How it is called."""
+        """Returns its command."""
         return [self.built()]
 
     def build(self, words, where, out):
         """Builds it."""
         target = os.path.join(self.folder, "cargo")
         setting = dict(os.environ, CARGO_TARGET_DIR=target)
-        done = subprocess.run(words, cwd=where, env=setting, capture_output=True, text=True,
-                              timeout=480, check=False)
-        if done.returncode:
-            raise OSError(f"{' '.join(words)}: {done.stderr[-500:]}")
+        result = subprocess.run(words, cwd=where, env=setting, capture_output=True, text=True,
+                                timeout=480, check=False)
+        if result.returncode:
+            raise OSError(f"{' '.join(words)}: {result.stderr[-500:]}")
         if self.name == "Rust":
             shutil.copy(os.path.join(target, "release", "examples", self.example), out)
 
@@ -96,11 +96,11 @@ class Example:
         """Returns what this client holds after one answer of a cache, as lines of `rtr_diff
         --json`."""
         words = [self.built(), f"127.0.0.1:{port}", "--once", "--json", "--version", str(version)]
-        done = subprocess.run(words, capture_output=True, text=True, timeout=SECONDS, check=False)
-        if done.returncode:
-            errors = done.stderr[-300:]
-            raise OSError(f"client in {self.name} ends with {done.returncode}: {errors}")
-        return {payloads.as_line(json.loads(line)) for line in done.stdout.splitlines()}
+        result = subprocess.run(words, capture_output=True, text=True, timeout=SECONDS, check=False)
+        if result.returncode:
+            errors = result.stderr[-300:]
+            raise OSError(f"client in {self.name} ends with {result.returncode}: {errors}")
+        return {payloads.as_line(json.loads(line)) for line in result.stdout.splitlines()}
 
 
 class Program:
@@ -139,14 +139,14 @@ class Program:
         path = os.path.join(self.folder, self.name)
         with Program.lock:
             if not os.path.exists(path):
-                done = subprocess.run([BUILD, self.folder], capture_output=True, text=True,
-                                      timeout=480, check=False)
-                if done.returncode:
-                    raise OSError(f"programs/build: {done.stderr[-500:]}")
+                result = subprocess.run([BUILD, self.folder], capture_output=True, text=True,
+                                        timeout=480, check=False)
+                if result.returncode:
+                    raise OSError(f"programs/build: {result.stderr[-500:]}")
         return path
 
     def words(self):
-        """How it is called, with our programs in its path."""
+        """Returns its command, with our programs in its path."""
         path = os.path.dirname(programs.path(self.NEEDS[self.name]))
         return ["env", f"PATH={path}:{os.environ['PATH']}", self.built()]
 
@@ -175,10 +175,10 @@ class InPython:
         words = [os.path.join(TOP, "bindings", "package.py"), "--archives", archives]
         with InPython.lock:
             if not os.path.exists(self.library):
-                done = subprocess.run([*words, "--library", self.library], capture_output=True,
-                                      text=True, timeout=SECONDS, check=False)
-                if done.returncode:
-                    raise OSError(f"bindings/package.py: {done.stderr[-500:]}")
+                result = subprocess.run([*words, "--library", self.library], capture_output=True,
+                                        text=True, timeout=SECONDS, check=False)
+                if result.returncode:
+                    raise OSError(f"bindings/package.py: {result.stderr[-500:]}")
         return self.library
 
     def words(self):
@@ -258,10 +258,10 @@ class TokioTLS:
         words = ["cargo", "build", "--offline", "--quiet", "--example", "tls", "--config",
                  'source.crates-io.replace-with="debian"', "--config",
                  f'source.debian.directory="{self.REGISTRY}"']
-        done = subprocess.run(words, cwd=os.path.join(copy, "tokio"), env=setting, text=True,
-                              capture_output=True, timeout=480, check=False)
-        if done.returncode:
-            raise OSError(f"cargo: {done.stderr[-500:]}")
+        result = subprocess.run(words, cwd=os.path.join(copy, "tokio"), env=setting, text=True,
+                                capture_output=True, timeout=480, check=False)
+        if result.returncode:
+            raise OSError(f"cargo: {result.stderr[-500:]}")
 
 
 def clients(folder):

@@ -47,7 +47,7 @@ class Origin(NamedTuple):
         }
 
     def unit(self, version, flags):
-        """Its unit (RFC 8210 sections 5.6 and 5.7)."""
+        """Returns its unit (RFC 8210 sections 5.6 and 5.7)."""
         network = ipaddress.ip_network(self.prefix)
         kind = IPV4 if network.version == 4 else IPV6
         lengths = bytes([flags, network.prefixlen, self.max_length, 0])
@@ -77,7 +77,7 @@ class RouterKey(NamedTuple):
         }
 
     def unit(self, version, flags):
-        """Its unit (RFC 8210 section 5.10)."""
+        """Returns its unit (RFC 8210 section 5.10)."""
         rest = self.identifier + struct.pack(">I", self.asn) + self.info
         return struct.pack(">BBBBI", version, ROUTER_KEY, flags, 0, 8 + len(rest)) + rest
 
@@ -102,7 +102,7 @@ class Authorization(NamedTuple):
         }
 
     def unit(self, version, flags):
-        """Its unit (as in the Rust crate)."""
+        """Returns its unit (as in the Rust crate)."""
         numbers = (self.customer,) + (self.providers if flags else ())
         rest = struct.pack(f">{len(numbers)}I", *numbers)
         return struct.pack(">BBBBI", version, ASPA, flags, 0, 8 + len(rest)) + rest
@@ -141,7 +141,7 @@ def payload_of(fields):
 
 
 def unpadded(content):
-    """Base64 as in RFC 4648 section 5, without padding."""
+    """Returns base64 as in RFC 4648 section 5, without padding."""
     return base64.urlsafe_b64encode(content).decode().rstrip("=")
 
 
@@ -162,13 +162,13 @@ def changes(old, new):
 
 
 def end_of_data(version, session, serial, timings=TIMINGS):
-    """An end of data (RFC 8210 section 5.8)."""
+    """Returns an end of data (RFC 8210 section 5.8)."""
     rest = struct.pack(">I", serial) + (struct.pack(">3I", *timings) if version else b"")
     return struct.pack(">BBHI", version, END, session, 8 + len(rest)) + rest
 
 
 def sequence(payloads, version, session, serial, timings=TIMINGS):
-    """The units that announce the payloads in their order, and an end of data."""
+    """Returns the units that announce the payloads in their order, and an end of data."""
     ordered = sorted(in_version(payloads, version), key=lambda payload: payload.order())
     units = b"".join(payload.unit(version, 1) for payload in ordered)
     return units + end_of_data(version, session, serial, timings)
@@ -264,7 +264,7 @@ def varied(payloads, turn):
 # ---- files that caches read
 
 def stayrtr_json(payloads):
-    """The JSON that rpki-client writes and stayrtr reads."""
+    """Returns the JSON that rpki-client writes and stayrtr reads."""
     ordered = sorted(payloads, key=lambda payload: payload.order())
     wholes = {"roas": [], "bgpsec_keys": []}
     aspas = []
@@ -308,6 +308,6 @@ def slurm(payloads):
 
 
 def plain_lines(payloads):
-    """The origins, a line each: prefix, max length, AS."""
+    """Returns the origins, a line each: prefix, max length, AS."""
     ordered = sorted(payloads, key=lambda payload: payload.order())
     return "".join(f"{o.prefix} {o.max_length} {o.asn}\n" for o in ordered if isinstance(o, Origin))

@@ -32,16 +32,22 @@ def there(name):
 
 def run(words, content=b""):
     """Runs one of our programs, and returns its status, standard output and standard error."""
-    done = subprocess.run([path(words[0]), *words[1:]], input=content, capture_output=True,
-                          timeout=SECONDS, check=False)
-    return done.returncode, done.stdout, done.stderr.decode().strip()
+    result = subprocess.run([path(words[0]), *words[1:]], input=content, capture_output=True,
+                            timeout=SECONDS, check=False)
+    return result.returncode, result.stdout, result.stderr.decode().strip()
+
+
+def output_of(words, content=b"", allowed=(0,)):
+    """Returns the standard output of one of our programs. Another status than these is an error."""
+    status, output, errors = run(words, content)
+    if status not in allowed:
+        raise ValueError(f"{words[0]} ends with {status}: {errors}")
+    return output
 
 
 def listed(content):
     """Returns the units of a recording, as `rtr_list --json` prints them. A fault is an error."""
-    status, lines, errors = run(["rtr_list", "--json"], content)
-    if status:
-        raise ValueError(f"rtr_list ends with {status}: {errors}")
+    lines = output_of(["rtr_list", "--json"], content)
     return [json.loads(line) for line in lines.splitlines()]
 
 
@@ -61,41 +67,27 @@ def found(content):
 
 def differing(old, new):
     """Returns the output of `rtr_diff --json` for two files: a set of lines, with sorted fields."""
-    status, lines, errors = run(["rtr_diff", "--json", old, new])
-    if status not in (0, 1):
-        raise ValueError(f"rtr_diff ends with {status}: {errors}")
+    lines = output_of(["rtr_diff", "--json", old, new], allowed=(0, 1))
     return {json.dumps(json.loads(line), sort_keys=True) for line in lines.splitlines()}
 
 
 def units_of_change(old, new):
     """Returns the output of `rtr_diff --units` for two files."""
-    status, units, errors = run(["rtr_diff", "--units", old, new])
-    if status not in (0, 1):
-        raise ValueError(f"rtr_diff ends with {status}: {errors}")
-    return units
+    return output_of(["rtr_diff", "--units", old, new], allowed=(0, 1))
 
 
 def normalised(content):
     """Returns the output of `rtr_normalise` for a sequence."""
-    status, form, errors = run(["rtr_normalise"], content)
-    if status:
-        raise ValueError(f"rtr_normalise ends with {status}: {errors}")
-    return form
+    return output_of(["rtr_normalise"], content)
 
 
 def rtr_make(content, version):
     """Returns the output of `rtr_make --json` for a cache's file, without what the version
     lacks."""
     words = ["rtr_make", "--json", "--version", str(version), "--session", "4660", "--serial", "1"]
-    status, units, errors = run([*words, "--drop", "--empty"], content)
-    if status:
-        raise ValueError(f"rtr_make ends with {status}: {errors}")
-    return units
+    return output_of([*words, "--drop", "--empty"], content)
 
 
 def cleaned(content):
     """Returns the output of `rtr_clean` for a session."""
-    status, clean, errors = run(["rtr_clean"], content)
-    if status:
-        raise ValueError(f"rtr_clean ends with {status}: {errors}")
-    return clean
+    return output_of(["rtr_clean"], content)

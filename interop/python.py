@@ -26,11 +26,11 @@ installing = threading.Lock()
 
 def ran(words, **settings):
     """Returns the output of a command; raises an error if it fails."""
-    done = subprocess.run(words, capture_output=True, timeout=SECONDS, check=False, **settings)
-    if done.returncode:
-        errors = done.stderr[-500:].decode(errors="replace")
-        raise OSError(f"{words[0]} ends with {done.returncode}: {errors}")
-    return done.stdout
+    result = subprocess.run(words, capture_output=True, timeout=SECONDS, check=False, **settings)
+    if result.returncode:
+        errors = result.stderr[-500:].decode(errors="replace")
+        raise OSError(f"{words[0]} ends with {result.returncode}: {errors}")
+    return result.stdout
 
 
 def installed(folder):

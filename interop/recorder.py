@@ -12,12 +12,12 @@ SECONDS = 30
 
 
 def reset_query(version):
-    """A reset query (RFC 8210 section 5.4)."""
+    """Returns a reset query (RFC 8210 section 5.4)."""
     return struct.pack(">BBHI", version, RESET_QUERY, 0, 8)
 
 
 def serial_query(version, session, serial):
-    """A serial query (RFC 8210 section 5.3)."""
+    """Returns a serial query (RFC 8210 section 5.3)."""
     return struct.pack(">BBHII", version, SERIAL_QUERY, session, 12, serial)
 
 
@@ -52,13 +52,13 @@ class Answer:
         self.last = self.units[-1][1] if self.units else None
 
     def end(self):
-        """Its end of data."""
+        """Returns its end of data."""
         if self.last != END:
             raise ValueError(f"an answer without an end of data: {self.content[:64].hex(' ')}")
         return End(self.units[-1])
 
     def sequence(self):
-        """Its payload units and its end of data, without what comes before."""
+        """Returns its payload units and its end of data, without what comes before."""
         first = next(i for i, unit in enumerate(self.units) if unit[1] == RESPONSE)
         return b"".join(self.units[first + 1:])
 

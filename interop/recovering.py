@@ -195,8 +195,9 @@ class Cuts(Scene):
 
     def found(self, router):
         expected = router.shows(self.new)
-        done = self.sees(lambda: self.cuts == self.CUTS and router.table() == expected, SECONDS)
-        return "current" if done else f"not current within {SECONDS} s"
+        is_current = self.sees(
+            lambda: self.cuts == self.CUTS and router.table() == expected, SECONDS)
+        return "current" if is_current else f"not current within {SECONDS} s"
 
     def look(self, pair, router):
         pair.equal("after cuts waits 1, 2, 4, 8 s", grown(self.rests()[:self.CUTS]), [], self.CUTS)
@@ -597,10 +598,10 @@ def compare_rising(results, folder):
 
 
 def table(found):
-    """The table of the page: a row for each router, a column for each scene."""
+    """Returns the table of the page: a row for each router, a column for each scene."""
     return tables.scenes(found, PART, [scene.name for scene in SCENES], across=True)
 
 
 def table_of_preferences(found):
-    """The table of the page with a column for each scene of two caches."""
+    """Returns the table of the page with a column for each scene of two caches."""
     return tables.scenes(found, PART, PREFERENCES, across=True)

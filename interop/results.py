@@ -27,7 +27,7 @@ class Names(NamedTuple):
     release: str
 
     def column(self):
-        """Its column in a table of scenes."""
+        """Returns its column in a table of scenes."""
         return f"{self.peer} ({self.release})"
 
 
@@ -118,7 +118,7 @@ class Pair:
         return self.add(what, FAILED if note else PASSED, counts, note)
 
     def column(self):
-        """Its column in a table of scenes."""
+        """Returns its column in a table of scenes."""
         return self.names.column()
 
     def known(self):
@@ -148,9 +148,9 @@ def difference(got, expected):
     if isinstance(got, (list, tuple, bytes)) and isinstance(expected, (list, tuple, bytes)):
         pairs = zip(got, expected)
         index = next((i for i, (g, w) in enumerate(pairs) if g != w), min(len(got), len(expected)))
-        at = slice(index, index + 1)
+        piece = slice(index, index + 1)
         counts = f"{len(got)} in place of {len(expected)}"
-        return f"{counts}, from {index}: {got[at]}, not {expected[at]}"
+        return f"{counts}, from {index}: {got[piece]}, not {expected[piece]}"
     return f"{got!r}, not {expected!r}"
 
 
@@ -171,5 +171,5 @@ def known():
 
 def each_of(peers):
     """Returns the peers of a row: several may share a cache."""
-    names, at, cache = peers.partition(" at ")
-    return [f"{name}{at}{cache}" for name in names.split(", ")]
+    names, separator, cache = peers.partition(" at ")
+    return [f"{name}{separator}{cache}" for name in names.split(", ")]

@@ -21,10 +21,10 @@ def asked(words):
     """Returns the output of a command that asks a daemon; nothing if that doesn't answer in
     time."""
     try:
-        done = subprocess.run(words, capture_output=True, text=True, timeout=SECONDS, check=False)
+        result = subprocess.run(words, capture_output=True, text=True, timeout=SECONDS, check=False)
     except subprocess.TimeoutExpired:
         return ""
-    return done.stdout
+    return result.stdout
 
 
 def asked_json(words):
@@ -65,7 +65,7 @@ class Router:
 
     @classmethod
     def release(cls):
-        """The version of its package."""
+        """Returns the version of its package."""
         return package_version(cls.package)
 
     @classmethod
@@ -78,7 +78,7 @@ class Router:
         return self.cache if isinstance(self.cache, tuple) else (self.cache,)
 
     def path(self, name):
-        """The path of one of its files."""
+        """Returns the path of one of its files."""
         return os.path.join(self.folder, name)
 
     def keep(self, name, text):
@@ -104,7 +104,7 @@ class Router:
         self.server = Server(words, self.path("log"), **options)
 
     def lines_with(self, name, text):
-        """The lines of one of its files that match this."""
+        """Returns the lines of one of its files that match this."""
         with contextlib.suppress(FileNotFoundError), \
                 open(self.path(name), encoding="utf-8", errors="replace") as file:
             return [line.strip() for line in file if re.search(text, line)]
@@ -160,7 +160,7 @@ class RtrClient(OfRtrlib):
         return held
 
     def shows(self, listed):
-        """Origins and router keys."""
+        """Returns origins and router keys."""
         return {payload for payload in listed if isinstance(payload, (Origin, RouterKey))}
 
 
@@ -192,7 +192,7 @@ class Bird(Router):
         return self.lines_with("messages", "<WARN>.* interval ")
 
     def table(self):
-        """What it holds."""
+        """Returns what it holds."""
         held = set()
         for table in ("origins4", "origins6"):
             ask = [program("birdc"), "-s", self.path("control"), "show", "route", "table", table]
@@ -223,7 +223,7 @@ class FRR(OfRtrlib):
         self.run([daemon, *words])
 
     def table(self):
-        """What it holds."""
+        """Returns what it holds."""
         words = ["--vty_socket", self.folder, "-d", "bgpd", "-c", "show rpki prefix-table json"]
         shown = asked_json([program("vtysh"), *words]) or {"prefixes": []}
         return {
@@ -318,7 +318,7 @@ class OpenBGPD(Router):
         return held
 
     def shows(self, listed):
-        """The same of a list."""
+        """Returns the same of a list."""
         origins = frozenset(super().shows(listed))
         prefixes = {origin.prefix for origin in origins}
         longer = sum(":" in prefix for prefix in prefixes)
@@ -372,7 +372,7 @@ class OurClient(Router):
         return held
 
     def shows(self, listed):
-        """What its version has."""
+        """Returns what its version has."""
         return payloads.in_version(listed, self.version)
 
 

@@ -6,12 +6,12 @@ usage: interop/run.py [--write] [--folder FOLDER] [PART]..
        interop/run.py --long [--write] [--folder FOLDER] [PART]..
 
 Parts are caches, routers, transports, filter, validation, exceptions, python, pages, dissector,
-defaults, recovery and cuts; by default all are run. With --long there are two: cuts, for ten minutes
-and then up to a retry time, and recovery, for a refresh time, which is an hour. It installs nothing
-(interop/install does), and skips what isn't installed, with a loud message. Recordings stay in
-FOLDER, which has to be empty, or in a folder below the system's for temporary files. With --write
-it writes its measurements into docs/INTEROP.md and docs/reference/interop.md. Its last lines name
-what was skipped and what failed; it exits with status 1 if anything failed.
+defaults, recovery and cuts; by default all are run. With --long there are two: cuts, for ten
+minutes and then up to a retry time, and recovery, for a refresh time, which is an hour. It installs
+nothing (interop/install does), and skips what isn't installed, with a loud message. Recordings stay
+in FOLDER, which has to be empty, or in a folder below the system's for temporary files. With
+--write it writes its measurements into docs/INTEROP.md and docs/reference/interop.md. Its last
+lines name what was skipped and what failed; it exits with status 1 if anything failed.
 """
 import argparse
 import concurrent.futures
@@ -246,8 +246,8 @@ def run(phase, parts, end, found, folder, at_once=None):
 def finish(pool, pending):
     """Waits for jobs."""
     with pool:
-        for done in pending:
-            done.result()
+        for job in pending:
+            job.result()
 
 
 def write(found, long):

@@ -38,23 +38,23 @@ def when(connection, field):
 
 
 def notify(version, serial):
-    """A serial notify (RFC 8210 section 5.2)."""
+    """Returns a serial notify (RFC 8210 section 5.2)."""
     return struct.pack(">BBHII", version, payloads.NOTIFY, SESSION, 12, serial)
 
 
 def report(query, code=0, text=b"another session"):
-    """An error report about a query (RFC 8210 sections 5.11 and 12)."""
+    """Returns an error report about a query (RFC 8210 sections 5.11 and 12)."""
     rest = struct.pack(">I", len(query)) + query + struct.pack(">I", len(text)) + text
     return struct.pack(">BBHI", query[0], REPORT, code, 8 + len(rest)) + rest
 
 
 def cache_reset(query):
-    """A cache reset in the version of a query (RFC 8210 section 5.9)."""
+    """Returns a cache reset in the version of a query (RFC 8210 section 5.9)."""
     return struct.pack(">BBHI", query[0], RESET, 0, 8)
 
 
 def response(version):
-    """A cache response (RFC 8210 section 5.5)."""
+    """Returns a cache response (RFC 8210 section 5.5)."""
     return struct.pack(">BBHI", version, RESPONSE, SESSION, 8)
 
 
@@ -170,4 +170,4 @@ class Cache:
         events += [(query.when, f"type {query.kind} v{query.version}") for query in self.queries]
         events += [(closed, f"closed {number}") for number, closed in self.closed.items()]
         first = min(events, default=(0, ""))[0]
-        return "; ".join(f"{at - first:.2f} {what}" for at, what in sorted(events))
+        return "; ".join(f"{time - first:.2f} {what}" for time, what in sorted(events))

@@ -52,7 +52,7 @@ class Crowd:
 
     def __init__(self, port):
         self.port = port
-        self.done = threading.Event()
+        self.ended = threading.Event()
         self.counts = dict.fromkeys(("good", "stalled", "left", "hostile", "failed"), 0)
         self.faults = []
         self.failures = []
@@ -65,7 +65,7 @@ class Crowd:
 
     def run(self, chance):
         """Runs one client after the other, until the end."""
-        while not self.done.wait(chance.random() / 2):
+        while not self.ended.wait(chance.random() / 2):
             what = chance.choice(["good", "good", "stalled", "left", "hostile"])
             try:
                 getattr(self, what)(chance)
@@ -96,7 +96,7 @@ class Crowd:
         """Asks and doesn't read, for some seconds."""
         with socket.create_connection(("127.0.0.1", self.port), CLIENT_SECONDS) as client:
             client.sendall(recorder.reset_query(1) * 20)
-            self.done.wait(chance.uniform(0, 5))
+            self.ended.wait(chance.uniform(0, 5))
 
     def left(self, chance):
         """Leaves in the middle of an answer."""
@@ -112,7 +112,7 @@ class Crowd:
 
     def end(self):
         """Stops all of them."""
-        self.done.set()
+        self.ended.set()
         for thread in self.threads:
             thread.join(CLIENT_SECONDS)
 

@@ -13,17 +13,17 @@ HOLD_SECONDS = 90
 
 
 def message(kind, content=b""):
-    """A message (RFC 4271 section 4.1)."""
+    """Returns a message (RFC 4271 section 4.1)."""
     return MARKER + struct.pack(">HB", 19 + len(content), kind) + content
 
 
 def capability(code, content):
-    """An optional parameter with a capability (RFC 5492)."""
+    """Returns an optional parameter with a capability (RFC 5492)."""
     return bytes([2, 2 + len(content), code, len(content)]) + content
 
 
 def opening():
-    """Our OPEN: both families, AS numbers of four bytes, several paths per prefix."""
+    """Returns our OPEN: both families, AS numbers of four bytes, several paths per prefix."""
     capabilities = capability(1, bytes([0, 1, 0, 1])) + capability(1, bytes([0, 2, 0, 1]))
     capabilities += capability(65, struct.pack(">I", AS))
     capabilities += capability(69, bytes([0, 1, 1, 2, 0, 2, 1, 2]))
@@ -32,12 +32,12 @@ def opening():
 
 
 def attribute(flags, code, content):
-    """A path attribute (RFC 4271 section 4.3)."""
+    """Returns a path attribute (RFC 4271 section 4.3)."""
     return struct.pack(">BBH", flags | 0x10, code, len(content)) + content
 
 
 def update(prefix, asn, path):
-    """An UPDATE that announces a prefix from an AS, as one of its paths (RFC 7911)."""
+    """Returns an UPDATE that announces a prefix from an AS, as one of its paths (RFC 7911)."""
     network = ipaddress.ip_network(prefix)
     packed = network.network_address.packed[:(network.prefixlen + 7) // 8]
     reached = struct.pack(">IB", path, network.prefixlen) + packed

@@ -10,7 +10,7 @@ PIECE = 1 << 16
 
 
 def listener_on(port):
-    """A socket that listens on this port."""
+    """Returns a socket that listens on this port."""
     try:
         return socket.create_server(("127.0.0.1", port))
     except OSError as error:

@@ -159,8 +159,8 @@ def findings(pair, recorded):
 
 
 def older_aspas(pair, recorded):
-    """ASPAs in the layout of draft-ietf-sidrops-8210bis-10: flags, a family and a count in bytes 8
-    to 11, the customer, and the providers."""
+    """Compares ASPAs in the layout of draft-ietf-sidrops-8210bis-10: flags, a family and a count in
+    bytes 8 to 11, the customer, and the providers."""
     got = set()
     for unit in recorder.units(recorded.first.sequence()):
         if unit[1] == ASPA:

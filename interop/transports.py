@@ -45,7 +45,7 @@ class Keys:
                 self.make()
 
     def path(self, name):
-        """The path of a file."""
+        """Returns the path of a file."""
         return os.path.join(self.folder, name)
 
     def run(self, name, *words):
@@ -100,7 +100,7 @@ class Secured:
         """Starts it, and waits until it accepts connections on all ports."""
         super().start(lambda port: [*words(port), *self.more()])
         for transport, port in self.secured.items():
-            until(lambda at=port: reached(at), READY_SECONDS,
+            until(lambda listening=port: reached(listening), READY_SECONDS,
                   f"{self.name} listens for {transport}")
         return self
 

@@ -56,7 +56,7 @@ sbgp-autonomousSysNum = critical, AS:inherit
 
 
 def der(tag, *contents):
-    """An element of DER with this tag."""
+    """Returns an element of DER with this tag."""
     content = b"".join(contents)
     length = len(content)
     if length < 128:

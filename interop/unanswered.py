@@ -131,5 +131,5 @@ def compare(results, folder):
 
 
 def table(found):
-    """The table of the page: a row for each answer, a column for each router."""
+    """Returns the table of the page: a row for each answer, a column for each router."""
     return tables.scenes(found, PART, ANSWERS)

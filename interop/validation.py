@@ -58,7 +58,8 @@ def text_of(route):
 
 def lines_of(routes):
     """Returns the routes as the two programs in C read them."""
-    return "".join(f"{4 if route.width == 32 else 6} {text_of(route).replace('/', ' ')} {route.asn}\n"
+    families = {32: 4, 128: 6}
+    return "".join(f"{families[route.width]} {text_of(route).replace('/', ' ')} {route.asn}\n"
                    for route in routes)
 
 
@@ -73,19 +74,19 @@ def compiled(folder, name, *words):
     out = os.path.join(folder, name)
     command = [program("cc", "gcc", "clang"), "-std=c11", "-D_DEFAULT_SOURCE", "-O1", "-o", out,
                os.path.join(TOP, "interop", f"{name}.c"), *words]
-    done = subprocess.run(command, capture_output=True, text=True, timeout=SECONDS, check=False)
-    if done.returncode:
-        raise OSError(f"interop/{name}.c isn't compiled: {done.stderr[-300:]}")
+    result = subprocess.run(command, capture_output=True, text=True, timeout=SECONDS, check=False)
+    if result.returncode:
+        raise OSError(f"interop/{name}.c isn't compiled: {result.stderr[-300:]}")
     return out
 
 
 def answers(words, routes):
     """Returns the numbers that a program prints for the routes."""
-    done = subprocess.run(words, input=lines_of(routes), capture_output=True, text=True,
-                          timeout=SECONDS, check=False)
-    if done.returncode:
-        raise OSError(f"{words[0]} ends with {done.returncode}: {done.stderr[-300:]}")
-    return [int(line) for line in done.stdout.splitlines()]
+    result = subprocess.run(words, input=lines_of(routes), capture_output=True, text=True,
+                            timeout=SECONDS, check=False)
+    if result.returncode:
+        raise OSError(f"{words[0]} ends with {result.returncode}: {result.stderr[-300:]}")
+    return [int(line) for line in result.stdout.splitlines()]
 
 
 def by_us(folder, sequence, routes):
@@ -109,9 +110,9 @@ def by_bird(bird, routes):
         f"eval roa_check(origins{4 if route.width == 32 else 6}, {text_of(route)}, {route.asn})\n"
         for route in routes)
     words = [program("birdc"), "-s", bird.path("control")]
-    done = subprocess.run(words, input=lines, capture_output=True, text=True, timeout=SECONDS,
-                          check=False)
-    marked = [line.split("(enum 35)")[1] for line in done.stdout.splitlines()
+    result = subprocess.run(words, input=lines, capture_output=True, text=True, timeout=SECONDS,
+                            check=False)
+    marked = [line.split("(enum 35)")[1] for line in result.stdout.splitlines()
               if "(enum 35)" in line]
     return [OF_BIRD[int(number)] for number in marked]
 

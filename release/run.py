@@ -56,7 +56,7 @@ def version_steps(version):
 
 
 def number_steps():
-    """The commands that build, copy and measure."""
+    """Returns the commands that build, copy and measure."""
     return [["rt", "ci"],
             ["bindings/build", "x86_64", "aarch64", "wasm64", "wasm32", "portable"],
             ["programs/arm64"], ["prebuilt/renew"],

@@ -11,8 +11,8 @@ them here: what rt ci left doesn't count for it. With all crates it takes hours.
 release, and after a change of a crate that has them. Exits with status 1 if an edit isn't refused,
 or can't be tried.
 
---check proves nothing: it only says which edits can't be applied, since a text that they replace
-doesn't stand in its file exactly once.
+--check proves nothing: it only prints which edits can't be applied, and why: for example, the text
+to replace isn't in its file exactly once, or has more than one line.
 """
 import pathlib
 import re
@@ -25,6 +25,7 @@ COPY = TOP / "out" / "bugs"
 # What a repository of crates needs besides them.
 BESIDES = ["crates.txt", "HANDLES"]
 LINE = re.compile(r"(file|old|new): ?(.*)")
+COMMENTS = ("#", "--", "//")
 
 
 def edits(folder):
@@ -33,20 +34,31 @@ def edits(folder):
 
 
 def fault_of(edit, crate):
-    """Returns why an edit can't be applied to its crate, or None."""
-    texts, path, old = {}, None, ""
-    for line in edit.read_text(encoding="utf-8").splitlines():
-        word, text = LINE.fullmatch(line).groups()
+    """Returns why `rt` can't apply an edit to its crate, or None if it can. An `old:` text and a
+    `new:` text are one line each; `rt` ignores lines that begin with none of the three words."""
+    texts, path, old, pairs = {}, None, "", 0
+    for number, line in enumerate(edit.read_text(encoding="utf-8").splitlines(), 1):
+        found = LINE.fullmatch(line)
+        if not found:
+            if line.strip() and not line.startswith(COMMENTS):
+                return f"line {number} isn't a file:, old: or new: line: {line.strip()}"
+            continue
+        word, text = found.groups()
         if word == "file":
             path = text
+            if not (crate / path).is_file():
+                return f"line {number} names a file that doesn't exist: {path}"
             texts.setdefault(path, (crate / path).read_text(encoding="utf-8"))
         elif word == "old":
             old = text
+        elif path is None or not old:
+            return f"line {number} has a new: without a file: or an old: before it"
         elif texts[path].count(old) != 1:
             return f"this stands {texts[path].count(old)} times in {path}: {old.strip()}"
         else:
             texts[path] = texts[path].replace(old, text)
-    return None
+            old, pairs = "", pairs + 1
+    return None if pairs else "it has no pair of an old: and a new:"
 
 
 def check(crates):

@@ -26,16 +26,16 @@ class Sample:
 
     @property
     def written(self):
-        """What is written of it."""
+        """The canonical form: the bytes that are written for it."""
         return self.form or self.bytes
 
     def line_at(self, offset):
-        """The line of it where it stands after so many bytes."""
+        """Returns its line at this offset."""
         return f"{offset}{self.line[1:]}"
 
 
 def read():
-    """All of them, in their order."""
+    """Returns all samples, in their order."""
     found, part = [], ""
     for row in FILE.read_text(encoding="utf-8").split("\n"):
         word, _, rest = row.partition(" ")
@@ -58,18 +58,18 @@ assert len(BY_NAME) == len(SAMPLES), "two samples have one name"
 
 
 def unit(name, version=None):
-    """The bytes of the sample of this name, or the same in another version."""
+    """Returns the bytes of the sample of this name, or the same in another version."""
     found = BY_NAME[name].bytes
     return found if version is None else bytes([version]) + found[1:]
 
 
 def form(name):
-    """What is written of the sample of this name."""
+    """Returns the canonical form of the sample of this name."""
     return BY_NAME[name].written
 
 
 def withdrawn(announced):
-    """The unit that withdraws what this one announces: for an ASPA only its customer."""
+    """Returns the unit that withdraws what this one announces: for an ASPA only its customer."""
     if announced[1] == 11:
         return announced[:2] + bytes.fromhex("00 00 00 00 00 0c") + announced[8:12]
     offset = 2 if announced[1] == 9 else 8

@@ -10,7 +10,7 @@ STAYS = 1
 
 
 def seeds(folder):
-    """Two seeds, the second from what git has of a folder; one, where there is no git."""
+    """Returns two seeds, the second from what git has of a folder; one, where there is no git."""
     if not shutil.which("git"):
         return (STAYS,)
     named = subprocess.run(["git", "-C", TOP, "rev-parse", f"HEAD:{folder}"],

@@ -30,7 +30,7 @@ FULL, NO_DATA, UNKNOWN_SESSION = 1, 2, 0  # codes of reports (RFC 8210 section 1
 
 
 def accumulated(*often):
-    """The same, with how often one of these and those before it comes."""
+    """Returns the same, with how often one of these and those before it comes."""
     return zip((deed for deed, _ in often), accumulate(times for _, times in often))
 
 
@@ -171,8 +171,8 @@ class Simulation:
         self.link.to_router += sent
 
     def has_kept(self, edition):
-        """Whether the cache has to tell the changes from these data: they are the present ones, or
-        were it two hours ago or less, on a cache that has room for all."""
+        """Reports whether the cache has to tell the changes from these data: they are the present
+        ones, or were it two hours ago or less, on a cache that has room for all."""
         return edition is not None and (edition is self.present or self.keeps
                                         and self.now - self.kept.get(edition, -KEEP) < KEEP)
 

@@ -38,7 +38,7 @@ def runs():
 
 
 def detail(row, rest):
-    """The detail of the status: a type, a version, or the rule that a prefix breaks."""
+    """Returns the detail of the status: a type, a version, or the rule that a prefix breaks."""
     if row in (2, 3):
         return rest[1 if row == 2 else 0]
     if row == 8:

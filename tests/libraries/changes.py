@@ -44,10 +44,11 @@ def unit(kind, field, body):
 
 
 def some_unit(picked):
-    """A unit that announces, and what names its payload (RFC 8210 sections 5.6, 5.7 and 5.10; ASPAs
-    as in docs/PROTOCOL.md). The bits of an address after its length are picked, too, and so is each
-    byte that means nothing."""
-    kind, asn = picked.choice((IPV4, IPV4, IPV6, KEY, ASPA)), picked.choice((0, 7, 65551, 2**32 - 1))
+    """Returns a unit that announces, and what names its payload (RFC 8210 sections 5.6, 5.7 and
+    5.10; ASPAs as in docs/PROTOCOL.md). The bits of an address after its length are picked, too,
+    and so is each byte that means nothing."""
+    kind = picked.choice((IPV4, IPV4, IPV6, KEY, ASPA))
+    asn = picked.choice((0, 7, 65551, 2**32 - 1))
     flags, free = picked.randrange(256) | 1, picked.randrange(256)
     if kind in WIDTHS:
         width = WIDTHS[kind]

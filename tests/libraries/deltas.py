@@ -52,7 +52,7 @@ def form(version, action, payload):
 
 
 def end_form(end):
-    """The end of data of (version, session, serial, timings)."""
+    """Returns the end of data of (version, session, serial, timings)."""
     version, session, serial, timings = end
     body = struct.pack(">I", serial)
     if version > 0:
@@ -102,7 +102,7 @@ def data_units(rng, data, version):
 
 
 def written(changes, end):
-    """Changes in canonical form, and their end of data."""
+    """Returns changes in canonical form, and their end of data."""
     units = [form(end[0], action, payload) for action, payload in in_order(changes)]
     return b"".join(units) + end_form(end)
 
@@ -137,15 +137,15 @@ def come_to(changes):
     absent; the net effect is the same from all allowed ones."""
     kept = []
     for of in sorted({name(payload) for _, payload in changes}):
-        places = [at for at, (_, payload) in enumerate(changes) if name(payload) == of]
-        actions = [changes[at][0] for at in places]
-        for at, before, action in zip(places[1:], actions, actions[1:]):
+        indexes = [index for index, (_, payload) in enumerate(changes) if name(payload) == of]
+        actions = [changes[index][0] for index in indexes]
+        for index, before, action in zip(indexes[1:], actions, actions[1:]):
             if action == before and (action == WITHDRAW or of[0] != ASPA):
-                return DUPLICATE if action == ANNOUNCE else UNKNOWN, at
+                return DUPLICATE if action == ANNOUNCE else UNKNOWN, index
         if of[0] == ASPA and actions[0] == ANNOUNCE and actions[-1] == WITHDRAW:
-            return UNDECIDED, places[-1]
+            return UNDECIDED, indexes[-1]
         if of[0] == ASPA or actions[0] == actions[-1]:
-            kept.append(changes[places[-1]])
+            kept.append(changes[indexes[-1]])
     return kept, None
 
 
@@ -194,20 +194,20 @@ def change_of(unit):
 def read(data, call):
     """Returns the status, the offset and the detail of the first fault of an input, or None; its
     units and its end of data."""
-    at, units, announced = 0, [], set()
+    offset, units, announced = 0, [], set()
     while True:
-        status, detail = unit_fault(data[at:])
+        status, detail = unit_fault(data[offset:])
         if status != OK:
-            return (status, at, detail), units
-        unit = data[at:at + sessions.number(data[at + 4:at + 8])]
+            return (status, offset, detail), units
+        unit = data[offset:offset + sessions.number(data[offset + 4:offset + 8])]
         if not may_follow(units[-1] if units else None, unit, call, announced):
-            return (NOT_CANONICAL, at, 0), units
+            return (NOT_CANONICAL, offset, 0), units
         units.append(unit)
         if unit[1] == END:
             return None, units
         if change_of(unit)[0] == ANNOUNCE:
             announced.add(name(meant(unit)))
-        at += len(unit)
+        offset += len(unit)
 
 
 # The form of a call's second input.
@@ -236,10 +236,10 @@ def of_two(call, first, second, output, places=1):
         return refused(NO_INDEX)
     if call != "delta":
         units = sides[1][1]
-        made, count = applied([meant(unit) for unit in sides[0][1][:-1]],
-                              [change_of(unit) for unit in units[:-1]])
+        refusal, count = applied([meant(unit) for unit in sides[0][1][:-1]],
+                                 [change_of(unit) for unit in units[:-1]])
         if count is not None:
-            return refused(made, 2, offset=sum(map(len, units[:count])))
+            return refused(refusal, 2, offset=sum(map(len, units[:count])))
     assert output is not None
     return call, OK, 0, 0, 0, index, first, second, output
 
@@ -305,12 +305,12 @@ def any_end(rng, version, session):
 
 def spoiled(rng, units):
     """Returns the units with one fault, of a random kind."""
-    units, at = list(units), rng.randrange(len(units))
-    unit = bytearray(units[at])
+    units, index = list(units), rng.randrange(len(units))
+    unit = bytearray(units[index])
     how = rng.randrange(9)
     if how == 0:
-        units[at] = bytes(unit[:rng.randrange(len(unit))])
-        return units[:at + 1]
+        units[index] = bytes(unit[:rng.randrange(len(unit))])
+        return units[:index + 1]
     if how == 1:
         unit[1] = rng.choice([0, 1, 2, 3, 5, 8, 10, 12, 255])
     elif how == 2:
@@ -322,14 +322,14 @@ def spoiled(rng, units):
     elif how == 5:
         unit[8 if unit[1] in WIDTHS else 2] ^= 1
     elif how == 6:
-        units.insert(at, units[at])
+        units.insert(index, units[index])
     elif how == 7:
         other = rng.randrange(len(units))
-        units[at], units[other] = units[other], units[at]
+        units[index], units[other] = units[other], units[index]
         return units
     else:
-        return units[:at]
-    units[at] = bytes(unit)
+        return units[:index]
+    units[index] = bytes(unit)
     return units
 
 
@@ -337,9 +337,9 @@ def spoiled_pairs(rng, call, units):
     """Yields cases of two inputs, one or both of which have a fault."""
     first, second = (b"".join(side) for side in units)
     bad = b"".join(spoiled(rng, units[0])), b"".join(spoiled(rng, units[1]))
-    for one, other in ((bad[0], second), (first, bad[1]), bad):
-        if read(one, "data")[0] or read(other, READ_AS[call])[0]:
-            yield of_two(call, one, other, None)
+    for first_input, second_input in ((bad[0], second), (first, bad[1]), bad):
+        if read(first_input, "data")[0] or read(second_input, READ_AS[call])[0]:
+            yield of_two(call, first_input, second_input, None)
 
 
 def delta_cases(rng):
@@ -384,9 +384,8 @@ def apply_cases(rng):
         ends = any_end(rng, version, session), any_end(rng, version, session)
         units = (data_units(rng, data, version) + [end_form(ends[0])],
                  units_of(rng, version, changes) + [end_form(ends[1])])
-        made, refused = applied(data, changes)
-        output = None if refused is not None else written([(ANNOUNCE, one) for one in made],
-                                                          ends[1])
+        result, refused = applied(data, changes)
+        output = announced(result if refused is None else None, ends[1])
         first, second = (b"".join(side) for side in units)
         yield of_two("apply", first + rng.choice([b"", rng.randbytes(9)]),
                      second + rng.choice([b"", rng.randbytes(30)]), output)
@@ -424,9 +423,8 @@ def in_order_cases(rng):
         ends = any_end(rng, version, session), any_end(rng, version, session)
         units = (data_units(rng, data, version) + [end_form(ends[0])],
                  units_of(rng, version, changes) + [end_form(ends[1])])
-        made, refused = applied(data, changes)
-        output = None if refused is not None else written([(ANNOUNCE, one) for one in made],
-                                                          ends[1])
+        result, refused = applied(data, changes)
+        output = announced(result if refused is None else None, ends[1])
         first, second = (b"".join(side) for side in units)
         first += rng.choice([b"", rng.randbytes(9)])
         yield of_two("in_order", first, second + rng.choice([b"", rng.randbytes(30)]), output,
@@ -458,6 +456,11 @@ def order_cases(rng):
             yield of_one(bad, None)
 
 
+def announced(payloads, end):
+    """Returns the canonical form of the data that these payloads make, or None without payloads."""
+    return None if payloads is None else written([(ANNOUNCE, each) for each in payloads], end)
+
+
 def large_cases(rng):
     """Yields data with the longest units, and with thousands of units."""
     end = any_end(rng, 2, 1)
@@ -471,16 +474,16 @@ def large_cases(rng):
         changes = in_order(delta(old, new))
         bytes_of = b"".join(units_of(rng, 2, changes)) + end_form(end)
         yield of_two("delta", *sides, written(changes, end))
-        yield of_two("apply", sides[0], bytes_of, written([(ANNOUNCE, one) for one in new], end))
+        yield of_two("apply", sides[0], bytes_of, announced(new, end))
         mixed = b"".join(units_of(rng, 2, rng.sample(changes, len(changes)))) + end_form(end)
         yield of_one(mixed, written(changes, end))
-        yield of_two("in_order", sides[0], mixed, written([(ANNOUNCE, one) for one in new], end))
+        yield of_two("in_order", sides[0], mixed, announced(new, end))
     # The shortest units, so that an index needs the most entries for its input's length.
     gone = [(WITHDRAW, (ASPA, customer, ())) for customer in range(3000)]
     mixed = b"".join(form(2, *change) for change in rng.sample(gone, len(gone))) + end_form(end)
     yield of_one(mixed, written(gone, end), 0)
-    there = written([(ANNOUNCE, (ASPA, customer, (1,))) for customer in range(3000)], end)
-    yield of_two("in_order", there, mixed, end_form(end), 0)
+    data = announced([(ASPA, customer, (1,)) for customer in range(3000)], end)
+    yield of_two("in_order", data, mixed, end_form(end), 0)
 
 
 def main():

@@ -94,7 +94,7 @@ class Reader:
 
 
 def encoded(rng, kind, version, *fields):
-    """The bytes of a unit."""
+    """Returns the bytes of a unit."""
     if kind == "payload":
         return stray(rng, form(version, *fields))
     if kind == END:
@@ -107,7 +107,7 @@ def encoded(rng, kind, version, *fields):
 
 
 def right_end(rng, reader, version):
-    """An end of data that may follow."""
+    """Returns an end of data that may follow."""
     if not reader.answer:
         _, session, since = reader.last or (version, 7, 1)
     else:
@@ -116,7 +116,7 @@ def right_end(rng, reader, version):
 
 
 def any_unit(rng, reader, version):
-    """A unit that may follow, or not."""
+    """Returns a unit that may follow, or not."""
     kind = rng.choices([END, RESPONSE, RESET, RESET_QUERY, QUERY, NOTIFY, REPORT, NO_TYPE,
                         "payload"], [18, 8, 1, 3, 3, 3, 1, 1, 62])[0]
     version = rng.choice([0, 1, 2]) if rng.random() < 0.02 else version
@@ -135,7 +135,7 @@ def any_unit(rng, reader, version):
 
 
 def rows(rng, number):
-    """A recording and what it leaves."""
+    """Returns a recording and what it leaves."""
     reader, wrong, at, version = Reader(), None, 0, rng.randrange(3)
     lines = [f"load {number}"]
     for left in reversed(range(rng.randint(1, MOST_UNITS))):

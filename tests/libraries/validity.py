@@ -140,7 +140,8 @@ def clear(prefix, width, length):
 
 def vrp_at(choice, width, prefix, length, asn=None):
     """Returns a VRP of this prefix, with a max length at a bound or between."""
-    most = choice.choice([length, length, width, min(length + 1, width), choice.randint(length, width)])
+    most = choice.choice([length, length, width, min(length + 1, width),
+                          choice.randint(length, width)])
     return Vrp(width, clear(prefix, width, length), length, most,
                choice.choice([0, 1, 2, 3, 65551, 4294967295]) if asn is None else asn)
 
@@ -154,7 +155,8 @@ def anywhere(choice, width):
 def nested(choice, width):
     """Returns VRPs of all lengths at one address, and at others next to it."""
     address = choice.getrandbits(width)
-    return [vrp_at(choice, width, address ^ (choice.random() < 0.3) << choice.randrange(width), length)
+    return [vrp_at(choice, width, address ^ (choice.random() < 0.3) << choice.randrange(width),
+                   length)
             for length in range(width + 1) for _ in range(2)]
 
 
@@ -205,7 +207,7 @@ def routes(choice, vrps, many):
 
 
 def tables(seed):
-    """The kind of each table, the widths of its families, and its seed."""
+    """Yields the kind of each table, the widths of its families, and its seed."""
     for kind in KINDS:
         for widths in ((32,), (128,), (32, 128)):
             yield kind, widths, random.Random(f"{seed} {kind.__name__} {widths}")

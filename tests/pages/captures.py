@@ -25,7 +25,7 @@ BEGAN = 1793606400
 
 
 def segment(source, destination, sequence, payload=b"", flags=ACK, acknowledged=0):
-    """An IP packet with a TCP segment. Ends are pairs of an address and a port."""
+    """Returns an IP packet with a TCP segment. Ends are pairs of an address and a port."""
     (from_host, from_port), (to_host, to_port) = source, destination
     tcp = struct.pack(">HHIIBBHHH", from_port, to_port, sequence % 2 ** 32,
                       acknowledged % 2 ** 32, 5 << 4, flags, 65535, 0, 0) + payload
@@ -96,34 +96,34 @@ def connection(router, cache, exchanged, began=BEGAN, link=ETHERNET, first=(1000
 # ---- the sample
 
 def ipv4(text, most, asn, flags=1):
-    """An IPv4 prefix of version 1."""
+    """Returns an IPv4 prefix of version 1."""
     net = ipaddress.ip_interface(text)
     return struct.pack(">BBHIBBBB4sI", 1, 4, 0, 20, flags, net.network.prefixlen, most, 0,
                        net.ip.packed, asn)
 
 
 def ipv6(text, most, asn, flags=1):
-    """An IPv6 prefix of version 1."""
+    """Returns an IPv6 prefix of version 1."""
     net = ipaddress.ip_interface(text)
     return struct.pack(">BBHIBBBB16sI", 1, 6, 0, 32, flags, net.network.prefixlen, most, 0,
                        net.ip.packed, asn)
 
 
 def key(asn, identifier, info):
-    """A router key of version 1."""
+    """Returns a router key of version 1."""
     front = struct.pack(">BBBBI", 1, 9, 1, 0, 32 + len(info))
     return front + identifier + struct.pack(">I", asn) + info
 
 
 def end_of_data(session, serial):
-    """An end of data with the usual times."""
+    """Returns an end of data with the usual times."""
     times = struct.pack(">IIII", serial, 3600, 600, 7200)
     return sessions.unit(1, sessions.END, session, times)
 
 
 def sample():
-    """A session: a reset query and its answer, a notify, a serial query and its changes, a serial
-    query without changes."""
+    """Returns a session: a reset query and its answer, a notify, a serial query and its changes, a
+    serial query without changes."""
     router, cache, session = ("192.0.2.10", 40000), ("192.0.2.1", 323), 4660
     response = sessions.unit(1, sessions.RESPONSE, session, b"")
     table = [ipv4(f"198.51.{index}.0/24", 24 + index % 4, 64496 + index % 16)

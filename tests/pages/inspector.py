@@ -220,7 +220,7 @@ def answers(rng, data, session):
 # ---- checks
 
 def check_session(page):
-    """Each unit of the sample, its bytes, and keys."""
+    """Checks each unit of the sample, its bytes, and keys."""
     page.drop(SESSION)
     with open(SESSION, "rb") as file:
         units = listed(file.read())
@@ -252,7 +252,7 @@ def check_session(page):
 
 
 def check_million(page):
-    """A million units: rows anywhere, filters, time and memory."""
+    """Checks a million units: rows anywhere, filters, time and memory."""
     data = million()
     path = page.file(data, "million")
     before = renderer_memory(page)
@@ -355,7 +355,7 @@ def check_rules(page):
 
 
 def check_compared(page):
-    """The changes from one recording to another."""
+    """Checks the changes from one recording to another."""
     rng = random.Random("inspector")
     pairs = [(OLD, NEW), (SESSION, OLD)]
     for _ in range(6):
@@ -387,7 +387,7 @@ def check_compared(page):
 
 
 def check_routes(page):
-    """The validity of routes, by the rows of tests/libraries/validity.py."""
+    """Checks the validity of routes, by the rows of tests/libraries/validity.py."""
     rows = list(validity.row_tables())
     for vrps in {tuple(row[0]) for row in rows}:
         page.drop(page.file(validity.units_of(vrps) + validity.END))
@@ -407,7 +407,8 @@ SIX = ("2001:db8::10", 40001), ("2001:db8::1", 8282)
 
 
 def exchange():
-    """A query, an answer, a notify and a report: seconds, whether the router sends it, bytes."""
+    """Returns a query, an answer, a notify and a report: seconds, whether the router sends it,
+    bytes."""
     table = [captures.ipv4("198.51.100.0/24", 25, 64496), captures.ipv6("2001:db8::/32", 48, 64497)]
     response = sessions.unit(1, sessions.RESPONSE, 4660, b"")
     return [
@@ -492,7 +493,7 @@ def check_captures(page):
 
 
 def check_sessions(page, frames):
-    """A capture with two sessions beside another connection, and steps of one."""
+    """Checks a capture with two sessions beside another connection, and steps of one."""
     other = [(0, False, sessions.unit(0, sessions.NOTIFY, 9, struct.pack(">I", 1)))]
     strange = captures.connection(("192.0.2.10", 5), ("192.0.2.1", 80),
                                   [(0, True, b"GET / HTTP/1.1")])
@@ -518,7 +519,7 @@ def check_sessions(page, frames):
 
 
 def check_lines(page):
-    """The filter in one line, the saved files, and the sample."""
+    """Checks the filter in one line, the saved files, and the sample."""
     with open(captures.SAMPLE, "rb") as file:
         same(file.read(), captures.sample(), "inspector/sample.pcap, which captures.py writes")
     page.browser.run("document.body.dataset.state = ''; document.getElementById('sample').click()")

@@ -1,16 +1,18 @@
 #!/usr/bin/env python3
 """Runs the examples of the man pages of the programs in Rattle unchanged, and compares their
-output; and checks each page with mandoc.
+output; and checks each page with mandoc. Compares the exit statuses of all programs: as
+docs/PROGRAMS.md lists them, as Rattle and Go name them, as each man page has them, and 2 as each
+program ends with it.
 
 usage: manuals.py
 
 Of each page the blocks `.Bd -literal` below EXAMPLES are run one after the other in a fresh folder,
-beside the cache of `operators.py`, in the place of cache.example:323, with the programs that it finds.
-A line that begins with `$ ` is a command, with the lines after it that a `\\\\`, a `|` or an open
-quote leads on to; the others are what it prints, on standard error too. Each page has an example.
-A block with a program that isn't here is left out, loudly, and one of socat, which runs until it is
-stopped, without a word: docs/OPERATORS.md has the same. Without rtr-client another program stands
-in its place, loudly, that records the same.
+beside the cache of `operators.py`, in the place of cache.example:323, with the programs that it
+finds. A line that begins with `$ ` is a command, with the lines after it that a `\\\\`, a `|` or an
+open quote leads on to; the others are what it prints, on standard error too. Each page has an
+example. A block with a program that isn't here is left out, loudly, and one of socat, which runs
+until it is stopped, without a word: docs/OPERATORS.md has the same. Without rtr-client another
+program stands in its place, loudly, that records the same.
 """
 import os
 import re
@@ -30,6 +32,11 @@ BLOCK = re.compile(r"^\.Bd -literal.*?\n(.*?)^\.Ed$", re.MULTILINE | re.DOTALL)
 ESCAPES = (("\\&", ""), ("\\-", "-"), ("\\(aq", "'"), ("\\e", "\\"))
 CACHE = "cache.example:323"
 LISTENS = "socat"
+# A status as docs/PROGRAMS.md, the code in Rattle, that in Go, and man pages have it.
+ON_PAGE = re.compile(r"^\| (?P<status>\d+) \| `(?P<name>[A-Z]+)` \|", re.MULTILINE)
+IN_RATTLE = re.compile(r"^pub const (?P<name>[A-Z]+): u8 = (?P<status>\d+);$", re.MULTILINE)
+IN_GO = re.compile(r"^\t(?P<name>[A-Z][a-z]+) += (?P<status>\d+)\b", re.MULTILINE)
+IN_MANUAL = re.compile(r"^\.It (\d+)$", re.MULTILINE)
 # The messages of mandoc for each correct page.
 ALLOWED = re.compile("manual not found|operating system explicitly specified|typo in section")
 
@@ -59,9 +66,48 @@ def plain(line):
     return line
 
 
+def read(*path):
+    """Returns the text of a file of the repository."""
+    with open(os.path.join(operators.TOP, *path), encoding="utf-8") as file:
+        return file.read()
+
+
+def section(text, name):
+    """Returns a section of a man page."""
+    return text.partition(f"\n.Sh {name}\n")[2].partition("\n.Sh ")[0] + "\n"
+
+
+def statuses(pattern, *path):
+    """Returns the statuses that a file has, by their names in upper case."""
+    found = pattern.finditer(read(*path))
+    return {status["name"].upper(): int(status["status"]) for status in found}
+
+
+def check_statuses(path):
+    """Prints where the exit statuses differ from docs/PROGRAMS.md; returns how many places do."""
+    listed = statuses(ON_PAGE, "docs", "PROGRAMS.md")
+    wrong = []
+    for file in [(IN_RATTLE, "crates", "program_frame", "src", "status.rt"),
+                 (IN_GO, "programs", "internal", "words", "status.go")]:
+        if not listed or statuses(*file) != listed:
+            wrong.append(f"{'/'.join(file[1:])}: other statuses than docs/PROGRAMS.md")
+    for name in sorted(os.listdir(os.path.join(operators.TOP, "docs", "man"))):
+        of_page = IN_MANUAL.findall(section(read("docs", "man", name), "EXIT STATUS"))
+        if [int(status) for status in of_page] != sorted(listed.values()):
+            wrong.append(f"docs/man/{name}: other statuses than docs/PROGRAMS.md")
+        program = shutil.which(name.rpartition(".")[0], path=path)
+        if program:
+            ended = subprocess.run([program, "--unknown"], stdin=subprocess.DEVNULL,
+                                   capture_output=True, check=False).returncode
+            if ended != listed.get("USAGE"):
+                wrong.append(f"{name}: ends with {ended} at an unknown option")
+    print(*wrong, sep="\n", end="\n" if wrong else "")
+    return len(wrong)
+
+
 def examples(text):
     """Returns the blocks of examples of a page, each a list of lines."""
-    below = text.partition("\n.Sh EXAMPLES\n")[2].partition("\n.Sh ")[0] + "\n"
+    below = section(text, "EXAMPLES")
     return [[plain(line) for line in block.splitlines()] for block in BLOCK.findall(below)]
 
 
@@ -117,8 +163,7 @@ def check(name, cache, path):
     """Runs the examples of a page; returns how many commands were run, and how many faults there
     are."""
     page = os.path.join(operators.TOP, "docs", "man", f"{name}.1")
-    with open(page, encoding="utf-8") as file:
-        blocks = examples(file.read())
+    blocks = examples(read(page))
     found = lint(page)
     if not any(commands(block) for block in blocks):
         found.append(f"{name}: no example")
@@ -144,12 +189,13 @@ def main():
         if not shutil.which("rtr-client", path=path):
             stand_in(path)
         cache = f"127.0.0.1:{listener.getsockname()[1]}"
+        differ = check_statuses(path)
         counts = [check(name, cache, path) for name in PAGES]
     ran, wrong = map(sum, zip(*counts))
     if not shutil.which("mandoc"):
         print("!!! tests/pages/manuals.py: no mandoc here: SKIPPED the lints of man pages")
-    print(f"{ran} commands of man pages run, {wrong} wrong")
-    return 1 if wrong else 0
+    print(f"{ran} commands of man pages run, {wrong} wrong; statuses: {differ} wrong")
+    return 1 if wrong or differ else 0
 
 
 if __name__ == "__main__":

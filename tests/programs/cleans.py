@@ -72,7 +72,8 @@ REPORT = samples.unit("report without a unit")
 REPORT_UNFIT = bytes.fromhex("01 0a ff ff 00 00 00 12 ff ff ff ff 00 00 00 02 6e 6f")
 
 # The longest units.
-KEY_MOST = bytes.fromhex("01 09 01 00 00 00 ff ff") + KEY_BODY[:24] + bytes(range(251)) * 260 + bytes(243)
+KEY_MOST = (bytes.fromhex("01 09 01 00 00 00 ff ff") + KEY_BODY[:24] + bytes(range(251)) * 260
+            + bytes(243))
 REPORT_MOST = bytes.fromhex("01 0a 00 00 00 00 ff ff 00 00 ff ef") + bytes(65519) + bytes(4)
 
 # Units that are refused by their headers, or by the lengths of their prefix.
@@ -96,7 +97,8 @@ IPV6_MAX_SHORT = IPV6[:9] + bytes([0x17, 0x16]) + IPV6[11:]
 # A session of each type, and its expected output.
 STRAY = (NOTIFY + QUERY + ASKS_STRAY + RESPONSE + IPV4_STRAY + IPV6_STRAY + KEY_STRAY + ASPA_STRAY
          + GONE_STRAY + END_1 + RESET_STRAY + REPORT)
-CLEAN = (NOTIFY + QUERY + ASKS + RESPONSE + IPV4 + IPV6 + KEY + ASPA + GONE + END_1 + RESET + REPORT)
+CLEAN = (NOTIFY + QUERY + ASKS + RESPONSE + IPV4 + IPV6 + KEY + ASPA + GONE + END_1 + RESET
+         + REPORT)
 
 NONE = b""
 MANY = 70_000
@@ -120,11 +122,13 @@ HELP = b"""\
 rtr_clean - write the units of an RTR session with zero where they mean nothing
 usage: rtr_clean [--version 0|1|2] [FILE]
 
-It reads units of the RPKI to Router protocol (RFC 8210) from FILE, or from standard input, for
-which the name - stands too, and writes each one with zero wherever its bits mean nothing.
+It reads units of the RPKI to Router protocol (RFC 8210) from FILE, or from
+standard input if FILE is - or isn't given, and writes each one with zero
+wherever its bits mean nothing.
 
-  (no word)    leave the versions of units as they are
-  --version N  write payload units and ends of data in this version, and leave out what it lacks
+  (no word)    keep the versions of the units
+  --version N  write payload units and ends of data in this version, and leave
+               out payload units that it lacks
   --help       print this
   --version    without a number: print the program's version
 """
@@ -238,7 +242,8 @@ SINCE = {sessions.IPV4: 0, sessions.IPV6: 0, sessions.KEY: 1, sessions.ASPA: 2}
 
 
 def written(unit, form, version):
-    """The expected bytes of the unit with this canonical form, for a version or for none."""
+    """Returns the expected bytes of the unit with this canonical form, for a version or for
+    none."""
     if unit[1] == sessions.REPORT:
         return unit
     if version is None or unit[1] not in (*SINCE, sessions.END):
@@ -252,7 +257,7 @@ def written(unit, form, version):
 
 
 def expected(data, version):
-    """The expected output, line on standard error and status of a run."""
+    """Returns the expected output, line on standard error and status of a run."""
     output, offset = b"", 0
     while data:
         shown, _, _, form = sessions.answer(data)
@@ -268,13 +273,13 @@ def expected(data, version):
 
 
 def shown(data):
-    """Bytes as hex, cut if they are many."""
+    """Returns bytes as hex, cut if they are many."""
     return data[:80].hex(" ") + (f" .. ({len(data)} bytes)" if len(data) > 80 else "")
 
 
 def compared(program, rows, names=None):
-    """The number of rows whose run differs. The differences are printed, with the names of the
-    rows."""
+    """Returns the number of rows whose run differs. The differences are printed, with the names of
+    the rows."""
     wrong = 0
     with ThreadPoolExecutor(os.cpu_count()) as pool:
         got = pool.map(lambda row: run(program, *row[:3]), rows)
@@ -288,8 +293,8 @@ def compared(program, rows, names=None):
 
 
 def error_line(row):
-    """The line of a row: after the program's name, and at a fault with the offset of the unit: the
-    length of the whole units read before it."""
+    """Returns the line of a row: after the program's name, and at a fault with the offset of the
+    unit: the length of the whole units read before it."""
     *_, given, _, line, status = row
     if not line or status == 2:
         return line + "\n" if line else ""
@@ -298,7 +303,7 @@ def error_line(row):
 
 
 def taken(data):
-    """The length of the units before the first fault."""
+    """Returns the length of the units before the first fault."""
     offset = 0
     while offset < len(data):
         status = sessions.answer(data[offset:])[0]
@@ -332,7 +337,7 @@ def check_random(program):
 
 
 def arrives(stream, content):
-    """Whether exactly these bytes come from the stream."""
+    """Reports whether exactly these bytes come from the stream."""
     came = b""
     while len(came) < len(content):
         if not select.select([stream], [], [], SECONDS)[0]:
@@ -369,7 +374,7 @@ def check_waiting(program):
 
 
 def check_gone(program):
-    """The reader of the output has gone: writing fails, and no line is printed."""
+    """Checks that writing fails, and no line is printed, if the reader of the output has gone."""
     wrong = 0
     for given in (NOTIFY, IPV4, IPV4 * MANY, END_1 + UNKNOWN_TYPE):
         reading, writing = os.pipe()

@@ -84,11 +84,13 @@ HELP = b"""\
 rtr_diff - print what differs between the data of two RTR recordings
 usage: rtr_diff [--json | --units] OLD NEW, where one of them may be -
 
-It reads two files of units of the RPKI to Router protocol (RFC 8210), and prints the changes that
-lead from the payloads of OLD to those of NEW. The name - stands for standard input.
+It reads two files of units of the RPKI to Router protocol (RFC 8210), and
+prints the changes that lead from the payloads of OLD to those of NEW. The name
+- stands for standard input.
 
-  (no word)  print a line of each change, + for an announcement and - for a withdrawal
-  --json     print a JSON object of each change
+  (no word)  print a line for each change: + for an announcement, - for a
+             withdrawal
+  --json     print a JSON object for each change
   --units    write the changes as units, and then the end of data of NEW
   --help     print this
   --version  print the program's version
@@ -234,7 +236,7 @@ def check_rows(program):
 
 
 def pool():
-    """Units that announce, each with its identity and its text."""
+    """Returns units that announce, each with its identity and its text."""
     found = []
     for index in range(24):
         address = bytes([10, index, 0, 0])
@@ -252,7 +254,7 @@ def pool():
 
 
 def picked(choice, units):
-    """Some of the units, one for each identity."""
+    """Returns some of the units, one for each identity."""
     some = {}
     for unit, name, words in units:
         if choice.random() < 0.4:

@@ -23,6 +23,7 @@ sys.path.insert(0, os.path.join(TOP, ".ci"))
 
 import built  # noqa: E402  (it lies in another folder)
 import samples  # noqa: E402
+from summaries import summary  # noqa: E402
 
 # The size of the allocations that mark the start and end of a call: those in between are made to
 # fail. No call makes one of this size.
@@ -83,9 +84,8 @@ CLEAN_WORDS = b"[--version 0|1|2] [FILE]"
 LIST_WORDS = b"[--json | --check | --summary | --csv | --vrps] [FILE]"
 
 # The summary of all units of an input, and that where there is no memory for a first one.
-LISTINGS = built.script("tests/programs/listings.py")
-SUMMARY = LISTINGS.summary(KEY_INPUT).encode()
-SUMMARY_OF_NONE = LISTINGS.summary(b"", "no").encode()
+SUMMARY = summary(KEY_INPUT).encode()
+SUMMARY_OF_NONE = summary(b"", "no").encode()
 
 # A prefix, of whose AS a count is kept.
 PREFIX = samples.unit("IPv4 prefix")
@@ -102,7 +102,7 @@ PROGRAMS = [
     ("rtr_list", ["--json"], KEY_INPUT, [KEY_JSON, END_JSON], LIST_WORDS),
     ("rtr_list", ["--check"], KEY_INPUT, [], LIST_WORDS),
     ("rtr_list", ["--summary"], KEY_INPUT, [SUMMARY], LIST_WORDS, [SUMMARY_OF_NONE]),
-    ("rtr_list", ["--summary"], PREFIX, [LISTINGS.summary(PREFIX).encode()], LIST_WORDS),
+    ("rtr_list", ["--summary"], PREFIX, [summary(PREFIX).encode()], LIST_WORDS),
     ("rtr_clean", [], ALL, SESSION, CLEAN_WORDS),
     ("rtr_clean", ["--version", "1"], ALL, SESSION[:4] + SESSION[5:], CLEAN_WORDS),
 ]
@@ -129,7 +129,7 @@ def refusing(shim, command, given, refused, mark):
 
 
 def runs(shim, command, given, mark):
-    """The runs with each allocation made to fail in turn. In the last one none fails."""
+    """Yields the runs with each allocation made to fail in turn. In the last one none fails."""
     for refused in range(1, MOST):
         ran, is_met = refusing(shim, command, given, refused, mark)
         yield ran
@@ -148,13 +148,14 @@ def fill(path, given):
 
 
 def has_open(process, path):
-    """Whether a process has a file open."""
+    """Reports whether a process has a file open."""
     folder = f"/proc/{process.pid}/fd"
     return any(os.readlink(os.path.join(folder, name)) == path for name in os.listdir(folder))
 
 
 def held_run(shim, command, path, refused, writer):
-    """A run over a named pipe with one allocation made to fail, and whether it got that far.
+    """Returns a run over a named pipe with one allocation made to fail, and whether it got that
+    far.
 
     If the pipe is open by then, all is written to it and it is closed before the run goes on.
     """
@@ -193,8 +194,8 @@ def piped(shim, command, path, given, refused):
 
 
 def table():
-    """The lines of tests/rows that give bytes a name, and the rows whose allocations are made to
-    fail, each with its own name."""
+    """Returns the lines of tests/rows that give bytes a name, and the rows whose allocations are
+    made to fail, each with its own name."""
     play = built.script("tests/rows/play.py")
     named = play.names_of_rows(play.FILES)
     names, rows = [], []
@@ -245,7 +246,7 @@ def program_problem(shim, program, arguments, given, pieces, usage, others=()):
 
 
 def piped_problem(shim, folder, program, arguments, given, pieces, usage):
-    """What is wrong with the runs of a program over a named pipe, if anything is.
+    """Returns what is wrong with the runs of a program over a named pipe, or None.
 
     Each run writes all of its pieces, or some of them and that memory ran out, or the usage. Some
     write all though an allocation failed, that of a buffer.
@@ -273,8 +274,8 @@ def piped_problem(shim, folder, program, arguments, given, pieces, usage):
 
 
 def diff_problem(shim, folder, arguments, pieces):
-    """What is wrong with the runs of `rtr_diff` from the input to the end of data alone, if anything
-    is.
+    """Returns what is wrong with the runs of `rtr_diff` from the input to the end of data alone, or
+    None.
 
     Each run writes all of its pieces, or none and how it is called; or some of them and that memory
     ran out, for a file with its name and an offset in it.
@@ -293,7 +294,8 @@ def diff_problem(shim, folder, arguments, pieces):
         texts |= {f"rtr_diff: {name}: {where}out of memory\n": [b""]
                   for where in ("", "offset 0: ", "offset 36: ")}
     called = "usage: rtr_diff [--json | --units] OLD NEW, where one of them may be -\n"
-    short = {(2, b"", called)} | {(3, some, text) for text, front in texts.items() for some in front}
+    short = {(2, b"", called)}
+    short |= {(3, some, text) for text, front in texts.items() for some in front}
     for answer in results:
         if answer != whole and answer not in short:
             return f"rtr_diff {arguments}: {answer}"
@@ -304,10 +306,10 @@ def diff_problem(shim, folder, arguments, pieces):
 
 
 def validate_problem(shim, folder, arguments, pieces):
-    """What is wrong with the runs of `rtr_validate` by the input, if anything is.
+    """Returns what is wrong with the runs of `rtr_validate` over the input, or None.
 
-    Each run writes all of its pieces, or some and that memory ran out; or none and how it is called,
-    or that memory ran out for the file.
+    Each run writes all of its pieces, or some and that memory ran out; or none and how it is
+    called, or that memory ran out for the file.
     """
     file = os.path.join(folder, "file")
     with open(file, "wb") as units:

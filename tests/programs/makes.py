@@ -60,7 +60,7 @@ with open(os.path.join(TOP, "CHANGELOG.md"), encoding="utf-8") as changes:
 
 
 def in_version(version, units):
-    """The units, one after the other, in this version."""
+    """Returns the units, one after the other, in this version."""
     changed = b""
     while units:
         size = int.from_bytes(units[4:8], "big")
@@ -92,7 +92,7 @@ LAST_TIME = 2**64 - 1
 
 
 def until(item, time):
-    """The item with this text as its time."""
+    """Returns the item with this text as its time."""
     return item[:-1] + b',"expires":' + str(time).encode() + b"}"
 
 
@@ -105,12 +105,12 @@ def at_csv(time, *more):
 
 
 def until_row(line, time):
-    """The line with this text as its fifth field."""
+    """Returns the line with this text as its fifth field."""
     return line[:-1] + b",ripe," + str(time).encode() + b"\n"
 
 
 def gone(count, following=None):
-    """The line on how many items have expired, and when the next one does."""
+    """Returns the line on how many items have expired, and when the next one does."""
     if following is None:
         return f"left out {count} that have expired; none of the others will"
     return f"left out {count} that have expired; the next expires at {following}"
@@ -137,28 +137,27 @@ ABOVE_RETRY = "the expire time has to be longer than the retry time"
 NO_WRITE = "write failed: No space left on device (os error 28)"
 HELP = b"""rtr_make - write the RTR sequence of validated payloads
 
-It reads what a validator prints from FILE, or from standard input, for which
-the name - stands too, and writes the units that announce it, and an end of
-data, to standard output.
+It reads what a validator prints from FILE, or from standard input if FILE is -
+or isn't given, and writes the units that announce it, and an end of data, to
+standard output.
 
-  --csv            lines of an AS number, a prefix and a max length are read
-  --json           a JSON object is read, as validators print it
-  --version 0|1|2  the version of the units, 2 if none is named
-  --session N      the session of the end of data, 0 if none is named
-  --serial N       its serial number, 1 if none is named
-  --refresh N      its timings in seconds: 3600, 600 and 7200 if none are
-  --retry N        named; version 0 has none
+  --csv            read lines of an AS number, a prefix and a max length
+  --json           read a JSON object, as validators print it
+  --version 0|1|2  the version of the units (default 2)
+  --session N      the session of the end of data (default 0)
+  --serial N       its serial number (default 1)
+  --refresh N      its intervals in seconds (default 3600, 600 and 7200);
+  --retry N        version 0 has none
   --expire N
-  --drop           payloads that the version lacks are left out, and counted
-  --empty          a sequence without payloads is written, too
-  --unended        CSV is read whose last line has no line end, too
-  --ignore NAME    what the JSON has under this name is passed over
-  --at N           items that have expired at this time, in seconds since
-                   1970, are left out, and counted: by their expires in
-                   JSON, by a column of the name Expires in CSV; the time is
-                   now if none is named
-  --slurm FILE     payloads are filtered, and others added, by this SLURM
-                   file (RFC 8416); several must not overlap
+  --drop           leave out payloads that the version lacks, and count them
+  --empty          accept an input without payloads
+  --unended        accept CSV whose last line has no line end
+  --ignore NAME    ignore what the JSON has under this name
+  --at N           leave out items that have expired at this time, in seconds
+                   since 1970 (default now), and count them: by their expires
+                   in JSON, by a column of the name Expires in CSV
+  --slurm FILE     filter the payloads, and add others, by this SLURM file
+                   (RFC 8416); may be repeated, but files must not overlap
 
 Alone: --help prints this, and --version the program's version.
 """
@@ -583,7 +582,7 @@ RUNS = [
     (["--csv", "--refresh", ""], "", LINE, NONE, USAGE, 2),
     # Times out of their ranges (RFC 8210 section 6).
     *[
-        (["--csv", *words.split()], "", LINE, NONE, rule, 2)
+        (["--csv", *words.split(), *file], "", LINE, NONE, rule, 2) for file in ([], ["no such"])
         for words, rule in (("--refresh 0", REFRESH), ("--refresh 86401 --expire 172800", REFRESH),
                             ("--retry 0", RETRY), ("--retry 7201 --expire 172800", RETRY),
                             ("--expire 599 --refresh 1 --retry 1", EXPIRE), ("--expire 172801", EXPIRE),
@@ -628,7 +627,7 @@ IN_SAMPLES = {
 
 
 def error_text(line):
-    """The text on standard error: each line after the program's name, except the usage."""
+    """Returns the text on standard error: each line after the program's name, except the usage."""
     if not line or line == USAGE:
         return line and line + "\n"
     return "".join(f"rtr_make: {part}\n" for part in line.split("\n"))
@@ -668,7 +667,7 @@ def check_samples(program):
 
 
 def check_random(program):
-    """Origins in any order, some of them twice, come each once and in order."""
+    """Checks that origins in any order, some of them twice, come once each and in order."""
     choice = random.Random(1)
     wrong = 0
     for _ in range(40):

@@ -9,8 +9,8 @@ A million units of each kind, and more than a thousand of 65535 bytes, go throug
 - `rtr_clean`;
 - the two tables of `rtr_list`, and `rtr_diff`, whose data doesn't grow, as each is withdrawn again;
 - as lines of routes, `rtr_validate`, whose file has one VRP;
-- as keys, ASPAs, prefixes and refused prefixes, calls of `same_meaning` that `test_rows` makes, and as
-  all kinds, calls of `apply`.
+- as keys, ASPAs, prefixes and refused prefixes, calls of `same_meaning` that `test_rows` makes, and
+  as all kinds, calls of `apply`.
 
 Each run has ROOM of address space. A run that kept 32 bytes of each unit, the least that malloc
 allocates, would need more, and fail with a message.
@@ -109,7 +109,7 @@ ROWS = [
 
 
 def block(unit):
-    """The unit repeated to about a million bytes, and how often."""
+    """Returns the unit repeated to about a million bytes, and how often."""
     times = max(1, 1_000_000 // len(unit))
     return unit * times, times
 
@@ -128,7 +128,7 @@ def feed(run, first, unit, count, last):
 
 
 def problem(name, words, unit, count, last, status, first=b""):
-    """What is wrong with a run of the program over `count` units, if anything is."""
+    """Returns what is wrong with a run of the program over `count` units, or None."""
     command = ["sh", "-c", f'ulimit -v {ROOM}; exec "$0" "$@"', built.program(name), *words]
     pipes = {"stdin": subprocess.PIPE, "stdout": subprocess.DEVNULL, "stderr": subprocess.PIPE}
     with subprocess.Popen(command, **pipes) as run:
@@ -146,15 +146,15 @@ def problem(name, words, unit, count, last, status, first=b""):
 
 
 def row_problem(count, row):
-    """What is wrong with `count` calls of the row, if anything is."""
+    """Returns what is wrong with `count` calls of the row, or None."""
     names = "".join(f"{name} = {unit.hex()}\n" for name, unit in NAMES.items())
     line = f"{row}\n".encode()
     return problem("test_rows", [], line, count, b"", 0, names.encode())
 
 
 def runs(alone, listed):
-    """The runs of the programs: their arguments, units and number of units, what comes last, and
-    the status. The file `alone` has an end of data, `listed` also a VRP."""
+    """Yields the runs of the programs: their arguments, units and number of units, what comes last,
+    and the status. The file `alone` has an end of data, `listed` also a VRP."""
     for words in ([], ["--version", "0"], ["--version", "1"], ["--version", "2"]):
         yield "rtr_normalise", words, PAYLOADS, MANY, END, 0
         yield "rtr_normalise", words, LONG_PAYLOADS, FEW, END, 0

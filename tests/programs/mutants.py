@@ -54,17 +54,19 @@ def number(text):
 
 def origin(asn, prefix, longest):
     net = ipaddress.ip_network(prefix)
-    return ("origin", number(asn), str(net), net.prefixlen if longest in ("", None) else int(longest))
+    return ("origin", number(asn), str(net),
+            net.prefixlen if longest in ("", None) else int(longest))
 
 
 def by_csv(text):
-    """The payloads of a list in CSV, by the names in its header or else by column."""
-    rows = [row for row in csv.reader(io.StringIO(text.decode("utf-8-sig"), newline=""), strict=True)
-            if row]
+    """Returns the payloads of a list in CSV, by the names in its header or else by column."""
+    lines = io.StringIO(text.decode("utf-8-sig"), newline="")
+    rows = [row for row in csv.reader(lines, strict=True) if row]
     head = ["asn", "prefix", "maxlength"]
     if rows and plain(rows[0][0]) == "asn":
         head = ["prefix" if plain(name) == "ipprefix" else
-                "maxlength" if plain(name).startswith("max") else plain(name) for name in rows.pop(0)]
+                "maxlength" if plain(name).startswith("max") else plain(name)
+                for name in rows.pop(0)]
     return {origin(row[0], row[head.index("prefix")], (row + [""])[head.index("maxlength")])
             for row in rows}
 
@@ -74,7 +76,7 @@ LONGEST = ("maxlength", "maxlen", "maxprefixlength", "maxprefixlen")
 
 
 def by_json(text):
-    """The payloads of an object in JSON. An object is the list of its members here."""
+    """Returns the payloads of an object in JSON. An object is the list of its members here."""
     found = set()
     for name, value in json.loads(text.decode("utf-8-sig"), object_pairs_hook=tuple):
         lists = list(value or []) if plain(name) == "providerauthorizations" else [(name, value)]
@@ -115,7 +117,8 @@ def identifier(text):
 # ---- the program
 
 def payloads(units):
-    """The payloads that units of version 2 announce (RFC 8210 sections 5.6, 5.7 and 5.10)."""
+    """Returns the payloads that units of version 2 announce (RFC 8210 sections 5.6, 5.7 and
+    5.10)."""
     found, at = set(), 0
     while at < len(units):
         kind, size = units[at + 1], int.from_bytes(units[at + 4:at + 8], "big")
@@ -132,8 +135,8 @@ def payloads(units):
 
 
 def run(program, form, text):
-    """The payloads that the program reads from a text at a time before all expire, or None if it
-    refuses it."""
+    """Returns the payloads that the program reads from a text at a time before all expire, or None
+    if it refuses it."""
     done = subprocess.run([program, form, "--empty", "--at", "0"], input=text, capture_output=True,
                           timeout=SECONDS, check=False)
     if done.returncode not in (0, 1) or bool(done.stdout) != (done.returncode == 0):
@@ -142,7 +145,8 @@ def run(program, form, text):
 
 
 def wrong(program, form, text, whole):
-    """The error of a run, or None. `whole` has the payloads of a text before it was cut off."""
+    """Returns the error of a run, or None. `whole` has the payloads of a text before it was cut
+    off."""
     try:
         got = run(program, form, text)
     except AssertionError as error:
@@ -171,7 +175,8 @@ def changed(text, choice):
 def orders():
     """Lists with their columns in all orders, with or without an extra column."""
     for count in (2, 3, 4):
-        for columns in itertools.permutations(("IP Prefix", "Max Length", "Trust Anchor", "Min"), count):
+        for columns in itertools.permutations(("IP Prefix", "Max Length", "Trust Anchor", "Min"),
+                                              count):
             fields = {"IP Prefix": "192.0.2.0/24", "Max Length": "28", "Trust Anchor": "25",
                       "Min": "26"}
             row = ",".join(fields[name] for name in columns)
@@ -179,7 +184,8 @@ def orders():
 
 
 def tried():
-    """The formats and texts to run, each with the payloads of the whole text if it is cut off."""
+    """Yields the formats and texts to run, each with the payloads of the whole text if it is cut
+    off."""
     choice = random.Random(1)
     for name in sorted(os.listdir(SAMPLES)):
         form = "--" + name.rsplit(".", 1)[1]

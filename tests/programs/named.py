@@ -55,7 +55,7 @@ WRONG = {
 
 
 def run(words, data=b""):
-    """The output, standard error and status of a run."""
+    """Returns the output, standard error and status of a run."""
     done = subprocess.run(words, input=data, capture_output=True, timeout=SECONDS, check=False)
     return done.stdout, done.stderr.decode(), done.returncode
 

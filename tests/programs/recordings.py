@@ -50,7 +50,7 @@ class Refused(Exception):
 # ---- units (docs/PROTOCOL.md, "When it is refused")
 
 def length_of(unit):
-    """The length of the unit that these bytes begin with."""
+    """Returns the length of the unit that these bytes begin with."""
     version, kind, session, length = struct.unpack_from(">BBHI", unit)
     if kind not in LENGTHS and kind not in LEAST and kind != END:
         raise Refused(f"type {kind}")
@@ -67,7 +67,7 @@ def length_of(unit):
 
 
 def units_of(content):
-    """The units of a recording."""
+    """Returns the units of a recording."""
     found = []
     while content:
         if len(content) < 8 or len(content) < length_of(content):
@@ -79,12 +79,12 @@ def units_of(content):
 
 
 def has_lengths(unit):
-    """Whether the lengths of a prefix unit are consistent."""
+    """Reports whether the lengths of a prefix unit are consistent."""
     return unit[9] <= unit[10] <= WIDTHS[unit[1]]
 
 
 def announces(unit):
-    """Whether a payload unit announces; else it withdraws."""
+    """Reports whether a payload unit announces; else it withdraws."""
     return bool((unit[8] if unit[1] in WIDTHS else unit[2]) & 1)
 
 
@@ -94,7 +94,7 @@ def numbers(content):
 
 
 def payload_of(unit):
-    """The identity of a payload unit, and an ASPA's providers."""
+    """Returns the identity of a payload unit, and an ASPA's providers."""
     if unit[1] in WIDTHS:
         net = ipaddress.ip_network((unit[12:-4], unit[9]), strict=False)
         return ("origin", net, unit[10], *numbers(unit[-4:])), ()
@@ -106,7 +106,7 @@ def payload_of(unit):
 # ---- data (rtr_list(1), "DATA OF A RECORDING")
 
 def is_before(serial, other):
-    """Whether a serial number comes before another one (RFC 1982)."""
+    """Reports whether a serial number comes before another one (RFC 1982)."""
     return 0 < (other - serial) % 2**32 < 2**31
 
 
@@ -175,7 +175,7 @@ class Reader:
 
 
 def data_of(content):
-    """The payloads that a recording leaves."""
+    """Returns the payloads that a recording leaves."""
     reader = Reader()
     for unit in units_of(content):
         reader.read(unit)
@@ -187,7 +187,7 @@ def data_of(content):
 # ---- rules (rtr_list(1), "BROKEN RULES")
 
 def breaks_alone(unit):
-    """Whether a unit breaks a rule by itself."""
+    """Reports whether a unit breaks a rule by itself."""
     kind = unit[1]
     flags = unit[8] if kind in WIDTHS else unit[2] if kind in (KEY, ASPA) else 0
     broken = flags > 1
@@ -210,13 +210,13 @@ def breaks_alone(unit):
 
 
 def breaks_times(refresh, retry, expire):
-    """Whether a cache may not send these times (RFC 8210 section 6)."""
+    """Reports whether a cache may not send these times (RFC 8210 section 6)."""
     return not (1 <= refresh <= 86400 and 1 <= retry <= 7200 and 600 <= expire <= 172800
                 and expire > max(refresh, retry))
 
 
 def breaks_report(unit):
-    """Whether the parts of an error report don't fit, or may not be there."""
+    """Reports whether the parts of an error report don't fit, or may not be there."""
     about = int.from_bytes(unit[8:12], "big")
     if 16 + about > len(unit):
         return True
@@ -231,7 +231,7 @@ def breaks_report(unit):
 
 
 def breaks(units):
-    """Whether units break a rule, alone or in their sequence."""
+    """Reports whether units break a rule, alone or in their sequence."""
     version = session = last = None
     inside, ends, asked, held = False, 0, False, set()
     for unit in units:
@@ -263,31 +263,31 @@ def breaks(units):
 # ---- the expected output of each program
 
 def text_of(payload, _parts):
-    """An origin as a line of CSV."""
+    """Returns an origin as a line of CSV."""
     _, net, longest, asn = payload
     return f"AS{asn},{net},{longest}"
 
 
 def by_csv(content):
-    """The lines of `rtr_list --csv`."""
+    """Returns the lines of `rtr_list --csv`."""
     data = data_of(content)
     return sorted(text_of(name, data[name]) for name in data if name[0] == "origin")
 
 
 def by_vrps(content):
-    """The payloads of `rtr_list --vrps`."""
+    """Returns the payloads of `rtr_list --vrps`."""
     return sorted(data_of(content).items(), key=str)
 
 
 def read_csv(text):
-    """What it printed."""
+    """Returns the rows that `rtr_list --csv` printed."""
     head, *lines = text.splitlines()
     assert head == "ASN,IP Prefix,Max Length", head
     return sorted(lines)
 
 
 def read_vrps(text):
-    """What it printed."""
+    """Returns the payloads that `rtr_list --vrps` printed."""
     found = json.loads(text)
     origins = [("origin", ipaddress.ip_network(each["prefix"]), each["maxLength"],
                 asn_of(each["asn"])) for each in found["roas"]]
@@ -299,7 +299,7 @@ def read_vrps(text):
 
 
 def asn_of(value):
-    """The number of an AS, with or without letters before it."""
+    """Returns the number of an AS, with or without letters before it."""
     return int(str(value).removeprefix("AS"))
 
 
@@ -309,7 +309,7 @@ KINDS = {NOTIFY: "serial notify", SERIAL_QUERY: "serial query", RESET_QUERY: "re
 
 
 def by_summary(content):
-    """The lines of `rtr_list --summary`."""
+    """Returns the lines of `rtr_list --summary`."""
     units = units_of(content)
     found = Counter({"complete: yes": 1, f"bytes: {len(content)}": 1, f"units: {len(units)}": 1})
     for kind, name in KINDS.items():
@@ -331,7 +331,7 @@ def by_summary(content):
 
 
 def answers_of(units):
-    """The answers of units, in words."""
+    """Returns the answers of units, in words."""
     counts, found = Counter(), []
     for unit in units:
         if unit[1] in PAYLOADS:
@@ -346,13 +346,13 @@ def answers_of(units):
 
 
 def read_summary(text):
-    """What it printed."""
+    """Returns the lines that `rtr_list --summary` printed, each with its count."""
     return Counter(": ".join(part.strip() for part in line.split(":", 1))
                    for line in text.splitlines())
 
 
 def shown(fields):
-    """The payload of an object of `rtr_diff --json`."""
+    """Returns the payload of an object of `rtr_diff --json`."""
     asn = fields.get("asn")
     if fields["kind"] == "router_key":
         info = fields["subject_public_key_info"]
@@ -365,19 +365,19 @@ def shown(fields):
 
 
 def differences(old, new):
-    """The output of `rtr_diff --json` for old and new data."""
+    """Returns the output of `rtr_diff --json` for old and new data."""
     return sorted([(True, name, parts) for name, parts in new.items() if old.get(name) != parts]
                   + [(False, name, ()) for name in old if name not in new], key=str)
 
 
 def read_diff(text):
-    """What it printed."""
+    """Returns the changes that `rtr_diff --json` printed."""
     found = map(json.loads, text.splitlines())
     return sorted([(each["action"] == "announce", *shown(each)) for each in found], key=str)
 
 
 def validity(data, net, asn):
-    """The validity of a route (RFC 6811 section 2)."""
+    """Returns the validity of a route (RFC 6811 section 2)."""
     over = [name for name in data if name[0] == "origin" and name[1].version == net.version
             and net.subnet_of(name[1])]
     matches = any(name[3] == asn != 0 and net.prefixlen <= name[2] for name in over)
@@ -394,13 +394,13 @@ class Programs:
         self.old = old
 
     def run(self, name, words, content):
-        """The status of a run, and what it printed."""
+        """Returns the status of a run, and what it printed."""
         done = subprocess.run([self.paths[name], *words], input=content, capture_output=True,
                               timeout=SECONDS, check=False)
         return done.returncode, done.stdout.decode(), done.stderr.decode().strip()
 
     def wrong(self, content, route):
-        """The errors of all runs over a recording."""
+        """Yields the errors of all runs over a recording."""
         for name, words, good, expected, read in self.runs(content, route):
             if name not in self.paths:
                 continue
@@ -418,8 +418,8 @@ class Programs:
                 yield f"{what}{read(text)}, the reader has {right}"
 
     def runs(self, content, route):
-        """Each run: program, arguments, statuses that accept it, the expected result, and its
-        parser."""
+        """Yields each run: program, arguments, statuses that accept it, the expected result, and
+        its parser."""
         net, asn = route
         yield "rtr_list", ["--csv"], [0], lambda: by_csv(content), read_csv
         yield "rtr_list", ["--vrps"], [0], lambda: by_vrps(content), read_vrps
@@ -432,14 +432,14 @@ class Programs:
 
 
 def checked(content):
-    """The output of `rtr_list --check` if no rule is broken: nothing."""
+    """Returns the output of `rtr_list --check` if no rule is broken: nothing."""
     if breaks(units_of(content)):
         raise Refused("a broken rule")
     return ""
 
 
 def answered(content, net, asn):
-    """The output of `rtr_validate` for a route, without reasons. A list without origins is
+    """Returns the output of `rtr_validate` for a route, without reasons. A list without origins is
     refused."""
     if content[:1] and content[0] > 8:
         raise Refused("no units")
@@ -532,7 +532,7 @@ LIKELY = b"\x00\x01\x02\x03\x04\x06\x07\x08\x09\x0a\x0b\x0c\x10\x18\x20\x30\x80\
 
 
 def by_bytes(content, chance):
-    """The recording cut off at each byte, and with each byte changed, left out or put in."""
+    """Yields the recording cut off at each byte, and with each byte changed, left out or put in."""
     for at in range(len(content)):
         yield content[:at]
         yield content[:at] + content[at + 1:]
@@ -544,7 +544,7 @@ def by_bytes(content, chance):
 
 
 def by_units(recording):
-    """The recording with units left out, doubled, moved and put in."""
+    """Yields the recording with units left out, doubled, moved and put in."""
     for at in range(len(recording)):
         head, unit, tail = recording[:at], recording[at], recording[at + 1:]
         yield b"".join(head + tail)
@@ -561,7 +561,7 @@ def by_units(recording):
 
 
 def tried(every):
-    """The recordings to run: as they are, and changed once or, at random, twice."""
+    """Returns the recordings to run: as they are, and changed once or, at random, twice."""
     chance = random.Random(8210)
     found = [b"".join(recording) for recording in RECORDINGS]
     changed = []

@@ -36,14 +36,16 @@ IPV4_ALL = bytes.fromhex("01 04 00 00 00 00 00 14 01 00 00 00 00 00 00 00 00 01 
 
 # An IPv6 prefix unit with host bits, and its canonical form.
 IPV6_HEAD = bytes.fromhex("01 06 00 00 00 00 00 20 01 17 1a 00")
-IPV6_STRAY = IPV6_HEAD + bytes.fromhex("20 01 0d b8 00 00 00 02 00 0a 00 00 de ad be ef 00 01 00 0f")
+IPV6_STRAY = IPV6_HEAD + bytes.fromhex(
+    "20 01 0d b8 00 00 00 02 00 0a 00 00 de ad be ef 00 01 00 0f")
 IPV6 = IPV6_HEAD + bytes.fromhex("20 01 0c 00 00 00 00 00 00 00 00 00 00 00 00 00 00 01 00 0f")
 
 # Router key units: an identifier, an ASN and key info. The second has free bits set, the third the
 # longest key info that is accepted.
 KEY = samples.unit("router key of four bytes")
 KEY_STRAY = samples.unit("router key with free bits")
-KEY_MOST = bytes.fromhex("01 09 01 00 00 00 ff ff") + KEY[8:32] + bytes(range(251)) * 260 + bytes(243)
+KEY_MOST = (bytes.fromhex("01 09 01 00 00 00 ff ff") + KEY[8:32] + bytes(range(251)) * 260
+            + bytes(243))
 
 # ASPA units: a withdrawal that names two providers, its canonical form, an announcement of both
 # with free bits set, its canonical form, and an announcement of none.
@@ -199,19 +201,20 @@ RUNS = [
 
 
 def shown(data):
-    """Bytes as hex, cut if they are many."""
+    """Returns bytes as hex, cut if they are many."""
     return data[:64].hex(" ") + (f" .. ({len(data)} bytes)" if len(data) > 64 else "") or "nothing"
 
 
 def differences(program, row):
-    """What a run of the program does differently from its row."""
+    """Yields the differences between a run of the program and its row."""
     arguments, redirection, given, output, line, status = row
     with tempfile.TemporaryFile() as standard_input:
         standard_input.write(given)
         standard_input.seek(0)
         command = ["sh", "-c", f'exec "$0" "$@" {redirection}', program, *arguments]
         try:
-            run = subprocess.run(command, stdin=standard_input, capture_output=True, timeout=SECONDS)
+            run = subprocess.run(command, stdin=standard_input, capture_output=True,
+                                 timeout=SECONDS)
         except subprocess.TimeoutExpired:
             yield f"it has not ended after {SECONDS} seconds"
             return
@@ -228,7 +231,7 @@ def differences(program, row):
 
 
 def check(program):
-    """The number of differences in all runs of the program. Each is printed."""
+    """Returns the number of differences in all runs of the program. Each is printed."""
     count = 0
     for where, row in zip(places(globals()), RUNS):
         arguments, redirection, given = row[:3]

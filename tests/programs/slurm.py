@@ -4,10 +4,10 @@ that it doesn't allow.
 
 usage: slurm.py [--validate] [PROGRAM]..
 
-With no PROGRAM it runs those of `built.py`. Payloads that are expected are written by hand here, and
-a route is valid exactly if an expected VRP matches it (RFC 6811 section 2). `rtr_validate` reads
-the list as JSON and as a sequence. With --validate the programs are `rtr_validate`. Quiet if all is
-well.
+With no PROGRAM it runs those of `built.py`. Payloads that are expected are written by hand here,
+and a route is valid exactly if an expected VRP matches it (RFC 6811 section 2). `rtr_validate`
+reads the list as JSON and as a sequence. With --validate the programs are `rtr_validate`. Quiet if
+all is well.
 """
 import base64
 import ipaddress
@@ -35,12 +35,12 @@ INFO = bytes.fromhex("3059301306072a8648ce3d020106082a8648ce3d030107")
 
 
 def url64(data):
-    """Base64 for URLs without padding (RFC 4648 section 5)."""
+    """Returns base64 for URLs without padding (RFC 4648 section 5)."""
     return base64.urlsafe_b64encode(data).rstrip(b"=").decode()
 
 
 def origin(prefix, most, asn):
-    """The unit that announces an origin (RFC 8210 sections 5.6 and 5.7)."""
+    """Returns the unit that announces an origin (RFC 8210 sections 5.6 and 5.7)."""
     net = ipaddress.ip_network(prefix)
     rest = bytes([1, net.prefixlen, most, 0]) + net.network_address.packed + asn.to_bytes(4, "big")
     kind = 4 if net.version == 4 else 6
@@ -48,7 +48,7 @@ def origin(prefix, most, asn):
 
 
 def key(ski, asn, info=INFO):
-    """The unit that announces a router key (RFC 8210 section 5.10)."""
+    """Returns the unit that announces a router key (RFC 8210 section 5.10)."""
     rest = ski + asn.to_bytes(4, "big") + info
     return bytes([2, 9, 1, 0]) + (8 + len(rest)).to_bytes(4, "big") + rest
 
@@ -75,7 +75,7 @@ def text_of(origins=ORIGINS, keys=KEYS):
 
 
 def slurm(prefix_filters=(), key_filters=(), prefixes=(), keys=()):
-    """A SLURM file (RFC 8416 section 3.2)."""
+    """Returns a SLURM file (RFC 8416 section 3.2)."""
     return {
         "slurmVersion": 1,
         "validationOutputFilters": {
@@ -141,7 +141,8 @@ RUNS = [
     # Several files (section 4.2), whose entries don't overlap.
     ([slurm([{"prefix": "192.0.2.0/24"}], [{"asn": 64496}]), slurm([], [], [{"asn": 1, "prefix": "192.0.3.0/24"}]),
       slurm([{"asn": 64496}], [{"SKI": url64(FIRST)}])],
-     [o for o in ORIGINS if o[0] not in ("192.0.2.0/24", "192.0.2.128/25", "10.0.0.0/8")] + [("192.0.3.0/24", 24, 1)],
+     [o for o in ORIGINS if o[0] not in ("192.0.2.0/24", "192.0.2.128/25", "10.0.0.0/8")]
+     + [("192.0.3.0/24", 24, 1)],
      [(SECOND, 64511), (SECOND, 64497)]),
 ]
 
@@ -195,7 +196,8 @@ REFUSED = [
     ([slurm((), [{}])], "bgpsecFilters[0]: a filter without prefix, asn or SKI matches nothing"),
     ([slurm((), [{"ski": url64(FIRST)}])], f'bgpsecFilters[0]."ski": {UNKNOWN}'),
     *[([slurm((), [{"SKI": ski}])], "bgpsecFilters[0]: SKI is not 20 bytes in base64url without padding")
-      for ski in (url64(FIRST) + "=", base64.b64encode(FIRST).decode().rstrip("="), FIRST.hex(), url64(FIRST[1:]),
+      for ski in (url64(FIRST) + "=", base64.b64encode(FIRST).decode().rstrip("="), FIRST.hex(),
+                  url64(FIRST[1:]),
                   "", 1, url64(FIRST)[:-1] + "B")],
     # Assertions.
     ([slurm((), (), [without(P, "asn")])], "prefixAssertions[0]: asn is missing"),
@@ -223,7 +225,7 @@ REFUSED = [
 
 
 def units(output):
-    """The units of a sequence, one by one."""
+    """Returns the units of a sequence, one by one."""
     found = []
     while output:
         size = int.from_bytes(output[4:8], "big")
@@ -245,7 +247,8 @@ def write_files(folder, files):
 
 
 def run(program, files, given, *more):
-    """What the program writes, says and ends with, and the names of the SLURM files."""
+    """Returns the output, standard error and status of the program, and the names of the SLURM
+    files."""
     with tempfile.TemporaryDirectory() as folder:
         names, words = write_files(folder, files)
         done = subprocess.run([program, "--json", *words, *more], input=given, capture_output=True,
@@ -264,18 +267,20 @@ def check_left(program):
     return wrong
 
 
-def check_refused(program):
+def check_refused(program, call=run, name="rtr_make"):
+    """Each refused file is named, with the reason, by a program that `call` runs."""
     wrong = 0
     for files, line in REFUSED:
-        output, stderr, status, names = run(program, files, text_of())
-        if (output, stderr, status) != (b"", f"rtr_make: {names[-1]}: {line}\n", 1):
+        output, stderr, status, names = call(program, files, text_of())
+        if (output, stderr, status) != (b"", f"{name}: {names[-1]}: {line}\n", 1):
             wrong += 1
             print(f"slurm: {files}: {stderr} {status}, not {line}")
     return wrong
 
 
 def check_rest(program):
-    """What is left decides whether there is a payload; versions, CSV and words."""
+    """Checks that payloads which are left after the filters decide whether the list is empty; and
+    checks versions, CSV and arguments."""
     everything = slurm([{"prefix": "0.0.0.0/0"}])
     listed = text_of([("10.0.0.0/8", 8, 1)], [])
     only = b'{"roas": [{"prefix": "10.0.0.0/8", "maxLength": 8, "asn": 1}]}'
@@ -298,7 +303,7 @@ def check_rest(program):
     return sum(got != want for got, want in rows)
 
 
-def validate(program, files, listed, routes):
+def validate(program, files, listed, routes=b"10.0.0.0/8 1\n"):
     """The same of `rtr_validate` with this list."""
     with tempfile.TemporaryDirectory() as folder:
         names, words = write_files(folder, files)
@@ -311,7 +316,7 @@ def validate(program, files, listed, routes):
 
 
 def state_of(route, vrps):
-    """The state of a route by these VRPs (RFC 6811 section 2)."""
+    """Returns the state of a route by these VRPs (RFC 6811 section 2)."""
     net, asn = ipaddress.ip_network(route[0]), route[1]
     covering = [(most, other) for prefix, most, other in vrps
                 if ipaddress.ip_network(prefix).version == net.version
@@ -323,7 +328,7 @@ def state_of(route, vrps):
 
 
 def check_routes(program):
-    """The VRPs that are left decide on routes, of JSON and of a sequence."""
+    """Checks that the VRPs which are left decide on routes, from JSON and from a sequence."""
     wrong = 0
     routes = sorted({(prefix, asn) for prefix, _, _ in ORIGINS + ADDED
                      for asn in (64496, 64497, 64511)})
@@ -341,17 +346,11 @@ def check_routes(program):
 
 
 def check_refused_too(program):
-    wrong = 0
-    for files, line in REFUSED:
-        output, stderr, status, names = validate(program, files, text_of(), b"10.0.0.0/8 1\n")
-        if (output, stderr, status) != (b"", f"rtr_validate: {names[-1]}: {line}\n", 1):
-            wrong += 1
-            print(f"slurm: {files}: {stderr} {status}, not {line}")
-    return wrong
+    return check_refused(program, validate, "rtr_validate")
 
 
 def check_all(makers, validators):
-    """How many checks fail."""
+    """Returns how many checks fail."""
     makes = check_left, check_refused, check_rest
     validates = check_routes, check_refused_too
     return (sum(check(program) for program in makers for check in makes)

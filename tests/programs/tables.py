@@ -275,8 +275,8 @@ ALIKE = [
     (V4 + END_1 + OTHER + END_1, [V4, OTHER], []),
     (V4 + END_1 + RESPONSE + OTHER + END_1, [V4, OTHER], []),
     (ONE + OTHER + END_1, [V4, OTHER], []),
-    # An answer that a new cache response cuts off leaves nothing. A cache may not name an expire time
-    # of 3 seconds (section 6).
+    # An answer that a new cache response cuts off leaves nothing. A cache may not name an expire
+    # time of 3 seconds (section 6).
     (BEGUN + WHOLE, [WHOLE[8:28]], [(28, NO_END), (56, EXPIRES)]),
     (RESPONSE + ONE, [V4], [(8, NO_END)]),
     (V4 + RESPONSE + OTHER + END_1, [OTHER], [(20, NO_END)]),
@@ -339,14 +339,15 @@ def check_rows(program):
 
 
 def ended(leaves, name, cut):
-    """The line on standard error after a recording with this name was read, and the status."""
+    """Returns the line on standard error after a recording with this name was read, and the
+    status."""
     if isinstance(leaves, tuple):
         return f"{name}offset {leaves[0]}: {leaves[1]}\n", 1
     return (f"{name}left out: {NO_END.replace('answer', 'an answer')}\n" if cut else ""), 0
 
 
 def alike_problem(program, diff, given, leaves, findings):
-    """How a program reads a recording differently from what is expected, or None."""
+    """Returns how a program reads a recording differently from the expected data, or None."""
     is_refused = isinstance(leaves, tuple)
     is_cut = not is_refused and (NO_END in (text for _, text in findings))
     stderr, status = ended(leaves, "rtr_list: ", is_cut)
@@ -372,7 +373,7 @@ def alike_problem(program, diff, given, leaves, findings):
 
 
 def check_alike(program):
-    """All programs read a recording the same."""
+    """Checks that all programs read a recording the same."""
     diff = built.program("rtr_diff")
     problems = [(row[0], alike_problem(program, diff, *row)) for row in ALIKE]
     for given, problem in problems:
@@ -382,7 +383,7 @@ def check_alike(program):
 
 
 def picked_prefix(choice):
-    """An announcement of an origin, and its key in the order of payloads."""
+    """Returns an announcement of an origin, and its key in the order of payloads."""
     kind, width = choice.choice([(4, 32), (6, 128)])
     length = choice.randrange(width + 1)
     most = choice.randrange(length, width + 1)
@@ -394,7 +395,7 @@ def picked_prefix(choice):
 
 
 def picked_key(choice):
-    """The same of a router key."""
+    """Returns the same of a router key."""
     identifier = bytes([choice.randrange(2)]) * 20
     asn = choice.randrange(4).to_bytes(4, "big")
     info = choice.randbytes(choice.randrange(8))
@@ -403,7 +404,7 @@ def picked_key(choice):
 
 
 def picked_aspa(choice, customer):
-    """The same of an ASPA, whose providers are in order, as `rtr_make` writes them."""
+    """Returns the same of an ASPA, whose providers are in order, as `rtr_make` writes them."""
     asns = {choice.getrandbits(32) for _ in range(choice.randrange(1, 6))}
     providers = b"".join(asn.to_bytes(4, "big") for asn in sorted(asns))
     size = (12 + len(providers)).to_bytes(4, "big")
@@ -411,7 +412,7 @@ def picked_aspa(choice, customer):
 
 
 def picked(choice):
-    """Some payloads: the unit of each, by its key in the order of payloads."""
+    """Returns some payloads: the unit of each, by its key in the order of payloads."""
     found = [picked_prefix(choice) for _ in range(choice.randrange(30))]
     found += [picked_key(choice) for _ in range(choice.randrange(10))]
     found += [picked_aspa(choice, customer) for customer in choice.sample(range(300), 5)]
@@ -419,7 +420,7 @@ def picked(choice):
 
 
 def between(choice):
-    """Units that may come inside a recording without changing its payloads."""
+    """Returns units that may come inside a recording without changing its payloads."""
     if choice.random() < 0.8:
         return b""
     return choice.choice([NOTIFY, NOTIFY_ELSE, QUERY, END_1, END_1 + RESPONSE,
@@ -427,9 +428,9 @@ def between(choice):
 
 
 def recorded(choice, units):
-    """A recording of several answers that leaves these units: in any order, some of them withdrawn
-    in between and announced again, and others withdrawn; sometimes the data before are of another
-    session, or from before a cache reset."""
+    """Returns a recording of several answers that leaves these units: in any order, some of them
+    withdrawn in between and announced again, and others withdrawn; sometimes the data before are of
+    another session, or from before a cache reset."""
     others = [unit for key, unit in picked(choice).items() if key not in units]
     steps = [[unit] for unit in units.values()] + [[unit, withdrawn(unit)] for unit in others]
     steps += [[unit, withdrawn(unit), unit] for unit in units.values() if choice.random() < 0.3]
@@ -466,7 +467,8 @@ def check_random(program):
         table, stderr, status = run(program, CSV, "", given)
         remade = run(make, ["--csv", *asked], "", table)
         keys = sum(key[0] == 1 for key in units)
-        line = f"rtr_list: left out: router keys {keys}, ASPAs {len(units) - keys - table.count(b'/')}\n"
+        aspas = len(units) - keys - table.count(b"/")
+        line = f"rtr_list: left out: router keys {keys}, ASPAs {aspas}\n"
         if remade != (origins + END, "", 0) or (stderr, status) != (line, 0):
             wrong += 1
             print(f"tables: {given.hex()} as CSV: {status} {stderr} {remade[1]}")
@@ -474,7 +476,8 @@ def check_random(program):
 
 
 def check_many(program):
-    """An answer after one of more than 65536 origins: all of them are copied, and one is added."""
+    """Checks an answer after one of more than 65536 origins: all of them are copied, and one is
+    added."""
     units = [V4[:12] + number.to_bytes(3, "big") + bytes(1) + V4[16:] for number in range(65537)]
     units = [unit[:9] + bytes([24, 24]) + unit[11:] for unit in units]
     given = RESPONSE + b"".join(units) + END_1 + RESPONSE + V4 + END_1
@@ -501,7 +504,8 @@ def check_growth(program):
         for arguments, whole in (
                 (CSV, (0, csv(V4_ROW, OTHER_ROW, V6_ROW), left_out)),
                 (VRPS, (0, vrps([V4_ROA, OTHER_ROA, V6_ROA], [ONE_KEY], [ONE_ASPA]), b""))):
-            allowed = [whole, (3, b"", b"rtr_list: out of memory\n"), (2, b"", USAGE.encode() + b"\n")]
+            allowed = [whole, (3, b"", b"rtr_list: out of memory\n"),
+                       (2, b"", USAGE.encode() + b"\n")]
             outcomes = []
             for refused in range(1, MOST):
                 ran, is_met = growth.refusing(shim, [program, *arguments], given, refused, 0)

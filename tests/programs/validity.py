@@ -42,7 +42,7 @@ ASPA = samples.unit("ASPA of large numbers")
 
 
 def unit(prefix, max_len, asn, version=2):
-    """The unit that announces a VRP."""
+    """Returns the unit that announces a VRP."""
     net = ipaddress.ip_network(prefix)
     pdu, size = (4, 20) if net.version == 4 else (6, 32)
     return (bytes([version, pdu, 0, 0, 0, 0, 0, size, 1, net.prefixlen, max_len, 0])
@@ -85,7 +85,7 @@ COMPARED = lines("192.0.2.0/24 AS65550", "192.0.2.0/24 AS65551", "203.0.113.0/24
 
 
 def exceptions(filters, added=()):
-    """A SLURM file (RFC 8416 section 3.2)."""
+    """Returns a SLURM file (RFC 8416 section 3.2)."""
     return json.dumps({
         "slurmVersion": 1,
         "validationOutputFilters": {"prefixFilters": filters, "bgpsecFilters": []},
@@ -113,33 +113,38 @@ USAGE = ("usage: rtr_validate [--json] [--summary] [--strict] [--format F] [--at
          "[--against FILE] FILE [PREFIX ASN]")
 HELP = b"""\
 rtr_validate - print whether routes are valid by the VRPs of a file
-usage: rtr_validate [--json] [--summary] [--strict] [--format F] [--at N] [--slurm FILE]..
-                    [--against FILE] FILE [PREFIX ASN]
+usage: rtr_validate [--json] [--summary] [--strict] [--format F] [--at N]
+                    [--slurm FILE].. [--against FILE] FILE [PREFIX ASN]
 
-It prints the validity of a route (RFC 6811): valid, invalid or not found; of an invalid one also
-the VRPs that cover it, each with why it doesn't match. Without PREFIX and ASN it reads routes from
-standard input, one on a line; a line that is no route is named on standard error, and the run goes
-on. An AS_SET such as {64496,64497} in the place of ASN is no AS: no VRP matches it. FILE is a
-recording of units of the RPKI to Router protocol (RFC 8210), or the JSON or CSV that a validator
-prints, of which what has expired doesn't count. The name - stands for standard input, where PREFIX
-and ASN are given.
+It prints the validity of a route (RFC 6811): valid, invalid or not found; for
+an invalid one also the VRPs that cover it, each with the reason why it doesn't
+match. Without PREFIX and ASN it reads routes from standard input, one a line; a
+line that isn't a route is reported on standard error, and the program goes on.
+An AS_SET such as {64496,64497} instead of ASN is no AS: no VRP matches it. FILE
+is a recording of units of the RPKI to Router protocol (RFC 8210), or the JSON
+or CSV that a validator prints, whose expired items are ignored. The name -
+stands for standard input, if PREFIX and ASN are given.
 
   (no word)       print a line for each route
-  --json          print a JSON object for each route, with all VRPs that cover it
-  --summary       print only how many routes of standard input have each state, and of how many
-                  origin ASes they are, with a line for each of the 20 ASes that have most invalid
-                  routes, of as many the smaller AS first; an AS_SET counts for no AS
-  --strict        stop at the first line that is no route
+  --json          print a JSON object for each route, with all VRPs that cover
+                  it
+  --summary       print only how many routes of standard input have each state,
+                  the number of their origin ASes, and a line for each of the
+                  20 ASes with most invalid routes, the smaller AS first among
+                  equals; an AS_SET counts for no AS
+  --strict        stop at the first line that isn't a route
   --format F      the format of the lines (default lines):
                   lines  PREFIX ASN
                   mrt    bgpdump -m, which prints MRT dumps of tables (RFC 6396)
                   bird   BIRD's show route primary
                   frr    FRR's show bgp ipv4 unicast wide
-  --at N          what has expired at this time, in seconds since 1970, doesn't count (default now)
+  --at N          ignore items that have expired at this time, in seconds since
+                  1970 (default now)
   --slurm FILE    apply a file of local exceptions (RFC 8416); may be repeated
-  --against FILE  print only the routes of standard input that become invalid, or are no longer, if
-                  the list in this file, read as FILE is, comes in the place of FILE; with --summary
-                  how many routes turn from each state to each
+  --against FILE  print only the routes of standard input that become invalid,
+                  or are no longer, if this file replaces FILE; it is read in
+                  the same way; with --summary how many routes turn from which
+                  state to which
   --help          print this
   --version       print the program's version
 """
@@ -169,26 +174,27 @@ def lookup(prefix, asn):
 
 
 def named(*refused):
-    """The lines on input that isn't a route: each, and their count."""
+    """Returns the lines on input that isn't a route: one for each line of input, and their
+    count."""
     count = "1 line is no route" if len(refused) == 1 else f"{len(refused)} lines are no routes"
     return "\nrtr_validate: ".join([f"line {number}: {why}" for number, why in refused] + [count])
 
 
 def summary(valid, invalid, not_found, refused, *rows, origins=None):
-    """A summary, with how many origin ASes there are, and a row for each that is listed."""
+    """Returns a summary, with how many origin ASes there are, and a row for each that is listed."""
     return lines(f"valid {valid}", f"invalid {invalid}", f"not found {not_found}",
                  f"refused {refused}", f"origins {len(rows) if origins is None else origins}",
                  *(f"AS{row[0]} valid {row[1]} invalid {row[2]} not found {row[3]}" for row in rows))
 
 
 def dumped(prefix, path, peer=64496):
-    """A line of `bgpdump -m`."""
+    """Returns a line of `bgpdump -m`."""
     return (f"TABLE_DUMP2|1767225600|B|192.0.2.9|{peer}|{prefix}|{path}|IGP|192.0.2.9|0|0||NAG||\n"
             .encode())
 
 
 def gone(count):
-    """The line on expired items."""
+    """Returns the line on expired items."""
     return f"vrps: left out {count} that have expired"
 
 
@@ -505,7 +511,8 @@ def check_rows(program):
 
 
 def answer(vrps, prefix, asn):
-    """The line on a route: RFC 6811 section 2 over all VRPs, which are in the order of payloads."""
+    """Returns the line on a route: RFC 6811 section 2 over all VRPs, which are in the order of
+    payloads."""
     net = ipaddress.ip_network(prefix)
     covering = [(above, max_len, origin) for above, max_len, origin in vrps
                 if above.version == net.version and net.subnet_of(above)]
@@ -519,7 +526,7 @@ def answer(vrps, prefix, asn):
 
 
 def nested(choice, width):
-    """A prefix, mostly inside or around others of these few addresses."""
+    """Returns a prefix, mostly inside or around others of these few addresses."""
     length = choice.choice((0, 8, 16, 22, 23, 24, 31, 32)) * width // 32
     bits = choice.choice((10, 11, 192, 255)) << (width - 8) | choice.getrandbits(width // 8)
     bits = bits >> (width - length) << (width - length) if length else 0
@@ -557,7 +564,7 @@ def check_tables(program, many):
 
 
 def check_pipe(program):
-    """The answer on a route comes while the pipe stays open."""
+    """Checks that the answer on a route comes while the pipe stays open."""
     with tempfile.TemporaryDirectory() as folder:
         with open(os.path.join(folder, "vrps"), "wb") as file:
             file.write(FILE)
@@ -578,7 +585,8 @@ def check_pipe(program):
 
 
 def check_progress(program):
-    """A terminal is told how far a summary is, at most once a second, and has nothing of it left."""
+    """Checks that a terminal shows the progress of a summary, at most once a second, and is left
+    clean at the end."""
     with tempfile.TemporaryDirectory() as folder:
         with open(os.path.join(folder, "vrps"), "wb") as file:
             file.write(FILE)

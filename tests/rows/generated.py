@@ -74,7 +74,8 @@ LENGTHS = [*range(70), *range(65520, 65540), 65552, 2**24 + 20, 2**32 - 12, 2**3
 
 
 def sequence_rows():
-    """Rows of a unit and an end of data at which the input, the reader or the writer stops."""
+    """Yields rows of a unit and an end of data at which the input, the reader or the writer
+    stops."""
     for (unit, form), end in [(pair, end) for pair in UNITS for end in (END_0, END_1)]:
         given, output = unit + end, form + end
         for count in range(len(given)):
@@ -92,7 +93,8 @@ def sequence_rows():
 
 
 def into_row(call, units, end, capacity):
-    """A run into an output of this capacity, over units and what is written for each, if any."""
+    """Returns the row of a run into an output of this capacity, over units and the form of each, if
+    any."""
     given = b"".join(unit for unit, _ in units) + end[0]
     taken, written, forms = 0, b"", 0
     call = f"{call} {ONCE} room={capacity} {given.hex()}"
@@ -144,7 +146,7 @@ def into_stop_rows():
 
 
 def form_for(version, form):
-    """What is written for clients of a version, given the form."""
+    """Returns the bytes that are written for clients of a version, given the form."""
     return bytes([version]) + form[1:] if version >= FIRST_VERSIONS[form[1]] else b""
 
 
@@ -177,7 +179,7 @@ def unit_rows():
 
 
 def any_rows():
-    """Units of any type in which the input, the reader or the writer stops."""
+    """Yields units of any type in which the input, the reader or the writer stops."""
     for unit in [unit for _, unit in FIXED] + [KEY, ASPA_NAMED, ASPA_BARE, REPORT]:
         for count in range(len(unit)):
             cut = "Short" if count else "None"
@@ -200,7 +202,7 @@ NAMES = {0: "SerialNotify", 1: "SerialQuery", 2: "ResetQuery", 3: "CacheResponse
 
 
 def sample_rows():
-    """The samples that are listed, as units of any type, and what is written of those that
+    """Yields the samples that are listed, as units of any type, and what is written of those that
     sequences have."""
     for sample in samples.SAMPLES:
         given, size = sample.bytes.hex(), len(sample.bytes)
@@ -221,7 +223,7 @@ LEAST = {9: 32, 10: 16, 11: 12}
 
 
 def any_fault(version, kind, flags, length):
-    """The fault of a header of a unit of any type, or nothing."""
+    """Returns the fault of a header of a unit of any type, or nothing."""
     if kind == 7:
         if version > 2:
             return f"UnitVersion({version})"
@@ -238,8 +240,8 @@ def any_fault(version, kind, flags, length):
 
 
 def any_header_rows():
-    """Headers and what they say of the length; those that are refused by units of any type, and by
-    error reports."""
+    """Yields headers and the length that they state, and those that are refused by units of any
+    type and by error reports."""
     for kind in range(256):
         lengths = LENGTHS if kind <= 11 else [0, 16, 2**32 - 1]
         versions = (0, 1, 2, 3, 255) if kind == 7 else (1, 255)
@@ -257,13 +259,14 @@ def any_header_rows():
 
 
 def fault_name(row, data):
-    """The name of the fault of a row of the table of refusals."""
+    """Returns the name of the fault of a row of the table of refusals."""
     names = {2: f"UnitType({data[1]})", 3: f"UnitVersion({data[0]})", 4: "TooLong", 5: "UnitLength"}
     return names.get(row, "EmptyProviders")
 
 
 def header_rows():
-    """Headers that are refused: of all types, those that are known in all versions and lengths."""
+    """Yields headers that are refused: of all types, those that are known in all versions and
+    lengths."""
     for kind in range(256):
         lengths = LENGTHS if kind in (4, 6, 7, 9, 11) else [0, 20, 2**32 - 1]
         versions = (0, 1, 2, 3, 255) if kind == 7 else (1, 255)
@@ -298,8 +301,8 @@ THERE = {"FIRST": [None, "FIRST"], "SECOND": [None, "SECOND"],
 
 
 def change_made(held, name, unit):
-    """What data become by a change that leaves this unit by the name, or none; or why it is refused
-    (RFC 8210 section 12). An ASPA takes the place of the one of its customer."""
+    """Returns the data after a change that sets this name to a unit, or removes it; or why it is
+    refused (RFC 8210 section 12). An ASPA replaces the one of its customer."""
     if unit and held[name] and name != "ASPA":
         return None, "Duplicate"
     if not unit and not held[name]:
@@ -308,7 +311,7 @@ def change_made(held, name, unit):
 
 
 def in_order_answer(held, changes):
-    """What these changes answer, made onto data one after the other."""
+    """Returns the result of these changes, applied to data one after the other."""
     taken = 0
     for name, unit in changes:
         held, refused = change_made(held, name, unit)
@@ -319,7 +322,7 @@ def in_order_answer(held, changes):
 
 
 def in_order_rows():
-    """All runs of up to four changes of three names, over all data of these."""
+    """Yields all runs of up to four changes of three names, over all data of these."""
     yield from (f"{name} = {unit.hex()}" for name, unit in IN_ORDER.items())
     changes = [(name, unit) for name, units in THERE.items() for unit in units]
     for there in itertools.product(*THERE.values()):

@@ -40,7 +40,7 @@ MISMATCHES = {0: "matches", 1: "AsZero", 2: "OtherAs", 3: "TooLong"}
 
 
 def fault(status, detail):
-    """The name that rows have for a status."""
+    """Returns the name of a status in rows."""
     return FAULTS[status].format(RULES[detail] if status == 7 else detail)
 
 
@@ -57,7 +57,7 @@ class Rows:
                                     b"".join(map(self.bytes_of, words.split())))
 
     def bytes_of(self, word):
-        """The bytes that a word stands for, or None."""
+        """Returns the bytes that a word stands for, or None."""
         word, _, times = word.partition("*")
         if word in self.named:
             found = self.named[word]
@@ -71,7 +71,8 @@ class Rows:
         return found * int(times or 1)
 
     def spelled(self, words):
-        """The words of an answer, with the digits of bytes that follow each other as one."""
+        """Returns the words of a result, with bytes that follow each other as one word of
+        digits."""
         spelled, in_bytes = [], False
         for word in words:
             found = self.bytes_of(word)
@@ -83,7 +84,7 @@ class Rows:
         return spelled
 
     def all(self):
-        """Each row: where it stands, its call, settings, both sides and its answer."""
+        """Yields each row: its file and line, its call, settings, both sides and its result."""
         for file in PLAY.FILES:
             lines = PLAY.read(os.path.join(HERE, file)).splitlines()
             for number, line in enumerate(lines, 1):
@@ -107,7 +108,7 @@ class Library:
         self.rows, self.calls, self.types = rows, _library.CALLS, _rtr
 
     def slice_call(self, settings, left, capacity):
-        """What a call that normalises answers, and the output."""
+        """Returns the result of a call that normalises, and the output."""
         output = ctypes.create_string_buffer(bytes([FILL]) * capacity, capacity + 1)
         answer = self.types.rtr_answer()
         limit = int(settings.get("limit", MOST_UNITS))
@@ -258,8 +259,8 @@ class Library:
         return answer, output.raw[:answer.written]
 
     def data_words(self, answer, written, sides, expected):
-        """What a call on data answers; of a session and of an output that is too short no more is
-        compared than that it is so."""
+        """Returns the result of a call on data, in words. The details of a wrong session and of an
+        output that is too short aren't compared."""
         if answer.status == 0:
             return ["Ok", ":", written.hex()]
         name = fault(answer.status, answer.detail)

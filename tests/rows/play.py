@@ -1,6 +1,6 @@
 #!/usr/bin/env python3
-"""Gives `test_rows` the rows of this folder, which are by kind of unit, and names those that fail by
-their file and line, with what they are for.
+"""Gives `test_rows` the rows of this folder, which are by kind of unit, and names those that fail
+by their file and line, with what they are for.
 
 usage: play.py [FILE..]    with FILE, as aspa, the rows of these files alone
        play.py --check     says whether crates/test_rows/stdin is what the files have together
@@ -34,12 +34,13 @@ def read(path):
 
 
 def joined(names):
-    """The lines of these files, one file after the other."""
+    """Returns the lines of these files, one file after the other."""
     return "\n".join(read(os.path.join(HERE, name)) for name in (WORDS, *names))
 
 
 def names_of_rows(names):
-    """The name of each row by its line: the file, its place there, and the heading above it."""
+    """Returns the name of each row by its line: the file, its place there, and the heading above
+    it."""
     found = {}
     for name in names:
         heading, above = "", ""

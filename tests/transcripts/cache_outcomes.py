@@ -8,7 +8,7 @@ from units import OTHER_SESSION, cache_reset, notify, reset_query, serial_query
 
 
 def goes_on(state):
-    """New data come: a notify of them, a query of the version, and one of another."""
+    """Plays new data: a notify of them, a query of the version, and one of another."""
     scene, version, session = state.scene, state.version, state.session
     known, state.present = state.present, state.present + 1
     scene.has(scene.now + SECOND, editions.data(state.present, session))
@@ -69,7 +69,8 @@ def ends(state, case, unit, version):
 
 
 def breach(state, case, unit, version, code, text):
-    """A report in the version of the connection, or of the unit if there is such a version."""
+    """Plays a report in the version of the connection, or in that of the unit if there is such a
+    version."""
     about = unit if case.kind != REFUSED else unit[:case.about]
     own = state.version if state.asked else min(version, 2)
     state.scene.reports(own, code, about, text)

@@ -59,13 +59,14 @@ CASES = QUERIES + [case for case in GOOD + BAD if case.kind != "query"]
 
 
 def known(state, case):
-    """Whether the cache knows the changes: its editions go from the first to the present one."""
+    """Reports whether the cache knows the changes: its editions go from the first to the present
+    one."""
     return case.session == state.session and state.present is not None and (
         state.first <= case.serial <= state.present)
 
 
 def row_of(state, case, version):
-    """The first row that matches a unit in a state."""
+    """Returns the first row that matches a unit in a state."""
     relation = OWN if version == state.version or (not state.asked and version < 3) else (
         OTHER if state.asked else NONE)
     notes = {None}

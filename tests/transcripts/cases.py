@@ -25,7 +25,7 @@ class Case:
     least: int = 0  # the first version that has it
 
     def notes(self, state, version):
-        """The notes that a row may have on the unit beside its kind and version."""
+        """Returns the notes that a row may have on the unit beside its kind and version."""
         notes = {str(self.code)} if self.kind == REPORT else set()
         if self.kind == REFUSED and self.code is None:
             notes.add("report")
@@ -102,7 +102,7 @@ BAD = [Case(f"type-{kind}", REFUSED, lambda v, kind=kind: units.unit(v, kind, 0)
 
 
 def as_in(case, version):
-    """The case in this version, in which an end of data may be refused by its header."""
+    """Returns the case in this version, in which an end of data may be refused by its header."""
     if case.kind == END and version > 2:
         return replace(case, kind=REFUSED, code=4, text=f"version {version} is not supported here")
     return case

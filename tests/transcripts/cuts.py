@@ -14,14 +14,14 @@ CHANGED = OLD[1:] + (NEW,)
 
 
 def begun(name, changes, how):
-    """A router that has asked for all, or for changes."""
+    """Returns a router that has asked for all, or for changes."""
     answered = "changes are asked for" if changes else "all is asked for"
     about = f"{answered[0].upper()}{answered[1:]}, and the answer is cut: {how}."
     return (again_serial if changes else first_reset)(name, about, VERSION)
 
 
 def left(data):
-    """The bytes after the last whole unit."""
+    """Returns the bytes after the last whole unit."""
     rest = data
     for unit in split(data):
         if len(unit) >= 8 and len(unit) == int.from_bytes(unit[4:8], "big"):

@@ -16,7 +16,7 @@ class Payload:
         return self.kind, self.asn
 
     def least(self):
-        """The first version that has the payload."""
+        """Returns the first version that has the payload."""
         return {"key": 1, "aspa": 2}.get(self.kind, 0)
 
     def unit(self, version, action=ANNOUNCE):
@@ -46,19 +46,19 @@ AT = {
 
 
 def data(serial, session=SESSION, version=2, payloads=None):
-    """Data in canonical form, in a version."""
+    """Returns data in canonical form, in a version."""
     own = AT[serial] if payloads is None else payloads
     parts = [payload.unit(version) for payload in own if payload.least() <= version]
     return b"".join(parts) + units.end(version, serial, session)
 
 
 def everything(version, serial, session=SESSION, payloads=None):
-    """The answer to a reset query (8.1)."""
+    """Returns the answer to a reset query (8.1)."""
     return units.response(version, session) + data(serial, session, version, payloads)
 
 
 def delta(old, new, version):
-    """The units that announce new payloads, and then those that withdraw old ones."""
+    """Returns the units that announce new payloads, and then those that withdraw old ones."""
     names = {payload.name() for payload in new}
     announced = [payload.unit(version) for payload in new
                  if payload not in old and payload.least() <= version]
@@ -68,6 +68,6 @@ def delta(old, new, version):
 
 
 def changes(version, since, serial, session=SESSION):
-    """The answer to a serial query whose changes the cache knows (8.2)."""
+    """Returns the answer to a serial query whose changes the cache knows (8.2)."""
     return (units.response(version, session) + delta(AT[since], AT[serial], version)
             + units.end(version, serial, session))

@@ -58,7 +58,7 @@ def scene_at_cache(name, state_name, states_of, case, of_connection, of_unit):
 
 
 def units_at_cache():
-    """The states before a query, after one, and after the end."""
+    """Yields the states before a query, after one, and after the end."""
     for case in cache_rules.CASES:
         for of_unit in (0, 1, 2, 3):
             for states_of in (cache_states.FIRST, cache_states.LATER, cache_states.OVER):

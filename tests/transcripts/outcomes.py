@@ -10,19 +10,19 @@ RETRY, PAUSE = 600 * SECOND, SECOND
 
 
 def query_serial(state):
-    """The serial number that the next query asks from, or None if it asks for all."""
+    """Returns the serial number that the next query asks from, or None if it asks for all."""
     return SERIAL if state.has_data and state.serial is not False else None
 
 
 def asks_here(state, time, serial):
-    """A query on the open connection."""
+    """Plays a query on the open connection."""
     version = state.version
     query = reset_query(version) if serial is None else serial_query(version, serial)
     state.scene.sends(time, query)
 
 
 def completes(state, version, session=SESSION, serial=NEXT):
-    """The rest of a good answer, after its cache response."""
+    """Plays the rest of a good answer, after its cache response."""
     scene, time = state.scene, state.scene.now + 100
     scene.cache(time, ipv4(version, NEW) + end(version, serial, session))
     base = OLD if state.serial else ()
@@ -30,7 +30,7 @@ def completes(state, version, session=SESSION, serial=NEXT):
 
 
 def answers(state, version, session=SESSION):
-    """A good answer, or the rest of it."""
+    """Plays a good answer, or the rest of it."""
     if state.phase == "asked":
         state.scene.cache(state.scene.now + 100, response(version, session))
     completes(state, version, session)
@@ -139,7 +139,7 @@ def refused(state, case, unit, version):
 
 
 def breach(state, case, unit, version, code, text):
-    """A report of this code, in the version of the connection."""
+    """Plays a report of this code, in the version of the connection."""
     about = unit if case.kind != REFUSED else unit[:case.about]
     state.scene.reports(state.scene.now, state.version, code, about, text)
     gone(state)

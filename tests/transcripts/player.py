@@ -52,8 +52,8 @@ class Part:
 class Scene:
     """A scene: what the end gets, and what it has to do."""
 
-    def __init__(self, end, text, place):
-        self.end, self.place, self.name, self.settings, self.now = end, place, None, [], 0
+    def __init__(self, end, text, source):
+        self.end, self.source, self.name, self.settings, self.now = end, source, None, [], 0
         self.parts = [Part(1)]  # the first has no step
         for number, line in enumerate(text.splitlines(), 1):
             words = line.partition("#")[0].split()
@@ -77,7 +77,7 @@ class Scene:
         elif is_timed:
             self.parts[-1].expected.append((number, words))
         else:
-            sys.exit(f"scenes: {self.place}: line {number}: no step: {' '.join(words)}")
+            sys.exit(f"scenes: {self.source}: line {number}: no step: {' '.join(words)}")
 
     def give(self, time, *words):
         self.parts[-1].given.append((time, " ".join(words)))
@@ -88,7 +88,7 @@ class Scene:
         given = [line for part in self.parts for _, line in part.given]
         return "".join(f"{line}\n" for line in [f"scene {self.name}", *self.settings, *given])
 
-    def has(self, step):
+    def gives(self, step):
         """Reports whether this step is given."""
         return any(line.split()[1] == step for part in self.parts for _, line in part.given)
 
@@ -113,7 +113,7 @@ class Scene:
         return late
 
     def __str__(self):
-        return f"{self.name} ({self.place})"
+        return f"{self.name} ({self.source})"
 
 
 def bytes_of(words):
@@ -172,7 +172,7 @@ def play(end, command, lacks=None):
     scenes = [Scene(end, text, where) for text, where in texts_of(end)]
     if len(scenes) < LEAST or len({scene.name for scene in scenes}) < len(scenes):
         sys.exit(f"scenes: only {len(scenes)} of a {end}, or two have one name")
-    left_out = [scene for scene in scenes if lacks and scene.has(lacks)]
+    left_out = [scene for scene in scenes if lacks and scene.gives(lacks)]
     scenes = [scene for scene in scenes if scene not in left_out]
     with tempfile.TemporaryDirectory() as folder:
         running = End(command, folder)

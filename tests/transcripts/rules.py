@@ -63,7 +63,7 @@ ROWS = [
 
 
 def row_of(state, case, version):
-    """The first row that matches a unit in a state."""
+    """Returns the first row that matches a unit in a state."""
     relation = SAME if version == state.version else LOWER if version < state.version else HIGHER
     notes = case.notes(state, version)
     for row in ROWS:

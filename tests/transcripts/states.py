@@ -12,7 +12,7 @@ OLD = (1, 2)  # the ASes of the prefixes that it has
 
 
 def data_of(version, serial, asns, session=SESSION):
-    """Data in canonical form: prefixes of these ASes, and the end of data."""
+    """Returns data in canonical form: prefixes of these ASes, and the end of data."""
     return b"".join(ipv4(version, asn) for asn in asns) + end(version, serial, session)
 
 

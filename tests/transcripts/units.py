@@ -36,7 +36,7 @@ def cache_reset(version):
 
 
 def ipv4(version, asn, action=ANNOUNCE):
-    """10.0.0.0/8-24 of an AS."""
+    """Returns 10.0.0.0/8-24 of an AS."""
     return unit(version, IPV4, 0, bytes([action, 8, 24, 0, 10, 0, 0, 0]) + struct.pack(">I", asn))
 
 
@@ -67,7 +67,7 @@ def report(version, code, about=b"", text=b""):
 
 
 def split(data):
-    """The units of some bytes, and the rest."""
+    """Yields the units of some bytes, and the rest."""
     while len(data) >= 8 and 8 <= struct.unpack(">I", data[4:8])[0] <= len(data):
         length = struct.unpack(">I", data[4:8])[0]
         yield data[:length]
@@ -77,14 +77,14 @@ def split(data):
 
 
 def spaced(data):
-    """A unit in hexadecimal: version, type, session, length, and what follows."""
+    """Returns a unit in hexadecimal: version, type, session, length, and what follows."""
     text = data.hex()
     fields = [text[:2], text[2:4], text[4:8], text[8:16], text[16:]]
     return " ".join(field for field in fields if field)
 
 
 def words(data):
-    """The unit in words."""
+    """Returns the unit in words."""
     version, kind = data[0], data[1] if len(data) > 1 else None
     if len(data) < 8 or kind not in NAMES:
         return f"{len(data)} bytes"
