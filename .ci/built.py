@@ -5,10 +5,10 @@ usage: built.py [--fresh] NAME..
        NAME: a program, rtr_c for the archives, a module for WebAssembly: wasm32 or wasm64, or
        portable for the C file for other platforms
 
-`.ci/run`, `rt ci` and `rt run` leave a program in the folder `out/` of its crate: as LLVM builds it,
-and after `rt ci` also as Rattle's own compiler does. A program older than a source of its crate, or
-of a library below it, is ignored. If nothing was built, the one in prebuilt/ is picked, if
-prebuilt/SHA256SUMS has its sum, and a line on standard error says that it may be older than the
+`.ci/run`, `rt ci` and `rt run` leave a program in the folder `out/` of its crate: as LLVM builds
+it, and after `rt ci` also as Rattle's own compiler does. A program older than a source of its
+crate, or of a library below it, is ignored. If nothing was built, the one in prebuilt/ is picked,
+if prebuilt/SHA256SUMS has its sum, and a line on standard error says that it may be older than the
 sources, unless PREBUILT_SAID is set; with --fresh it isn't picked. The script prints the programs
 of these names; its status is 1 if one is missing.
 """
@@ -87,8 +87,8 @@ def kept(name, file):
         if f"{hashlib.sha256(data.read()).hexdigest()}  {file}\n" not in sums:
             sys.exit(f"prebuilt/{file} isn't the one that prebuilt/SHA256SUMS names")
     if "PREBUILT_SAID" not in os.environ:
-        print(f"!!! {name} wasn't built here: prebuilt/{file} is taken, which may be older than the "
-              "sources", file=sys.stderr)
+        print(f"!!! {name} wasn't built here: prebuilt/{file} is taken, which may be older than "
+              "the sources", file=sys.stderr)
     return [path]
 
 

@@ -1,6 +1,6 @@
 #!/usr/bin/env python3
-"""Checks each link and each path on the pages: README.md, CONTRIBUTING.md, CHANGELOG.md, docs/ and
-the README.md of other folders.
+"""Checks each link and each path on the pages: README.md, CONTRIBUTING.md, CHANGELOG.md,
+SECURITY.md, docs/ and the README.md of other folders.
 
 usage: links.py
 
@@ -39,7 +39,7 @@ BINARY = {".a", ".so", ".wasm", ".png", ".pyc"}
 
 def pages():
     """Returns all pages, README.md first."""
-    found = [TOP / "README.md", TOP / "CONTRIBUTING.md", TOP / "CHANGELOG.md"]
+    found = [TOP / name for name in ("README.md", "CONTRIBUTING.md", "CHANGELOG.md", "SECURITY.md")]
     found += sorted((TOP / "docs").rglob("*.md"))
     for folder in ("bindings", "fuzz", "interop", "tests", "inspector", "debian"):
         found += sorted((TOP / folder).rglob("README.md"))

@@ -102,7 +102,8 @@ def blocks(lines):
 def line_of(path, name, stated):
     """Returns the line nearest to this one on which a clause, a field or an item of this name
     begins."""
-    begins = re.compile(rf" *(?:pub )?(?:(?:ensures|law|fn|record|abbrev|unfoldable) )?(?:pub )?{name}\b")
+    keyword = "(?:(?:ensures|law|fn|record|abbrev|unfoldable) )?"
+    begins = re.compile(rf" *(?:pub )?{keyword}(?:pub )?{name}\b")
     lines = (TOP / path).read_text().splitlines()
     found = [number for number, line in enumerate(lines, 1) if begins.match(line)]
     if not found:
