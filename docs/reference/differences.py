@@ -32,7 +32,7 @@ class Wrong(Exception):
 
 
 def sources_at(path):
-    """The text of a source, or of all sources in a folder, without what tests have."""
+    """Returns the text of a source, or of all sources in a folder, without what tests have."""
     file = CRATES / f"{path}.rt"
     files = [file] if file.is_file() else sorted((CRATES / path).rglob("*.rt"))
     if not files:
@@ -43,7 +43,8 @@ def sources_at(path):
 
 
 def check(kind, fact):
-    """Wrong where the sources don't have, or don't lack, some code."""
+    """Raises Wrong if the sources lack code that they should have, or have code that they should
+    lack."""
     path, colon, code = fact.partition(": ")
     if not colon or not code:
         raise Wrong(f"{fact} is no PATH: CODE")
@@ -52,7 +53,7 @@ def check(kind, fact):
 
 
 def row(fields):
-    """A row of a table, of the lines of one difference."""
+    """Returns a row of a table, of the lines of one difference."""
     words = {kind: text for kind, text in fields if kind in ("crate", "here", "why")}
     facts = [(kind, text) for kind, text in fields if kind in ("has", "lacks")]
     if len(words) != 3 or not facts:
@@ -63,7 +64,7 @@ def row(fields):
 
 
 def page():
-    """The text of DIFFERENCES.md; ends where a row is wrong."""
+    """Returns the text of DIFFERENCES.md; ends where a row is wrong."""
     text, wrong, line = HEAD, [], 1
     for part in ROWS.read_text(encoding="utf-8").split("\n\n"):
         lines = [entry for entry in part.splitlines() if not entry.startswith("# ")]

@@ -27,7 +27,7 @@ MADE = "<!-- made by docs/reference/generate.py -->"
 
 
 def cell(text):
-    """A text as it may stand in a table."""
+    """Returns a text as it may stand in a table."""
     return re.sub(r"\s+", " ", text).replace("|", "\\|").strip()
 
 
@@ -36,13 +36,14 @@ def code(names):
 
 
 def link(path):
-    """A link from this folder to a file of a crate, by its name in the crate."""
+    """Returns a link from this folder to a file of a crate, by its name in the crate."""
     inside = path.relative_to(CRATES)
     return f"[{'/'.join(inside.parts[1:])}](../../crates/{inside})"
 
 
 def words(function):
-    """What a function promises: what its comment says at first, and of faults."""
+    """Returns the promise of a function: the first paragraph of its comment, and what that says of
+    faults."""
     parts = [part for index, part in enumerate(function.words)
              if index == 0 or REFUSING.search(part)]
     parts += [f"`{name}`: {note}" for name, note in function.notes.items()]
@@ -50,18 +51,19 @@ def words(function):
 
 
 def clause(label, text):
-    """The label of a clause, and the first record or relation that it cites, unless it begins with
-    what it holds for, as a law does."""
+    """Returns the label of a clause, and the first record or relation that it cites, unless it
+    begins with what it holds for, as a law does."""
     cited = None
     if not re.match(r"[^{]*\{ ?\(\w[^()]* :", text):
-        cited = next((word for word in re.findall(r"\b[A-Z]\w+", text) if word in DEFINITIONS), None)
+        words = re.findall(r"\b[A-Z]\w+", text)
+        cited = next((word for word in words if word in DEFINITIONS), None)
     if label and cited:
         return f"`{label}` ({cited})"
     return f"`{label}`" if label else cited or "one"
 
 
 def clauses(function):
-    """The clauses of a function, and what it needs."""
+    """Returns the clauses of a function, and what it needs."""
     ensured = ", ".join(clause(*each) for each in function.clauses)
     needs = ", ".join(clause(*each) for each in function.needs)
     return ensured + (f"; needs {needs}" if needs else "")
@@ -73,7 +75,7 @@ def contract_row(function):
 
 
 def crate_promises(crate):
-    """The part of promises.md on a crate: a table for each file."""
+    """Returns the part of promises.md on a crate: a table for each file."""
     lines, number = [], 0
     for path, found in functions_of(crate).items():
         rows = [contract_row(function) for function in found
@@ -119,7 +121,7 @@ SECTIONS = re.compile(r"(?:(RFC \d+),? )?sections? ((?:\d+(?:\.\d+)*(?:, | and |
 
 
 def expanded(listed):
-    """The sections that a list as `5.2 to 5.4 and 8` names."""
+    """Yields the sections that a list as `5.2 to 5.4 and 8` names."""
     marks = re.findall(r"\d+(?:\.\d+)*|to", listed)
     for index, mark in enumerate(marks):
         if mark == "to":
@@ -132,8 +134,8 @@ def expanded(listed):
 
 
 def sections_of(path):
-    """The sections of RFCs that the head of a module names; without an RFC it is the one that the
-    library is about, unless the head names others alone."""
+    """Yields the sections of RFCs that the head of a module names; without an RFC it is the one
+    that the library is about, unless the head names only others."""
     text = " ".join(head_of(path))
     named = re.findall(r"RFC \d+", text)
     usual = "RFC 8210" if "RFC 8210" in named or not named else named[0]
@@ -147,7 +149,7 @@ def sections_of(path):
 
 
 def by_section(modules):
-    """Of each section the modules whose heads name it, in their order, as rows."""
+    """Yields for each section the modules whose heads name it, in their order, as rows."""
     found = defaultdict(set)
     for path in modules:
         for rfc, section in sections_of(path):

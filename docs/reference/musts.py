@@ -1,5 +1,6 @@
-"""The page musts.md, of musts.txt: what is done about each MUST and SHOULD of RFC 8210 and RFC 6810.
-A rule without a state, a state without what it asks for, or a name that isn't there is an error."""
+"""The page musts.md, of musts.txt: what is done about each MUST and SHOULD of RFC 8210 and RFC
+6810. A rule without a state, a state without what it asks for, or a name that isn't there is an
+error."""
 import pathlib
 import re
 from collections import Counter
@@ -39,7 +40,7 @@ class Wrong(Exception):
 
 
 def file_of(path):
-    """The file of the repository that a path without its ending names."""
+    """Returns the file of the repository that a path without its ending names."""
     files = [CRATES / f"{path}.antt", CRATES / f"{path}.rt", TOP / path]
     found = [file for file in files if file.is_file()]
     if not found:
@@ -61,7 +62,7 @@ def find(path, name):
 
 
 def page_link(target):
-    """A link to a heading of a page, or to a man page."""
+    """Returns a link to a heading of a page, or to a man page."""
     name, _, heading = target.partition("#")
     path = TOP / name
     if not path.is_file():
@@ -75,7 +76,8 @@ def page_link(target):
 
 
 def link_to(target):
-    """A link to where a rule is held, which has to be there, and its kind: proof, test or page."""
+    """Returns a link to where a rule is held, which has to be there, and its kind: proof, test or
+    page."""
     folder, _, scene = target.partition("/")
     if folder in SCENES and ":" not in target:
         path = TOP / "tests/transcripts" / folder / f"{scene}.scene"
@@ -94,7 +96,7 @@ def link_to(target):
 
 
 def check_state(state, kinds, remark):
-    """Wrong where a row lacks what its state asks for."""
+    """Raises Wrong if a row lacks what its state needs."""
     if state not in STATES:
         raise Wrong(f"no state {state}")
     if state == "proved" and "proof" not in kinds:
@@ -108,7 +110,7 @@ def check_state(state, kinds, remark):
 
 
 def row(line):
-    """A row of the page, of a line of musts.txt, with its section, words and state."""
+    """Returns a row of the page, of a line of musts.txt, with its section, words and state."""
     section, rule, state, where, *remark = [part.strip() for part in line.split(" | ")]
     if not re.fullmatch(r"\d+(\.\d+)*", section) or not rule or len(remark) > 1:
         raise Wrong("not SECTION | RULE | STATE | WHERE | REMARK")
@@ -128,13 +130,13 @@ def number(section):
 
 
 def count_line(states):
-    """The line below a table that says how many rows have which state."""
+    """Returns the line below a table that says how many rows have which state."""
     return (f"\n{sum(states.values())} rows: {states['proved']} proved, {states['tested']} tested, "
             f"{states['caller']} left to the caller, {states['deviates']} deviations.\n")
 
 
 def page():
-    """The text of musts.md; Wrong where a line names nothing that is there."""
+    """Returns the text of musts.md. Raises Wrong if a line names something that doesn't exist."""
     text, last, wrong, states = HEAD, (), [], Counter()
     for at, line in enumerate(RULES.read_text(encoding="utf-8").splitlines(), 1):
         try:

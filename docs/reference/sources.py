@@ -17,14 +17,14 @@ EDIT = re.compile(r"^file: (.*)\n((?:.|\n)*)")
 
 
 def crates():
-    """The names of the crates, lowest first."""
+    """Yields the names of the crates, lowest first."""
     for line in (TOP / "crates.txt").read_text().splitlines():
         if line.strip():
             yield line.split(":")[0].split()[0]
 
 
 def without_parameters(text):
-    """The text without what stands between angle brackets."""
+    """Returns the text without what stands between angle brackets."""
     while (shorter := re.sub(r"<[^<>]*>", "", text)) != text:
         text = shorter
     return text
@@ -43,13 +43,14 @@ class Function:
 
 
 def paragraphs(lines):
-    """The paragraphs of lines of a comment, without marks of lists."""
+    """Returns the paragraphs of lines of a comment, without marks of lists."""
     return [" ".join(line.removeprefix("- ") for line in part.split("\n"))
             for part in "\n".join(lines).split("\n\n") if part]
 
 
 def words_before(lines, index):
-    """The paragraphs of the comment with three strokes that stands right before this line."""
+    """Returns the paragraphs of the comment with three strokes that stands right before this
+    line."""
     start = index
     while start and lines[start - 1].strip().startswith(("///", "#[")):
         start -= 1
@@ -59,7 +60,8 @@ def words_before(lines, index):
 
 
 def owner_of(line):
-    """The type and the trait that a block of functions is about, and whether all are public."""
+    """Returns the type and the trait that a block of functions is about, and whether all are
+    public."""
     kind, subject = BLOCK.match(line).group(2, 3)
     subject = without_parameters(subject).split("{")[0].split(" where ")[0].strip()
     if kind == "trait":
@@ -70,7 +72,7 @@ def owner_of(line):
 
 
 def head_end(lines, index, indent):
-    """The line after the head of the function that begins at this place."""
+    """Returns the line after the head of the function that begins at this place."""
     if lines[index].rstrip().endswith(("{", "}", ";")):
         return index + 1
     end = index + 1
@@ -84,7 +86,7 @@ def head_end(lines, index, indent):
 
 
 def functions(path):
-    """The functions of a file that aren't of its tests, in their order."""
+    """Yields the functions of a file that aren't of its tests, in their order."""
     lines = path.read_text(encoding="utf-8").splitlines()
     owner, all_public = "", False
     for index, line in enumerate(lines):
@@ -116,12 +118,12 @@ def functions(path):
 
 
 def files(crate):
-    """The files of a crate's sources, in the order of their names."""
+    """Returns the files of a crate's sources, in the order of their names."""
     return sorted((CRATES / crate / "src").rglob("*.rt"))
 
 
 def edits(crate):
-    """Of each seeded bug of a crate its name, its file, and the texts that it replaces."""
+    """Yields for each seeded bug of a crate its name, its file, and the texts that it replaces."""
     for path in sorted((CRATES / crate).glob("*must-fail/*.edit"), key=lambda path: path.name):
         file, changes = EDIT.match(path.read_text(encoding="utf-8")).groups()
         olds = re.findall(r"^old: ?((?:.|\n)*?)\n(?=new:)", changes, re.MULTILINE)
@@ -129,15 +131,15 @@ def edits(crate):
 
 
 def definitions(path):
-    """The definitions of a module of specifications, as a bug may change them."""
+    """Yields the definitions of a module of specifications, as a bug may change them."""
     text = path.read_text(encoding="utf-8")
     for found in DEFINED.finditer(text):
         yield Function(found[1], "definition", [], text[:found.start()].count("\n"))
 
 
 def functions_of(crate):
-    """The functions of a crate by their files, each with the seeded bugs that change it, and so the
-    definitions that a bug changes."""
+    """Returns the functions of a crate by their files, each with the seeded bugs that change it,
+    and so the definitions that a bug changes."""
     found = {path: list(functions(path)) for path in files(crate)}
     for name, path, olds in edits(crate):
         text = path.read_text(encoding="utf-8")
@@ -153,14 +155,14 @@ def functions_of(crate):
 
 
 def all_definitions():
-    """The names of what the specifications of all crates define."""
+    """Returns the names of what the specifications of all crates define."""
     return {found[1] for crate in crates() for path in (CRATES / crate / "specs").rglob("*.antt")
             if "declared" not in path.parts
             for found in DEFINED.finditer(path.read_text(encoding="utf-8"))}
 
 
 def specifications(crate):
-    """The modules of a crate's specifications that contracts of public functions cite."""
+    """Yields the modules of a crate's specifications that contracts of public functions cite."""
     for path in sorted((CRATES / crate / "specs").rglob("*.antt")):
         if "declared" not in path.parts and path.stem != "Lib":
             if not path.stem.startswith("Private"):
@@ -168,7 +170,7 @@ def specifications(crate):
 
 
 def head_of(path):
-    """The comment with which a module begins, as its paragraphs."""
+    """Returns the comment with which a module begins, as its paragraphs."""
     lines = []
     for line in path.read_text(encoding="utf-8").splitlines():
         if not line.startswith("--"):

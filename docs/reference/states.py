@@ -1,5 +1,5 @@
-"""The pictures of the states of a router's and of a cache's end of a session. Each arrow is a rule of
-the specifications, from a state that its premises allow to the state that it leaves."""
+"""The pictures of the states of a router's and of a cache's end of a session. Each arrow is a rule
+of the specifications, from a state that its premises allow to the state that it leaves."""
 import re
 
 from sources import CRATES
@@ -23,14 +23,15 @@ TALKS = ["New", "Asked", "Ended"]
 
 
 def rules(path):
-    """The fields of each record of a module of specifications, by the name of the record."""
+    """Yields the fields of each record of a module of specifications, by the name of the record."""
     text = path.read_text(encoding="utf-8")
-    for name, body in re.findall(r"^pub record (\w+) [^=]*?where\n((?:  .*\n)+)", text, re.MULTILINE):
+    record = re.compile(r"^pub record (\w+) [^=]*?where\n((?:  .*\n)+)", re.MULTILINE)
+    for name, body in record.findall(text):
         yield name, dict(re.findall(r"^  pub (\w+) :\s*(.*\n(?:    .*\n)*)", body, re.MULTILINE))
 
 
 def phases(premise):
-    """The phases of the router before a rule that a premise allows."""
+    """Returns the phases of the router before a rule that a premise allows."""
     if found := re.findall(r"\br\.phase ≡ phases\.(\w+)", premise):
         return found
     banned = re.findall(r"\br\.phase ≢ phases\.(\w+)", premise)
@@ -53,7 +54,7 @@ def router_arrows():
 
 
 def cache_arrows():
-    """The same of a cache."""
+    """Yields the same of a cache."""
     for name, fields in rules(CRATES / "session_cache/specs/CacheRules.antt"):
         if name in CACHE:
             after = "Ended" if "once_closed" in fields["after"] else "Asked"
@@ -110,13 +111,14 @@ class Picture:
         self.labels((left + right) // 2, self.row + TALL // 2 - 6, names)
 
     def loop(self, state, names):
-        """From a state to itself, above it."""
+        """Draws an arrow from a state to itself, above it."""
         x, y = self.middle(state), self.row
         self.arrow(f"M {x - 22} {y} C {x - 30} {y - 44}, {x + 30} {y - 44}, {x + 22} {y - 1}")
         self.labels(x, y - 40, names)
 
     def bus(self, befores, after, name, depth, shift=0):
-        """From states to one, by one line over or under all, by the sign of the depth."""
+        """Draws arrows from several states to one, along a line over or under all, by the sign of
+        the depth."""
         edge = self.row if depth < 0 else self.row + TALL
         end = self.middle(after) - shift
         starts = [self.middle(before) + shift for before in befores]
@@ -128,12 +130,13 @@ class Picture:
 
     def svg(self):
         size = f'width="{self.width}" height="{self.height}"'
+        parts = "\n".join(self.parts)
         return (f'<svg xmlns="http://www.w3.org/2000/svg" {size} '
-                f'viewBox="0 0 {self.width} {self.height}">\n' + "\n".join(self.parts) + "\n</svg>\n")
+                f'viewBox="0 0 {self.width} {self.height}">\n{parts}\n</svg>\n')
 
 
 def grouped(arrows):
-    """The rules between each two states."""
+    """Returns the rules between each two states."""
     found = {}
     for name, before, after in arrows:
         found.setdefault((before, after), []).append(name)
@@ -141,7 +144,7 @@ def grouped(arrows):
 
 
 def leaving(found, name):
-    """The states from which a rule leads to another one."""
+    """Returns the states from which a rule leads to another one."""
     return [before for (before, after), names in found.items() if name in names]
 
 
@@ -150,7 +153,7 @@ BUSES = [(["HasNoData"], "Waiting"), (["Asks"], "Asked"), (["Closes"], "Offline"
 
 
 def router():
-    """The picture of a router's end."""
+    """Returns the picture of a router's end."""
     found = grouped(router_arrows())
     picture = Picture(PHASES, ROUTER, 212, 150, 130, "States of a router's end of a session")
     for (before, after), names in found.items():
@@ -168,7 +171,7 @@ def router():
 
 
 def cache():
-    """The picture of a cache's end."""
+    """Returns the picture of a cache's end."""
     found = grouped(cache_arrows())
     picture = Picture(TALKS, CACHE, 300, 205, 86, "States of a cache's end of a connection")
     picture.forward("New", "Asked", found["New", "Asked"])
