@@ -579,17 +579,21 @@ ADDRESS(308),
 ADDRESS(328),
 BYTES(0, 0, 5, 0, 4, 0, 0, 0),
 BYTES(0, 0, 9, 0, 0, 0, 7, 0),
+BYTES(6, 0, 0, 0, 5, 0, 4, 0),
+BYTES(0, 0, 0, 0, 9, 0, 0, 0),
+BYTES(0, 0, 0, 0, 0, 0, 0, 0),
+BYTES(0, 0, 0, 0, 7, 0, 6, 0),
+BYTES(0, 0, 0, 0, 0, 0, 0, 0),
+BYTES(0, 0, 0, 0, 0, 0, 0, 0),
+BYTES(0, 0, 0, 0, 0, 0, 0, 0),
+BYTES(0, 0, 0, 0, 0, 0, 0, 0),
+BYTES(0, 0, 1, 0, 1, 1, 1, 1),
+BYTES(1, 1, 1, 0, 0, 0, 0, 0),
+BYTES(0, 1, 1, 0, 0, 0, 5, 0),
+BYTES(4, 0, 0, 0, 0, 0, 9, 0),
+BYTES(0, 0, 0, 0, 0, 0, 0, 0),
+BYTES(0, 0, 0, 0, 0, 0, 7, 0),
 BYTES(6, 0, 0, 0, 0, 0, 0, 0),
-BYTES(0, 0, 0, 0, 0, 0, 0, 0),
-BYTES(0, 0, 0, 0, 0, 0, 0, 0),
-BYTES(0, 0, 0, 0, 0, 0, 0, 0),
-BYTES(0, 0, 0, 0, 1, 0, 0, 1),
-BYTES(1, 1, 0, 0, 1, 1, 0, 0),
-BYTES(0, 0, 0, 0, 1, 1, 0, 0),
-BYTES(0, 0, 5, 0, 4, 0, 0, 0),
-BYTES(0, 0, 9, 0, 0, 0, 0, 0),
-BYTES(0, 0, 0, 0, 0, 0, 0, 0),
-BYTES(0, 0, 7, 0, 6, 0, 0, 0),
 BYTES(1, 0, 0, 0, 0, 0, 0, 0),
 BYTES(0, 0, 0, 0, 0, 0, 0, 0),
 BYTES(0, 0, 0, 0, 0, 0, 0, 0),
@@ -971,7 +975,7 @@ static inline u64 I64_POPCNT(u64 x)
     return count;
 }
 
-/* How many bits are zero above the highest that is set, and below the lowest. */
+/* Count the zero bits above the highest that is set, and below the lowest. */
 static inline u64 I64_CLZ(u64 x)
 {
 #ifdef __GNUC__
@@ -1066,7 +1070,7 @@ static void set_number(u8 *at, u64 number, size_t size)
     memcpy(at, from, size);
 }
 
-/* The same in the module's order of bytes. */
+/* Returns the number in the module's order of bytes. */
 static u64 number_there(u64 number, size_t size)
 {
     return size == 1   ? number
@@ -1259,40 +1263,40 @@ static u32 w2c_rtr_door_leave(M *, u64, u32);
 static u32 w2c_f111(M *, u64, u32);
 static u32 w2c_rtr_door_next(M *, u64, u32);
 static u32 w2c_f113(M *, u64, u32);
-static u32 w2c_rtr_error_code_nonnull(M *, u32, u64, u64, u64);
-static u32 w2c_f115(M *, u32, u64, u64, u64);
 static u32 w2c_rtr_group_best(M *, u64, u64);
-static u32 w2c_f117(M *, u64, u64);
+static u32 w2c_f115(M *, u64, u64);
 static u32 w2c_rtr_group_counts(M *, u64, u64);
-static u32 w2c_f119(M *, u64, u64);
+static u32 w2c_f117(M *, u64, u64);
 static u32 w2c_rtr_group_init(M *, u64, u64, u64, u64);
-static u32 w2c_f121(M *, u64, u64, u64, u64);
+static u32 w2c_f119(M *, u64, u64, u64, u64);
 static void w2c_rtr_group_usual(M *, u64);
-static void w2c_f123(M *, u64);
+static void w2c_f121(M *, u64);
 static u64 w2c_rtr_group_wakes(M *, u64);
-static u64 w2c_f125(M *, u64);
+static u64 w2c_f123(M *, u64);
 static u32 w2c_rtr_history_data_nonnull(M *, u64, u64, u64, u64);
-static u32 w2c_f127(M *, u64, u64, u64, u64);
+static u32 w2c_f125(M *, u64, u64, u64, u64);
 static u32 w2c_rtr_history_knows_nonnull(M *, u64, u64, u32);
-static u32 w2c_f129(M *, u64, u64, u32);
+static u32 w2c_f127(M *, u64, u64, u32);
 static u32 w2c_rtr_provider_nonnull(M *, u64, u64, u64, u64, u64);
-static u32 w2c_f131(M *, u64, u64, u64, u64, u64);
+static u32 w2c_f129(M *, u64, u64, u64, u64, u64);
 static u64 w2c_rtr_router_query_nonnull(M *, u64, u64, u64);
-static u64 w2c_f133(M *, u64, u64, u64);
+static u64 w2c_f131(M *, u64, u64, u64);
 static u32 w2c_rtr_serial_order(M *, u32, u32);
-static u32 w2c_f135(M *, u32, u32);
+static u32 w2c_f133(M *, u32, u32);
 static u32 w2c_rtr_store_open_nonnull(M *, u64, u64);
-static u32 w2c_f137(M *, u64, u64);
+static u32 w2c_f135(M *, u64, u64);
 static void w2c_rtr_store_seal_nonnull(M *, u64, u64, u64);
-static void w2c_f139(M *, u64, u64, u64);
+static void w2c_f137(M *, u64, u64, u64);
 static u32 w2c_rtr_times_rule(M *, u32, u32, u32);
-static u32 w2c_f141(M *, u32, u32, u32);
+static u32 w2c_f139(M *, u32, u32, u32);
 static u32 w2c_rtr_version_has(M *, u32, u32);
-static u32 w2c_f143(M *, u32, u32);
+static u32 w2c_f141(M *, u32, u32);
 static u32 w2c_rtr_wire_version(M *);
-static void w2c_f145(M *);
+static void w2c_f143(M *);
 static u32 w2c_rtr_cache_report_nonnull(M *, u64, u64, u64, u64, u64, u64);
-static u32 w2c_f147(M *, u64, u64, u64, u64, u64, u64);
+static u32 w2c_f145(M *, u64, u64, u64, u64, u64, u64);
+static u32 w2c_rtr_error_code_nonnull(M *, u32, u64, u64, u64);
+static u32 w2c_f147(M *, u32, u64, u64, u64);
 static u32 w2c_rtr_router_report_nonnull(M *, u64, u64, u64, u64, u64, u64);
 static u32 w2c_f149(M *, u64, u64, u64, u64, u64, u64);
 static u32 w2c_rtr_check_name_nonnull(M *, u64, u64, u64, u64, u64);
@@ -13430,7 +13434,7 @@ j2 = p3;
 j3 = 3ull;
 j2 <<= (j3 & 63);
 l12 = j2;
-j2 = i64_load(j2 + AT(5696));
+j2 = i64_load(j2 + AT(5728));
 p3 = j2;
 j3 = 65519ull;
 j4 = l11;
@@ -13448,7 +13452,7 @@ l10 = j1;
 i0 = j0 < j1;
 if (i0) goto B1;
 j0 = l12;
-j0 = i64_load(j0 + AT(5568));
+j0 = i64_load(j0 + AT(5600));
 p7 = j0;
 j0 = p6;
 j1 = 8ull;
@@ -26997,10 +27001,10 @@ B28:;
 j0 = l12;
 j1 = 1ull;
 j0 <<= (j1 & 63);
-i0 = i32_load16_u(j0 + AT(6074));
+i0 = i32_load16_u(j0 + AT(6106));
 l18 = i0;
 j0 = l12;
-i0 = i32_load8_u(j0 + AT(6092));
+i0 = i32_load8_u(j0 + AT(6124));
 l24 = i0;
 B27:;
 j0 = l9;
@@ -90116,122 +90120,6 @@ i0 = i2 ? i0 : i1;
 return i0;
 }
 
-static u32 w2c_rtr_error_code_nonnull(M *m, u32 p0, u64 p1, u64 p2, u64 p3) {
-u32 i0;
-u64 j1, j2, j3;
-i0 = w2c_f0(m);
-i0 = !(i0);
-if (i0) goto B0;
-w2c_f2(m);
-abort();
-B0:;
-i0 = p0;
-j1 = p1;
-j2 = p2;
-j3 = p3;
-i0 = w2c_f115(m, i0, j1, j2, j3);
-p0 = i0;
-w2c_f1(m);
-i0 = p0;
-return i0;
-}
-
-static u32 w2c_f115(M *m, u32 p0, u64 p1, u64 p2, u64 p3) {
-u32 l4 = 0, l5 = 0;
-u32 i0, i1, i3;
-u64 j0, j1, j2, j3;
-j0 = m->g0;
-j1 = m->lowest + 16;
-i0 = (u64)((s64)j0 < (s64)j1);
-if (i0) goto B0;
-i0 = 0u;
-l4 = i0;
-j0 = p3;
-i1 = 0u;
-i32_store16(j0, i1);
-j0 = p2;
-j1 = 2ull;
-i0 = j0 < j1;
-if (i0) goto B2;
-j0 = p1;
-j1 = 4096ull;
-j2 = 0ull;
-j3 = p1;
-i3 = !(j3);
-j1 = i3 ? j1 : j2;
-j0 += j1;
-i0 = i32_load8_u(j0 + 1u);
-i1 = 10u;
-i0 = i0 == i1;
-if (i0) goto B1;
-B2:;
-i0 = 5u;
-l5 = i0;
-i0 = p0;
-j0 = (u64)(i0);
-j1 = 255ull;
-j0 &= j1;
-i0 = (u32)(j0);
-switch (i0) {
-case 0: goto B1;
-case 1: goto B4;
-case 2: goto B3;
-case 3: goto B9;
-case 4: goto B5;
-case 5: goto B5;
-case 6: goto B8;
-case 7: goto B4;
-case 8: goto B5;
-case 9: goto B5;
-case 10: goto B5;
-case 11: goto B5;
-case 12: goto B5;
-case 13: goto B5;
-case 14: goto B7;
-case 15: goto B6;
-default: goto B5;
-}
-B9:;
-i0 = 4u;
-l5 = i0;
-goto B3;
-B8:;
-i0 = 9u;
-l5 = i0;
-goto B3;
-B7:;
-i0 = 7u;
-l5 = i0;
-goto B3;
-B6:;
-i0 = 6u;
-l5 = i0;
-goto B3;
-B5:;
-i0 = p0;
-i1 = 255u;
-i0 &= i1;
-i1 = 5u;
-i0 = i0 > i1;
-if (i0) goto B1;
-B4:;
-i0 = 0u;
-l5 = i0;
-B3:;
-j0 = p3;
-i1 = l5;
-i32_store16(j0, i1);
-i0 = 1u;
-l4 = i0;
-B1:;
-i0 = l4;
-goto Bfunc;
-B0:;
-abort();
-Bfunc:;
-return i0;
-}
-
 static u32 w2c_rtr_group_best(M *m, u64 p0, u64 p1) {
 u32 l2 = 0;
 u32 i0;
@@ -90244,14 +90132,14 @@ abort();
 B0:;
 j0 = p0;
 j1 = p1;
-i0 = w2c_f117(m, j0, j1);
+i0 = w2c_f115(m, j0, j1);
 l2 = i0;
 w2c_f1(m);
 i0 = l2;
 return i0;
 }
 
-static u32 w2c_f117(M *m, u64 p0, u64 p1) {
+static u32 w2c_f115(M *m, u64 p0, u64 p1) {
 u32 l3 = 0;
 u64 l2 = 0;
 u32 i0, i1, i3, i4;
@@ -90366,14 +90254,14 @@ abort();
 B0:;
 j0 = p0;
 j1 = p1;
-i0 = w2c_f119(m, j0, j1);
+i0 = w2c_f117(m, j0, j1);
 l2 = i0;
 w2c_f1(m);
 i0 = l2;
 return i0;
 }
 
-static u32 w2c_f119(M *m, u64 p0, u64 p1) {
+static u32 w2c_f117(M *m, u64 p0, u64 p1) {
 u32 i0, i1;
 u64 j0, j1, j2;
 j0 = m->g0;
@@ -90409,14 +90297,14 @@ j0 = p0;
 j1 = p1;
 j2 = p2;
 j3 = p3;
-i0 = w2c_f121(m, j0, j1, j2, j3);
+i0 = w2c_f119(m, j0, j1, j2, j3);
 l4 = i0;
 w2c_f1(m);
 i0 = l4;
 return i0;
 }
 
-static u32 w2c_f121(M *m, u64 p0, u64 p1, u64 p2, u64 p3) {
+static u32 w2c_f119(M *m, u64 p0, u64 p1, u64 p2, u64 p3) {
 u32 l4 = 0, l5 = 0, l6 = 0;
 u64 l7 = 0;
 u32 i0, i1, i2, i4;
@@ -90539,11 +90427,11 @@ w2c_f2(m);
 abort();
 B0:;
 j0 = p0;
-w2c_f123(m, j0);
+w2c_f121(m, j0);
 w2c_f1(m);
 }
 
-static void w2c_f123(M *m, u64 p0) {
+static void w2c_f121(M *m, u64 p0) {
 u32 i0;
 u64 j0, j1;
 j0 = m->g0;
@@ -90567,14 +90455,14 @@ w2c_f2(m);
 abort();
 B0:;
 j0 = p0;
-j0 = w2c_f125(m, j0);
+j0 = w2c_f123(m, j0);
 p0 = j0;
 w2c_f1(m);
 j0 = p0;
 return j0;
 }
 
-static u64 w2c_f125(M *m, u64 p0) {
+static u64 w2c_f123(M *m, u64 p0) {
 u64 l1 = 0;
 u32 i0, i1, i2, i3, i4;
 u64 j0, j1, j2, j3, j4, j5;
@@ -90628,14 +90516,14 @@ j0 = p0;
 j1 = p1;
 j2 = p2;
 j3 = p3;
-i0 = w2c_f127(m, j0, j1, j2, j3);
+i0 = w2c_f125(m, j0, j1, j2, j3);
 l4 = i0;
 w2c_f1(m);
 i0 = l4;
 return i0;
 }
 
-static u32 w2c_f127(M *m, u64 p0, u64 p1, u64 p2, u64 p3) {
+static u32 w2c_f125(M *m, u64 p0, u64 p1, u64 p2, u64 p3) {
 u32 l6 = 0;
 u64 l4 = 0, l5 = 0;
 u32 i0, i1, i4;
@@ -90748,14 +90636,14 @@ B0:;
 j0 = p0;
 j1 = p1;
 i2 = p2;
-i0 = w2c_f129(m, j0, j1, i2);
+i0 = w2c_f127(m, j0, j1, i2);
 p2 = i0;
 w2c_f1(m);
 i0 = p2;
 return i0;
 }
 
-static u32 w2c_f129(M *m, u64 p0, u64 p1, u32 p2) {
+static u32 w2c_f127(M *m, u64 p0, u64 p1, u32 p2) {
 u32 l6 = 0, l7 = 0;
 u64 l3 = 0, l4 = 0, l5 = 0;
 u32 i0, i1, i2, i4;
@@ -91029,14 +90917,14 @@ j1 = p1;
 j2 = p2;
 j3 = p3;
 j4 = p4;
-i0 = w2c_f131(m, j0, j1, j2, j3, j4);
+i0 = w2c_f129(m, j0, j1, j2, j3, j4);
 l5 = i0;
 w2c_f1(m);
 i0 = l5;
 return i0;
 }
 
-static u32 w2c_f131(M *m, u64 p0, u64 p1, u64 p2, u64 p3, u64 p4) {
+static u32 w2c_f129(M *m, u64 p0, u64 p1, u64 p2, u64 p3, u64 p4) {
 u32 l5 = 0;
 u64 l6 = 0;
 u32 i0, i1, i2, i3, i4;
@@ -91131,14 +91019,14 @@ B0:;
 j0 = p0;
 j1 = p1;
 j2 = p2;
-j0 = w2c_f133(m, j0, j1, j2);
+j0 = w2c_f131(m, j0, j1, j2);
 p2 = j0;
 w2c_f1(m);
 j0 = p2;
 return j0;
 }
 
-static u64 w2c_f133(M *m, u64 p0, u64 p1, u64 p2) {
+static u64 w2c_f131(M *m, u64 p0, u64 p1, u64 p2) {
 u32 l3 = 0, l4 = 0, l5 = 0;
 u32 i0, i1, i2, i3;
 u64 j0, j1, j2, j3;
@@ -91252,14 +91140,14 @@ abort();
 B0:;
 i0 = p0;
 i1 = p1;
-i0 = w2c_f135(m, i0, i1);
+i0 = w2c_f133(m, i0, i1);
 p1 = i0;
 w2c_f1(m);
 i0 = p1;
 return i0;
 }
 
-static u32 w2c_f135(M *m, u32 p0, u32 p1) {
+static u32 w2c_f133(M *m, u32 p0, u32 p1) {
 u32 i0, i1, i2, i3;
 u64 j0, j1;
 j0 = m->g0;
@@ -91308,14 +91196,14 @@ abort();
 B0:;
 j0 = p0;
 j1 = p1;
-i0 = w2c_f137(m, j0, j1);
+i0 = w2c_f135(m, j0, j1);
 l2 = i0;
 w2c_f1(m);
 i0 = l2;
 return i0;
 }
 
-static u32 w2c_f137(M *m, u64 p0, u64 p1) {
+static u32 w2c_f135(M *m, u64 p0, u64 p1) {
 u32 l10 = 0;
 u64 l2 = 0, l3 = 0, l4 = 0, l5 = 0, l6 = 0, l7 = 0, l8 = 0, l9 = 0;
 u32 i0, i1, i3;
@@ -91620,11 +91508,11 @@ B0:;
 j0 = p0;
 j1 = p1;
 j2 = p2;
-w2c_f139(m, j0, j1, j2);
+w2c_f137(m, j0, j1, j2);
 w2c_f1(m);
 }
 
-static void w2c_f139(M *m, u64 p0, u64 p1, u64 p2) {
+static void w2c_f137(M *m, u64 p0, u64 p1, u64 p2) {
 u64 l3 = 0, l4 = 0, l5 = 0, l6 = 0, l7 = 0, l8 = 0, l9 = 0;
 u32 i0, i1, i2;
 u64 j0, j1, j2, j3, j4, j5;
@@ -91854,14 +91742,14 @@ B0:;
 i0 = p0;
 i1 = p1;
 i2 = p2;
-i0 = w2c_f141(m, i0, i1, i2);
+i0 = w2c_f139(m, i0, i1, i2);
 p2 = i0;
 w2c_f1(m);
 i0 = p2;
 return i0;
 }
 
-static u32 w2c_f141(M *m, u32 p0, u32 p1, u32 p2) {
+static u32 w2c_f139(M *m, u32 p0, u32 p1, u32 p2) {
 u32 i0, i1, i2, i3;
 u64 j0, j1;
 j0 = m->g0;
@@ -91933,14 +91821,14 @@ abort();
 B0:;
 i0 = p0;
 i1 = p1;
-i0 = w2c_f143(m, i0, i1);
+i0 = w2c_f141(m, i0, i1);
 p1 = i0;
 w2c_f1(m);
 i0 = p1;
 return i0;
 }
 
-static u32 w2c_f143(M *m, u32 p0, u32 p1) {
+static u32 w2c_f141(M *m, u32 p0, u32 p1) {
 u32 l2 = 0, l3 = 0;
 u32 i0, i1, i2, i3;
 u64 j0, j1;
@@ -92020,13 +91908,13 @@ if (i0) goto B0;
 w2c_f2(m);
 abort();
 B0:;
-w2c_f145(m);
+w2c_f143(m);
 w2c_f1(m);
 i0 = 300u;
 return i0;
 }
 
-static void w2c_f145(M *m) {
+static void w2c_f143(M *m) {
 u32 i0;
 u64 j0, j1;
 j0 = m->g0;
@@ -92053,14 +91941,14 @@ j2 = p2;
 j3 = p3;
 j4 = p4;
 j5 = p5;
-i0 = w2c_f147(m, j0, j1, j2, j3, j4, j5);
+i0 = w2c_f145(m, j0, j1, j2, j3, j4, j5);
 l6 = i0;
 w2c_f1(m);
 i0 = l6;
 return i0;
 }
 
-static u32 w2c_f147(M *m, u64 p0, u64 p1, u64 p2, u64 p3, u64 p4, u64 p5) {
+static u32 w2c_f145(M *m, u64 p0, u64 p1, u64 p2, u64 p3, u64 p4, u64 p5) {
 u32 l18 = 0, l19 = 0, l20 = 0, l21 = 0, l22 = 0, l23 = 0, l24 = 0, l25 = 0,
 l26 = 0;
 u64 l6 = 0, l7 = 0, l8 = 0, l9 = 0, l10 = 0, l11 = 0, l12 = 0, l13 = 0,
@@ -93550,6 +93438,92 @@ j1 = 80ull;
 j0 += j1;
 m->g0 = j0;
 i0 = l18;
+goto Bfunc;
+B0:;
+abort();
+Bfunc:;
+return i0;
+}
+
+static u32 w2c_rtr_error_code_nonnull(M *m, u32 p0, u64 p1, u64 p2, u64 p3) {
+u32 i0;
+u64 j1, j2, j3;
+i0 = w2c_f0(m);
+i0 = !(i0);
+if (i0) goto B0;
+w2c_f2(m);
+abort();
+B0:;
+i0 = p0;
+j1 = p1;
+j2 = p2;
+j3 = p3;
+i0 = w2c_f147(m, i0, j1, j2, j3);
+p0 = i0;
+w2c_f1(m);
+i0 = p0;
+return i0;
+}
+
+static u32 w2c_f147(M *m, u32 p0, u64 p1, u64 p2, u64 p3) {
+u32 l4 = 0, l5 = 0;
+u32 i0, i1, i3;
+u64 j0, j1, j2, j3;
+j0 = m->g0;
+j1 = m->lowest + 16;
+i0 = (u64)((s64)j0 < (s64)j1);
+if (i0) goto B0;
+i0 = 0u;
+l4 = i0;
+j0 = p3;
+i1 = 0u;
+i32_store16(j0, i1);
+j0 = p2;
+j1 = 2ull;
+i0 = j0 < j1;
+if (i0) goto B2;
+j0 = p1;
+j1 = 4096ull;
+j2 = 0ull;
+j3 = p1;
+i3 = !(j3);
+j1 = i3 ? j1 : j2;
+j0 += j1;
+i0 = i32_load8_u(j0 + 1u);
+i1 = 10u;
+i0 = i0 == i1;
+if (i0) goto B1;
+B2:;
+i0 = p0;
+i1 = 4294967295u;
+i0 += i1;
+l5 = i0;
+i1 = 255u;
+i0 &= i1;
+p0 = i0;
+i1 = 14u;
+i0 = i0 > i1;
+if (i0) goto B1;
+i0 = 24703u;
+i1 = p0;
+i0 >>= (i1 & 31);
+i1 = 1u;
+i0 &= i1;
+i0 = !(i0);
+if (i0) goto B1;
+j0 = p3;
+i1 = l5;
+j1 = (u64)(i1);
+j2 = 255ull;
+j1 &= j2;
+j2 = 1ull;
+j1 <<= (j2 & 63);
+i1 = i32_load16_u(j1 + AT(4090));
+i32_store16(j0, i1);
+i0 = 1u;
+l4 = i0;
+B1:;
+i0 = l4;
 goto Bfunc;
 B0:;
 abort();
@@ -98735,7 +98709,7 @@ i0 = l21;
 j0 = (u64)(i0);
 j1 = 1ull;
 j0 <<= (j1 & 63);
-i0 = i32_load16_u(j0 + AT(4090));
+i0 = i32_load16_u(j0 + AT(4120));
 l21 = i0;
 B152:;
 i0 = l15;
@@ -98755,7 +98729,7 @@ i0 = l44;
 j0 = (u64)(i0);
 j1 = 1ull;
 j0 <<= (j1 & 63);
-i0 = i32_load16_u(j0 + AT(4090));
+i0 = i32_load16_u(j0 + AT(4120));
 l36 = i0;
 B154:;
 j0 = l6;
@@ -100883,7 +100857,7 @@ w2c_f1(m);
 }
 
 static void w2c_f211(M *m, u64 p0, u64 p1, u32 p2, u64 p3) {
-u32 l6 = 0, l7 = 0;
+u32 l6 = 0, l7 = 0, l8 = 0;
 u64 l4 = 0, l5 = 0;
 u32 i0, i1, i2;
 u64 j0, j1, j2, j3, j4;
@@ -100896,7 +100870,7 @@ j0 = l4;
 l4 = j0;
 j1 = m->lowest + 16;
 i0 = (u64)((s64)j0 < (s64)j1);
-if (i0) goto B3;
+if (i0) goto B0;
 j0 = l4;
 j1 = 0ull;
 i64_store(j0 + 72, j1);
@@ -100926,51 +100900,38 @@ l6 = i0;
 j0 = l4;
 i1 = 0u;
 i32_store(j0 + 36, i1);
+i0 = 0u;
+l7 = i0;
 i0 = p2;
+i1 = 4294967295u;
+i0 += i1;
+l8 = i0;
 i1 = 255u;
 i0 &= i1;
-l7 = i0;
-i1 = 16u;
-i0 = i0 < i1;
-if (i0) goto B2;
-goto B1;
-B3:;
-abort();
-B2:;
-i0 = 49359u;
-i1 = l7;
-i0 >>= (i1 & 31);
-i1 = 1u;
-i0 &= i1;
-i0 = !(i0);
+i1 = 15u;
+i0 = i0 >= i1;
 if (i0) goto B1;
-i0 = p2;
+i0 = l8;
 j0 = (u64)(i0);
 j1 = 255ull;
 j0 &= j1;
 l5 = j0;
-i0 = i32_load8_u(j0 + AT(4126));
-l7 = i0;
+i0 = i32_load8_u(j0 + AT(4156));
+l6 = i0;
 j0 = l5;
 j1 = 1ull;
 j0 <<= (j1 & 63);
-i0 = i32_load16_u(j0 + AT(4142));
-l6 = i0;
-goto B0;
-B1:;
-i0 = l7;
-i1 = 6u;
-i0 = i0 < i1;
+i0 = i32_load16_u(j0 + AT(4172));
 l7 = i0;
-B0:;
+B1:;
 j0 = l4;
-i1 = l6;
+i1 = l7;
 i32_store16(j0 + 12, i1);
 j0 = l4;
 i1 = 7u;
 i32_store16(j0 + 8, i1);
 j0 = l4;
-i1 = l7;
+i1 = l6;
 i2 = 255u;
 i1 &= i2;
 i32_store16(j0 + 10, i1);
@@ -101018,6 +100979,10 @@ j0 = l4;
 j1 = 80ull;
 j0 += j1;
 m->g0 = j0;
+goto Bfunc;
+B0:;
+abort();
+Bfunc:;
 }
 
 static void w2c_rtr_router_tick(M *m, u64 p0, u64 p1, u64 p2) {
@@ -103821,13 +103786,13 @@ j0 &= j1;
 j1 = 3ull;
 j0 <<= (j1 & 63);
 l6 = j0;
-j0 = i64_load(j0 + AT(4544));
+j0 = i64_load(j0 + AT(4576));
 l8 = j0;
 j0 = l6;
-j0 = i64_load(j0 + AT(4360));
+j0 = i64_load(j0 + AT(4392));
 l7 = j0;
 j0 = l6;
-j0 = i64_load(j0 + AT(4176));
+j0 = i64_load(j0 + AT(4208));
 l6 = j0;
 B13:;
 j0 = l5;
@@ -103961,13 +103926,13 @@ j0 &= j1;
 j1 = 3ull;
 j0 <<= (j1 & 63);
 l6 = j0;
-j0 = i64_load(j0 + AT(5096));
+j0 = i64_load(j0 + AT(5128));
 l8 = j0;
 j0 = l6;
-j0 = i64_load(j0 + AT(4912));
+j0 = i64_load(j0 + AT(4944));
 l7 = j0;
 j0 = l6;
-j0 = i64_load(j0 + AT(4728));
+j0 = i64_load(j0 + AT(4760));
 l6 = j0;
 B8:;
 j0 = l5;
@@ -104010,13 +103975,13 @@ j0 &= j1;
 j1 = 3ull;
 j0 <<= (j1 & 63);
 l6 = j0;
-j0 = i64_load(j0 + AT(5472));
+j0 = i64_load(j0 + AT(5504));
 l8 = j0;
 j0 = l6;
-j0 = i64_load(j0 + AT(5376));
+j0 = i64_load(j0 + AT(5408));
 l7 = j0;
 j0 = l6;
-j0 = i64_load(j0 + AT(5280));
+j0 = i64_load(j0 + AT(5312));
 l6 = j0;
 B10:;
 j0 = l5;
@@ -104059,10 +104024,10 @@ j0 &= j1;
 j1 = 3ull;
 j0 <<= (j1 & 63);
 l6 = j0;
-j0 = i64_load(j0 + AT(5696));
+j0 = i64_load(j0 + AT(5728));
 l8 = j0;
 j0 = l6;
-j0 = i64_load(j0 + AT(5568));
+j0 = i64_load(j0 + AT(5600));
 l7 = j0;
 j0 = 1ull;
 l6 = j0;
@@ -104107,10 +104072,10 @@ j0 &= j1;
 j1 = 3ull;
 j0 <<= (j1 & 63);
 l6 = j0;
-j0 = i64_load(j0 + AT(5904));
+j0 = i64_load(j0 + AT(5936));
 l8 = j0;
 j0 = l6;
-j0 = i64_load(j0 + AT(5824));
+j0 = i64_load(j0 + AT(5856));
 l7 = j0;
 j0 = 1ull;
 l6 = j0;
@@ -104155,10 +104120,10 @@ j0 &= j1;
 j1 = 3ull;
 j0 <<= (j1 & 63);
 l6 = j0;
-j0 = i64_load(j0 + AT(6360));
+j0 = i64_load(j0 + AT(6392));
 l7 = j0;
 j0 = l6;
-j0 = i64_load(j0 + AT(6264));
+j0 = i64_load(j0 + AT(6296));
 l6 = j0;
 j0 = 1ull;
 l8 = j0;
@@ -104206,10 +104171,10 @@ j0 &= j1;
 j1 = 3ull;
 j0 <<= (j1 & 63);
 l6 = j0;
-j0 = i64_load(j0 + AT(5984));
+j0 = i64_load(j0 + AT(6016));
 l8 = j0;
 j0 = l6;
-j0 = i64_load(j0 + AT(6024));
+j0 = i64_load(j0 + AT(6056));
 l7 = j0;
 j0 = 1ull;
 l6 = j0;
@@ -105915,10 +105880,10 @@ j0 &= j1;
 j1 = 3ull;
 j0 <<= (j1 & 63);
 l5 = j0;
-j0 = i64_load(j0 + AT(6024));
+j0 = i64_load(j0 + AT(6056));
 p2 = j0;
 j0 = l5;
-j0 = i64_load(j0 + AT(5984));
+j0 = i64_load(j0 + AT(6016));
 l9 = j0;
 j0 = p3;
 j1 = p1;
@@ -106793,7 +106758,7 @@ j0 >>= (j1 & 63);
 p0 = j0;
 j1 = 255ull;
 j0 &= j1;
-i0 = i32_load8_u(j0 + AT(6064));
+i0 = i32_load8_u(j0 + AT(6096));
 l29 = i0;
 i0 = l27;
 i1 = 1u;
@@ -110608,7 +110573,7 @@ j0 >>= (j1 & 63);
 p0 = j0;
 j1 = 255ull;
 j0 &= j1;
-i0 = i32_load8_u(j0 + AT(6064));
+i0 = i32_load8_u(j0 + AT(6096));
 l30 = i0;
 i0 = l26;
 i1 = 1u;
@@ -119147,10 +119112,10 @@ B22:;
 j0 = p2;
 j1 = 1ull;
 j0 <<= (j1 & 63);
-i0 = i32_load16_u(j0 + AT(6074));
+i0 = i32_load16_u(j0 + AT(6106));
 l19 = i0;
 j0 = p2;
-i0 = i32_load8_u(j0 + AT(6092));
+i0 = i32_load8_u(j0 + AT(6124));
 l20 = i0;
 B21:;
 j0 = l9;
@@ -124421,10 +124386,10 @@ j0 &= j1;
 j1 = 3ull;
 j0 <<= (j1 & 63);
 p0 = j0;
-j0 = i64_load(j0 + AT(6104));
+j0 = i64_load(j0 + AT(6136));
 l8 = j0;
 j0 = p0;
-j0 = i64_load(j0 + AT(6136));
+j0 = i64_load(j0 + AT(6168));
 l9 = j0;
 j1 = p3;
 i0 = j0 > j1;
@@ -124980,10 +124945,10 @@ j0 = p1;
 j1 = 3ull;
 j0 <<= (j1 & 63);
 p1 = j0;
-j0 = i64_load(j0 + AT(6232));
+j0 = i64_load(j0 + AT(6264));
 l8 = j0;
 j0 = p1;
-j0 = i64_load(j0 + AT(6200));
+j0 = i64_load(j0 + AT(6232));
 p1 = j0;
 j0 = p3;
 j1 = p0;
@@ -125540,10 +125505,10 @@ j0 = i64_load8_u(j0 + 8u);
 j1 = 3ull;
 j0 <<= (j1 & 63);
 p0 = j0;
-j0 = i64_load(j0 + AT(6168));
+j0 = i64_load(j0 + AT(6200));
 l10 = j0;
 j0 = p0;
-j0 = i64_load(j0 + AT(6136));
+j0 = i64_load(j0 + AT(6168));
 p0 = j0;
 goto B17;
 B21:;
@@ -127974,10 +127939,10 @@ j0 &= j1;
 j1 = 3ull;
 j0 <<= (j1 & 63);
 p3 = j0;
-j0 = i64_load(j0 + AT(6232));
+j0 = i64_load(j0 + AT(6264));
 l8 = j0;
 j0 = p3;
-j0 = i64_load(j0 + AT(6200));
+j0 = i64_load(j0 + AT(6232));
 p3 = j0;
 j0 = p4;
 j1 = p1;
@@ -128611,10 +128576,10 @@ j0 = l9;
 j1 = 3ull;
 j0 <<= (j1 & 63);
 p1 = j0;
-j0 = i64_load(j0 + AT(6360));
+j0 = i64_load(j0 + AT(6392));
 l8 = j0;
 j0 = p1;
-j0 = i64_load(j0 + AT(6264));
+j0 = i64_load(j0 + AT(6296));
 p3 = j0;
 j0 = p4;
 j1 = l10;
