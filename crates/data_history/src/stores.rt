@@ -151,6 +151,8 @@ impl Stores {
         ensures after { self.new ≡ after_call result self.old }
         ensures held { held_of self.old.second first.new second.new
             ≡ held_of self.old.second first.old second.old }
+        ensures waits { IsSome self.old.taken →
+            result ≡ Err Untaken.Waits × first.new ≡ first.old × second.new ≡ second.old }
         ensures takes { (z : Snapshot) → HoldsData new.now z.payloads z.end →
             TakesData (now - limits.now.time) limits.now.bytes result self.old
             (served_store self.old first.old second.old) z

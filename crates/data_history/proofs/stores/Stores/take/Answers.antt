@@ -13,6 +13,9 @@ use Rattle.data_history.proofs.stores.Stores.take.Goals as goal
 pub returns-in-Some-clause-takes : goal.returns-in-Some-clause-takes
 returns-in-Some-clause-takes c = λ z h. subst (λ o. IsSome o) (sym c.in-Some.is) refl
 
+pub returns-in-Some-clause-waits : goal.returns-in-Some-clause-waits
+returns-in-Some-clause-waits c = λ some. (refl , refl , refl)
+
 pub returns-in-Some-clause-life : goal.returns-in-Some-clause-life
 returns-in-Some-clause-life c = λ xs file un may l. l
 
@@ -46,6 +49,11 @@ returns-then-self-clause-after c = (took-then-self c).after
 
 pub returns-then-self-clause-held : goal.returns-then-self-clause-held
 returns-then-self-clause-held c = (took-then-self c).held
+
+pub returns-then-self-clause-waits : goal.returns-then-self-clause-waits
+returns-then-self-clause-waits c = λ some.
+    let wrong : false ≡ true = subst (λ o. IsSome o) c.in-None.is some in
+    absurd cc
 
 pub returns-then-self-clause-takes : goal.returns-then-self-clause-takes
 returns-then-self-clause-takes c = (took-then-self c).takes
@@ -104,6 +112,11 @@ returns-else-self-clause-after c = (took-else-self c).after
 
 pub returns-else-self-clause-held : goal.returns-else-self-clause-held
 returns-else-self-clause-held c = (took-else-self c).held
+
+pub returns-else-self-clause-waits : goal.returns-else-self-clause-waits
+returns-else-self-clause-waits c = λ some.
+    let wrong : false ≡ true = subst (λ o. IsSome o) c.in-None.is some in
+    absurd cc
 
 pub returns-else-self-clause-takes : goal.returns-else-self-clause-takes
 returns-else-self-clause-takes c = (took-else-self c).takes
