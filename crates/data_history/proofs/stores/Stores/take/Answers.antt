@@ -14,7 +14,7 @@ pub returns-in-Some-clause-takes : goal.returns-in-Some-clause-takes
 returns-in-Some-clause-takes c = λ z h. subst (λ o. IsSome o) (sym c.in-Some.is) refl
 
 pub returns-in-Some-clause-waits : goal.returns-in-Some-clause-waits
-returns-in-Some-clause-waits c = λ some. (refl , refl , refl)
+returns-in-Some-clause-waits c = λ some. (refl, refl, refl)
 
 pub returns-in-Some-clause-life : goal.returns-in-Some-clause-life
 returns-in-Some-clause-life c = λ xs file un may l. l
