@@ -4,13 +4,14 @@ import contextlib
 import gc
 import ipaddress
 import pathlib
+import select
+import selectors
 import shutil
 import socket
 import ssl
 import subprocess
 import tempfile
 import threading
-import time
 import unittest
 import warnings
 from dataclasses import replace
@@ -21,7 +22,6 @@ from rtr_wire import (AsyncClient, CacheResponse, Cause, Client, Data, Duplicate
                       SerialNotify, SerialQuery, SessionError, Settings, UnitTypeError, units)
 
 SOON = Settings(pause=0.01, retry=0.01, response_limit=20)
-LATE = 10  # seconds for what ends after two: others use the machine too
 ONE = IPv4Prefix(ipaddress.IPv4Network("10.0.0.0/8"), max_length=8, asn=1)
 TWO = replace(ONE, asn=2)
 KEY = RouterKey(bytes(20), 1, b"key")
@@ -118,17 +118,6 @@ def both(*scripts):
     return script
 
 
-def is_read(connection):
-    """Reports whether a client that has sent all doesn't reset the connection when more comes."""
-    try:
-        connection.sendall(b"more")
-        time.sleep(0.2)
-        connection.sendall(b"more")
-    except ConnectionError:
-        return False
-    return True
-
-
 def waits(connection, queries):
     """Plays a cache that waits until the client closes."""
     assert next(queries, None) is None
@@ -158,6 +147,54 @@ FOLLOWS = both(says(RESET, answer(FIRST), bytes(SerialNotify(7, 2))),
                says(SerialQuery(7, 1), bytes(CacheResponse(7)), bytes(FIRST.delta(SECOND))), waits)
 ASKED = both(says(RESET, answer(FIRST)),
              says(SerialQuery(7, 1), bytes(CacheResponse(7)), bytes(FIRST.delta(SECOND))), waits)
+
+
+class Simulated:
+    """A time that passes only while a client waits, and both ends of its connection to a cache. The
+    cache sends a byte every 0.3 seconds of it."""
+
+    PAUSE, LONGEST = 0.3, 60
+
+    def __init__(self):
+        self.now, self.sends_at = 0.0, self.PAUSE
+        self.client, self.cache = socket.socketpair()
+
+    def wait(self, seconds):
+        """Lets time pass, until the cache sends at the latest."""
+        assert seconds is not None and self.now < self.LONGEST, "it waits too long"
+        if self.now + seconds < self.sends_at:
+            self.now += seconds
+        else:
+            self.now, self.sends_at = self.sends_at, self.sends_at + self.PAUSE
+            self.cache.sendall(b"m")
+
+    def is_ready(self):
+        return bool(select.select([self.client], [], [], 0)[0])
+
+    def recv(self, most):
+        if not self.is_ready():
+            self.wait(self.client.gettimeout())
+        if not self.is_ready():
+            raise socket.timeout
+        return self.client.recv(most)
+
+    def __getattr__(self, name):
+        return getattr(self.client, name)
+
+
+class SimulatedSelector(selectors.SelectSelector):
+    """Waits in simulated time."""
+
+    def __init__(self, simulated):
+        super().__init__()
+        self.simulated = simulated
+
+    def select(self, timeout=None):
+        ready = super().select(0)
+        if ready or timeout == 0:
+            return ready
+        self.simulated.wait(timeout)
+        return super().select(0)
 
 
 class Following:
@@ -237,21 +274,16 @@ class Following:
 
     def test_report_time(self):
         """After a report it reads for two seconds, and then closes."""
-        seen = []
-
-        def script(connection, queries):
-            began = time.monotonic()
-            says(RESET, b"\1\5\0\0\0\0\0\10")(connection, queries)
-            seen.extend(report.code for report in queries)
-            while is_read(connection) and time.monotonic() < began + LATE:
-                pass
-            seen.append(time.monotonic() - began)
-
-        with Cache(script) as cache, self.assertRaises(UnitTypeError):
-            self.fetch(cache)
-        code, lasted = seen
-        self.assertEqual(code, 5)
-        self.assertTrue(2 <= lasted < LATE, lasted)
+        simulated = Simulated()
+        simulated.cache.sendall(b"\1\5\0\0\0\0\0\10")
+        with simulated.cache as cache, mock.patch("time.monotonic", lambda: simulated.now), \
+                mock.patch("time.sleep", simulated.wait):
+            with self.assertRaises(UnitTypeError):
+                self.fetch_simulated(simulated)
+            self.assertAlmostEqual(simulated.now, 2)
+            with cache.makefile("rb") as file:
+                query, report = units(file)
+        self.assertEqual((query, report.code), (RESET, 5))
 
     def test_reported(self):
         report = ErrorReport(1, text=b"it rains")
@@ -362,6 +394,9 @@ class Blocking(Following, unittest.TestCase):
     def fetch(self, cache, settings=SOON, context=None, host="127.0.0.1"):
         return Client(host, cache.port, settings, ssl=context).fetch()
 
+    def fetch_simulated(self, simulated):
+        return Client(settings=SOON, connect=lambda seconds: simulated).fetch()
+
     def updates(self, cache, count, failed=None, settings=SOON, context=None):
         client = Client("127.0.0.1", cache.port, settings, failed=patient(failed),
                         ssl=context)
@@ -446,6 +481,13 @@ class ForAsyncio(Following, unittest.TestCase):
     def fetch(self, cache, settings=SOON, context=None, host="127.0.0.1"):
         client = AsyncClient(host, cache.port, settings, ssl=context)
         return asyncio.run(client.fetch())
+
+    def fetch_simulated(self, simulated):
+        client = AsyncClient(settings=SOON,
+                             connect=lambda: asyncio.open_connection(sock=simulated.client))
+        loop = asyncio.SelectorEventLoop(SimulatedSelector(simulated))
+        with contextlib.closing(loop):
+            return loop.run_until_complete(client.fetch())
 
     def updates(self, cache, count, failed=None, settings=SOON, context=None):
         async def taken():
