@@ -11,7 +11,7 @@ use rtr_wire::*;
 use std::io::ErrorKind;
 use std::sync::mpsc::channel;
 use std::sync::Mutex;
-use std::time::{Instant, SystemTime};
+use std::time::SystemTime;
 
 /// A server that starts over its file has its data and the deltas to them. It accepts no file with
 /// a byte changed, or without its end, or of another form.
@@ -207,7 +207,7 @@ fn saves_that_fail() {
             .iter()
             .map(|(name, field)| format!(" {name}={field}"));
         let line = message.to_string() + &fields.collect::<String>();
-        let _ = sender.lock().unwrap().send((line, Instant::now()));
+        let _ = sender.lock().unwrap().send((line, Stamp::now()));
     });
     let address = server.listen("127.0.0.1:0").unwrap();
     let cache = Cache { server, address };
@@ -224,16 +224,17 @@ fn saves_that_fail() {
     std::fs::create_dir(&blocked).unwrap();
     let failure = std::fs::File::create(&blocked).unwrap_err();
     let refused = Err(UpdateError::NotSaved((&failure).into()));
-    let began = Instant::now();
     for serial in [2, 3, 3] {
+        let before = Stamp::now();
         let error = server.update(data(serial));
+        // Until the next retry it would sleep for a second at least.
+        let slept = before.slept_until(Stamp::now());
+        assert!(slept < milliseconds(900), "it waits: {slept:?}");
         assert_eq!(error, refused);
         let text = format!("the data aren't saved: {failure}");
         assert_eq!(error.unwrap_err().to_string(), text);
         assert_eq!(server.end(), Some(data(1).end()));
     }
-    // Until the next three retries they would wait for 1, 2 and 4 seconds.
-    assert!(began.elapsed() < milliseconds(7000), "it waits");
     // Refused data change nothing.
     assert!(matches!(
         server.update(data(0)),
@@ -242,12 +243,14 @@ fn saves_that_fail() {
     cache.serves(1);
     assert_eq!(saved_serial(&file), Some(1));
     // It retries after 1, 2, 4 .. seconds.
-    let is_retry = |(line, _): &(String, Instant)| line.starts_with("not saved");
+    let is_retry = |(line, _): &(String, Stamp)| line.starts_with("not saved");
     let retries = || logged.iter().find(is_retry).expect("a line");
     let (line, first) = retries();
     assert_eq!(line, format!("not saved error={failure}"));
-    let pause = retries().1 - first;
-    assert!((2000..4000).contains(&pause.as_millis()), "{pause:?}");
+    let second = retries().1;
+    let (pause, slept) = (first.until(second), first.slept_until(second));
+    assert!(pause >= milliseconds(2000), "{pause:?}");
+    assert!(slept < milliseconds(3000), "{slept:?}");
     assert_eq!(threads("rtr save"), 1);
     std::fs::remove_dir(&blocked).unwrap();
     // The waiting client is notified of the data that were saved then.

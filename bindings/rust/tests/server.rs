@@ -351,19 +351,25 @@ fn clients_that_stall_or_reset() {
 #[test]
 fn slow_clients() {
     let _alone = alone();
-    let cache = Cache::new(limits());
+    let (server, told) = telling(limits());
+    let address = server.listen("127.0.0.1:0").unwrap();
+    let cache = Cache { server, address };
     assert_eq!(cache.server.update(data_of(SESSION, 1, 20)), Ok(true));
     // The client sends nothing, a unit a byte at a time, or nothing after a query.
     let (mut nothing, mut bytes, mut idle) = (cache.client(), cache.client(), cache.client());
     idle.send(&reset_query(2));
     idle.response();
-    let began = Instant::now();
+    let began = Stamp::of("rtr cache");
     for byte in reset_query(2) {
         bytes.try_send(&[byte]);
         std::thread::sleep(milliseconds(100));
     }
     assert!(bytes.is_closed() && idle.is_closed() && nothing.is_closed());
-    assert!(began.elapsed() < LATE);
+    for (why, ended) in told.iter().take(3) {
+        assert_eq!(why, "the router is too slow");
+        let slept = began.slept_until(ended);
+        assert!(slept < milliseconds(3000), "it ended late: {slept:?}");
+    }
     cache.serves(1);
     // Long units come without an end.
     let mut flood = cache.client();
@@ -588,12 +594,13 @@ fn stops_in_a_callback() {
     }
 }
 
-/// A server, and the texts of why it ended connections.
-fn telling(options: ServerOptions) -> (Server, Receiver<String>) {
+/// A server, and the texts of why it ended connections, each with its moment of the server's thread.
+fn telling(options: ServerOptions) -> (Server, Receiver<(String, Stamp)>) {
     let (sender, told) = channel();
     let sender = Mutex::new(sender);
     let server = Server::telling(options, move |_, error| {
-        let _ = sender.lock().unwrap().send(error.to_string());
+        let ended = (error.to_string(), Stamp::now());
+        let _ = sender.lock().unwrap().send(ended);
     });
     (server, told)
 }
@@ -603,7 +610,7 @@ fn telling(options: ServerOptions) -> (Server, Receiver<String>) {
 #[test]
 fn answers_that_are_cut() {
     let _alone = alone();
-    for (session, texts) in [
+    for (session, text) in [
         (SESSION, "the router is too far behind"),
         (7, "the data are of a new session"),
     ] {
@@ -621,9 +628,11 @@ fn answers_that_are_cut() {
         }
         assert!(told.recv_timeout(milliseconds(300)).is_err());
         server.update(data_of(session, 4, 20)).unwrap();
-        let began = Instant::now(); // the data are saved and served now
-        assert_eq!(told.recv_timeout(PATIENCE).as_deref(), Ok(texts));
-        assert!(began.elapsed() < LATE, "it ended late");
+        let served = Stamp::of("rtr cache");
+        let (why, ended) = told.recv_timeout(PATIENCE).expect("it ends");
+        assert_eq!(why, text);
+        let slept = served.slept_until(ended);
+        assert!(slept < milliseconds(500), "it ended late: {slept:?}");
         assert!(holds(|| server.clients() == 0));
     }
 }
@@ -673,6 +682,7 @@ fn reasons() {
     drop(going);
     assert!(holds(|| server.clients() == 0));
     let long = [2, 9, 1, 0, 0xff, 0xff, 0xff, 0xff];
+    let why = || told.recv_timeout(PATIENCE).expect("it ends").0;
     let rows: [(&[u8], &str); 7] = [
         (&[], "the router is too slow"),
         (&long, "unit is longer than 65535 bytes"),
@@ -688,7 +698,7 @@ fn reasons() {
     for (bytes, text) in rows {
         let mut client = Peer::connect(address);
         client.send(bytes);
-        assert_eq!(told.recv_timeout(PATIENCE).as_deref(), Ok(text));
+        assert_eq!(why(), text);
         drop(client);
         assert!(holds(|| server.clients() == 0));
     }
@@ -696,14 +706,10 @@ fn reasons() {
     one.send(&reset_query(2));
     one.response();
     assert!(Peer::connect(address).report().is_some());
-    assert_eq!(
-        told.recv_timeout(PATIENCE).as_deref(),
-        Ok("too many connections")
-    );
+    assert_eq!(why(), "too many connections");
     server.update(data_of(7, 1, 20)).unwrap();
     assert!(one.is_closed());
-    let text = "the data are of a new session";
-    assert_eq!(told.recv_timeout(PATIENCE).as_deref(), Ok(text));
+    assert_eq!(why(), "the data are of a new session");
     drop(server);
     assert!(told.recv_timeout(milliseconds(10)).is_err());
 }

@@ -4,6 +4,7 @@
 use rtr_wire::*;
 use std::io::{BufReader, Read, Write};
 use std::net::{Shutdown, SocketAddr, TcpStream};
+use std::path::{Path, PathBuf};
 use std::sync::{Mutex, MutexGuard, PoisonError};
 use std::time::{Duration, Instant};
 
@@ -196,6 +197,56 @@ impl Peer {
             Ok(count) => count == 0,
             Err(error) => error.kind() == std::io::ErrorKind::ConnectionReset,
         }
+    }
+}
+
+/// A moment of a thread.
+#[derive(Clone, Copy, Debug, PartialEq)]
+pub struct Stamp {
+    time: Instant,
+    /// How long the thread has run until then, or been ready to.
+    awake: Duration,
+}
+
+impl Stamp {
+    /// This moment of the present thread.
+    pub fn now() -> Stamp {
+        Stamp::read(Path::new("/proc/thread-self"))
+    }
+
+    /// This moment of the thread of this name, which has begun to run.
+    pub fn of(name: &str) -> Stamp {
+        let tasks = std::fs::read_dir("/proc/self/task").unwrap();
+        let mut folders = tasks.map(|task| task.unwrap().path());
+        let is_named = |folder: &PathBuf| {
+            let found = std::fs::read_to_string(folder.join("comm"));
+            found.map_or(false, |found| found.trim_end() == name)
+        };
+        Stamp::read(&folders.find(is_named).expect("a thread of this name"))
+    }
+
+    fn read(folder: &Path) -> Stamp {
+        let time = Instant::now();
+        // Nanoseconds on a processor, nanoseconds of waiting for one, and a count.
+        let times = std::fs::read_to_string(folder.join("schedstat")).unwrap();
+        let awake = times.split_whitespace().take(2);
+        let nanoseconds = awake.map(|time| time.parse::<u64>().unwrap()).sum();
+        Stamp {
+            time,
+            awake: Duration::from_nanos(nanoseconds),
+        }
+    }
+
+    /// The time from this moment to a later one.
+    pub fn until(self, later: Stamp) -> Duration {
+        later.time - self.time
+    }
+
+    /// How much of that time the thread slept: a thread that is ready to run doesn't, however long a
+    /// busy machine lets it wait for a processor.
+    pub fn slept_until(self, later: Stamp) -> Duration {
+        let awake = later.awake.saturating_sub(self.awake);
+        self.until(later).saturating_sub(awake)
     }
 }
 
