@@ -268,15 +268,16 @@ class Router:
     def gets_answer(self, serial, prefixes, withdrawn=()):
         """Expects a whole answer: these units in any order between a response and an end. A notify
         may come before it."""
-        wanted = collections.Counter(prefix(one, 1, self.version) for one in prefixes)
-        wanted += collections.Counter(prefix(one, 0, self.version) for one in withdrawn)
         while (first := self.reads()) == self.notify(serial) and self.may_be_notified():
             self.is_notified = True
         if first != self.unit(RESPONSE, self.session):
             raise Wrong(f"a router got {first.hex()}, not a response")
-        got = collections.Counter()
+        units = []  # they are compared later, since the cache closes if nothing is read for long
         while (came := self.reads())[1] != END:
-            got[came] += 1
+            units.append(came)
+        got = collections.Counter(units)
+        wanted = collections.Counter(prefix(one, 1, self.version) for one in prefixes)
+        wanted += collections.Counter(prefix(one, 0, self.version) for one in withdrawn)
         wanted_end = end(serial, self.version, self.session)
         if came != wanted_end:
             raise Wrong(f"a router got the end {came.hex()}, not {wanted_end.hex()}")

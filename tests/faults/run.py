@@ -15,10 +15,12 @@ usage: run.py [FOLDER] [PROGRAM [FAULT]]  the folder has the archive; bindings/l
 
 A program without its compiler is skipped, with a loud message. Prints how many runs there were.
 """
+import multiprocessing
 import os
 import sys
 import tempfile
-from concurrent.futures import ThreadPoolExecutor
+import threading
+from concurrent.futures import ProcessPoolExecutor
 
 import caches
 import clients
@@ -27,7 +29,7 @@ import programs
 import saves
 import waits
 
-AT_ONCE = 16  # runs; most of their time they wait, but all are played by one process
+AT_ONCE = 16  # runs, each played by a process of its own: no peer waits for those of another
 
 # The names of programs, what builds them, in this order, and what is run with them.
 PLAYS = (
@@ -48,36 +50,56 @@ PLAYS = (
 )
 
 
-def play(part, program, command, name, library, work):
+def play(scene, program, command, name, library, work):
     """Plays one run; returns what was wrong, or nothing."""
-    wrong = part.play(command, name, library, tempfile.mkdtemp(dir=work))
+    wrong = scene(command, name, library, tempfile.mkdtemp(dir=work))
     return wrong and f"faults: {program}: {name}: {wrong}"
+
+
+def end_with_parent():
+    """Ends this process when the one that started it has ended, by a signal, too."""
+    def waits():
+        multiprocessing.parent_process().join()
+        os._exit(1)
+    threading.Thread(target=waits, daemon=True).start()
+
+
+def built(words, archives, work):
+    """Builds the programs of which there are runs; returns the name, the command and the parts of
+    each."""
+    return [(program, command, parts) for names, builds, parts in PLAYS
+            if not words or words[0] in names for program, command in builds(archives, work)]
+
+
+def played(runs):
+    """Plays these runs; returns what was wrong. The processes have what was built and set before
+    them, and nothing is built beside them."""
+    with ProcessPoolExecutor(AT_ONCE, multiprocessing.get_context("fork"),
+                             end_with_parent) as pool:
+        results = [pool.submit(play, *run) for run in runs]
+        return [wrong for wrong in (one.result() for one in results) if wrong]
 
 
 def main():
     words = sys.argv[1:]
-    built = os.path.join(programs.BINDINGS, "lib", "x86_64")
-    archives = os.path.realpath(words.pop(0)) if words and os.path.isdir(words[0]) else built
+    lib = os.path.join(programs.BINDINGS, "lib", "x86_64")
+    archives = os.path.realpath(words.pop(0)) if words and os.path.isdir(words[0]) else lib
     if not os.path.exists(os.path.join(archives, "librtr_wire.a")):
         archives = os.path.join(programs.TOP, "prebuilt", "x86_64")
-    runs, count = [], 0
-    with tempfile.TemporaryDirectory() as work, ThreadPoolExecutor(AT_ONCE) as pool:
+    with tempfile.TemporaryDirectory() as work:
         library = programs.library(work)
         cuts.TRACER = programs.tracer(work)
         if not cuts.TRACER:
             programs.skipped("leave to trace by ptrace", "cuts of the power")
-        for names, builds, parts in PLAYS:
-            if words and words[0] not in names:
-                continue
-            for program, command in builds(archives, work):
-                count += 1
-                runs += [pool.submit(play, part, program, command, name, library, work)
-                         for part in parts for name in part.names(program)
-                         if words[:1] in ([], [program]) and words[1:2] in ([], [name])]
-        wrong = [wrong for wrong in (one.result() for one in runs) if wrong]
+        plays = built(words, archives, work)
+        runs = [(part.play, program, command, name, library, work)
+                for program, command, parts in plays for part in parts
+                for name in part.names(program)
+                if words[:1] in ([], [program]) and words[1:2] in ([], [name])]
+        wrong = played(runs)
     if wrong:
         sys.exit("\n".join([*wrong, f"faults: {len(wrong)} of {len(runs)} runs are wrong"]))
-    print(f"faults in system calls: {len(runs)} runs of {count} programs")
+    print(f"faults in system calls: {len(runs)} runs of {len(plays)} programs")
 
 
 if __name__ == "__main__":

@@ -1,6 +1,6 @@
 """Units of RFC 8210 section 5, and what the tests of this folder share."""
 import functools
-import ipaddress
+import socket
 import struct
 
 SESSION = 4660
@@ -25,10 +25,10 @@ def unit(kind, field, body=b"", version=2):
 
 @functools.lru_cache(maxsize=None)
 def prefix(text, announce, version=2):
-    net = ipaddress.ip_network(text)
-    head = struct.pack(">BBBB", announce, net.prefixlen, net.prefixlen, 0)
-    return unit(IPV4 if net.version == 4 else IPV6, 0,
-                head + net.network_address.packed + struct.pack(">I", AS), version)
+    address, length = text.split("/")
+    kind, family = (IPV6, socket.AF_INET6) if ":" in address else (IPV4, socket.AF_INET)
+    head = struct.pack(">BBBB", announce, int(length), int(length), 0)
+    return unit(kind, 0, head + socket.inet_pton(family, address) + struct.pack(">I", AS), version)
 
 
 def end(serial, version=2, session=SESSION):
