@@ -31,6 +31,32 @@ export async function opened({ host, port, tls }, { signal, milliseconds }) {
     throw last;
 }
 
+/** Opens a connection with a caller's `connect`, within these milliseconds, and passes its stream to
+ * `done`, or else null and the error. Returns a controller: after its abort `done` isn't called, and
+ * a stream that still comes is destroyed. */
+export function dial(connect, milliseconds, done) {
+    const dialing = new AbortController();
+    const { signal } = dialing;
+    const passes = (stream, error) => {
+        if (!signal.aborted) {
+            done(stream, error);
+        } else if (stream !== null) {
+            guarded(stream).destroy();
+        }
+    };
+    const opens = async () => streamOf(await connect({ signal, milliseconds }));
+    opens().then((stream) => passes(stream, null), (error) => passes(null, error));
+    return dialing;
+}
+
+/** Checks that a caller's `connect` returned a stream, and returns it. */
+function streamOf(value) {
+    if (typeof value?.read !== "function" || typeof value.destroy !== "function") {
+        throw new TypeError("connect must return a stream");
+    }
+    return value;
+}
+
 /** Waits for a promise, or rejects when the signal aborts. */
 function unlessAborted(signal, promise) {
     return new Promise((resolve, reject) => {
@@ -97,6 +123,7 @@ export class Connection {
     #stream;
     #changed;
     #isOver;
+    #unread = null; // bytes that were read and not taken
 
     /** `changed` is called when bytes were received, and when the connection is over. */
     constructor(stream, changed) {
@@ -122,9 +149,16 @@ export class Connection {
         return this.#stream.errored ?? null;
     }
 
-    /** Returns received bytes, or null. */
-    read() {
-        return this.#stream.read();
+    /** Passes received bytes to `take`, which returns how many it took: it gets the others next
+     * time. Returns whether there were some. */
+    pass(take) {
+        this.#unread ??= this.#stream.read();
+        if (this.#unread === null) {
+            return false;
+        }
+        const rest = this.#unread.subarray(take(this.#unread));
+        this.#unread = rest.length > 0 ? rest : null;
+        return true;
     }
 
     /** Sends bytes; the stream buffers those that can't be sent yet. */

@@ -1,10 +1,10 @@
 // Follows several caches by preference (RFC 8210 section 10): a Group decides.
 
 import { GroupShown, MOST_MEMBERS, STRUCTS, TodoKind } from "./rtr_table.js";
+import { Bell, now } from "./bell.js";
 import { Empty } from "./fault.js";
 import { fieldsOf, objectOf } from "./given.js";
-import { EVENTS, SESSION, iterated } from "./iterated.js";
-import { Bell, now } from "./running.js";
+import { EVENTS, SESSION, iterated, onAbort } from "./iterated.js";
 import { Update } from "./update.js";
 
 /** Follows the most preferred cache that answers, each by a client: iterates over the updates of
@@ -62,9 +62,7 @@ class Chooser {
 
     /** Iterates over the updates until `stop` aborts, or throws the reason of the signal. */
     async * updates(stop, signal) {
-        const signals = [stop, signal].filter((each) => each !== undefined);
-        const aborted = () => this.#endsAll();
-        signals.forEach((each) => each.addEventListener("abort", aborted));
+        const release = onAbort([stop, signal], () => this.#endsAll());
         try {
             this.#rtr = await this.#members[0].client[SESSION]();
             this.#group = this.#rtr.group(this.#members.length, now(), this.#settings);
@@ -77,7 +75,7 @@ class Chooser {
                 }
             }
         } finally {
-            signals.forEach((each) => each.removeEventListener("abort", aborted));
+            release();
             this.#endsAll();
             await Promise.all(this.#members.map(({ running }) => running));
         }

@@ -1,4 +1,4 @@
-// Iteration over runs of clients.
+// Iteration over runs of clients, until a signal aborts.
 
 /** The names of clients' methods that are private to this package. */
 export const EVENTS = Symbol("events");
@@ -19,4 +19,12 @@ export function iterated(generate) {
             return this;
         },
     };
+}
+
+/** Calls a function when one of these signals aborts, where undefined stands for none. Returns a
+ * function that ends this. */
+export function onAbort(signals, call) {
+    const given = signals.filter((signal) => signal !== undefined);
+    given.forEach((signal) => signal.addEventListener("abort", call));
+    return () => given.forEach((signal) => signal.removeEventListener("abort", call));
 }

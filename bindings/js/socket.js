@@ -1,8 +1,8 @@
 // A server's connection to a router, over the streams of Node.
 
 import { Step } from "./rtr_table.js";
+import { now } from "./bell.js";
 import { LONGEST_TIMER } from "./connection.js";
-import { now } from "./running.js";
 
 /** The socket of a router, by which a Served sends and receives. It reads only while the machine
  * waits, and hands the stream no more bytes before it has sent the last ones. */
