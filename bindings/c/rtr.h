@@ -72,6 +72,10 @@
 #define RTR_LEAST_EXPIRE 600
 #define RTR_MOST_EXPIRE 172800
 
+/* The version in which a client asks if its caller names none: that of RFC 8210. ASPAs need version
+ * 2, for which caches in use have several layouts. */
+#define RTR_USUAL_VERSION 1
+
 /* The most members of a group. */
 #define RTR_MOST_MEMBERS 16
 

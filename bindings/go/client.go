@@ -56,9 +56,6 @@ func (c *Client) highest() uint8 {
 	return c.Version
 }
 
-// usualVersion is that of RFC 8210.
-const usualVersion = 1
-
 // The reasons for which a Client ends a connection or has no data, besides a Fault, a Breach, a
 // Reported, ErrTooSlow, and errors of the connection itself.
 var (

@@ -47,6 +47,7 @@ const (
 	usualExpire     = 7200
 	leastExpire     = 600
 	mostExpire      = 172800
+	usualVersion    = 1
 	mostMembers     = 16
 	lastReportLimit = 2000
 	lastReportBytes = 1048576

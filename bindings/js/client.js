@@ -8,7 +8,7 @@
 import { randomInt } from "node:crypto";
 import { EventEmitter } from "node:events";
 import { SessionError, load } from "./rtr_wire.js";
-import { Cause, LAST_REPORT_LIMIT, STRUCTS } from "./rtr_table.js";
+import { Cause, LAST_REPORT_LIMIT, STRUCTS, USUAL_VERSION } from "./rtr_table.js";
 import { fieldsOf, numberOf, objectOf, textOf } from "./given.js";
 import { opened } from "./connection.js";
 import { EVENTS, SESSION, iterated } from "./iterated.js";
@@ -16,9 +16,6 @@ import { functionOf, optionsOf, sessionOf, signalOf } from "./options.js";
 import { Run } from "./running.js";
 
 export { follow } from "./following.js";
-
-// The version of RFC 8210. ASPAs need version 2, for which caches in use have several layouts.
-const VERSION = 1;
 
 // The number of random values that spread the waits of clients.
 const CHANCES = 1 << 16;
@@ -125,7 +122,7 @@ export class Client extends EventEmitter {
 /** Returns a new link, or restarts the one before. */
 function linkOf(rtr, settings, before) {
     if (before === null) {
-        return rtr.link({ highest: VERSION, chance: randomInt(CHANCES), ...settings });
+        return rtr.link({ highest: USUAL_VERSION, chance: randomInt(CHANCES), ...settings });
     }
     before.again();
     return before;

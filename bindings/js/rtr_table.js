@@ -26,6 +26,7 @@ export const MOST_RETRY = 7200;
 export const USUAL_EXPIRE = 7200;
 export const LEAST_EXPIRE = 600;
 export const MOST_EXPIRE = 172800;
+export const USUAL_VERSION = 1;
 export const MOST_MEMBERS = 16;
 export const LAST_REPORT_LIMIT = 2000;
 export const LAST_REPORT_BYTES = 1048576;

@@ -40,6 +40,7 @@ pub(crate) const MOST_RETRY: u32 = 7200;
 pub(crate) const USUAL_EXPIRE: u32 = 7200;
 pub(crate) const LEAST_EXPIRE: u32 = 600;
 pub(crate) const MOST_EXPIRE: u32 = 172800;
+pub(crate) const USUAL_VERSION: u8 = 1;
 pub(crate) const MOST_MEMBERS: usize = 16;
 pub(crate) const LAST_REPORT_LIMIT: u32 = 2000;
 pub(crate) const LAST_REPORT_BYTES: usize = 1048576;

@@ -2,7 +2,8 @@
 
 #[cfg(feature = "std")]
 use crate::abi::{CacheSettings, ServerSettings};
-use crate::abi::{Settings, HIGHEST_VERSION, LAST_REPORT_BYTES, LAST_REPORT_LIMIT};
+use crate::abi::{Settings, HIGHEST_VERSION, USUAL_VERSION};
+use crate::abi::{LAST_REPORT_BYTES, LAST_REPORT_LIMIT};
 use crate::sys::{self, milliseconds};
 use core::time::Duration;
 
@@ -43,7 +44,7 @@ impl Default for ClientOptions {
     fn default() -> Self {
         let usual = sys::usual_settings(HIGHEST_VERSION);
         ClientOptions {
-            version: 1,
+            version: USUAL_VERSION,
             dial: span(usual.connect_limit),
             response: span(usual.response_limit),
             bytes: usize::try_from(usual.most_bytes).unwrap_or(usize::MAX),

@@ -70,7 +70,7 @@ class Settings:
         most_units: the most payload units of an answer
     """
 
-    version: int = 1
+    version: int = _rtr.USUAL_VERSION
     refresh: Optional[float] = None
     retry: Optional[float] = None
     expire: Optional[float] = None
@@ -83,7 +83,7 @@ class Settings:
     _TIMES: ClassVar[List[str]] = ["refresh", "retry", "expire", "pause", "connect_limit",
                                    "response_limit"]
 
-    def __init__(self, version: int = 1, *, refresh: Optional[float] = None,
+    def __init__(self, version: int = _rtr.USUAL_VERSION, *, refresh: Optional[float] = None,
                  retry: Optional[float] = None, expire: Optional[float] = None,
                  pause: Optional[float] = None, connect_limit: Optional[float] = None,
                  response_limit: Optional[float] = None, most_bytes: Optional[int] = None,
