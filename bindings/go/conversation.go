@@ -21,7 +21,7 @@ type follower struct {
 	received  int64 // bytes from the present connection
 	logged    int   // how many of the unsent bytes are in the log
 	todo      *todo // the link's last action, until a caller takes it; nil then
-	err       error // why there is no connection, or no memory for an answer
+	err       error // why there is no connection
 	stopped   error // why the follower ends
 }
 
@@ -53,8 +53,6 @@ func (f *follower) takeTodo() *todo {
 func (f *follower) perform(t todo) {
 	f.todo = &t
 	switch t.kind {
-	case todoGrow:
-		f.giveUp()
 	case todoWait:
 		f.wait(uint64(t.wakes))
 	case todoConnect:
@@ -144,12 +142,4 @@ func (f *follower) close(t todo) {
 	if c := cause(t.cause); c != causeLower && c != causeHigher {
 		f.failed(reason)
 	}
-}
-
-// giveUp ends an answer that is too large for a buffer.
-func (f *follower) giveUp() {
-	f.err = ErrNoMemory
-	t := f.link.giveUp(f.peer.now())
-	f.logged = len(f.link.unsent(f.peer.now()))
-	f.perform(t)
 }

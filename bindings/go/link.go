@@ -20,6 +20,7 @@ type link struct {
 	output []byte     // bytes to send
 	most   uint64     // the largest size of a buffer in bytes, or of the index in entries
 	filled int        // bytes in the input before the last call
+	gaveUp bool       // a buffer couldn't grow at the last call
 }
 
 // todo is the next action of the host.
@@ -33,7 +34,7 @@ const (
 	todoData    = C.RTR_TODO_DATA
 	todoDropped = C.RTR_TODO_DROPPED
 	todoNoData  = C.RTR_TODO_NO_DATA
-	todoGrow    = C.RTR_TODO_INPUT_ROOM // the first of the actions that grow a buffer
+	todoGrow    = C.RTR_TODO_INPUT_ROOM // the first of the actions that grow a buffer, done by step
 )
 
 const (
@@ -109,8 +110,8 @@ func (l *link) unsent(now uint64) []byte {
 	return l.output[:l.state(now).unsent]
 }
 
-// next returns the next action. It grows buffers as needed; if one can't grow enough, it returns
-// todoGrow.
+// next returns the next action. It grows buffers as needed; if one can't grow enough, it gives up
+// the answer, which closes the connection.
 func (l *link) next(now uint64) todo {
 	return l.step(now, func() (todo, C.uint8_t) {
 		next := C.link_next(&l.end, l.buffers(), C.uint64_t(now))
@@ -127,17 +128,9 @@ func (l *link) askNow(now uint64) todo {
 	})
 }
 
-// giveUp tells the link that a buffer can't grow, and returns the next action, as next does.
-func (l *link) giveUp(now uint64) todo {
-	return l.step(now, func() (todo, C.uint8_t) {
-		next := C.link_give_up(&l.end, l.buffers(), C.uint64_t(now))
-		return next.todo, next.result
-	})
-}
-
 // step repeats a call until every buffer is long enough, or one can't grow.
 func (l *link) step(now uint64, call func() (todo, C.uint8_t)) todo {
-	l.filled = int(l.state(now).filled)
+	l.filled, l.gaveUp = int(l.state(now).filled), false
 	for {
 		next, status := call()
 		must(status)
@@ -145,9 +138,17 @@ func (l *link) step(now uint64, call func() (todo, C.uint8_t)) todo {
 			return next
 		}
 		if !l.grow(next) {
-			return todo{kind: todoGrow}
+			return l.giveUp(now)
 		}
 	}
+}
+
+// giveUp tells the link that a buffer can't grow, and returns the next action.
+func (l *link) giveUp(now uint64) todo {
+	l.gaveUp = true
+	next := C.link_give_up(&l.end, l.buffers(), C.uint64_t(now))
+	must(next.result)
+	return next.todo
 }
 
 // grow grows the buffer that an action names, and reports whether the limit allows it. The input

@@ -141,16 +141,15 @@ func TestNoRoom(t *testing.T) {
 		l.most = 0
 		const now = 5000
 		next := l.next(now)
-		for next.kind != todoGrow {
+		for !l.gaveUp {
 			if next.kind == todoWait || next.kind == todoData {
 				t.Fatalf("%s: it goes on: %d", name, next.kind)
 			}
 			next = l.next(now)
 		}
-		closing := l.giveUp(now)
-		if closing.kind != todoClose || cause(closing.cause) != causeNotApplied ||
-			closing.status != 0 || bool(closing.drops) || bool(closing.reports) {
-			t.Fatalf("%s: %+v", name, closing)
+		if next.kind != todoClose || cause(next.cause) != causeNotApplied ||
+			next.status != 0 || bool(next.drops) || bool(next.reports) {
+			t.Fatalf("%s: %+v", name, next)
 		}
 		if state := l.state(now); !state.has_data || int(state.shown) != len(ipv4)+24 {
 			t.Fatalf("%s: %+v", name, state)

@@ -68,7 +68,9 @@ func (f *follower) logQueries() {
 func (f *follower) reason(t todo) error {
 	why := cause(t.cause)
 	switch {
-	case why == causeLost, why == causeNotApplied && t.status == 0:
+	case f.link.gaveUp, why == causeNotApplied && t.status == 0:
+		return ErrNoMemory
+	case why == causeLost:
 		return f.err
 	case why == causeFaulty, why == causeNotApplied:
 		return f.refused(t)
