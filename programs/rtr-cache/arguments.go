@@ -48,11 +48,11 @@ payloads, merged, over the RPKI to Router protocol (RFC 6810, RFC 8210).`,
 	if err := program.Parse(line, os.Stdout); err != nil {
 		return nil, err
 	}
-	return o, o.check()
+	return o, o.check(program.Given)
 }
 
 // check returns an error if the options don't fit together, and finds the programs that read lists.
-func (o *options) check() error {
+func (o *options) check(given words.Given) error {
 	s := &o.settings
 	if len(s.Files) == 0 {
 		return errors.New("no list given: use --json, --csv or --sequence")
@@ -61,14 +61,10 @@ func (o *options) check() error {
 		return fmt.Errorf("--refresh %d --retry %d --expire %d: %w", s.Timing.Refresh, s.Timing.Retry,
 			s.Timing.Expire, err)
 	}
-	if err := s.TLS.Check(); err != nil {
-		return err
+	var unreported error
+	if s.Metrics == "" {
+		unreported = given.Without("--metrics, since only /health and /metrics report it", "stale")
 	}
-	if err := s.SSH.Check(); err != nil {
-		return err
-	}
-	if err := s.Fetch.Check(s.Files...); err != nil {
-		return err
-	}
-	return s.Reader.Check(s.Files...)
+	return words.FirstOf(s.TLS.Check(), s.SSH.Check(), s.Fetch.Check(given, s.Files...), unreported,
+		s.Reader.Check(given, s.Files...))
 }

@@ -222,6 +222,7 @@ func TestWrongWords(t *testing.T) {
 		{"f", `"f" isn't an option`},
 		{"--csv", "--csv needs FILE"},
 		{"--csv=", "--csv: it is empty"},
+		{"--csv f --slurm=", "--slurm: it is empty"},
 		{"--csv f --csv f", "--csv: f is given twice"},
 		{"--csv f --nothing", `unknown option "--nothing"`},
 		{"--csv f -x", `unknown option "-x"`},
@@ -255,13 +256,36 @@ func TestWrongWords(t *testing.T) {
 		{"--csv f --guard 10% --hold --guard 20%", "--guard: it is given twice"},
 		{"--csv f --log-level error --log-level debug", "--log-level: it is given twice"},
 		{"--csv f --fetch-limit 2 --fetch-limit 3", "--fetch-limit: it is given twice"},
-		{"--csv f --fetch-ca ca", "--fetch-ca needs a list by URL: http://HOST/PATH or https://HOST/PATH"},
-		{"--sequence f --json ./https:f --fetch-ca ca", "--fetch-ca needs a list by URL"},
-		{"--csv f --tls-cert a", "--tls-cert and --tls-key need each other"},
-		{"--csv f --tls-client-ca a", "--tls-client-ca needs"},
-		{"--csv f --ssh-host-key a", "--ssh-host-key and --ssh-routers need each other"},
 		{"--csv f --log-level loud", `--log-level: "loud" is none of debug, info, warning and error`},
 		{"--csv f --log-level panic", `--log-level: "panic" is none of debug, info, warning and error`},
+	} {
+		process := trial.Start(t, folder, strings.Fields(row.words)...)
+		process.Refuses(words.Usage, "rtr-cache: ", row.says)
+	}
+}
+
+// An option that has no effect without another one, or without a list of some kind, is refused with
+// a line that names both, also if it was given its default.
+func TestNeeds(t *testing.T) {
+	folder := t.TempDir()
+	trial.Write(t, folder+"/f", rows(1))
+	const web, pair = "a list by URL: http://HOST/PATH or https://HOST/PATH", " need each other"
+	for _, row := range []struct{ words, says string }{
+		{"--csv f --fetch 5m", "--fetch needs " + web},
+		{"--csv f --fetch-timeout=2m", "--fetch-timeout needs " + web},
+		{"--csv f --fetch-limit 268", "--fetch-limit needs " + web},
+		{"--csv f --fetch-ca ca", "--fetch-ca needs " + web},
+		{"--sequence f --json ./https:f --fetch-ca ca", "--fetch-ca needs " + web},
+		{"--csv f --ignore x", "--ignore needs a list of JSON"},
+		{"--sequence f --ignore x", "--ignore needs a list of JSON"},
+		{"--csv f --stale 2h", "--stale needs --metrics"},
+		{"--csv f --tls-cert a", "--tls-cert and --tls-key" + pair},
+		{"--csv f --tls-key a", "--tls-cert and --tls-key" + pair},
+		{"--csv f --tls-client-ca a", "--tls-client-ca needs --tls-cert and --tls-key"},
+		{"--csv f --tls-any-address", "--tls-any-address needs --tls-client-ca"},
+		{"--csv f --tls-cert a --tls-key b --tls-any-address", "--tls-any-address needs --tls-client-ca"},
+		{"--csv f --ssh-host-key a", "--ssh-host-key and --ssh-routers" + pair},
+		{"--csv f --ssh-routers a", "--ssh-host-key and --ssh-routers" + pair},
 	} {
 		process := trial.Start(t, folder, strings.Fields(row.words)...)
 		process.Refuses(words.Usage, "rtr-cache: ", row.says)
@@ -287,13 +311,13 @@ func TestWrongPlaces(t *testing.T) {
 		{"--listen 127.0.0.1:0 --state taken", "taken: another cache uses this folder", words.Refused},
 		{"--listen 127.0.0.1:0 --state f", "f/lock: not a directory", words.Failed},
 		{"--listen 127.0.0.1:0 --state a/b", "a/b: no such file or directory", words.Failed},
-		{"--listen tls:127.0.0.1:0", "TLS needs --tls-cert and --tls-key", words.Refused},
+		{"--listen tls:127.0.0.1:0", "TLS needs --tls-cert and --tls-key", words.Usage},
 		{"--listen tls:127.0.0.1:0 --tls-cert none --tls-key file", "none: no such file", words.Failed},
 		{"--listen tls:127.0.0.1:0 --tls-cert file --tls-key file", "file with file: ", words.Refused},
-		{"--listen ssh:127.0.0.1:0", "SSH needs --ssh-host-key and --ssh-routers", words.Refused},
-		{"--listen 127.0.0.1:0 --tls-cert file --tls-key file", "--tls-cert needs --listen tls:", words.Refused},
+		{"--listen ssh:127.0.0.1:0", "SSH needs --ssh-host-key and --ssh-routers", words.Usage},
+		{"--listen 127.0.0.1:0 --tls-cert file --tls-key file", "--tls-cert needs --listen tls:", words.Usage},
 		{"--listen 127.0.0.1:0 --ssh-host-key file --ssh-routers file", "--ssh-host-key needs --listen ssh:",
-			words.Refused},
+			words.Usage},
 		{"--listen ssh:127.0.0.1:0 --ssh-host-key none --ssh-routers file", "none: no such file", words.Failed},
 		{"--listen ssh:127.0.0.1:0 --ssh-host-key file --ssh-routers file", "file: ssh: no key found", words.Refused},
 	} {

@@ -50,7 +50,7 @@ protocol (RFC 6810, RFC 8210), and prints what is announced and withdrawn.`,
 	if err := program.Parse(line, os.Stdout); err != nil {
 		return nil, err
 	}
-	return o, o.check()
+	return o, o.check(program.Given)
 }
 
 // address parses the address of the next cache.
@@ -88,7 +88,11 @@ func (o *options) route(text string) error {
 }
 
 // check returns an error if the options don't fit together, and finds the programs that they need.
-func (o *options) check() (err error) {
+func (o *options) check(given words.Given) (err error) {
+	var withoutTLS error
+	if !o.useTLS {
+		withoutTLS = given.Without("--tls", "tls-ca", "tls-cert", "tls-key", "tls-name")
+	}
 	switch {
 	case len(o.addresses) == 0:
 		return errors.New("no cache given: HOST:PORT")
@@ -96,8 +100,8 @@ func (o *options) check() (err error) {
 		return fmt.Errorf("more than %d caches given", rtr.MostMembers)
 	case o.tls.Check() != nil:
 		return o.tls.Check()
-	case !o.useTLS && o.tls != (transport.TLSRouter{}):
-		return errors.New("the options about TLS need --tls")
+	case withoutTLS != nil:
+		return withoutTLS
 	case o.useTLS && o.ssh.User != "":
 		return errors.New("--tls and --ssh exclude each other")
 	case o.ssh.Partial():

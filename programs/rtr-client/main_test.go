@@ -390,18 +390,12 @@ func TestWrongWords(t *testing.T) {
 		{"a:1 --version", words.Usage, "--version needs 0|1|2"},
 		{"a:1 --version 1 --version 2", words.Usage, "--version: it is given twice"},
 		{"a:1 --out a --out b", words.Usage, "--out: it is given twice"},
-		{"a:1 --json --out f", words.Usage,
-			"--json with --out needs --validate, since no changes are printed"},
-		{"a:1 --once --out f.csv --times --json", words.Usage, "--json with --out needs --validate"},
 		{"a:1 --nothing", words.Usage, `unknown option "--nothing"`},
 		{"a:1 --out", words.Usage, "--out needs FILE"},
 		{"a:1 --validate 10.0.0.0/8", words.Usage, "--validate needs PREFIX ASN"},
 		{"a:1 --validate 10.0.0.0 AS1", words.Usage, `--validate: "10.0.0.0" isn't a prefix`},
 		{"a:1 --validate 10.0.0.1/8 AS1", words.Usage, `--validate: "10.0.0.1/8" has host bits`},
 		{"a:1 --validate 10.0.0.0/8 ASx", words.Usage, `--validate: "ASx" isn't an AS number`},
-		{"a:1 --tls-ca x", words.Usage, "the options about TLS need --tls"},
-		{"a:1 --tls --tls-cert x", words.Usage, "--tls-cert and --tls-key need each other"},
-		{"a:1 --ssh rpki", words.Usage, "--ssh, --ssh-key and --ssh-known-hosts need each other"},
 		{"a:1 --ssh rpki --tls", words.Usage, "--tls and --ssh exclude each other"},
 		{"a:1 --ssh rpki --ssh-key none --ssh-known-hosts none", words.Failed, "none: no such file"},
 		{"a:1 --ssh rpki --ssh-key file --ssh-known-hosts none", words.Refused, "file: ssh: no key found"},
@@ -413,6 +407,28 @@ func TestWrongWords(t *testing.T) {
 	} {
 		process := trial.Start(t, folder, strings.Fields(row.words)...)
 		process.Refuses(row.status, "rtr-client: ", row.says)
+	}
+}
+
+// An option that has no effect without another one is refused with a line that names both.
+func TestNeeds(t *testing.T) {
+	folder := t.TempDir()
+	const pair = "--tls-cert and --tls-key need each other"
+	const three = "--ssh, --ssh-key and --ssh-known-hosts need each other"
+	for _, row := range []struct{ words, says string }{
+		{"--json --out f", "--json with --out needs --validate, since no changes are printed"},
+		{"--once --out f.csv --times --json", "--json with --out needs --validate"},
+		{"--tls-ca x", "--tls-ca needs --tls"},
+		{"--tls-cert x --tls-key x", "--tls-cert needs --tls"},
+		{"--tls-name x", "--tls-name needs --tls"},
+		{"--tls-cert x", pair}, {"--tls-key x", pair},
+		{"--tls --tls-cert x", pair}, {"--tls --tls-key x", pair},
+		{"--ssh rpki", three}, {"--ssh-key x", three}, {"--ssh-known-hosts x", three},
+		{"--ssh rpki --ssh-key x", three}, {"--ssh rpki --ssh-known-hosts x", three},
+		{"--ssh-key x --ssh-known-hosts x", three}, {"--tls --ssh-key x", three},
+	} {
+		process := trial.Start(t, folder, strings.Fields("a:1 "+row.words)...)
+		process.Refuses(words.Usage, "rtr-client: ", row.says)
 	}
 }
 

@@ -57,7 +57,7 @@ missing in which of them, and since when. A SOURCE is one of these:
 	if err := program.Parse(line, os.Stdout); err != nil {
 		return nil, err
 	}
-	return o, o.check()
+	return o, o.check(program.Given)
 }
 
 // source parses the next source.
@@ -76,7 +76,7 @@ func (o *options) source(word string) error {
 }
 
 // check returns an error if the options don't fit together, and finds the programs that read lists.
-func (o *options) check() error {
+func (o *options) check(given words.Given) error {
 	s := &o.settings
 	if s.HTTP == "" {
 		s.HTTP = usualHTTP
@@ -102,26 +102,28 @@ func (o *options) check() error {
 			lists = append(lists, source.List)
 		}
 	}
-	if err := o.unused(used); err != nil {
-		return err
-	}
-	if err := s.Fetch.Check(lists...); err != nil {
-		return err
-	}
-	return s.Reader.Check(lists...)
+	return words.FirstOf(unused(given, used), s.Fetch.Check(given, lists...),
+		s.Reader.Check(given, lists...))
 }
 
-// unused returns an error if authorities, a certificate or a key were given and no source has their
-// transport: without it caches would be asked over TCP, although TLS or SSH was meant.
-func (o *options) unused(used map[transport.Kind]bool) error {
-	s := &o.settings
-	switch {
-	case s.TLS.Authority != "" && !used[transport.TLS]:
-		return errors.New("--tls-ca needs a source tls:HOST:PORT")
-	case s.TLS.Certificate != "" && !used[transport.TLS]:
-		return errors.New("--tls-cert needs a source tls:HOST:PORT")
-	case s.SSH.User != "" && !used[transport.SSH]:
-		return errors.New("--ssh-user needs a source ssh:HOST:PORT")
+// unused returns an error if an option has no effect on any source, whose transports are used ("" is
+// that of lists). Without it caches would be asked over TCP, although TLS or SSH was meant.
+func unused(given words.Given, used map[transport.Kind]bool) error {
+	for _, row := range []struct {
+		used  bool
+		need  string
+		names []string
+	}{
+		{used[transport.TLS], "a source tls:HOST:PORT", []string{"tls-ca", "tls-cert", "tls-key"}},
+		{used[transport.SSH], "a source ssh:HOST:PORT",
+			[]string{"ssh-user", "ssh-key", "ssh-known-hosts"}},
+		{used[transport.TCP] || used[transport.TLS] || used[transport.SSH], "a cache as a source",
+			[]string{"refresh"}},
+		{used[""], "a list as a source", []string{"look"}},
+	} {
+		if err := given.Without(row.need, row.names...); !row.used && err != nil {
+			return err
+		}
 	}
 	return nil
 }

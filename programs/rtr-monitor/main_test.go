@@ -259,14 +259,6 @@ func TestWrongWords(t *testing.T) {
 		{"a:1 b:1 --version 3", `--version: "3" isn't a version: 0, 1 or 2`, words.Usage},
 		{"a:1 b:1 --http 80", `--http: "80" isn't ADDRESS:PORT`, words.Usage},
 		{"a:1 ssh:b:1", "ssh:b:1 needs --ssh-user, --ssh-key and --ssh-known-hosts", words.Usage},
-		{"a:1 b:1 --ssh-user me", "--ssh-user, --ssh-key and --ssh-known-hosts need each other", words.Usage},
-		{"a:1 b:1 --tls-cert f", "--tls-cert and --tls-key need each other", words.Usage},
-		{"a:1 b:1 --tls-ca f", "--tls-ca needs a source tls:HOST:PORT", words.Usage},
-		{"a:1 csv:f --tls-cert f --tls-key f", "--tls-cert needs a source tls:HOST:PORT", words.Usage},
-		{"a:1 tls:b:1 --ssh-user me --ssh-key f --ssh-known-hosts f",
-			"--ssh-user needs a source ssh:HOST:PORT", words.Usage},
-		{"a:1 csv:f --fetch-ca f", "--fetch-ca needs a list by URL", words.Usage},
-		{"a:1 b:1 --fetch-ca f", "--fetch-ca needs a list by URL", words.Usage},
 		{"a:1 b:1 --grace 10s --grace 20s", "--grace: it is given twice", words.Usage},
 		{"a:1 b:1 --version 0 --version 1", "--version: it is given twice", words.Usage},
 		{strings.TrimSpace(strings.Repeat("a:1 ", 1) + many(16)), "more than 16 sources given", words.Usage},
@@ -277,6 +269,37 @@ func TestWrongWords(t *testing.T) {
 	} {
 		process := trial.Start(t, folder, strings.Fields(row.words)...)
 		process.Refuses(row.status, "", row.says)
+	}
+}
+
+// An option that has no effect without another one, or without a source of some kind, is refused
+// with a line that names both, also if it was given its default.
+func TestNeeds(t *testing.T) {
+	folder := t.TempDir()
+	const three = "--ssh-user, --ssh-key and --ssh-known-hosts need each other"
+	const pair = "--tls-cert and --tls-key need each other"
+	for _, row := range []struct{ words, says string }{
+		{"a:1 b:1 --ssh-user me", three}, {"a:1 b:1 --ssh-key f", three},
+		{"a:1 ssh:b:1 --ssh-known-hosts f", three},
+		{"a:1 b:1 --tls-cert f", pair}, {"a:1 tls:b:1 --tls-key f", pair},
+		{"a:1 b:1 --tls-ca f", "--tls-ca needs a source tls:HOST:PORT"},
+		{"a:1 csv:f --tls-cert f --tls-key f", "--tls-cert needs a source tls:HOST:PORT"},
+		{"a:1 tls:b:1 --ssh-user me --ssh-key f --ssh-known-hosts f",
+			"--ssh-user needs a source ssh:HOST:PORT"},
+		{"csv:f json:f --refresh 1h", "--refresh needs a cache as a source"},
+		{"a:1 tls:b:1 --look 10s", "--look needs a list as a source"},
+		{"a:1 csv:f --fetch 5m", "--fetch needs a list by URL"},
+		{"a:1 csv:f --fetch-timeout 2m", "--fetch-timeout needs a list by URL"},
+		{"a:1 b:1 --fetch-limit 268", "--fetch-limit needs a list by URL"},
+		{"a:1 csv:f --fetch-ca f", "--fetch-ca needs a list by URL"},
+		{"a:1 b:1 --fetch-ca f", "--fetch-ca needs a list by URL"},
+		{"a:1 b:1 --ignore x", "--ignore needs a list"},
+		{"a:1 csv:f --ignore x", "--ignore needs a list of JSON"},
+		{"a:1 b:1 --slurm f", "--slurm needs a list"},
+		{"a:1 b:1 --empty", "--empty needs a list"},
+	} {
+		process := trial.Start(t, folder, strings.Fields(row.words)...)
+		process.Refuses(words.Usage, "rtr-monitor: ", row.says)
 	}
 }
 

@@ -10,6 +10,7 @@ import (
 	"github.com/coreos/go-systemd/v22/daemon"
 
 	"fishreef/programs/internal/transport"
+	"fishreef/programs/internal/words"
 	"fishreef/rtr"
 )
 
@@ -116,7 +117,7 @@ func (c *Cache) secure(s *sockets) error {
 		switch bound.Kind {
 		case transport.TLS:
 			if c.settings.TLS.Certificate == "" || c.settings.TLS.Key == "" {
-				return errors.New("TLS needs --tls-cert and --tls-key")
+				return words.Misuse("TLS needs --tls-cert and --tls-key")
 			}
 			identity, err := transport.NewIdentity(c.settings.TLS)
 			if err != nil {
@@ -126,7 +127,7 @@ func (c *Cache) secure(s *sockets) error {
 			s.reload = append(s.reload, identity.Load)
 		case transport.SSH:
 			if c.settings.SSH.HostKey == "" || c.settings.SSH.Routers == "" {
-				return errors.New("SSH needs --ssh-host-key and --ssh-routers")
+				return words.Misuse("SSH needs --ssh-host-key and --ssh-routers")
 			}
 			host, err := transport.NewHost(c.settings.SSH)
 			if err != nil {
@@ -143,10 +144,11 @@ func (c *Cache) secure(s *sockets) error {
 // routers would be served over TCP alone, although TLS or SSH was meant.
 func (c *Cache) unused(s *sockets) error {
 	if c.settings.TLS.Certificate != "" && s.secured[transport.TLS] == nil {
-		return errors.New("--tls-cert needs --listen tls:ADDRESS:PORT, or a socket of systemd named tls")
+		return words.Misuse(
+			"--tls-cert needs --listen tls:ADDRESS:PORT, or a socket of systemd named tls")
 	}
 	if c.settings.SSH.HostKey != "" && s.secured[transport.SSH] == nil {
-		return errors.New(
+		return words.Misuse(
 			"--ssh-host-key needs --listen ssh:ADDRESS:PORT, or a socket of systemd named ssh")
 	}
 	return nil

@@ -1,7 +1,6 @@
 package fetch
 
 import (
-	"errors"
 	"fmt"
 	"time"
 
@@ -56,18 +55,21 @@ func (f *Settings) Options() []words.Option {
 	}
 }
 
-// Check returns an error if there are authorities, and none of the lists is fetched. A server may
-// redirect from http to https.
-func (f *Settings) Check(lists ...payloads.File) error {
-	if f.Authority == "" {
-		return nil
-	}
+// Check returns an error if one of the options is given, and none of the lists is fetched. The
+// authorities may be for a list by http, since its server may redirect to https.
+func (f *Settings) Check(given words.Given, lists ...payloads.File) error {
 	for _, list := range lists {
 		if list.URL != nil {
 			return nil
 		}
 	}
-	return errors.New("--fetch-ca needs a list by URL: http://HOST/PATH or https://HOST/PATH")
+	for _, option := range f.Options() {
+		err := given.Without("a list by URL: http://HOST/PATH or https://HOST/PATH", option.Name)
+		if err != nil {
+			return err
+		}
+	}
+	return nil
 }
 
 // The limit for a fetched list is that of a file, in whole megabytes.

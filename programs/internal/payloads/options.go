@@ -9,10 +9,12 @@ import (
 	"fishreef/programs/internal/words"
 )
 
-// Check returns an error if there are SLURM files, and a file that they can't filter. It finds
-// rtr_make, if a file needs it.
-func (r *Reader) Check(files ...File) (err error) {
+// Check returns an error if an option has no effect on any of the files, or there are SLURM files
+// and a file that they can't filter. It finds rtr_make, if a file needs it.
+func (r *Reader) Check(given words.Given, files ...File) (err error) {
+	has := map[Format]bool{}
 	for _, file := range files {
+		has[file.Format] = true
 		switch {
 		case file.Format == Sequence && len(r.Slurm) != 0:
 			return errors.New("--slurm filters the lists of validators, and no units (sequence)")
@@ -22,6 +24,12 @@ func (r *Reader) Check(files ...File) (err error) {
 				return err
 			}
 		}
+	}
+	switch {
+	case len(files) == 0:
+		return given.Without("a list", "ignore", "slurm", "empty")
+	case !has[JSON]:
+		return given.Without("a list of JSON", "ignore")
 	}
 	return nil
 }
@@ -54,6 +62,9 @@ func (r *Reader) Options() []words.Option {
 			Help: "Filter payloads, and add others, by this SLURM file (RFC 8416); " +
 				"several must not overlap",
 			Set: func(path string) error {
+				if path == "" {
+					return errors.New("it is empty")
+				}
 				r.Slurm = append(r.Slurm, path)
 				return nil
 			},

@@ -22,8 +22,11 @@ type TLSFiles struct {
 
 // Check returns an error if something is missing.
 func (f TLSFiles) Check() error {
-	if f.ClientCA != "" && f.Certificate == "" && f.Key == "" {
+	switch {
+	case f.ClientCA != "" && f.Certificate == "" && f.Key == "":
 		return errors.New("--tls-client-ca needs --tls-cert and --tls-key")
+	case f.AnyAddress && f.ClientCA == "":
+		return errors.New("--tls-any-address needs --tls-client-ca")
 	}
 	return checkPair(f.Certificate, f.Key)
 }

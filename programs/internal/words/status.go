@@ -16,6 +16,12 @@ const (
 	Failed  = 3 // a file, an address or another resource of the system isn't available
 )
 
+// Misuse is the error of arguments that don't fit what the program finds when it starts.
+type Misuse string
+
+// Error returns the text.
+func (m Misuse) Error() string { return string(m) }
+
 // StatusOfLine returns the exit status for an error of a command line.
 func StatusOfLine(err error) int {
 	if errors.As(err, new(Unwritten)) {
@@ -28,6 +34,8 @@ func StatusOfLine(err error) int {
 func StatusOf(err error) int {
 	var other *exec.ExitError
 	switch {
+	case errors.As(err, new(Misuse)):
+		return Usage
 	case errors.As(err, &other) && other.ExitCode() == Failed:
 		return Failed
 	case errors.As(err, new(syscall.Errno)), errors.As(err, new(*net.DNSError)),

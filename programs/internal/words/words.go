@@ -39,6 +39,32 @@ type Program struct {
 	Options  []Option
 	// Operand takes an argument that isn't an option. It is nil if there may be none.
 	Operand func(word string) error
+
+	Given Given // set by Parse
+}
+
+// Given are the names of the options that a command line has, without the dashes.
+type Given map[string]bool
+
+// Without returns an error that names the first of these options that is given: all of them have no
+// effect without what they need, which is missing.
+func (g Given) Without(need string, names ...string) error {
+	for _, name := range names {
+		if g[name] {
+			return fmt.Errorf("--%s needs %s", name, need)
+		}
+	}
+	return nil
+}
+
+// FirstOf returns the first of these errors that isn't nil, or nil.
+func FirstOf(errs ...error) error {
+	for _, err := range errs {
+		if err != nil {
+			return err
+		}
+	}
+	return nil
 }
 
 // ErrHelp is returned for a command line that only asks for the help or the version.
@@ -47,8 +73,8 @@ var ErrHelp = errors.New("the help or the version was asked for")
 // Unwritten is returned if the help or the version can't be written.
 type Unwritten struct{ error }
 
-// Parse calls each option of a command line with its argument. If only the help or the version is
-// asked for, it writes that.
+// Parse calls each option of a command line with its argument, and sets Given. If only the help or
+// the version is asked for, it writes that.
 //
 // Errors: ErrHelp; Unwritten; one that names the wrong argument.
 func (p *Program) Parse(line []string, output io.Writer) error {
@@ -62,9 +88,9 @@ func (p *Program) Parse(line []string, output io.Writer) error {
 		}
 		return ErrHelp
 	}
-	given := map[string]bool{}
+	p.Given = Given{}
 	for len(line) > 0 {
-		taken, err := p.take(line, given)
+		taken, err := p.take(line)
 		if err != nil {
 			return err
 		}
@@ -73,9 +99,8 @@ func (p *Program) Parse(line []string, output io.Writer) error {
 	return nil
 }
 
-// take calls the option at the start of the arguments, and returns how many arguments it used. The
-// names of the options before it are given.
-func (p *Program) take(line []string, given map[string]bool) (int, error) {
+// take calls the option at the start of the arguments, and returns how many arguments it used.
+func (p *Program) take(line []string) (int, error) {
 	word := line[0]
 	if !strings.HasPrefix(word, "-") || word == "-" {
 		if p.Operand == nil {
@@ -93,12 +118,12 @@ func (p *Program) take(line []string, given map[string]bool) (int, error) {
 	case option.Argument == "" && joined:
 		return 0, fmt.Errorf("--%s takes no argument", name)
 	case joined && option.count() == 1:
-		return 1, option.call(argument, given)
+		return 1, option.call(argument, p.Given)
 	case joined || len(line) <= option.count():
 		return 0, fmt.Errorf("--%s needs %s", name, option.Argument)
 	}
 	taken := 1 + option.count()
-	return taken, option.call(strings.Join(line[1:taken], " "), given)
+	return taken, option.call(strings.Join(line[1:taken], " "), p.Given)
 }
 
 // count returns how many arguments the option takes.
@@ -116,7 +141,7 @@ func (p *Program) option(name string) *Option {
 
 // call calls the option with its argument, unless it was given before and may not be repeated: only
 // one of its arguments would count.
-func (o *Option) call(argument string, given map[string]bool) error {
+func (o *Option) call(argument string, given Given) error {
 	err := errors.New("it is given twice")
 	if o.Argument == "" || o.Repeats || !given[o.Name] {
 		err = o.Set(argument)

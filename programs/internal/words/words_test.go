@@ -104,6 +104,34 @@ func TestGivenTwice(t *testing.T) {
 	}
 }
 
+// Given has the names of the options that were given, and Without names the first one that lacks
+// what it needs.
+func TestWithout(t *testing.T) {
+	for line, says := range map[string]string{
+		"":                         "",
+		"--most 2":                 "",
+		"--yes":                    "--yes needs a list",
+		"--name=a --most 2":        "--name needs a list",
+		"--name a --yes --at a:1":  "--yes needs a list",
+		"--each yes --pair yes no": "",
+	} {
+		program := Program{Name: "rtr-test", Options: each()}
+		if err := program.Parse(strings.Fields(line), &bytes.Buffer{}); err != nil {
+			t.Fatal(err)
+		}
+		got := ""
+		if err := program.Given.Without("a list", "yes", "name"); err != nil {
+			got = err.Error()
+		}
+		if got != says {
+			t.Errorf("%s: %q", line, got)
+		}
+	}
+	if first := FirstOf(nil, Misuse("b"), Misuse("a")); first != Misuse("b") || FirstOf(nil) != nil {
+		t.Error(first)
+	}
+}
+
 // each returns an option of each kind.
 func each() []Option {
 	ignored := func(string) error { return nil }
