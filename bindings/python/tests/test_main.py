@@ -134,6 +134,23 @@ class Commands(unittest.TestCase):
                       ("list", "-", "-"),
                       ("validate", "-", "::/0", "x")):
             self.assertEqual(runs(*words)[:2], (2, b""), words)
+        for words, text in (
+                (("fetch", "h:1", "--version", "1", "--version=1"), "--version: it is given twice"),
+                (("fetch", "h:1", "--ca", "a", "--tls", "--ca", "b"), "--ca: it is given twice"),
+                (("fetch", "--output", "a", "h:1", "--output=a"), "--output: it is given twice"),
+                (("fetch", "h:1", "--ca="), "--ca: it is empty"),
+                (("fetch", "h:1", "--output", ""), "--output: it is empty"),
+                (("fetch", "[]:1"), "'[]:1' isn't HOST:PORT"),
+                (("list", ""), "FILE: it is empty"), (("check", ""), "FILE: it is empty"),
+                (("validate", "", "::/0", "1"), "FILE: it is empty"),
+                (("list", "--tls", "-"), "unrecognized arguments: --tls"),
+                (("check", "--json", "-"), "unrecognized arguments: --json"),
+                (("fetch", "h:1", "--json"), "unrecognized arguments: --json")):
+            with self.subTest(words=words):
+                status, printed, error = runs(*words)
+                self.assertEqual((status, printed), (2, b""))
+                self.assertIn(text, error.splitlines()[-1])
+        self.assertEqual(runs("list", "--json", "--json", "-"), (0, b"", ""))
         self.assertEqual(runs("--version")[:2], (0, f"rtr_wire {__version__}\n".encode()))
         self.assertIn(b"Exit status", runs("--help")[1])
 

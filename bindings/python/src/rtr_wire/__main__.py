@@ -6,7 +6,8 @@ usage: python -m rtr_wire fetch HOST:PORT [--version 0|1|2] [--tls] [--ca FILE] 
        python -m rtr_wire validate FILE PREFIX ASN
 
 fetch asks a cache for all of its data, and writes them in canonical form to standard output or a
-file. --tls uses TLS, and --ca names a file of CA certificates to trust instead of the system's.
+file. --tls uses TLS, and --ca, which implies it, names a file of CA certificates to trust instead
+of the system's.
 list prints a line for each unit of a recording, as rtr_list does; with --json, an object. check
 prints the protocol's rules that the units of a recording break, as rtr_list --check does. validate
 reports whether a route is valid by the data of a recording (RFC 6811), and which VRPs cover it,
@@ -25,7 +26,7 @@ import os
 import pathlib
 import ssl
 import sys
-from typing import List, Optional, TextIO, Tuple
+from typing import Any, List, Optional, TextIO, Tuple
 
 from . import Client, Fault, SessionError, Settings, check, load_data, unit_lines, unit_objects
 from ._rtr import VERSION
@@ -34,9 +35,17 @@ from ._rtr import VERSION
 def _address(text: str) -> Tuple[str, int]:
     """Splits HOST:PORT; the host may be in brackets."""
     host, _, port = text.rpartition(":")
+    host = host.strip("[]")
     if not host or not port.isdecimal() or int(port) >= 2**16:
         raise argparse.ArgumentTypeError(f"{text!r} isn't HOST:PORT")
-    return host.strip("[]"), int(port)
+    return host, int(port)
+
+
+def _file(name: str) -> str:
+    """Checks the name of a file: an empty one would be no option, or the folder."""
+    if not name:
+        raise argparse.ArgumentTypeError("it is empty")
+    return name
 
 
 def _prefix(text: str) -> str:
@@ -56,6 +65,18 @@ def _asn(text: str) -> int:
     return int(digits)
 
 
+class _Once(argparse.Action):
+    """Stores the argument of an option, and refuses a second one, which would replace it."""
+
+    def __call__(self, parser: argparse.ArgumentParser, namespace: argparse.Namespace,
+                 values: Any, option_string: Optional[str] = None) -> None:
+        given = vars(namespace).setdefault("given", set())
+        if self.dest in given:
+            raise argparse.ArgumentError(self, "it is given twice")
+        given.add(self.dest)
+        setattr(namespace, self.dest, values)
+
+
 def _arguments(words: Optional[List[str]]) -> argparse.Namespace:
     parser = argparse.ArgumentParser(
         prog="python -m rtr_wire", description=__doc__, allow_abbrev=False,
@@ -64,17 +85,18 @@ def _arguments(words: Optional[List[str]]) -> argparse.Namespace:
     commands = parser.add_subparsers(dest="command", required=True)
     fetch = commands.add_parser("fetch", allow_abbrev=False)
     fetch.add_argument("address", type=_address, metavar="HOST:PORT")
-    fetch.add_argument("--version", type=int, choices=(0, 1, 2), default=Settings().version)
+    fetch.add_argument("--version", type=int, choices=(0, 1, 2), default=Settings().version,
+                       action=_Once)
     fetch.add_argument("--tls", action="store_true")
-    fetch.add_argument("--ca", metavar="FILE")
-    fetch.add_argument("--output", metavar="FILE", type=pathlib.Path)
+    fetch.add_argument("--ca", metavar="FILE", type=_file, action=_Once)
+    fetch.add_argument("--output", metavar="FILE", type=_file, action=_Once)
     listed = commands.add_parser("list", allow_abbrev=False)
     listed.add_argument("--json", action="store_true")
-    listed.add_argument("file", metavar="FILE")
+    listed.add_argument("file", metavar="FILE", type=_file)
     checked = commands.add_parser("check", allow_abbrev=False)
-    checked.add_argument("file", metavar="FILE")
+    checked.add_argument("file", metavar="FILE", type=_file)
     validate = commands.add_parser("validate", allow_abbrev=False)
-    validate.add_argument("file", metavar="FILE")
+    validate.add_argument("file", metavar="FILE", type=_file)
     validate.add_argument("prefix", metavar="PREFIX", type=_prefix)
     validate.add_argument("asn", metavar="ASN", type=_asn)
     arguments = parser.parse_args(words)
@@ -94,7 +116,7 @@ def _fetch(arguments: argparse.Namespace) -> None:
         _output().buffer.write(bytes(data))
         _output().flush()
     else:
-        arguments.output.write_bytes(bytes(data))
+        pathlib.Path(arguments.output).write_bytes(bytes(data))
     payloads = "payload" if len(data) == 1 else "payloads"
     print(f"session {data.session} serial {data.serial} version {data.version}: "
           f"{len(data)} {payloads}", file=sys.stderr)
