@@ -16,19 +16,35 @@ import { Server, UpdateError } from "../server.js";
 // Milliseconds between two checks of the file, and at most between two tries to save.
 const [LOOK, LONGEST] = [250, 60_000];
 
-const OPTIONS = { "listen": { type: "string", multiple: true }, "max-clients": { type: "string" },
-    "refuse": { type: "boolean" } };
+const OPTIONS = { "listen": { type: "string", multiple: true },
+    "max-clients": { type: "string", multiple: true }, "refuse": { type: "boolean" } };
+
+/** Returns the host and the port of ADDRESS:PORT. Throws if it is something else. */
+function addressOf(text) {
+    const [, host, port] = /^\[?(.*?)\]?:(\d+)$/.exec(text);
+    if (Number(port) > 65_535) {
+        throw new RangeError(`${port} is no port`);
+    }
+    return [host, Number(port)];
+}
+
+/** Returns the limit that is given at most once. Throws if it is something else. */
+function limitsOf(given) {
+    if (given.length > 1 || !given.every((count) => /^[1-9]\d{0,8}$/.test(count))) {
+        throw new RangeError(`${given} is no limit`);
+    }
+    return given.length === 0 ? {} : { mostConnections: Number(given[0]) };
+}
 
 /** Returns the options and the file; exits with status 2 for wrong arguments. */
 function argumentsOf(words) {
     try {
         const { values, positionals } = parseArgs({ args: words, options: OPTIONS,
             allowPositionals: true });
-        const { listen = ["[::]:3323"], refuse = false, "max-clients": most } = values;
-        const where = listen.map((address) => /^\[?(.*?)\]?:(\d+)$/.exec(address).slice(1));
-        const limits = most === undefined ? {} : { mostConnections: Number(most) };
-        if (positionals.length === 1) {
-            return { file: positionals[0], where, settings: { refuses: refuse, ...limits } };
+        const { listen = ["[::]:3323"], refuse = false, "max-clients": given = [] } = values;
+        const settings = { refuses: refuse, ...limitsOf(given) };
+        if (positionals.length === 1 && positionals[0] !== "") {
+            return { file: positionals[0], where: listen.map(addressOf), settings };
         }
     } catch {
         // the usage follows
@@ -128,7 +144,7 @@ async function follow() {
 try {
     await restore();
     for (const [host, port] of where) {
-        const { address, port: bound } = await server.listen({ host, port: Number(port) });
+        const { address, port: bound } = await server.listen({ host, port });
         say(`listening on ${address}:${bound}`);
     }
     await follow();

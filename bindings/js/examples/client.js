@@ -5,7 +5,11 @@
 import { load } from "../rtr_wire.js";
 import { Client } from "../client.js";
 
-const [host, port, updates = "Infinity"] = process.argv.slice(2);
+const [host, port, updates = "Infinity", ...others] = process.argv.slice(2);
+if (!host || !/^\d+$/.test(port) || port >= 2 ** 16 || !(updates > 0) || others.length > 0) {
+    console.error("usage: node client.js HOST PORT [UPDATES]");
+    process.exit(2);
+}
 const stop = new AbortController();
 process.once("SIGINT", () => stop.abort());
 

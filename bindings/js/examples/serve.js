@@ -6,7 +6,11 @@ import { readFile } from "node:fs/promises";
 import { load } from "../rtr_wire.js";
 import { Server } from "../server.js";
 
-const [file, port] = process.argv.slice(2);
+const [file, port, ...others] = process.argv.slice(2);
+if (!file || !/^\d+$/.test(port) || port >= 2 ** 16 || others.length > 0) {
+    console.error("usage: node serve.js FILE PORT");
+    process.exit(2);
+}
 const kept = `${file}.kept`; // what a restart needs
 
 const rtr = await load();

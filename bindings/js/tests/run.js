@@ -120,6 +120,30 @@ for (const [name, recording] of Object.entries(EXAMPLES)) {
         assert.equal(output.toString(), readFileSync(`${example}.stdout`, "utf8"));
     });
 }
+/** Wrong arguments of the examples: missing, empty, invalid, superfluous or second ones. */
+const WRONG = {
+    cache: ["", "f g", "--nothing f", "f --listen", "f --listen 3323", "f --listen a:65536",
+        "f --max-clients", "f --max-clients 0", "f --max-clients -1", "f --max-clients x",
+        "f --max-clients 1.5", "f --max-clients 9999999999", "f --max-clients 2 --max-clients 3",
+        "f --refuse=yes"],
+    client: ["", "a", "a x", "a 65536", "a -1", "a 1 0", "a 1 x", "a 1 2 3"],
+    follow: ["", "a", ":1", "a:x", "a:65536", "a:1 b", "a:1 b:1 a:1"],
+    serve: ["", "f", "f x", "f 65536", "f 1 2"],
+};
+
+for (const [name, lines] of Object.entries(WRONG)) {
+    test(`examples/${name}.js with wrong arguments`, () => {
+        for (const line of lines) {
+            const words = line.split(" ").filter((word) => word !== "");
+            const done = spawnSync(process.execPath,
+                [`${TOP}/bindings/js/examples/${name}.js`, ...words], { encoding: "utf-8" });
+            assert.equal(done.status, 2, `${line}: ${done.stderr}`);
+            assert.match(done.stderr, new RegExp(`^usage: (node )?${name}\\.js [^\n]*\n$`));
+            assert.equal(done.stdout, "");
+        }
+    });
+}
+
 test("examples/routes.js over recordings", { skip: missing("routes") }, () => {
     const units = Object.fromEntries(read(input("loads")).map((row) => [row.name, row.units]));
     for (const [name, expected] of Object.entries(ROUTES)) {
