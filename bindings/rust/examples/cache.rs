@@ -39,22 +39,30 @@ struct Arguments {
     options: ServerOptions,
 }
 
-fn arguments(words: impl Iterator<Item = String>) -> Option<Arguments> {
-    let (mut file, mut listen) = (None, Vec::new());
+/// Reports whether an address ends with a colon and the number of a port.
+fn has_port(address: &str) -> bool {
+    let port = address
+        .rsplit_once(':')
+        .map(|(_, port)| port.parse::<u16>());
+    matches!(port, Some(Ok(_)))
+}
+
+fn arguments(mut words: impl Iterator<Item = String>) -> Option<Arguments> {
+    let (mut file, mut listen, mut limit) = (None, Vec::new(), None);
     let mut options = ServerOptions::default();
-    let mut words = words.peekable();
     while let Some(word) = words.next() {
         match word.as_str() {
-            "--listen" => listen.push(words.next()?),
-            "--max-clients" => {
+            "--listen" => listen.push(words.next().filter(|address| has_port(address))?),
+            "--max-clients" if limit.is_none() => {
                 let count = words.next()?.parse().ok();
-                options.connections = count.filter(|count| *count > 0)?;
+                limit = Some(count.filter(|count| *count > 0)?);
             }
             "--refuse" => options.refuse = true,
-            _ if word.starts_with('-') || file.is_some() => return None,
+            _ if word.is_empty() || word.starts_with('-') || file.is_some() => return None,
             _ => file = Some(word),
         }
     }
+    options.connections = limit.unwrap_or(options.connections);
     if listen.is_empty() {
         listen.push(EVERYWHERE.to_string());
     }

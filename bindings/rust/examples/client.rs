@@ -29,27 +29,40 @@ struct Arguments {
     json: bool,
 }
 
+/// Reports whether an address ends with a colon and the number of a port.
+fn has_port(address: &str) -> bool {
+    let port = address
+        .rsplit_once(':')
+        .map(|(_, port)| port.parse::<u16>());
+    matches!(port, Some(Ok(_)))
+}
+
 fn arguments(mut words: impl Iterator<Item = String>) -> Option<Arguments> {
     let (mut addresses, mut prefers) = (Vec::new(), false);
-    let (mut version, mut once, mut json) = (1, false, false);
+    let (mut version, mut once, mut json) = (None, false, false);
     while let Some(word) = words.next() {
         match word.as_str() {
             "--once" => once = true,
             "--json" => json = true,
-            "--version" => {
-                version = words.next()?.parse().ok().filter(|number| *number <= 2)?;
+            "--version" if version.is_none() => {
+                version = Some(words.next()?.parse().ok().filter(|number| *number <= 2)?);
             }
             "--prefer" if (prefers || addresses.is_empty()) && addresses.len() < Group::MOST => {
                 prefers = true;
-                addresses.push(words.next()?);
+                addresses.push(
+                    words
+                        .next()
+                        .filter(|address| !addresses.contains(address))?,
+                );
             }
             _ if word.starts_with("--") || !addresses.is_empty() => return None,
             _ => addresses.push(word),
         }
     }
-    (!addresses.is_empty()).then_some(Arguments {
+    let are_usable = !addresses.is_empty() && addresses.iter().all(|address| has_port(address));
+    are_usable.then_some(Arguments {
         addresses,
-        version,
+        version: version.unwrap_or(1),
         once,
         json,
     })

@@ -21,6 +21,7 @@ use std::io::{self, ErrorKind};
 use std::net::{IpAddr, SocketAddr};
 use std::path::Path;
 use std::pin::Pin;
+use std::process::ExitCode;
 use tokio::net::{TcpListener, TcpStream};
 use tokio_openssl::SslStream;
 
@@ -123,26 +124,42 @@ async fn follow(address: SocketAddr, name: String, connector: SslConnector) {
     }
 }
 
-#[tokio::main(flavor = "current_thread")]
-async fn main() -> Result<(), Box<dyn Error>> {
-    let arguments: Vec<String> = std::env::args().skip(1).collect();
-    let words: Vec<&str> = arguments.iter().map(String::as_str).collect();
-    match words.as_slice() {
+/// Runs the command of these words. Returns `false` if there is none.
+async fn run(words: &[&str]) -> Result<bool, Box<dyn Error>> {
+    match words {
         ["cache", file, address, files @ ..] if files.len() == 3 => {
             let loaded = load_data(&std::fs::read(file)?)?;
             if loaded.has_cut {
                 eprintln!("{file}: left out: an answer without an end of data");
             }
             let files = [files[0], files[1], files[2]].map(Path::new);
-            serve(loaded.data, address, acceptor(files)?).await
+            serve(loaded.data, address, acceptor(files)?).await?;
         }
         ["client", address, name, files @ ..] if files.len() == 3 => {
             let files = [files[0], files[1], files[2]].map(Path::new);
             follow(address.parse()?, (*name).to_string(), connector(files)?).await;
-            Ok(())
         }
-        _ => Err("usage: tls cache FILE ADDRESS CERTIFICATE KEY AUTHORITY
-       tls client ADDRESS NAME CERTIFICATE KEY AUTHORITY"
-            .into()),
+        _ => return Ok(false),
+    }
+    Ok(true)
+}
+
+#[tokio::main(flavor = "current_thread")]
+async fn main() -> ExitCode {
+    let arguments: Vec<String> = std::env::args().skip(1).collect();
+    let words: Vec<&str> = arguments.iter().map(String::as_str).collect();
+    match run(&words).await {
+        Ok(true) => ExitCode::SUCCESS,
+        Ok(false) => {
+            eprintln!(
+                "usage: tls cache FILE ADDRESS CERTIFICATE KEY AUTHORITY\n       \
+                 tls client ADDRESS NAME CERTIFICATE KEY AUTHORITY"
+            );
+            ExitCode::from(2)
+        }
+        Err(error) => {
+            eprintln!("tls: {error}");
+            ExitCode::FAILURE
+        }
     }
 }
