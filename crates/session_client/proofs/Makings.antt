@@ -2,7 +2,7 @@
 use native.Mathlib.Omega.{arith}
 use Rattle.std.proofs.Common.{◌≡◌, ◌⊎◌, ℕ, Bool, true, false, List, [], ◌∷◌, ◌++◌, take, drop}
 use Rattle.std.proofs.Common.{length, Option, Some, None, Ok, refl, sym, ap, subst, ◌∙◌, inl, inr}
-use Rattle.std.proofs.Common.{if◌then◌else◌}
+use Rattle.std.proofs.Common.{if◌then◌else◌, ◌+◌, ◌≤◌, length-append}
 use Rattle.std.specs.Prelude.{◌&&◌, ◌==◌, Result, Err, unwrap_or}
 use Rattle.data_memory.specs.declared.change_error.ChangeError.{ChangeError}
 use Rattle.std.proofs.Math.Seq.{take-append_seam}
@@ -17,7 +17,11 @@ use Rattle.data_slices.proofs.Ordering.{one_sequence}
 use Rattle.session_router.specs.declared.settings.Settings.{Settings}
 use Rattle.session_router.specs.Histories.{Caller}
 use Rattle.session_bytes.specs.ShownData.{AppliesAnswers, base_of}
+use Rattle.session_client.specs.Holding.{SameShown, due_size}
 use Rattle.session_client.specs.Makings.{Octets, MakesThis, MakesAll, MadeAnswer, WasMade, WereMade}
+use Rattle.session_client.specs.Makings.{ShowsMade, onto}
+use Rattle.session_client.specs.declared.client.Holding.{Holding}
+use Rattle.session_client.specs.declared.client.Holding.TheVariants as holdings
 
 -- ---- one and the same result
 
@@ -44,6 +48,68 @@ same_made base answer p q n m b b' a a'
     front_is n (data_form new f) (drop n b) a long is
     ∙ (λ i. data_form (new_is i) (y.1 i))
     ∙ sym (front_is m (data_form new₁ f₁) (drop m b') a' long₁ is₁)
+
+pub same_size : (base answer : Octets) (p q n m : ℕ) (b b' a a' : Octets) →
+    AppliesInOrder (Ok n) base answer p b a → AppliesInOrder (Ok m) base answer q b' a' → n ≡ m
+same_size base answer p q n m b b' a a'
+    (d, e, cs, f, h, s, (v, t, (few, (new, made, (long, within, is)))))
+    (d₁, e₁, cs₁, f₁, h₁, s₁, (v₁, t₁, (few₁, (new₁, made₁, (long₁, within₁, is₁))))) =
+    let x = one_data base d d₁ e e₁ h h₁ in
+    let y = one_sequence answer cs cs₁ f f₁ s s₁ in
+    let both : Ok new ≡ Ok new₁ =
+    sym made ∙ (λ i. after_all (y.0 i) (Ok (x.0 i))) ∙ made₁ in
+    let new_is : new ≡ new₁ = ap of_ok both in
+    long ∙ (λ i. length (data_form (new_is i) (y.1 i))) ∙ sym long₁
+
+fits_after : (n : ℕ) (piece before after : List ℕ) → n ≡ length piece →
+    after ≡ piece ++ drop n before → n ≤ length after
+fits_after n piece before after size is =
+    let long = ap length is ∙ length-append piece (drop n before) in
+    omega (arith, size, long)
+
+made_fits : (base answer : Octets) (p n : ℕ) (b a : Octets) →
+    AppliesInOrder (Ok n) base answer p b a → n ≤ length a
+made_fits base answer p n b a
+    (d, e, cs, f, h, s, (v, t, (few, (new, made, (long, within, is))))) =
+    fits_after n (data_form new f) b a long is
+
+-- ---- what is shown then
+
+abbrev since_of : Holding → Bool
+since_of (holdings.Answer size since) = since
+since_of m = false
+
+pub shows_once : (m : Holding) (kept p q : ℕ) (shown s t : Option ℕ)
+    (input held b b' a a' : Octets) →
+    ShowsMade m kept shown input held p b a s → ShowsMade m kept shown input held q b' a' t →
+    (s ≡ t) × SameShown s a a'
+shows_once m kept p q shown s t input held b b' a a' x y =
+    let one = sym x.answer ∙ y.answer in
+    let end : x.end ≡ y.end = ap due_size one in
+    let since : x.since ≡ y.since = ap since_of one in
+    let base = onto y.since shown held (take y.end (drop kept input)) in
+    let answer = take (kept + y.end) input in
+    let there : AppliesInOrder (Ok x.size) base answer p b a =
+    subst (λ w. AppliesInOrder (Ok x.size) (onto w shown held (take y.end (drop kept input)))
+    answer p b a) since
+    (subst (λ n. AppliesInOrder (Ok x.size) (onto x.since shown held (take n (drop kept input)))
+    (take (kept + n) input) p b a) end x.applies) in
+    let size : x.size ≡ y.size =
+    same_size base answer p q x.size y.size b b' a a' there y.applies in (
+      x.shown_is ∙ ap (λ n. Some n) size ∙ sym y.shown_is,
+      subst (λ o. SameShown o a a') (sym x.shown_is)
+          (same_made base answer p q x.size y.size b b' a a' there y.applies
+          ∙ ap (λ n. take n a') (sym size)),
+    )
+
+pub shows_within : (m : Holding) (kept p : ℕ) (shown s : Option ℕ) (input held b a : Octets) →
+    ShowsMade m kept shown input held p b a s → (n : ℕ) × (s ≡ Some n) × (n ≤ length a)
+shows_within m kept p shown s input held b a x = (
+  x.size,
+  x.shown_is,
+  made_fits (onto x.since shown held (take x.end (drop kept input))) (take (kept + x.end) input) p
+      x.size b a x.applies,
+)
 
 -- ---- what was made, looked up
 

@@ -169,6 +169,11 @@ WantsRoom (applied.Data n) = Unit {0}
 WantsRoom (applied.Index n) = Unit {0}
 WantsRoom _ = ⊥
 
+-- new data are shown
+abbrev pub ShowsNew : Applied → Type 0
+ShowsNew (applied.Shown n) = Unit {0}
+ShowsNew _ = ⊥
+
 -- the changes of an answer show data by `Shown` alone
 abbrev pub ShowsByThis : Applied → Type 0
 ShowsByThis (applied.Acted action refusal offset) = action ≢ actions.Show

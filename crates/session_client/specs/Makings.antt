@@ -1,10 +1,12 @@
 -- What `apply_in_order` made for a client so far, and a caller that made the same.
-use Rattle.std.specs.Prelude.{◌≡◌, ℕ, Bool, List, [], ◌∷◌, ◌++◌, take, Option, Some, None}
-use Rattle.std.specs.Prelude.{Ok, if◌then◌else◌}
+use Rattle.std.specs.Prelude.{◌≡◌, ℕ, Bool, List, [], ◌∷◌, ◌++◌, take, drop, ◌+◌, Option, Some}
+use Rattle.std.specs.Prelude.{None, Ok, if◌then◌else◌}
 use Rattle.std.specs.List.{concat}
 use Rattle.data_slices.specs.InOrder.{AppliesInOrder}
 use Rattle.session_router.specs.Histories.{Caller}
 use Rattle.session_bytes.specs.ShownData.{base_of}
+use Rattle.session_client.specs.declared.client.Holding.{Holding}
+use Rattle.session_client.specs.declared.client.Holding.TheVariants as holdings
 
 abbrev pub Octets : Type 0
 Octets = List ℕ
@@ -42,3 +44,16 @@ MakesAll c (m ∷ ms) = MakesThis c m × MakesAll c ms
 abbrev pub onto : (since : Bool) → Option ℕ → (held end : Octets) → Octets
 onto since None held end = end
 onto since (Some n) held end = if since then take n held else end
+
+-- So many bytes of data are shown now: what `apply_in_order` made of the whole answer that stood at
+-- the front of the input, all of it and no more.
+pub record ShowsMade (m : Holding) (kept : ℕ) (shown : Option ℕ) (input held : Octets)
+    (places : ℕ) (made made' : Octets) (shown' : Option ℕ) : Type 0 where
+  pub end : ℕ
+  pub since : Bool
+  pub answer : m ≡ holdings.Answer end since
+  pub size : ℕ
+  pub shown_is : shown' ≡ Some size
+  pub applies :
+      AppliesInOrder (Ok size) (onto since shown held (take end (drop kept input)))
+      (take (kept + end) input) places made made'

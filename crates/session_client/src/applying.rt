@@ -3,10 +3,11 @@
 ghost use Rattle.std.specs.Prelude.{◌≡◌, ◌≢◌, ◌<◌, ◌≤◌, ◌+◌, ◌-◌, ◌^◌, ℕ, Bool, length, take, drop};
 ghost use Rattle.std.specs.Prelude.{List, Option, Some, None, Err, IfOk, min};
 ghost use Rattle.session_client.specs.Holding.{Fits, SameCalls, IsClient, Stands, base_room};
-ghost use Rattle.session_client.specs.Holding.{AsksRoom, ShowsByThis, WantsData, WantsIndex};
-ghost use Rattle.session_client.specs.Holding.{WantsRoom};
+ghost use Rattle.session_client.specs.Holding.{AsksRoom, ShowsByThis, ShowsNew, WantsData};
+ghost use Rattle.session_client.specs.Holding.{WantsIndex, WantsRoom};
 ghost use Rattle.session_client.specs.Holding.{data_after, due_size, room_at, room_for};
-ghost use Rattle.session_client.specs.Makings.{Octets, MadeAnswer, MakesThis, WasMade, onto};
+ghost use Rattle.session_client.specs.Makings.{Octets, MadeAnswer, MakesThis, ShowsMade, WasMade};
+ghost use Rattle.session_client.specs.Makings.{onto};
 ghost use Rattle.session_client.specs.Counting.{CountsKept};
 ghost use Rattle.session_client.specs.Over.{IfApplied, IsRefusedOver, none_of, over_of};
 ghost use Rattle.session_client.specs.Said.{Did, did_of};
@@ -79,6 +80,8 @@ impl Client {
             input.new (data_after result held.now made.new)) × IsOfChanges self.old.holding
             self.old.kept self.old.shown input.old held.now (length index.old) made.old made.new
             x.word }
+        ensures whole { ShowsNew result → ShowsMade self.old.holding self.old.kept self.old.shown
+            input.old held.now (length index.old) made.old made.new self.new.shown }
         ensures room { self.new.unsent ≤ length output.new }
         ensures names { IfApplied result
             (over_of now self.old input.old held.now self.new output.old output.new)
@@ -134,6 +137,8 @@ impl Client {
             input.new (data_after result held.now made.new))
             × IsOfChanges (holdings.Answer size since) self.old.kept self.old.shown input.old
             held.now (length index.old) made.old made.new x.word }
+        ensures whole { ShowsNew result → ShowsMade self.old.holding self.old.kept self.old.shown
+            input.old held.now (length index.old) made.old made.new self.new.shown }
         ensures room { self.new.unsent ≤ length output.new }
         ensures names { IfApplied result
             (over_of now self.old input.old held.now self.new output.old output.new)
@@ -216,6 +221,7 @@ impl Client {
             → h.made ≡ Some (take count made))
             → (x : TakesCall (did_of result) now self.old input.old held self.new input.new
             (data_after result held made)) × IsOfEvent events.Applied x.word }
+        ensures size { ShowsNew result → self.new.shown ≡ Some count }
         ensures room { self.new.unsent ≤ length output.new }
         ensures names { (held : Octets) → IfApplied result
             (over_of now self.old input.old held self.new output.old output.new)
@@ -280,6 +286,7 @@ impl Client {
             (none_of now self.old input.old self.new input.new) }
         ensures ends { turns_left self.new input.new < turns_left self.old input.old }
         ensures enough { WantsRoom result → ⊥ }
+        ensures acts { ShowsNew result → ⊥ }
     {
         let action = self
             .router
@@ -322,6 +329,7 @@ impl Client {
             (none_of now self.old input.old self.new input.new) }
         ensures ends { turns_left self.new input.new < turns_left self.old input.old }
         ensures enough { WantsRoom result → ⊥ }
+        ensures acts { ShowsNew result → ⊥ }
     {
         let action = self.happens(now, Event::NotApplied(None), input, output);
         Applied::Acted {

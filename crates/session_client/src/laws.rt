@@ -1,9 +1,11 @@
 //! What holds of a client, whatever it is called with.
 
-ghost use Rattle.std.specs.Prelude.{◌≡◌, ◌⊎◌, ℕ, List, Option, take, None, Some};
-ghost use Rattle.session_client.specs.Holding.{Fits, SameThere, IsClient, ShowsWholeAnswer};
-ghost use Rattle.session_client.specs.Makings.{Octets};
+ghost use Rattle.std.specs.Prelude.{◌≡◌, ◌≤◌, ◌⊎◌, ℕ, List, Option, length, take, None, Some};
+ghost use Rattle.session_client.specs.Holding.{Fits, SameThere, IsClient, SameShown};
+ghost use Rattle.session_client.specs.Holding.{ShowsWholeAnswer};
+ghost use Rattle.session_client.specs.Makings.{Octets, ShowsMade};
 ghost use Rattle.session_client.specs.declared.client.Client.{Client};
+ghost use Rattle.session_client.specs.declared.client.Holding.{Holding};
 ghost use Rattle.session_router.specs.declared.settings.Settings.{Settings};
 
 use session_bytes::laws::only_whole_answers_in_bytes;
@@ -30,4 +32,15 @@ pub fn only_whole_answers_are_shown()
 pub fn data_are_shown()
     ensures { (s : Settings) × (k : Client) × (input : Octets) × (buffer : Octets)
         × IsClient s k input buffer × (k.shown ≡ Some 44) }
+{}
+
+/// Where `next` returns `Data`, its clause `whole` leaves the data one length and the same bytes,
+/// whatever the buffer that they are written to had before, and all of them are in that buffer.
+pub fn new_data_are_one()
+    ensures one { (m : Holding) (kept p q : ℕ) (shown s t : Option ℕ)
+        (input held b b' a a' : Octets) → ShowsMade m kept shown input held p b a s
+        → ShowsMade m kept shown input held q b' a' t → (s ≡ t) × SameShown s a a' }
+    ensures within { (m : Holding) (kept p : ℕ) (shown s : Option ℕ) (input held b a : Octets)
+        → ShowsMade m kept shown input held p b a s
+        → (n : ℕ) × (s ≡ Some n) × (n ≤ length a) }
 {}

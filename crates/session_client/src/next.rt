@@ -7,7 +7,7 @@ ghost use Rattle.session_client.specs.Next.{IsTodoOf, IsWait, NamesRoom, RestsNo
 ghost use Rattle.session_client.specs.Holding.{Fits, IsHearing, SaysItself, IsClient, data_in};
 ghost use Rattle.session_client.specs.Holding.{room_at};
 ghost use Rattle.session_client.specs.Holding.{untold};
-ghost use Rattle.session_client.specs.Makings.{Octets};
+ghost use Rattle.session_client.specs.Makings.{Octets, ShowsMade};
 ghost use Rattle.session_client.specs.Calls.{closed_after, closed_then, is_data, lost_after};
 ghost use Rattle.session_client.specs.Calls.{opened_after, opened_then, said_after, second_after};
 ghost use Rattle.session_client.specs.Counting.{CountsKept};
@@ -127,6 +127,10 @@ impl Client {
             < min (room_at self.old.holding self.old.shown self.old.kept) (2 ^ 64 - 1)
             → IsDataRoom result }
         ensures rests { IsWait result → RestsNow now self.old input.old }
+        ensures whole { is_data result ≡ true → ShowsMade self.old.holding self.old.kept
+            self.old.shown input.old (data_in self.old.second first.old second.old)
+            (length index.old) (data_in self.old.second second.old first.old)
+            (data_in self.old.second second.new first.new) self.new.shown }
     {
         if !self.has_room(output) {
             return Todo::OutputRoom(self.unsent.saturating_add(MOST_SENT));
@@ -184,6 +188,9 @@ impl Client {
             input.old held.now (length index.old) made.old made.new) result.0 now
             self.old input.old held.now self.new input.new
             (data_in result.1 held.now made.new) output.old output.new }
+        ensures whole { is_data result.0 ≡ true → ShowsMade self.old.holding self.old.kept
+            self.old.shown input.old held.now (length index.old) made.old made.new
+            self.new.shown }
         ensures room { self.new.unsent ≤ length output.new }
         ensures full { NamesRoom result.0 self.new input.new output.new }
         ensures names { IfNamed result.0 (over_of now self.old input.old held.now

@@ -253,3 +253,9 @@ returns-in_default-clause-takes c = λ held made m was is.
 
 pub returns-in_default-clause-shows : goal.returns-in_default-clause-shows
 returns-in_default-clause-shows c = c.in_default.not-Show
+
+pub returns-in-Show-clause-size : goal.returns-in-Show-clause-size
+returns-in-Show-clause-size c = λ shows. refl
+
+pub returns-in_default-clause-size : goal.returns-in_default-clause-size
+returns-in_default-clause-size c = λ shows. absurd shows

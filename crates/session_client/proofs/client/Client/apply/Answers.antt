@@ -25,3 +25,9 @@ returns-in-Answer-clause-takes c =
           (length c.args.index.now) c.args.made.now x.new.made takes.0.word) (sym c.in-Answer.is)
           takes.1,
     )
+
+pub returns-in-Answer-clause-whole : goal.returns-in-Answer-clause-whole
+returns-in-Answer-clause-whole c = c.make_all.ensures.whole
+
+pub returns-in_default-clause-whole : goal.returns-in_default-clause-whole
+returns-in_default-clause-whole c = λ shows. absurd shows

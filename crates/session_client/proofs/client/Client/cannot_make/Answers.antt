@@ -45,3 +45,6 @@ returns-clause-shows c =
     let x = c.happens-action in
     no_show c.args.self.now.router c.args.now (events.NotApplied None) x.result x.new.self.router
     (λ e. cc) x.ensures.steps.rule
+
+pub returns-clause-acts : goal.returns-clause-acts
+returns-clause-acts c = λ shows. shows

@@ -212,3 +212,32 @@ returns-then-made-room-clause-takes c =
         tt,
       ),
     )
+
+pub returns-in-Ok-clause-whole : goal.returns-in-Ok-clause-whole
+returns-in-Ok-clause-whole c = λ shows. record {
+  end = c.args.size;
+  since = c.args.since;
+  answer = c.requires.due;
+  size = c.in-Ok.count;
+  shown_is = c.adopt.ensures.size shows;
+  applies = c.in-Ok.ensures.applies;
+}
+
+pub returns-in-Err-Duplicate-clause-whole : goal.returns-in-Err-Duplicate-clause-whole
+returns-in-Err-Duplicate-clause-whole c = λ shows. absurd (c.refuse.ensures.acts shows)
+
+pub returns-in-Err-Unknown-clause-whole : goal.returns-in-Err-Unknown-clause-whole
+returns-in-Err-Unknown-clause-whole c = λ shows.
+    absurd (c.refuse-in-Err-Unknown.ensures.acts shows)
+
+pub returns-in-Err-Data-clause-whole : goal.returns-in-Err-Data-clause-whole
+returns-in-Err-Data-clause-whole c = λ shows. absurd (c.cannot_make.ensures.acts shows)
+
+pub returns-then-made-room-clause-whole : goal.returns-then-made-room-clause-whole
+returns-then-made-room-clause-whole c = λ shows. absurd shows
+
+pub returns-in-Err-NoRoom-clause-whole : goal.returns-in-Err-NoRoom-clause-whole
+returns-in-Err-NoRoom-clause-whole c = λ shows. absurd shows
+
+pub returns-in-Err-NoIndex-clause-whole : goal.returns-in-Err-NoIndex-clause-whole
+returns-in-Err-NoIndex-clause-whole c = λ shows. absurd shows

@@ -3,7 +3,7 @@ use Rattle.std.proofs.Common.{◌≡◌, ◌∙◌, Bool, true, false, None, ap,
 use Rattle.std.specs.Prelude.{if◌then◌else◌, not}
 use Rattle.session_client.specs.Calls.{is_data}
 use Rattle.session_client.specs.Holding.{IsClient, data_in}
-use Rattle.session_client.specs.Makings.{Octets}
+use Rattle.session_client.specs.Makings.{Octets, ShowsMade}
 use Rattle.session_client.specs.Tells.{TellsCall, of_nothing}
 use Rattle.session_client.specs.Turning.{HasAnswer}
 use Rattle.session_client.specs.Words.{IsOfNext}
@@ -222,3 +222,30 @@ returns-then-self-clause-serves c = λ set y.
     subst (λ d. IsClient set x.new.self x.new.input d) (sym (flipped x.result.1 x.new.made second))
     (x.ensures.serves set
     (subst (λ b. IsClient set s c.args.input.now (data_in b first second)) c.if-self.true y))
+
+pub returns-in_default-clause-whole : goal.returns-in_default-clause-whole
+returns-in_default-clause-whole c = λ shows.
+    absurd (let e = sym c.go_on.ensures.plain ∙ shows in cc)
+
+pub returns-then-self-clause-whole : goal.returns-then-self-clause-whole
+returns-then-self-clause-whole c = λ shows.
+    let s = c.args.self.now in
+    let x = c.settle-todo in
+    let first = c.args.first.now in
+    let second = c.args.second.now in
+    subst (λ b. ShowsMade s.holding s.kept s.shown c.args.input.now (data_in b first second)
+    (length c.args.index.now) (data_in b second first) (data_in b second x.new.made)
+    x.new.self.shown) (sym c.if-self.true) (x.ensures.whole shows)
+
+pub returns-else-self-clause-whole : goal.returns-else-self-clause-whole
+returns-else-self-clause-whole c = λ shows.
+    let s = c.args.self.now in
+    let x = c.settle-todo-else-self in
+    let first = c.args.first.now in
+    let second = c.args.second.now in
+    subst (λ b. ShowsMade s.holding s.kept s.shown c.args.input.now (data_in b first second)
+    (length c.args.index.now) (data_in b second first) (data_in b x.new.made first)
+    x.new.self.shown) (sym c.if-self.false) (x.ensures.whole shows)
+
+pub returns-then-not-has_room-clause-whole : goal.returns-then-not-has_room-clause-whole
+returns-then-not-has_room-clause-whole c = λ shows. absurd (let e = shows in cc)

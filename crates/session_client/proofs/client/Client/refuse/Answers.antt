@@ -142,3 +142,6 @@ pub returns-clause-shows : goal.returns-clause-shows
 returns-clause-shows c =
     no_show c.args.self.now.router c.args.now (events.NotApplied (Some c.code.result.0))
     c.step-action.result c.step-action.new.self (λ e. cc) c.step-action.ensures.steps.rule
+
+pub returns-clause-acts : goal.returns-clause-acts
+returns-clause-acts c = λ shows. shows

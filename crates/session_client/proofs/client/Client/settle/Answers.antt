@@ -119,3 +119,21 @@ returns-in-Acted-clause-opened c =
 pub returns-in-Acted-clause-closed : goal.returns-in-Acted-clause-closed
 returns-in-Acted-clause-closed c =
     c.todo.ensures.closed ∙ ap (said_after c.todo.result) c.in-Acted.ensures.same.closed
+
+pub returns-in-Shown-clause-whole : goal.returns-in-Shown-clause-whole
+returns-in-Shown-clause-whole c = λ shows. c.in-Shown.ensures.whole tt
+
+pub returns-in-Acted-clause-whole : goal.returns-in-Acted-clause-whole
+returns-in-Acted-clause-whole c = λ shows.
+    let none = not_data c.todo.result c.in-Acted.action c.todo.ensures.todo
+    c.in-Acted.ensures.shows in
+    absurd (let e = sym none ∙ shows in cc)
+
+pub returns-in-Nothing-clause-whole : goal.returns-in-Nothing-clause-whole
+returns-in-Nothing-clause-whole c = λ shows. absurd (let e = shows in cc)
+
+pub returns-in-Data-clause-whole : goal.returns-in-Data-clause-whole
+returns-in-Data-clause-whole c = λ shows. absurd (let e = shows in cc)
+
+pub returns-in-Index-clause-whole : goal.returns-in-Index-clause-whole
+returns-in-Index-clause-whole c = λ shows. absurd (let e = shows in cc)
