@@ -11,10 +11,11 @@ use Rattle.session_router.specs.declared.event.Event.TheVariants as events
 use Rattle.session_router.specs.declared.settings.Settings.{Settings}
 use Rattle.session_bytes.specs.declared.refusal.Refusal.{Refusal}
 use Rattle.session_bytes.specs.declared.refusal.Refusal.TheVariants as refusals
-use Rattle.session_client.specs.Calls.{closed_after, opened_after, said_after, second_after}
+use Rattle.session_client.specs.Calls.{closed_after, is_data, opened_after, said_after}
+use Rattle.session_client.specs.Calls.{second_after}
 use Rattle.session_client.specs.Counting.{CountsKept}
 use Rattle.session_client.specs.Holding.{Fits, IsClient, data_in, room_at}
-use Rattle.session_client.specs.Makings.{Octets}
+use Rattle.session_client.specs.Makings.{Octets, ShowsMade}
 use Rattle.session_client.specs.Next.{IsDataRoom, IsIndexRoom, IsOutputRoom, IsRoom, IsTodoOf}
 use Rattle.session_client.specs.Next.{IsWait, NamesRoom, RestsNow, Turns}
 use Rattle.session_client.specs.Over.{IfNamed, none_of, over_of}
@@ -193,6 +194,10 @@ pub record TakesTurn (now : ℕ) (k : Client) (input first second : Octets) (pla
       room_at k.holding k.shown k.kept ≤ length (data_in k.second second first)
       → IsDataRoom t → ⊥
   pub rests : IsWait t → RestsNow now k input
+  pub whole :
+      is_data t ≡ true
+      → ShowsMade k.holding k.kept k.shown input (data_in k.second first second) places
+      (data_in k.second second first) (data_in k.second second' first') k'.shown
 
 -- What `Client::ask_now` and `Client::give_up` promise, but for the event. Before it so many bytes
 -- were still to be sent.

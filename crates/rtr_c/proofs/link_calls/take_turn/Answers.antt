@@ -41,5 +41,6 @@ returns c =
             index = c.next-todo.ensures.index;
             enough = c.next-todo.ensures.enough;
             rests = c.next-todo.ensures.rests;
+            whole = c.next-todo.ensures.whole;
           }),
     )
