@@ -66,26 +66,18 @@ func TestHolds(t *testing.T) {
 	process.Says("it would withdraw 8 of 9 payloads", 1)
 }
 
-// A held list is accepted once it has stayed the same for the guard time. Each change starts that
-// time again, except one of the file's permissions.
+// A held list is accepted once it has stayed the same for the guard time.
 func TestGuardTime(t *testing.T) {
 	folder := t.TempDir()
-	file := folder + "/f"
 	process := guarded(t, folder, "--guard-time", "6s")
 	began := time.Now()
-	for count := 1; count < 4; count++ {
-		trial.Write(t, file, rows(count))
-		process.Says("it would withdraw", count)
-		time.Sleep(3 * time.Second)
-	}
-	if process.Lines("serial 2") != 0 {
-		t.Error(process.Stderr())
-	}
-	if err := os.Chmod(file, 0o640); err != nil {
+	trial.Write(t, folder+"/f", rows(3))
+	process.Says("held until it has stayed the same for 6s", 1)
+	if err := os.Chmod(folder+"/f", 0o640); err != nil {
 		t.Fatal(err)
 	}
 	process.Says("serial 2: 3 payloads, 0 announced, 7 withdrawn (7 IPv4 prefixes)", 1)
-	if took := time.Since(began); took < 12*time.Second || process.Lines("it would withdraw") != 3 {
+	if took := time.Since(began); took < 6*time.Second || process.Lines("it would withdraw") != 1 {
 		t.Errorf("after %v: %s", took, process.Stderr())
 	}
 }
@@ -133,24 +125,45 @@ func TestForce(t *testing.T) {
 	process.Says("it would withdraw 9 of 10 payloads", 1)
 }
 
-// A list that is written in place, in pieces, isn't served before it is complete.
-func TestWrittenInPieces(t *testing.T) {
-	folder := t.TempDir()
-	process := guarded(t, folder)
-	file, err := os.OpenFile(folder+"/f", os.O_WRONLY|os.O_TRUNC, 0)
+// writeInPieces writes a list in place, a row each half second, and returns the longest time for
+// which the file stayed the same.
+func writeInPieces(t *testing.T, path, text string) (longest time.Duration) {
+	t.Helper()
+	last := time.Now()
+	file, err := os.OpenFile(path, os.O_WRONLY|os.O_TRUNC, 0)
 	if err != nil {
 		t.Fatal(err)
 	}
 	defer file.Close()
-	for _, row := range strings.SplitAfter(rows(12), "\n") {
+	for _, row := range strings.SplitAfter(text, "\n") {
+		before := time.Now()
 		if _, err := file.WriteString(row); err != nil {
 			t.Fatal(err)
 		}
+		if pause := time.Since(last); pause > longest {
+			longest = pause
+		}
+		last = before
 		time.Sleep(500 * time.Millisecond)
 	}
-	process.Says("serial 2: 12 payloads, 2 announced (2 IPv4 prefixes), 0 withdrawn", 1)
-	if process.Lines("held") != 0 || process.Lines("serial") != 2 {
-		t.Error(process.Stderr())
+	return longest
+}
+
+// A list that is written in place, in pieces, isn't served before it is complete. If a busy machine
+// lets the writer pause for two seconds, a part may be served, and another cache is tried.
+func TestWrittenInPieces(t *testing.T) {
+	for {
+		folder := t.TempDir()
+		process := guarded(t, folder)
+		if writeInPieces(t, folder+"/f", rows(12)) >= 2*time.Second {
+			process.Kill()
+			continue
+		}
+		process.Says("serial 2: 12 payloads, 2 announced (2 IPv4 prefixes), 0 withdrawn", 1)
+		if process.Lines("held") != 0 || process.Lines("serial") != 2 {
+			t.Error(process.Stderr())
+		}
+		return
 	}
 }
 

@@ -28,26 +28,28 @@ func TestMain(tests *testing.M) {
 type clocked struct {
 	*Cache
 	t       *testing.T
+	path    string // of its file
 	running time.Duration
 	start   time.Time
 	ahead   time.Duration
 	logged  bytes.Buffer
 }
 
-// newClocked is a cache of a file whose items all expire after an hour.
-func newClocked(t *testing.T, items int) *clocked {
-	t.Helper()
-	c := &clocked{t: t, start: time.Now()}
+// list returns a list of this many items, which all expire an hour after the start.
+func (c *clocked) list(items int) string {
 	var rows []string
 	for i := 0; i < items; i++ {
 		rows = append(rows, fmt.Sprintf(`{"asn": 64496, "prefix": "10.%d.%d.0/24", "expires": %d}`,
 			i/256, i%256, c.start.Add(time.Hour).Unix()))
 	}
-	path := filepath.Join(t.TempDir(), "f")
-	text := `{"roas": [` + strings.Join(rows, ",") + "]}"
-	if err := os.WriteFile(path, []byte(text), 0o600); err != nil {
-		t.Fatal(err)
-	}
+	return `{"roas": [` + strings.Join(rows, ",") + "]}"
+}
+
+// newClocked is a cache of a file with this many items.
+func newClocked(t *testing.T, items int) *clocked {
+	t.Helper()
+	c := &clocked{t: t, path: filepath.Join(t.TempDir(), "f"), start: time.Now()}
+	trial.Write(t, c.path, c.list(items))
 	maker, err := beside.Find("rtr_make")
 	if err != nil {
 		t.Fatal(err)
@@ -55,7 +57,7 @@ func newClocked(t *testing.T, items int) *clocked {
 	log := logrus.New()
 	log.SetOutput(&c.logged)
 	c.Cache, err = New(Settings{
-		Files:  []payloads.File{{Format: payloads.JSON, Path: path}},
+		Files:  []payloads.File{{Format: payloads.JSON, Path: c.path}},
 		Reader: payloads.Reader{Maker: maker},
 		Timing: rtr.RecommendedTiming, Clients: 1,
 		Rules: trust.Rules{Guard: 50, Quiet: 5 * time.Minute, Stale: 1000 * time.Hour},
@@ -115,10 +117,14 @@ func TestClockStaysAhead(t *testing.T) {
 }
 
 // Items that expire while the clock runs are withdrawn then, whatever the guard says, and /health
-// reports that nothing is left.
+// reports that nothing is left. The cache waits for that time, and checks the file again.
 func TestAllExpires(t *testing.T) {
 	c := newClocked(t, 10)
 	c.shows(0, 10, 1, "")
 	c.shows(time.Hour-time.Second, 10, 1, "")
+	expires := time.Unix(c.start.Add(time.Hour).Unix(), 0)
+	if wait := c.untilNext(); wait != expires.Sub(c.start.Add(c.running)) {
+		t.Errorf("it waits for %v", wait)
+	}
 	c.shows(2*time.Second, 0, 2, trust.Empty)
 }
