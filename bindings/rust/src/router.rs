@@ -121,20 +121,20 @@ impl Router {
         self.link.has_data(now)
     }
 
-    /// The data after the last call of [`Router::next`], if there are any. [`Router::has_data`]
-    /// reports whether they have expired since.
+    /// Returns the data after the last call of [`Router::next`], if there are any.
+    /// [`Router::has_data`] reports whether they have expired since.
     #[must_use]
     pub fn data(&self) -> Option<&Data> {
         self.link.data()
     }
 
-    /// The data, if there are any.
+    /// Returns the data, if there are any.
     #[must_use]
     pub fn into_data(self) -> Option<Data> {
         self.link.into_data()
     }
 
-    /// The event of a step; none for a step that only asks for an action.
+    /// Returns the event of a step; none for a step that only asks for an action.
     #[must_use]
     pub fn event<'a>(&'a self, step: &'a Step) -> Option<Event<'a>> {
         match (step, self.data()) {
@@ -177,7 +177,7 @@ impl Router {
         self.disconnected(now);
     }
 
-    /// As [`Router::lost`], without a reason.
+    /// Does the same as [`Router::lost`], without a reason.
     pub fn disconnected(&mut self, now: u64) {
         self.end_of_input();
         self.go_on(now);
@@ -193,8 +193,8 @@ impl Router {
         }
     }
 
-    /// The buffer to read bytes into without a copy; then call [`Router::filled`]. It isn't empty
-    /// while there is a connection and [`Router::next`] returned [`Step::Wait`].
+    /// Returns the buffer to read bytes into without a copy; then call [`Router::filled`]. It isn't
+    /// empty while there is a connection and [`Router::next`] returned [`Step::Wait`].
     pub fn room(&mut self) -> &mut [u8] {
         self.link.room()
     }
@@ -221,7 +221,7 @@ impl Router {
         }
     }
 
-    /// The bytes to send.
+    /// Returns the bytes to send.
     #[must_use]
     pub fn output(&self) -> &[u8] {
         self.link.output()
