@@ -100,7 +100,8 @@ impl<S: AsyncRead + AsyncWrite + Unpin> AsyncClient<S> {
         AsyncClient::with_random(options, random, dial)
     }
 
-    /// Like [`AsyncClient::new`], with this random number, which varies the waits of many clients.
+    /// Creates a client as [`AsyncClient::new`] does, with this random number, which varies the
+    /// waits of many clients.
     pub fn with_random<F>(
         options: ClientOptions,
         random: u16,
