@@ -66,7 +66,7 @@ impl<S: AsyncRead + AsyncWrite + Unpin> AsyncGroup<S> {
         AsyncGroup::of(None, clients)
     }
 
-    /// Like [`AsyncGroup::new`], with these settings.
+    /// Creates a group as [`AsyncGroup::new`] does, with these settings.
     ///
     /// # Errors
     ///
