@@ -184,7 +184,7 @@ impl AsyncServer {
         self.shared.cache.change_session();
     }
 
-    /// The end of the data that are served, with session and serial number.
+    /// Returns the end of the data that are served, with session and serial number.
     #[must_use]
     pub fn end(&self) -> Option<EndOfData> {
         self.shared.cache.end()
@@ -214,8 +214,9 @@ impl AsyncServer {
             .await
     }
 
-    /// The same, with a function that prepares each connection, such as by a handshake of TLS. It
-    /// has the time of [`ServerOptions::first_query`], and no other client waits for it.
+    /// Serves as [`AsyncServer::serve`] does, with a function that prepares each connection, such
+    /// as by a handshake of TLS. It has the time of [`ServerOptions::first_query`], and no other
+    /// client waits for it.
     ///
     /// # Errors
     ///
