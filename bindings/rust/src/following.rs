@@ -152,12 +152,12 @@ impl<'c> Follower<'c> {
         }
     }
 
-    /// The router's time.
+    /// Returns the router's time.
     fn now(&self) -> u64 {
         milliseconds_since(self.begun)
     }
 
-    /// The duration until the router's next tick.
+    /// Returns the duration until the router's next tick.
     fn left(&self) -> Duration {
         Duration::from_millis(self.router.wakes().saturating_sub(self.now()))
     }
@@ -221,8 +221,8 @@ impl<'c> Follower<'c> {
     }
 }
 
-/// A TCP connection to the first of the addresses that accepts one within this time. Each has an
-/// equal share of the time that is left.
+/// Connects over TCP to the first of the addresses that accepts a connection within this time. Each
+/// has an equal share of the time that is left.
 pub(crate) fn dial(address: &str, time: Duration) -> io::Result<TcpStream> {
     let until = after(Instant::now(), time);
     let addresses: Vec<SocketAddr> = address.to_socket_addrs()?.collect();
