@@ -73,7 +73,7 @@ pub fn follow(
     run(None, members, client, on)
 }
 
-/// [`follow`] with these settings.
+/// Follows the members as [`follow`] does, with these settings.
 ///
 /// # Errors
 ///
@@ -200,12 +200,12 @@ impl<C: FnMut(usize) -> Arc<Client>> Followed<C> {
         Ok(())
     }
 
-    /// The group's time.
+    /// Returns the group's time.
     fn now(&self) -> u64 {
         milliseconds_since(self.begun)
     }
 
-    /// The next message of a thread; a timeout at the group's next tick.
+    /// Waits for the next message of a thread, at most until the group's next tick.
     fn next(&self, messages: &Receiver<Message>) -> Result<Message, RecvTimeoutError> {
         match self.preferred.wakes() {
             u64::MAX => messages.recv().map_err(RecvTimeoutError::from),
