@@ -60,13 +60,13 @@ pub(crate) struct Body {
 }
 
 impl Body {
-    /// All of these bytes.
+    /// Makes a body of all of these bytes.
     pub(crate) fn of(memory: Memory) -> Body {
         let length = memory.len();
         Body::part(Arc::new(memory), 0, length)
     }
 
-    /// `length` of these bytes, from an offset on; there are as many.
+    /// Makes a body of `length` of these bytes, from an offset on; there are as many.
     pub(crate) fn part(memory: Arc<Memory>, offset: usize, length: usize) -> Body {
         Body {
             memory,
@@ -75,12 +75,12 @@ impl Body {
         }
     }
 
-    /// `length` bytes of this part, from an offset on.
+    /// Returns `length` bytes of this part, from an offset on.
     pub(crate) fn within(&self, offset: usize, length: usize) -> Body {
         Body::part(Arc::clone(&self.memory), self.offset + offset, length)
     }
 
-    /// The file that holds them, and their offset there, if they are in one.
+    /// Returns the file that holds them, and their offset there, if they are in one.
     pub(crate) fn file(&self) -> Option<(&File, usize)> {
         match &*self.memory {
             Memory::Allocated(_) => None,

@@ -64,7 +64,7 @@ impl Cache {
         }
     }
 
-    /// The limits of the cache.
+    /// Returns the limits of the cache.
     pub fn options(&self) -> &ServerOptions {
         &self.state.options
     }
@@ -78,7 +78,7 @@ impl Cache {
         }
     }
 
-    /// The end of the data that are served, with session and serial number.
+    /// Returns the end of the data that are served, with session and serial number.
     pub fn end(&self) -> Option<EndOfData> {
         let newest = locked(&self.state.newest);
         newest.as_ref().map(|newest| newest.end())
@@ -206,7 +206,7 @@ impl fmt::Debug for Cache {
 }
 
 impl State {
-    /// Which steps back are kept.
+    /// Returns which steps back are kept.
     fn limits(&self) -> HistoryLimits {
         let settings = self.options.settings();
         HistoryLimits {
@@ -244,7 +244,7 @@ impl State {
         saved.is_ok()
     }
 
-    /// A copy of the data that are served.
+    /// Returns a copy of the data that are served.
     fn data(&self) -> Data {
         let newest = locked(&self.newest).clone();
         let newest = newest.expect("data that were saved are served");
@@ -253,13 +253,14 @@ impl State {
 }
 
 impl Moment {
-    /// The session and serial number of the newest data.
+    /// Returns the session and serial number of the newest data.
     pub(crate) fn present(&self) -> Present {
         let newest = self.newest.as_ref();
         newest.map_or_else(Present::default, |newest| newest.present)
     }
 
-    /// The number of the newest data, which are numbered as they come, from 1 on; 0 without data.
+    /// Returns the number of the newest data, which are numbered as they come, from 1 on; 0 without
+    /// data.
     pub(crate) fn number(&self) -> u64 {
         self.newest.as_ref().map_or(0, |newest| newest.number)
     }

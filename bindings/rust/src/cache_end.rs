@@ -68,8 +68,8 @@ impl Socket for Taken {
     }
 }
 
-/// The file of the cache in the scene, in memory where the system has a folder for that: each data
-/// are synced.
+/// Returns the file of the cache in the scene, in memory where the system has a folder for that:
+/// each data are synced.
 fn own_file() -> PathBuf {
     let memory = PathBuf::from("/dev/shm");
     let folder = Some(memory).filter(|folder| folder.is_dir());
@@ -77,7 +77,7 @@ fn own_file() -> PathBuf {
     folder.unwrap_or_else(std::env::temp_dir).join(name)
 }
 
-/// A server that saves to this file, and serves what it has.
+/// Returns a server that saves to this file, and serves what it has.
 fn saving(options: &ServerOptions) -> Server {
     let server = Server::new(options.clone());
     server
@@ -153,7 +153,7 @@ impl Joined {
         !self.connection.is_served() && !self.connection.is_sending()
     }
 
-    /// The bytes that the router has received.
+    /// Returns the bytes that the router has received.
     fn came(&mut self) -> Vec<u8> {
         let mut came = Vec::new();
         self.router.set_nonblocking(true).unwrap();

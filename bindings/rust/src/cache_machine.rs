@@ -8,13 +8,13 @@ use crate::sys;
 use std::string::{String, ToString};
 use std::vec::Vec;
 
-/// The text of the report with which a cache ends a connection, for this reason.
+/// Returns the text of the report with which a cache ends a connection, for this reason.
 pub(crate) fn reason_text(reason: u8) -> String {
     sys::name(named::REASON, reason.into()).to_string()
 }
 
 impl Cache {
-    /// A new connection, with these settings.
+    /// Creates a connection with these settings.
     pub(crate) fn new(now: u64, settings: &CacheSettings) -> Cache {
         let mut cache = Cache::default();
         calls::cache_init(&mut cache, now, settings);
@@ -29,7 +29,7 @@ impl Cache {
         calls::cache_full(self, now, &present)
     }
 
-    /// The client has closed, and all of its input was processed.
+    /// Records that the client has closed and all of its input was processed.
     pub(crate) fn lost(&mut self, now: u64, present: Present) -> Serving {
         calls::cache_lost(self, now, &present)
     }

@@ -57,18 +57,18 @@ impl Canonical {
         }
     }
 
-    /// The bytes, which aren't copied unless they are shared.
+    /// Returns the bytes, which aren't copied unless they are shared.
     pub(crate) fn into_bytes(self) -> Vec<u8> {
         Arc::try_unwrap(self.bytes).unwrap_or_else(|shared| shared.to_vec())
     }
 
-    /// The bytes of the payload units.
+    /// Returns the bytes of the payload units.
     pub(crate) fn unit_bytes(&self) -> &[u8] {
         let end: UnitRef = Unit::EndOfData(self.end);
         &self.bytes[..self.bytes.len() - end.size()]
     }
 
-    /// The same for clients of a version, without what it can't carry.
+    /// Returns the same data for clients of a version, without what it can't carry.
     pub(crate) fn for_version(&self, version: u8) -> Result<Canonical, Fault> {
         if version == self.end.version {
             return Ok(self.clone());
@@ -80,16 +80,16 @@ impl Canonical {
         }
     }
 
-    /// The payload units, without the end of data.
+    /// Returns the payload units, without the end of data.
     pub(crate) fn units(&self) -> impl Iterator<Item = UnitRef<'_>> + Clone + '_ {
         Units::sequence(&self.bytes, u64::MAX)
             .filter_map(Result::ok)
             .take(self.payloads)
     }
 
-    /// The changes from these data to new data of any versions and sessions, or those that withdraw
-    /// all if there are no new data. They are in the higher of the versions, so that payloads that
-    /// the lower one can't carry are withdrawn.
+    /// Returns the changes from these data to new data of any versions and sessions, or those that
+    /// withdraw all if there are no new data. They are in the higher of the versions, so that
+    /// payloads that the lower one can't carry are withdrawn.
     ///
     /// # Errors
     ///
@@ -108,7 +108,7 @@ impl Canonical {
         delta(&old, &new)
     }
 
-    /// The bytes in this version and session.
+    /// Returns the bytes in this version and session.
     fn form(&self, version: u8, session: u16) -> Result<Cow<'_, [u8]>, TryReserveError> {
         if (version, session) == (self.end.version, self.end.session) {
             return Ok(Cow::Borrowed(&self.bytes));
@@ -134,13 +134,13 @@ impl Canonical {
         Ok(Cow::Owned(form))
     }
 
-    /// The bytes of the end of data.
+    /// Returns the bytes of the end of data.
     fn end_bytes(&self) -> &[u8] {
         &self.bytes[self.unit_bytes().len()..]
     }
 }
 
-/// The changes from old data to new data of the same version and session.
+/// Returns the changes from old data to new data of the same version and session.
 pub(crate) fn delta(old: &[u8], new: &[u8]) -> Result<Canonical, TryReserveError> {
     let most = old.len() + new.len();
     let mut changes = Vec::new();

@@ -36,8 +36,8 @@ impl Changes {
         }
     }
 
-    /// The changes from old data to new data of any versions and sessions, either of which may be
-    /// missing; none if both are.
+    /// Returns the changes from old data to new data of any versions and sessions, either of which
+    /// may be missing; none if both are.
     pub(crate) fn between(old: Option<Data>, new: Option<Data>) -> Option<Changes> {
         match (old, new) {
             (Some(old), new) => Some(Changes {
@@ -94,18 +94,18 @@ impl Changes {
         self.try_computed().expect("memory for the changes")
     }
 
-    /// The changes in canonical form.
+    /// Returns the changes in canonical form.
     pub(crate) fn into_canonical(self) -> Canonical {
         self.computed().clone()
     }
 
-    /// The bytes: payload units, and the end of data.
+    /// Returns the bytes: payload units, and the end of data.
     #[must_use]
     pub fn as_bytes(&self) -> &[u8] {
         &self.computed().bytes
     }
 
-    /// The bytes.
+    /// Returns the bytes.
     #[must_use]
     pub fn into_bytes(self) -> Vec<u8> {
         let computed = self.computed().clone();
@@ -113,12 +113,12 @@ impl Changes {
         computed.into_bytes()
     }
 
-    /// The payload units, in order: first announcements, then withdrawals.
+    /// Returns the payload units, in order: first announcements, then withdrawals.
     pub fn units(&self) -> impl Iterator<Item = UnitRef<'_>> + Clone + '_ {
         self.computed().units()
     }
 
-    /// The end of data, with the version, the session and the serial number.
+    /// Returns the end of data, with the version, the session and the serial number.
     #[must_use]
     pub fn end(&self) -> EndOfData {
         self.computed().end

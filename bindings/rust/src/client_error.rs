@@ -142,8 +142,8 @@ impl error::Error for ClientError {
 }
 
 impl ClientError {
-    /// The error for the reason in `todo`. The input begins with the unit or the change at fault,
-    /// at this offset of the connection.
+    /// Returns the error for the reason in `todo`. The input begins with the unit or the change at
+    /// fault, at this offset of the connection.
     pub(crate) fn of(todo: &Todo, input: &[u8], offset: u64) -> ClientError {
         let reason = match todo.cause {
             cause::SLOW => return ClientError::TooSlow,
@@ -175,7 +175,7 @@ impl ClientError {
         }
     }
 
-    /// The error for the report at the start of the input.
+    /// Returns the error for the report at the start of the input.
     pub(crate) fn reported(input: &[u8]) -> ClientError {
         match Unit::first(input) {
             Ok((Unit::ErrorReport(report), _)) => ClientError::Reported(report.into_owned()),
@@ -183,7 +183,7 @@ impl ClientError {
         }
     }
 
-    /// Why the changes of an answer are refused. The input begins with the one at fault.
+    /// Returns why the changes of an answer are refused. The input begins with the one at fault.
     fn refused(todo: &Todo, input: &[u8]) -> ClientError {
         ClientError::Data {
             error: DataError {
@@ -198,7 +198,8 @@ impl ClientError {
     }
 }
 
-/// The unit at the start of the input, as far as it came; only the header if that is refused.
+/// Returns the unit at the start of the input, as far as it came; only the header if that is
+/// refused.
 fn whole(input: &[u8]) -> &[u8] {
     let size = unit_size(input).ok().flatten().unwrap_or(HEADER_SIZE);
     &input[..size.min(input.len())]

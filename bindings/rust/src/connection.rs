@@ -31,7 +31,7 @@ pub(crate) enum Next {
 const OPEN: u8 = 0;
 
 impl Connection {
-    /// A connection that was accepted at this time.
+    /// Creates a connection that was accepted at this time.
     pub(crate) fn new(now: u64, settings: &ServerSettings) -> Connection {
         let mut connection = Connection::default();
         calls::connection_init(&mut connection, now, settings);
@@ -43,34 +43,35 @@ impl Connection {
         self.state == OPEN
     }
 
-    /// `size` bytes were read.
+    /// Records that `size` bytes were read.
     pub(crate) fn received(&mut self, now: u64, size: usize) {
         calls::connection_received(self, now, size);
     }
 
-    /// The client closed the connection.
+    /// Records that the client closed the connection.
     pub(crate) fn close(&mut self) {
         calls::connection_closed(self);
     }
 
-    /// The machine took `size` bytes of the input: 0 if it has no whole unit.
+    /// Records that the machine took `size` bytes of the input: 0 if it has no whole unit.
     pub(crate) fn heard(&mut self, now: u64, size: usize) {
         calls::connection_heard(self, now, size);
     }
 
-    /// An answer of `size` bytes begins, when the newest data have this number. Returns false, and
+    /// Begins an answer of `size` bytes while the newest data have this number. Returns false, and
     /// changes nothing, while another answer is unsent, or after the end.
     pub(crate) fn answers(&mut self, now: u64, size: usize, number: u64) -> bool {
         calls::connection_answers(self, now, size, number)
     }
 
-    /// The machine ends the connection, with a report of `size` bytes, or without one if it is 0.
-    /// Returns false, and changes nothing, while an answer is unsent, or after the end.
+    /// Ends the connection, with a report of `size` bytes, or without one if it is 0. Returns
+    /// false, and changes nothing, while an answer is unsent, or after the end.
     pub(crate) fn ends(&mut self, now: u64, size: usize) -> bool {
         calls::connection_ends(self, now, size)
     }
 
-    /// `size` bytes were sent. Returns false, and changes nothing, if fewer are unsent.
+    /// Records that `size` bytes were sent. Returns false, and changes nothing, if fewer are
+    /// unsent.
     pub(crate) fn sent(&mut self, now: u64, size: usize) -> bool {
         calls::connection_sent(self, now, size)
     }

@@ -36,10 +36,9 @@ pub struct DataError {
 }
 
 impl DataError {
-    /// The error report that the peer is owed, if it is owed one; `input` is the input at fault.
-    /// See
-    /// [`Fault::report`]. A duplicate has code 7, a withdrawal of an unknown record code 6 (RFC
-    /// 8210 sections 5.11 and 12).
+    /// Returns the error report that the peer is owed, if it is owed one; `input` is the input at
+    /// fault. See [`Fault::report`]. A duplicate has code 7, a withdrawal of an unknown record code
+    /// 6 (RFC 8210 sections 5.11 and 12).
     #[must_use]
     pub fn report<'a>(&self, input: &'a [u8], text: &'a str) -> Option<ErrorReport<&'a [u8]>> {
         let unit = input.get(self.place?.offset..)?;

@@ -34,8 +34,8 @@ pub enum Entry {
 }
 
 impl Door {
-    /// The door of a server without connections. At most [`ServerOptions::connections`] are served
-    /// at once, and 64 beside them refused.
+    /// Creates the door of a server without connections. At most [`ServerOptions::connections`] are
+    /// served at once, and 64 beside them refused.
     #[must_use]
     pub fn new(options: &ServerOptions) -> Self {
         let mut door = abi::Door::default();
@@ -56,8 +56,8 @@ impl Door {
         Entry::of(calls::door_enter(&mut self.0, has_spare))
     }
 
-    /// A connection that got this was closed. Returns false, and changes nothing, if none that got
-    /// it is open.
+    /// Records that the connection that got this entry was closed. Returns false, and changes
+    /// nothing, if none that got it is open.
     pub fn leave(&mut self, entry: Entry) -> bool {
         calls::door_leave(&mut self.0, entry.number())
     }

@@ -69,7 +69,7 @@ pub enum PrefixRule {
 }
 
 impl Fault {
-    /// The fault of a status other than 0, with its detail.
+    /// Returns the fault of a status other than 0, with its detail.
     pub(crate) fn of(status: u8, detail: u8) -> Self {
         match status {
             status::SHORT => Fault::Short,
@@ -100,7 +100,7 @@ impl Fault {
         }
     }
 
-    /// The status, as `rtr.h` numbers it.
+    /// Returns the status, as `rtr.h` numbers it.
     #[must_use]
     pub fn status(self) -> u8 {
         match self {
@@ -128,7 +128,7 @@ impl Fault {
         }
     }
 
-    /// The type, the version or the broken rule, as `rtr.h` numbers it, or 0.
+    /// Returns the type, the version or the broken rule, as `rtr.h` numbers it, or 0.
     pub(crate) fn detail(self) -> u8 {
         match self {
             Fault::UnitType(detail) | Fault::UnitVersion(detail) | Fault::OtherVersion(detail) => {
@@ -141,15 +141,15 @@ impl Fault {
         }
     }
 
-    /// The error code for this fault of the unit at the start of these bytes. It is none if the
-    /// peer isn't at fault, and for an error report (RFC 8210 sections 5.11 and 12).
+    /// Returns the error code for this fault of the unit at the start of these bytes. It is none if
+    /// the peer isn't at fault, and for an error report (RFC 8210 sections 5.11 and 12).
     pub fn code(self, unit: &[u8]) -> Option<ErrorCode> {
         sys::error_code(self.status(), unit).map(ErrorCode)
     }
 
-    /// The error report that the peer is owed for this fault of the unit at the start of these
-    /// bytes, if it is owed one (RFC 8210 section 5.11). It has the version of that unit: change it
-    /// if the session has another.
+    /// Returns the error report that the peer is owed for this fault of the unit at the start of
+    /// these bytes, if it is owed one (RFC 8210 section 5.11). It has the version of that unit:
+    /// change it if the session has another.
     ///
     /// It encloses the unit, or only the header if that is refused, up to 65519 bytes; then as much
     /// of the text as fits. Bytes after the unit are ignored.
@@ -170,8 +170,8 @@ impl Fault {
         })
     }
 
-    /// The bytes of the unit with this fault at the start of these bytes: only the header if that
-    /// is refused, since its length can't be trusted.
+    /// Returns the bytes of the unit with this fault at the start of these bytes: only the header
+    /// if that is refused, since its length can't be trusted.
     pub(crate) fn of_unit(self, bytes: &[u8]) -> &[u8] {
         let size = match self {
             Fault::Short => bytes.len(),

@@ -125,7 +125,7 @@ impl Group {
         Decision::of(&calls::group_tick(&mut self.0, now))
     }
 
-    /// The member whose data are used.
+    /// Returns the member whose data are used.
     #[must_use]
     pub fn best(&self) -> Option<usize> {
         let (member, has) = calls::group_best(&self.0);

@@ -18,7 +18,7 @@ impl Input {
         self.came.extend_from_slice(bytes);
     }
 
-    /// The bytes that aren't consumed.
+    /// Returns the bytes that aren't consumed.
     pub(crate) fn bytes(&self) -> &[u8] {
         &self.came[self.taken..]
     }

@@ -135,7 +135,7 @@ impl Link {
         must(calls::link_lost(&mut self.client));
     }
 
-    /// The buffer to read bytes into: not empty after [`todo_kind::WAIT`].
+    /// Returns the buffer to read bytes into: not empty after [`todo_kind::WAIT`].
     pub(crate) fn room(&mut self) -> &mut [u8] {
         let filled = self.filled();
         &mut self.input[filled..]
@@ -158,7 +158,7 @@ impl Link {
         self.received(bytes.len());
     }
 
-    /// The unsent bytes.
+    /// Returns the unsent bytes.
     pub(crate) fn output(&self) -> &[u8] {
         &self.output[..self.state(self.now).unsent]
     }
@@ -173,8 +173,8 @@ impl Link {
         must(status);
     }
 
-    /// The input from an offset of a todo on, as it was before the last call: there the unit
-    /// begins.
+    /// Returns the input from an offset of a todo on, as it was before the last call: there the
+    /// unit begins.
     pub(crate) fn input_from(&self, offset: usize) -> &[u8] {
         &self.input[offset..self.filled_before]
     }

@@ -64,7 +64,7 @@ impl ClientOptions {
     /// report may be lost.
     pub const LAST_BYTES: usize = LAST_REPORT_BYTES;
 
-    /// The settings of a router's machine with these options and this random number.
+    /// Returns the settings of a router's machine with these options and this random number.
     pub(crate) fn settings(&self, chance: u16) -> Settings {
         let span = |time: Option<Duration>| time.map_or(0, milliseconds);
         Settings {
@@ -138,7 +138,7 @@ impl Default for ServerOptions {
 
 #[cfg(feature = "std")]
 impl ServerOptions {
-    /// The limits of a server with these options.
+    /// Returns the limits of a server with these options.
     pub(crate) fn settings(&self) -> ServerSettings {
         ServerSettings {
             cache: CacheSettings {

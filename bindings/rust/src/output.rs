@@ -28,7 +28,7 @@ impl Output {
         self.head.len() + self.body.len()
     }
 
-    /// The unsent bytes.
+    /// Returns the unsent bytes.
     pub(crate) fn parts(&self) -> [&[u8]; 2] {
         let head = &self.head[self.sent.min(self.head.len())..];
         [
@@ -37,7 +37,7 @@ impl Output {
         ]
     }
 
-    /// The file that holds the body, and the offset of the first unsent byte there.
+    /// Returns the file that holds the body, and the offset of the first unsent byte there.
     pub(crate) fn file(&self) -> Option<(&File, usize)> {
         let (file, offset) = self.body.file()?;
         Some((file, offset + self.sent.saturating_sub(self.head.len())))

@@ -126,30 +126,30 @@ impl Data {
         Ok(Data::of(changes.into_canonical()))
     }
 
-    /// The bytes: payload units, and the end of data.
+    /// Returns the bytes: payload units, and the end of data.
     #[must_use]
     pub fn as_bytes(&self) -> &[u8] {
         &self.0.bytes
     }
 
-    /// The bytes.
+    /// Returns the bytes.
     #[must_use]
     pub fn into_bytes(self) -> Vec<u8> {
         self.0.into_bytes()
     }
 
-    /// The payload units, in order; all are announcements.
+    /// Returns the payload units, in order; all are announcements.
     pub fn units(&self) -> impl Iterator<Item = UnitRef<'_>> + Clone + '_ {
         self.0.units()
     }
 
-    /// The end of data, with the version, the session and the serial number.
+    /// Returns the end of data, with the version, the session and the serial number.
     #[must_use]
     pub fn end(&self) -> EndOfData {
         self.0.end
     }
 
-    /// The number of payloads.
+    /// Returns the number of payloads.
     #[must_use]
     pub fn len(&self) -> usize {
         self.0.payloads
@@ -161,7 +161,7 @@ impl Data {
         self.0.payloads == 0
     }
 
-    /// The validity of the route by the VRPs of the data (RFC 6811 section 2).
+    /// Returns the validity of the route by the VRPs of the data (RFC 6811 section 2).
     ///
     /// ```
     /// use rtr_wire::{Data, Route, Validity};
@@ -181,16 +181,16 @@ impl Data {
         sys::validate(self.as_bytes(), &self.1, route)
     }
 
-    /// The validity of each route, as [`Data::validate`] returns it, in the same order. The routes
-    /// may come in any order; it is fastest if those of a family are in the order of their
+    /// Returns the validity of each route, as [`Data::validate`] returns it, in the same order. The
+    /// routes may come in any order; it is fastest if those of a family are in the order of their
     /// addresses, as in a routing table.
     #[must_use]
     pub fn validate_all(&self, routes: &[Route]) -> Vec<Validity> {
         sys::validate_all(self.as_bytes(), &self.1, routes)
     }
 
-    /// The VRPs of the data that cover the route, in order, each with the reason why it doesn't
-    /// match.
+    /// Returns the VRPs of the data that cover the route, in order, each with the reason why it
+    /// doesn't match.
     #[must_use]
     pub fn covering(&self, route: &Route) -> Covering<'_> {
         Covering::new(self.as_bytes(), &self.1, route)
@@ -255,7 +255,7 @@ impl Data {
         self.0.for_version(version).map(Data::of)
     }
 
-    /// The same payloads in another session and with another serial number.
+    /// Returns the same payloads in another session and with another serial number.
     #[must_use]
     #[allow(clippy::missing_panics_doc)] // It can't panic: the end of data has a valid version.
     pub fn numbered(&self, session: u16, serial: u32) -> Data {

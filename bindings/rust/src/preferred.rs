@@ -119,7 +119,7 @@ impl Preferred {
         Some((member, step))
     }
 
-    /// The event of the step that [`Preferred::take_step`] returned last.
+    /// Returns the event of the step that [`Preferred::take_step`] returned last.
     #[must_use]
     pub fn event<'a>(&'a self, step: &'a Step) -> Option<Event<'a>> {
         match (step, &self.shown) {
@@ -130,13 +130,14 @@ impl Preferred {
         }
     }
 
-    /// The member whose data are used, and the data. They may have expired since its last step.
+    /// Returns the member whose data are used, and the data. They may have expired since its last
+    /// step.
     #[must_use]
     pub fn shown(&self) -> Option<(usize, &Data)> {
         self.shown.as_ref().map(|(member, data)| (*member, data))
     }
 
-    /// The data in use.
+    /// Returns the data in use.
     #[must_use]
     pub fn into_shown(self) -> Option<Data> {
         self.shown.map(|(_, data)| data)

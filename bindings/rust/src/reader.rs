@@ -64,8 +64,8 @@ impl From<io::Error> for Error {
 }
 
 impl From<Error> for io::Error {
-    /// The error of the reader or the writer itself; else one of the kind `UnexpectedEof` for
-    /// `Short`, `InvalidData` for a unit that was read, and `InvalidInput` for a unit to write.
+    /// Returns the error of the reader or the writer itself; else one of the kind `UnexpectedEof`
+    /// for `Short`, `InvalidData` for a unit that was read, and `InvalidInput` for a unit to write.
     fn from(error: Error) -> Self {
         let kind = match &error {
             Error::Io(_) => io::ErrorKind::Other,
@@ -128,33 +128,33 @@ impl<R> Reader<R> {
         }
     }
 
-    /// The offset of the next unit, in bytes.
+    /// Returns the offset of the next unit, in bytes.
     pub fn offset(&self) -> u64 {
         self.offset + self.size as u64
     }
 
-    /// The bytes of the last unit, as they were read, or of a refused prefix; none after other
-    /// errors.
+    /// Returns the bytes of the last unit, as they were read, or of a refused prefix; none after
+    /// other errors.
     pub fn bytes(&self) -> &[u8] {
         &self.buffer[..self.size]
     }
 
-    /// The reader inside.
+    /// Returns the reader inside.
     pub fn get_ref(&self) -> &R {
         &self.inner
     }
 
-    /// The reader inside. Bytes that are read from it directly are missing here.
+    /// Returns the reader inside. Bytes that are read from it directly are missing here.
     pub fn get_mut(&mut self) -> &mut R {
         &mut self.inner
     }
 
-    /// The reader inside. The bytes of an incomplete unit are lost.
+    /// Returns the reader inside. The bytes of an incomplete unit are lost.
     pub fn into_inner(self) -> R {
         self.inner
     }
 
-    /// A fault of the unit in the buffer.
+    /// Returns the error for a fault of the unit in the buffer.
     fn refusal(&self, fault: Fault) -> Error {
         Error::Refused(Refusal {
             fault,
@@ -220,7 +220,7 @@ impl<R: Read> Reader<R> {
         Ok(true)
     }
 
-    /// The unit in the buffer.
+    /// Parses the unit in the buffer.
     fn parse(&self) -> Result<UnitRef<'_>, Error> {
         match Unit::first(&self.buffer[..self.size]) {
             Ok((unit, _)) => Ok(unit),
@@ -248,7 +248,7 @@ impl<R: Read> Reader<R> {
     }
 }
 
-/// The error for a reader that returns a larger count than the buffer it got.
+/// Returns the error for a reader that returns a larger count than the buffer it got.
 fn impossible_count() -> Error {
     io::Error::new(io::ErrorKind::Other, "impossible count of bytes read").into()
 }

@@ -19,8 +19,8 @@ pub struct Refusal {
 }
 
 impl Refusal {
-    /// The error report that the peer is owed, if it is owed one ([`Fault::report`]). It encloses
-    /// the unit, and its text is that of the fault.
+    /// Returns the error report that the peer is owed, if it is owed one ([`Fault::report`]). It
+    /// encloses the unit, and its text is that of the fault.
     #[must_use]
     pub fn report(&self) -> Option<ErrorReport<Vec<u8>>> {
         let text = self.fault.to_string();

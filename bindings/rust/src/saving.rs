@@ -13,7 +13,7 @@ use std::time::{Duration, Instant};
 const FIRST_PAUSE: Duration = Duration::from_secs(1);
 const LONGEST_PAUSE: Duration = Duration::from_secs(60);
 
-/// The name of the new file beside the old one, which it replaces when it is complete.
+/// Returns the name of the new file beside the old one, which it replaces when it is complete.
 fn new_beside(path: &Path) -> PathBuf {
     let mut new = path.as_os_str().to_os_string();
     new.push(".new");
@@ -111,7 +111,7 @@ impl Retries {
     }
 }
 
-/// The pause after one of this length.
+/// Returns the pause after one of this length.
 fn longer(pause: Duration) -> Duration {
     LONGEST_PAUSE.min(2 * pause)
 }

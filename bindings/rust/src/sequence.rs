@@ -65,10 +65,10 @@ pub fn normalise(input: &[u8], output: &mut [u8], limit: u64) -> Result<Progress
     sys::normalise(input, output, limit)
 }
 
-/// Like [`normalise`], for clients of a protocol version. Units that the version doesn't have are
-/// checked and counted in `units`, but not written. All others, and the end of data, are written in
-/// this version. An output 12 bytes longer than the input always suffices, since an end of data has
-/// 12 bytes in version 0 and 24 in versions 1 and 2.
+/// Normalises a sequence as [`normalise`] does, for clients of a protocol version. Units that the
+/// version doesn't have are checked and counted in `units`, but not written. All others, and the
+/// end of data, are written in this version. An output 12 bytes longer than the input always
+/// suffices, since an end of data has 12 bytes in version 0 and 24 in versions 1 and 2.
 ///
 /// # Errors
 ///

@@ -79,7 +79,7 @@ pub struct Served {
 }
 
 impl Served {
-    /// A new connection.
+    /// Creates a connection.
     #[must_use]
     pub fn new(moment: &Moment) -> Self {
         let settings = moment.options.settings();
@@ -131,12 +131,12 @@ impl Served {
         }
     }
 
-    /// The unsent bytes: the second part follows the first.
+    /// Returns the unsent bytes: the second part follows the first.
     pub fn output(&self) -> [&[u8]; 2] {
         self.output.as_ref().map_or([&[], &[]], Output::parts)
     }
 
-    /// The file that holds the second part, and its offset there.
+    /// Returns the file that holds the second part, and its offset there.
     pub(crate) fn file(&self) -> Option<(&File, usize)> {
         self.output.as_ref()?.file()
     }

@@ -90,14 +90,15 @@ struct Listener {
 type Ready = dyn Fn(TcpStream) -> io::Result<Box<dyn Socket>> + Send;
 
 impl Server {
-    /// A server without data, which doesn't listen yet, and doesn't save ([`Server::save_to`]).
+    /// Creates a server without data, which doesn't listen yet, and doesn't save
+    /// ([`Server::save_to`]).
     #[must_use]
     pub fn new(options: ServerOptions) -> Self {
         Server::telling(options, |_, _| {})
     }
 
-    /// The same, with a callback that is called with the reason when a client's connection ends.
-    /// The server serves nobody until it returns.
+    /// Creates a server as [`Server::new`] does, with a callback that gets the reason when a
+    /// client's connection ends. The server serves nobody until it returns.
     pub fn telling(
         options: ServerOptions,
         ended: impl Fn(SocketAddr, &ServerError) + Send + Sync + 'static,
@@ -105,8 +106,8 @@ impl Server {
         Server::of(options, Box::new(ended), None)
     }
 
-    /// A server that logs where it listens, each connection and why it ended, and new data: a
-    /// message, and fields by name. It serves nobody until the log returns.
+    /// Creates a server that logs where it listens, each connection and why it ended, and new data:
+    /// a message, and fields by name. It serves nobody until the log returns.
     pub fn logging(
         options: ServerOptions,
         log: impl Fn(LogLevel, &str, &LogFields<'_>) + Send + Sync + 'static,
@@ -198,7 +199,7 @@ impl Server {
         self.shared.cache.change_session();
     }
 
-    /// The end of the data that are served, with session and serial number.
+    /// Returns the end of the data that are served, with session and serial number.
     pub fn end(&self) -> Option<EndOfData> {
         self.shared.cache.end()
     }
@@ -212,9 +213,9 @@ impl Server {
         self.listen_with(address, Ok)
     }
 
-    /// The same, with a function that wraps each connection in a transport, such as TLS. It must
-    /// not block: the handshake is part of the first reads and writes, and its time limit is
-    /// [`ServerOptions::first_query`].
+    /// Listens as [`Server::listen`] does, with a function that wraps each connection in a
+    /// transport, such as TLS. It must not block: the handshake is part of the first reads and
+    /// writes, and its time limit is [`ServerOptions::first_query`].
     ///
     /// # Errors
     ///
@@ -364,7 +365,7 @@ struct Host {
 }
 
 impl Host {
-    /// A loop without clients, and its waker.
+    /// Creates a loop without clients, and its waker.
     fn new(shared: &Arc<Shared>) -> io::Result<(Host, Waker)> {
         let (waker, woken) = waker()?;
         let poller = Poller::new()?;

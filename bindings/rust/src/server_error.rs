@@ -63,8 +63,8 @@ impl std::error::Error for ServerError {
 }
 
 impl ServerError {
-    /// Why the machine ends a connection; the input begins with the unit. None if the client has
-    /// closed it, between units.
+    /// Returns why the machine ends a connection; the input begins with the unit. None if the
+    /// client has closed it, between units.
     pub(crate) fn of(serving: &Serving, input: &[u8]) -> Option<ServerError> {
         let text = match (serving.reason, Unit::first(input)) {
             (reason::LOST, _) => return None,
@@ -117,7 +117,7 @@ pub struct SaveError {
 }
 
 impl SaveError {
-    /// The kind of the error.
+    /// Returns the kind of the error.
     #[must_use]
     pub fn kind(self) -> io::ErrorKind {
         self.kind
@@ -167,7 +167,7 @@ pub enum TimeRule {
 }
 
 impl TimeRule {
-    /// The first rule that these times break.
+    /// Returns the first rule that these times break.
     pub(crate) fn broken_by(timing: Timing) -> Option<TimeRule> {
         match sys::times_rule(timing) {
             time_rule::NONE => None,
@@ -179,7 +179,7 @@ impl TimeRule {
         }
     }
 
-    /// The number of the rule.
+    /// Returns the number of the rule.
     fn number(self) -> u8 {
         match self {
             TimeRule::Refresh => time_rule::REFRESH,

@@ -37,7 +37,7 @@ enum Left {
 }
 
 impl Connection {
-    /// A new connection from this address.
+    /// Creates a connection from this address.
     pub(crate) fn new(socket: Box<dyn Socket>, from: SocketAddr, moment: &Moment) -> Self {
         Connection {
             socket,
@@ -70,12 +70,12 @@ impl Connection {
         self.is_sending
     }
 
-    /// The socket to wait for.
+    /// Returns the socket to wait for.
     pub(crate) fn socket(&self) -> BorrowedFd<'_> {
         self.socket.socket()
     }
 
-    /// The deadline of its wait.
+    /// Returns the deadline of its wait.
     pub(crate) fn wakes(&self, moment: &Moment) -> u64 {
         self.served.wakes(moment)
     }
@@ -159,7 +159,7 @@ impl Connection {
         self.socket.write_vectored(&[head, body].map(IoSlice::new))
     }
 
-    /// Does what is left to do; returns whether it needn't wait to write.
+    /// Flushes the socket if that is left to do, and reports whether it needn't wait to write.
     fn flush(&mut self) -> bool {
         if matches!(self.left, Left::Nothing) {
             return true;
@@ -196,7 +196,7 @@ mod tests {
     use std::time::Duration;
     use std::vec::Vec;
 
-    /// Data with this many IPv4 prefixes.
+    /// Returns data with this many IPv4 prefixes.
     fn prefixes(count: u32) -> Data {
         let mut bytes = Vec::new();
         for number in 0..count {

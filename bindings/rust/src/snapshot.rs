@@ -40,7 +40,7 @@ struct Encoded {
 }
 
 impl Snapshot {
-    /// The snapshot of a history, which replaces the present snapshot.
+    /// Creates the snapshot of a history, which replaces the present snapshot.
     pub(crate) fn after(
         before: Option<&Snapshot>,
         history: History,
@@ -87,7 +87,7 @@ impl Snapshot {
         self.present.session == later.present.session && later.known.contains(&self.present.serial)
     }
 
-    /// The versions in which clients asked.
+    /// Returns the versions in which clients asked.
     fn versions(&self) -> Vec<u8> {
         let encoded = locked(&self.encoded);
         let is_asked = |version: &u8| {
@@ -97,17 +97,17 @@ impl Snapshot {
         (0..VERSIONS).filter(is_asked).collect()
     }
 
-    /// The end of data.
+    /// Returns the end of data.
     pub(crate) fn end(&self) -> EndOfData {
         self.end
     }
 
-    /// The data, in canonical form.
+    /// Returns the data, in canonical form.
     pub(crate) fn data(&self) -> Body {
         self.history.data()
     }
 
-    /// All data as encoded for clients of a version.
+    /// Returns all data as encoded for clients of a version.
     pub(crate) fn all(&self, version: u8) -> Body {
         let make = || match self.data() {
             data if version == self.end.version => data,
@@ -120,8 +120,8 @@ impl Snapshot {
         form.get_or_insert_with(make).clone()
     }
 
-    /// The delta from a known serial number, or from the present one, as encoded for clients of a
-    /// version.
+    /// Returns the delta from a known serial number, or from the present one, as encoded for
+    /// clients of a version.
     pub(crate) fn since(&self, version: u8, serial: u32, options: &ServerOptions) -> Body {
         let key = (serial, version);
         if let Some(changes) = locked(&self.encoded).changes.get(&key) {
@@ -157,7 +157,7 @@ mod tests {
     use crate::{Data, ServerOptions};
     use std::vec::Vec;
 
-    /// Data of version 2 with these prefixes, 10.0.N.0/24.
+    /// Returns data of version 2 with these prefixes, 10.0.N.0/24.
     fn data(serial: u32, numbers: impl IntoIterator<Item = u8>) -> Data {
         let mut bytes = Vec::new();
         for number in numbers {

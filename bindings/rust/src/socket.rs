@@ -53,7 +53,7 @@ use std::os::unix::net::UnixStream;
 /// }
 /// ```
 pub trait Socket: Read + Write + Send {
-    /// The socket below.
+    /// Returns the socket below.
     fn socket(&self) -> BorrowedFd<'_>;
 
     /// Shuts the connection down for writing.

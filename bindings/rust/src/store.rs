@@ -49,7 +49,7 @@ impl Rooms {
         }
     }
 
-    /// The first bytes of the output, without its unused capacity.
+    /// Returns the first bytes of the output, without its unused capacity.
     fn into_output(self, length: usize) -> Vec<u8> {
         let mut output = self.output;
         output.truncate(length);
@@ -109,8 +109,8 @@ impl Store {
         self.may_change = self.path.is_none();
     }
 
-    /// The stores that take data of this session: new ones for the first data of a session of a
-    /// cache that doesn't save.
+    /// Returns the stores that take data of this session: new ones for the first data of a session
+    /// of a cache that doesn't save.
     fn stores_for(&self, session: u16) -> Stores {
         let present = self.history().map(|history| history.end().session);
         let changes = self.may_change && present != Some(session);
@@ -195,8 +195,8 @@ impl Store {
         })
     }
 
-    /// The version in which data with this end are kept: the highest one, which has all payloads,
-    /// or that of the served data of their session, if a file has them in a lower one.
+    /// Returns the version in which data with this end are kept: the highest one, which has all
+    /// payloads, or that of the served data of their session, if a file has them in a lower one.
     fn kept_in(&self, new: EndOfData) -> u8 {
         match self.history().map(|history| history.end()) {
             Some(end) if end.session == new.session && new.version <= end.version => end.version,
@@ -218,7 +218,7 @@ impl Store {
         }
     }
 
-    /// Why data with this end are refused.
+    /// Returns why data with this end are refused.
     fn refusal(&self, refused: u8, new: EndOfData) -> UpdateError {
         match refused {
             status::OTHER_SESSION => UpdateError::OtherSession,
@@ -258,7 +258,7 @@ impl Store {
         stores.map_or(false, |stores| self.state(stores).waits)
     }
 
-    /// The history that is served.
+    /// Returns the history that is served.
     pub(crate) fn history(&self) -> Option<History> {
         self.history_of(&self.state(self.stores.as_ref()?))
     }
@@ -274,7 +274,7 @@ impl Store {
     }
 }
 
-/// The index of the buffer with the store that is served, and of the other one.
+/// Returns the index of the buffer with the store that is served, and of the other one.
 fn places(state: &StoresState) -> (usize, usize) {
     (usize::from(state.second), usize::from(!state.second))
 }
@@ -284,14 +284,14 @@ fn state_of(stores: &Stores, [first, second]: &[Arc<Memory>; 2]) -> StoresState 
     calls::stores_state(stores, first, second).0
 }
 
-/// The stores of a cache that doesn't save, whose data are all of this session.
+/// Returns the stores of a cache that doesn't save, whose data are all of this session.
 fn unsaved(session: u16) -> Stores {
     let mut stores = Stores::default();
     calls::stores_unsaved(&mut stores, session);
     stores
 }
 
-/// The stores of a cache at a start, if this is a whole store.
+/// Returns the stores of a cache at a start, if this is a whole store.
 fn started(store: &Memory) -> io::Result<Stores> {
     let mut stores = Stores::default();
     let answer = Rooms::default().call(|rooms| {
@@ -304,8 +304,8 @@ fn started(store: &Memory) -> io::Result<Stores> {
     }
 }
 
-/// The store in a file, also in one that begins with `rtrkept1`, of versions before 0.3.0, if its
-/// head is that of what follows.
+/// Returns the store in a file, also in one that begins with `rtrkept1`, of versions before 0.3.0,
+/// if its head is that of what follows.
 fn unsealed(mut file: Vec<u8>) -> io::Result<Memory> {
     if calls::store_open(&file) {
         file.drain(..size_of::<StoreHead>());
@@ -318,7 +318,7 @@ fn unsealed(mut file: Vec<u8>) -> io::Result<Memory> {
     }
 }
 
-/// The error for a file that was changed or damaged.
+/// Returns the error for a file that was changed or damaged.
 fn damaged() -> io::Error {
     io::Error::new(ErrorKind::InvalidData, failure::DAMAGED)
 }
@@ -328,23 +328,23 @@ fn damaged() -> io::Error {
 pub(crate) struct History(Body);
 
 impl History {
-    /// The present data, in canonical form.
+    /// Returns the present data, in canonical form.
     pub(crate) fn data(&self) -> Body {
         part(&self.0).expect("a history has data")
     }
 
-    /// A copy of the present data.
+    /// Returns a copy of the present data.
     pub(crate) fn to_data(&self) -> Data {
         Data::parse(&self.data()).expect("a history has data in canonical form")
     }
 
-    /// The end of the present data.
+    /// Returns the end of the present data.
     pub(crate) fn end(&self) -> EndOfData {
         end_of(&self.data())
     }
 
-    /// The empty changes since the present data, as encoded for a version: as `since` returns them,
-    /// but without reading the data.
+    /// Returns the empty changes since the present data, as encoded for a version: as `since`
+    /// returns them, but without reading the data.
     pub(crate) fn nothing(&self, version: u8) -> Vec<u8> {
         let (data, end) = (self.data(), self.end());
         let unit: UnitRef = Unit::EndOfData(end);
@@ -352,14 +352,15 @@ impl History {
         in_version(bytes, end.version, version).into_owned()
     }
 
-    /// The serial numbers of the earlier data to which steps lead back, the latest first.
+    /// Returns the serial numbers of the earlier data to which steps lead back, the latest first.
     pub(crate) fn known(&self) -> Vec<u32> {
         let mut known = vec![0; calls::history_serials(&self.0, &mut []).wanted];
         calls::history_serials(&self.0, &mut known);
         known
     }
 
-    /// The changes since a known serial number, or the present one, as encoded for a version.
+    /// Returns the changes since a known serial number, or the present one, as encoded for a
+    /// version.
     pub(crate) fn since(&self, serial: u32, version: u8) -> Vec<u8> {
         let present = self.data().len();
         let steps = self.0.len() - present;
@@ -380,13 +381,14 @@ impl History {
     }
 }
 
-/// The bytes of the first part of a history, or of the steps behind it, which have its form.
+/// Returns the bytes of the first part of a history, or of the steps behind it, which have its
+/// form.
 fn part(history: &Body) -> Option<Body> {
     let (offset, length, is_found) = calls::history_data(history);
     is_found.then(|| history.within(offset, length))
 }
 
-/// The end of data or changes in canonical form.
+/// Returns the end of data or changes in canonical form.
 fn end_of(part: &[u8]) -> EndOfData {
     let first = Unit::first(part).map(|(unit, _)| unit.version());
     let end: UnitRef = Unit::EndOfData(EndOfData {
@@ -401,7 +403,7 @@ fn end_of(part: &[u8]) -> EndOfData {
     }
 }
 
-/// Data of one version, as encoded for another.
+/// Returns data of one version as encoded for another.
 pub(crate) fn in_version(data: &[u8], of: u8, version: u8) -> Cow<'_, [u8]> {
     if of == version {
         return Cow::Borrowed(data);

@@ -24,7 +24,7 @@ use core::time::Duration;
 #[cfg(feature = "alloc")]
 const ROUTES_AT_ONCE: usize = 4096;
 
-/// The default settings of a router's machine, with this version, or 2 if it is higher.
+/// Returns the default settings of a router's machine, with this version, or 2 if it is higher.
 #[cfg(feature = "alloc")]
 pub(crate) fn usual_settings(highest: u8) -> abi::Settings {
     let mut settings = abi::Settings::default();
@@ -32,7 +32,7 @@ pub(crate) fn usual_settings(highest: u8) -> abi::Settings {
     settings
 }
 
-/// The default limits of a server.
+/// Returns the default limits of a server.
 #[cfg(feature = "alloc")]
 pub(crate) fn usual_server_settings() -> abi::ServerSettings {
     let mut settings = abi::ServerSettings::default();
@@ -40,7 +40,7 @@ pub(crate) fn usual_server_settings() -> abi::ServerSettings {
     settings
 }
 
-/// The answer as a result.
+/// Converts an answer to a result.
 fn result(answer: Answer) -> Result<Progress, Stopped> {
     let progress = Progress {
         units: answer.units,
@@ -91,7 +91,8 @@ pub(crate) struct Text {
 }
 
 impl Text {
-    /// The text that a call writes to the front of these bytes; the call returns its length.
+    /// Returns the text that a call writes to the front of these bytes; the call returns its
+    /// length.
     fn by(call: impl FnOnce(&mut [u8]) -> (usize, u8)) -> Self {
         let mut text = Text {
             bytes: [0; abi::TEXT_ROOM],
@@ -112,23 +113,23 @@ impl Deref for Text {
     }
 }
 
-/// The text of a status with its detail.
+/// Returns the text of a status with its detail.
 pub(crate) fn status_text(status: u8, detail: u8) -> Text {
     Text::by(|output| calls::text(status, detail, output))
 }
 
-/// A duration in milliseconds; only zero becomes zero.
+/// Converts a duration to milliseconds; only zero becomes zero.
 pub(crate) fn milliseconds(span: Duration) -> u32 {
     let whole = u32::try_from(span.as_millis()).unwrap_or(u32::MAX);
     whole.max(u32::from(!span.is_zero()))
 }
 
-/// The name of a number; `named` selects the table of names.
+/// Returns the name of a number; `named` selects the table of names.
 pub(crate) fn name(named: u8, number: u16) -> Text {
     Text::by(|output| calls::name(named, number, output))
 }
 
-/// The first rule of RFC 8210 section 6 that these times break, or 0.
+/// Returns the first rule of RFC 8210 section 6 that these times break, or 0.
 #[cfg(feature = "std")]
 pub(crate) fn times_rule(timing: Timing) -> u8 {
     calls::times_rule(timing.refresh, timing.retry, timing.expire)
@@ -141,19 +142,19 @@ pub(crate) fn line(input: &[u8], offset: u64, output: &mut [u8]) -> Result<(usiz
     lined(calls::line(input, offset, output))
 }
 
-/// Like `line`, for the JSON object.
+/// Writes the JSON object of a unit, as `line` writes its line.
 #[cfg(feature = "alloc")]
 pub(crate) fn json(input: &[u8], offset: u64, output: &mut [u8]) -> Result<(usize, usize), Fault> {
     lined(calls::json(input, offset, output))
 }
 
-/// Like `line`, for the change that the unit makes.
+/// Writes the line of the change that the unit makes, as `line` does.
 #[cfg(feature = "alloc")]
 pub(crate) fn change_line(input: &[u8], output: &mut [u8]) -> Result<(usize, usize), Fault> {
     lined(calls::change_line(input, output))
 }
 
-/// Like `change_line`, for the JSON object.
+/// Writes the JSON object of that change, as `change_line` writes its line.
 #[cfg(feature = "alloc")]
 pub(crate) fn change_json(input: &[u8], output: &mut [u8]) -> Result<(usize, usize), Fault> {
     lined(calls::change_json(input, output))
@@ -177,8 +178,8 @@ pub(crate) fn check_name(input: &[u8], output: &mut [u8]) -> Result<abi::Naming,
     }
 }
 
-/// `part` is the key info, the providers, or the unit that a report is about. The fault has no
-/// version and no broken rule.
+/// Writes a unit; `part` is the key info, the providers, or the unit that a report is about. The
+/// fault has no version and no broken rule.
 pub(crate) fn write(unit: &Unit, part: &[u8], output: &mut [u8]) -> Result<usize, Fault> {
     let unit = Unit {
         part_length: part.len(),
@@ -296,12 +297,12 @@ fn route_numbers(route: &Route) -> RouteNumbers {
     numbers
 }
 
-/// The validity of a route, whose length is in range, by the data of the lookup.
+/// Returns the validity of a route, whose length is in range, by the data of the lookup.
 pub(crate) fn validate(data: &[u8], lookup: &Lookup, route: &Route) -> Validity {
     validity_of(calls::validate(data, lookup, &route_numbers(route)))
 }
 
-/// The validity with this number. The other numbers are those of no route and of no data.
+/// Returns the validity with this number. The other numbers are those of no route and of no data.
 fn validity_of(number: u8) -> Validity {
     match number {
         validity::VALID => Validity::Valid,
@@ -310,7 +311,7 @@ fn validity_of(number: u8) -> Validity {
     }
 }
 
-/// The validity of each route, as `validate` returns it.
+/// Returns the validity of each route, as `validate` returns it.
 #[cfg(feature = "alloc")]
 pub(crate) fn validate_all(data: &[u8], lookup: &Lookup, routes: &[Route]) -> Vec<Validity> {
     let mut validities = Vec::with_capacity(routes.len());
@@ -323,7 +324,7 @@ pub(crate) fn validate_all(data: &[u8], lookup: &Lookup, routes: &[Route]) -> Ve
     validities
 }
 
-/// The first VRP from this index on that covers a route.
+/// Returns the first VRP from this index on that covers a route.
 pub(crate) fn covering(
     data: &[u8],
     lookup: &Lookup,
@@ -334,7 +335,7 @@ pub(crate) fn covering(
     (answer == covers::ONE).then_some(found)
 }
 
-/// The code of the report that is owed for this status of the first unit of the input.
+/// Returns the code of the report that is owed for this status of the first unit of the input.
 pub(crate) fn error_code(status: u8, input: &[u8]) -> Option<u16> {
     let (code, is_owed) = calls::error_code(status, input);
     is_owed.then_some(code)
@@ -414,7 +415,7 @@ impl Unit {
         Ipv4Addr::new(a, b, c, d)
     }
 
-    /// The timings of an end of data; version 0 has none.
+    /// Returns the timings of an end of data; version 0 has none.
     fn timing(&self) -> Option<Timing> {
         (self.version > 0).then_some(Timing {
             refresh: self.refresh,

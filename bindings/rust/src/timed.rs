@@ -61,24 +61,24 @@ impl Stop {
     }
 }
 
-/// A duration in milliseconds, rounded up.
+/// Converts a duration to milliseconds, rounded up.
 fn in_milliseconds(span: Duration) -> u64 {
     let whole = u64::try_from(span.as_millis()).unwrap_or(u64::MAX);
     whole.saturating_add(u64::from(span.subsec_nanos() % 1_000_000 > 0))
 }
 
-/// The moment after a duration; the far future if there is none.
+/// Returns the moment after a duration; the far future if there is none.
 pub(crate) fn after(start: Instant, time: Duration) -> Instant {
     const CENTURY: Duration = Duration::from_secs(100 * 365 * 24 * 60 * 60);
     start.checked_add(time).unwrap_or(start + CENTURY)
 }
 
-/// Milliseconds since this moment.
+/// Returns the milliseconds since this moment.
 pub(crate) fn milliseconds_since(begun: Instant) -> u64 {
     u64::try_from(begun.elapsed().as_millis()).unwrap_or(u64::MAX)
 }
 
-/// The duration until a moment.
+/// Returns the duration until a moment.
 fn left(until: Instant) -> Duration {
     until.saturating_duration_since(Instant::now())
 }

@@ -188,7 +188,7 @@ pub struct Aspa<B> {
 pub struct Providers<B>(pub B);
 
 impl<B: AsRef<[u8]>> Providers<B> {
-    /// The providers as numbers, in their order.
+    /// Returns the providers as numbers, in their order.
     pub fn iter(&self) -> impl ExactSizeIterator<Item = u32> + DoubleEndedIterator + '_ {
         self.0
             .as_ref()
@@ -269,7 +269,7 @@ impl<'a> UnitRef<'a> {
         Ok((unit.typed(bytes), rest))
     }
 
-    /// The unit with a copy of its bytes.
+    /// Returns the unit with a copy of its bytes.
     #[cfg(feature = "alloc")]
     pub fn into_owned(self) -> OwnedUnit {
         self.map(<[u8]>::to_vec)
@@ -277,7 +277,7 @@ impl<'a> UnitRef<'a> {
 }
 
 impl<B> Unit<B> {
-    /// The type of the unit.
+    /// Returns the type of the unit.
     pub fn kind(&self) -> Kind {
         match self {
             Unit::SerialNotify(_) => Kind::SerialNotify,
@@ -294,7 +294,7 @@ impl<B> Unit<B> {
         }
     }
 
-    /// The version of the protocol.
+    /// Returns the version of the protocol.
     pub fn version(&self) -> u8 {
         match self {
             Unit::SerialNotify(unit) => unit.version,
@@ -360,7 +360,7 @@ impl<B> Unit<B> {
 }
 
 impl<B: AsRef<[u8]>> Unit<B> {
-    /// The size of the written form in bytes, if the unit can be written.
+    /// Returns the size of the written form in bytes, if the unit can be written.
     #[allow(clippy::match_same_arms)] // in the order of the sections of RFC 8210
     pub fn size(&self) -> usize {
         match self {
@@ -442,7 +442,7 @@ impl<B: AsRef<[u8]>> Unit<B> {
     }
 }
 
-/// The first part of the rule on lengths that a prefix breaks.
+/// Returns the first part of the rule on lengths that a prefix breaks.
 fn broken(width: u8, length: u8, max_length: u8) -> PrefixRule {
     if length > width {
         PrefixRule::LengthOver
@@ -455,7 +455,7 @@ fn broken(width: u8, length: u8, max_length: u8) -> PrefixRule {
 
 #[cfg(feature = "alloc")]
 impl ErrorReport<&[u8]> {
-    /// The report with a copy of its bytes.
+    /// Returns the report with a copy of its bytes.
     pub(crate) fn into_owned(self) -> ErrorReport<Vec<u8>> {
         ErrorReport {
             version: self.version,
@@ -469,7 +469,7 @@ impl ErrorReport<&[u8]> {
 }
 
 impl<B: AsRef<[u8]>> ErrorReport<B> {
-    /// The unit that the report is about, and its text.
+    /// Returns the unit that the report is about, and its text.
     fn parts(&self) -> (&[u8], &[u8]) {
         match &self.parts {
             Some(parts) => (parts.unit.as_ref(), parts.text.as_ref()),

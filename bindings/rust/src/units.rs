@@ -52,13 +52,14 @@ impl<'a> Units<'a> {
         }
     }
 
-    /// The number of bytes of the units so far; after a fault, the offset of the refused unit.
+    /// Returns the number of bytes of the units so far; after a fault, the offset of the refused
+    /// unit.
     #[must_use]
     pub fn offset(&self) -> usize {
         self.offset
     }
 
-    /// The rest of the input after the units so far.
+    /// Returns the rest of the input after the units so far.
     #[must_use]
     pub fn rest(&self) -> &'a [u8] {
         &self.input[self.offset..]

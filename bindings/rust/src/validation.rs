@@ -93,19 +93,19 @@ impl Route {
         })
     }
 
-    /// The address of the prefix, whose host bits are zero.
+    /// Returns the address of the prefix, whose host bits are zero.
     #[must_use]
     pub fn address(&self) -> IpAddr {
         self.address
     }
 
-    /// The length of the prefix in bits.
+    /// Returns the length of the prefix in bits.
     #[must_use]
     pub fn length(&self) -> u8 {
         self.length
     }
 
-    /// The origin AS, or 0 if there is no single origin.
+    /// Returns the origin AS, or 0 if there is no single origin.
     #[must_use]
     pub fn asn(&self) -> u32 {
         self.asn
@@ -198,22 +198,22 @@ impl<'a> Tables<'a> {
         Ok(Tables { data, lookup })
     }
 
-    /// The validity of the route by the VRPs of the data (RFC 6811 section 2).
+    /// Returns the validity of the route by the VRPs of the data (RFC 6811 section 2).
     #[must_use]
     pub fn validate(&self, route: &Route) -> Validity {
         sys::validate(self.data, &self.lookup, route)
     }
 
-    /// The validity of each route, as [`Tables::validate`] returns it, in the same order. The
-    /// routes may come in any order; it is fastest if those of a family are in the order of their
-    /// addresses, as in a routing table.
+    /// Returns the validity of each route, as [`Tables::validate`] returns it, in the same order.
+    /// The routes may come in any order; it is fastest if those of a family are in the order of
+    /// their addresses, as in a routing table.
     #[cfg(feature = "alloc")]
     #[must_use]
     pub fn validate_all(&self, routes: &[Route]) -> Vec<Validity> {
         sys::validate_all(self.data, &self.lookup, routes)
     }
 
-    /// The VRPs of the data that cover the route, in the order of payloads.
+    /// Returns the VRPs of the data that cover the route, in the order of payloads.
     #[must_use]
     pub fn covering(&self, route: &Route) -> Covering<'_> {
         Covering::new(self.data, &self.lookup, route)

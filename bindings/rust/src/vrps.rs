@@ -34,7 +34,7 @@ impl RoaPayload {
         }
     }
 
-    /// The unit that announces it.
+    /// Returns the unit that announces it.
     fn unit(self, version: u8) -> UnitRef<'static> {
         let (length, asn) = (self.length, self.asn);
         let max_length = self.max_length.unwrap_or(length);
@@ -160,7 +160,7 @@ impl Data {
         })
     }
 
-    /// The VRPs of the data, in their order.
+    /// Returns the VRPs of the data, in their order.
     pub fn vrps(&self) -> impl Iterator<Item = RoaPayload> + Clone + '_ {
         self.units().filter_map(|unit| RoaPayload::of(&unit))
     }

@@ -166,7 +166,7 @@ pub(crate) struct Waker(UnixStream);
 #[derive(Debug)]
 pub(crate) struct Woken(UnixStream);
 
-/// A waker, and the end that it wakes.
+/// Creates a waker, and the end that it wakes.
 pub(crate) fn waker() -> std::io::Result<(Waker, Woken)> {
     let (waker, woken) = UnixStream::pair()?;
     waker.set_nonblocking(true)?;

@@ -32,17 +32,17 @@ impl<W> Writer<W> {
         }
     }
 
-    /// The writer inside.
+    /// Returns the writer inside.
     pub fn get_ref(&self) -> &W {
         &self.inner
     }
 
-    /// The writer inside.
+    /// Returns the writer inside.
     pub fn get_mut(&mut self) -> &mut W {
         &mut self.inner
     }
 
-    /// The writer inside.
+    /// Returns the writer inside.
     pub fn into_inner(self) -> W {
         self.inner
     }
