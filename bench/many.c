@@ -29,20 +29,20 @@ enum { VERSION = 1, NOTIFY = 0, SERIAL_QUERY = 1, RESET_QUERY = 2, END = 7, REPO
 enum { HEAD = 8, END_SIZE = 24, PER_ADDRESS = 100, EVENTS = 256 };
 enum { BUFFER = 1 << 16, PIECE = 1 << 20 };
 
-/* A router: how many bytes of an answer have come; when it reads units, the front of the current
- * unit, and how many bytes of it are still to come after that. */
+/* A router: the number of bytes that it received of an answer; while it reads units, the first
+ * bytes of the current unit, and the number of bytes that are missing behind them. */
 struct router {
     int socket;
-    uint64_t came, behind;
-    uint8_t front[END_SIZE];
-    uint32_t filled;
+    uint64_t received, remaining;
+    uint8_t head[END_SIZE];
+    uint32_t head_size;
 };
 
 static struct router *routers;
 static size_t count;
-static int poller;
-static uint64_t length; /* of all data */
-static uint8_t last[END_SIZE];
+static int epoll_fd;
+static uint64_t data_length; /* of all data in bytes */
+static uint8_t end_of_data[END_SIZE];
 
 static int64_t now(void)
 {
@@ -57,18 +57,19 @@ static void fail(const char *what)
     exit(1);
 }
 
-static uint32_t number_at(const uint8_t *at)
+static uint32_t read_u32(const uint8_t *bytes)
 {
-    return (uint32_t)at[0] << 24 | (uint32_t)at[1] << 16 | (uint32_t)at[2] << 8 | at[3];
+    return (uint32_t)bytes[0] << 24 | (uint32_t)bytes[1] << 16 | (uint32_t)bytes[2] << 8
+        | bytes[3];
 }
 
-/* Connects the router of this number to the port. */
-static void connect_one(struct router *r, size_t number, uint16_t port)
+/* Connects the router of this number to the port, from an address of PER_ADDRESS routers. */
+static void connect_router(struct router *r, size_t number, uint16_t port)
 {
     int bytes = BUFFER, yes = 1;
-    size_t at = number / PER_ADDRESS;
+    size_t host = number / PER_ADDRESS;
     struct sockaddr_in from = {.sin_family = AF_INET}, to = {.sin_family = AF_INET};
-    from.sin_addr.s_addr = htonl(0x7f000101 + (uint32_t)(at / 250 << 8 | at % 250));
+    from.sin_addr.s_addr = htonl(0x7f000101 + (uint32_t)(host / 250 << 8 | host % 250));
     to.sin_addr.s_addr = htonl(INADDR_LOOPBACK);
     to.sin_port = htons(port);
     memset(r, 0, sizeof *r);
@@ -94,11 +95,13 @@ static void ask_all(struct router *r)
     send_all(r, query, sizeof query);
 }
 
-/* Asks for what changed since the end of data of the first router. */
+/* Asks for the changes since the end of data of the first router. */
 static void ask_changes(struct router *r)
 {
-    uint8_t query[12] = {VERSION, SERIAL_QUERY, last[2], last[3], 0, 0, 0, sizeof query};
-    memcpy(query + HEAD, last + HEAD, 4);
+    uint8_t query[12] = {
+        VERSION, SERIAL_QUERY, end_of_data[2], end_of_data[3], 0, 0, 0, sizeof query,
+    };
+    memcpy(query + HEAD, end_of_data + HEAD, 4);
     send_all(r, query, sizeof query);
 }
 
@@ -107,22 +110,22 @@ static int read_units(struct router *r, const uint8_t *bytes, size_t size)
 {
     int type = -1;
     while (size) {
-        if (r->filled < HEAD || !r->behind) {
-            r->front[r->filled++] = *bytes++;
+        if (r->head_size < HEAD || !r->remaining) {
+            r->head[r->head_size++] = *bytes++;
             size -= 1;
-            r->behind = r->filled == HEAD ? number_at(r->front + 4) - HEAD : 0;
+            r->remaining = r->head_size == HEAD ? read_u32(r->head + 4) - HEAD : 0;
         } else {
-            size_t taken = size < r->behind ? size : r->behind;
-            size_t kept = taken < END_SIZE - r->filled ? taken : END_SIZE - r->filled;
-            memcpy(r->front + r->filled, bytes, kept);
-            r->filled += (uint32_t)kept;
-            r->behind -= taken;
+            size_t taken = size < r->remaining ? size : r->remaining;
+            size_t copied = taken < END_SIZE - r->head_size ? taken : END_SIZE - r->head_size;
+            memcpy(r->head + r->head_size, bytes, copied);
+            r->head_size += (uint32_t)copied;
+            r->remaining -= taken;
             bytes += taken;
             size -= taken;
         }
-        if (r->filled >= HEAD && !r->behind) {
-            type = r->front[1];
-            r->filled = 0;
+        if (r->head_size >= HEAD && !r->remaining) {
+            type = r->head[1];
+            r->head_size = 0;
             if (type == REPORT)
                 fail("a report came");
         }
@@ -130,45 +133,45 @@ static int read_units(struct router *r, const uint8_t *bytes, size_t size)
     return type;
 }
 
-/* Has the first router read all data, and notes their length and end of data. */
-static void read_first(uint16_t port)
+/* Reads all data by a first router, and keeps their length and their end of data. */
+static void read_all_data(uint16_t port)
 {
     static uint8_t bytes[PIECE];
     struct router r;
-    connect_one(&r, 0, port);
+    connect_router(&r, 0, port);
     ask_all(&r);
     for (int type = -1; type != END;) {
         ssize_t size = recv(r.socket, bytes, sizeof bytes, 0);
         if (size <= 0)
             fail("recv");
-        r.came += (uint64_t)size;
+        r.received += (uint64_t)size;
         type = read_units(&r, bytes, (size_t)size);
     }
-    length = r.came;
-    memcpy(last, r.front, sizeof last);
+    data_length = r.received;
+    memcpy(end_of_data, r.head, sizeof end_of_data);
     close(r.socket);
 }
 
-/* Skips the bytes that came of all data. Returns whether all of them have come. */
-static bool pass_over(struct router *r)
+/* Skips the received bytes of all data. Reports whether all of them have come. */
+static bool skip_data(struct router *r)
 {
-    uint64_t left = length - r->came, passed = left > END_SIZE ? left - END_SIZE : 0;
-    int how = MSG_DONTWAIT | (passed ? MSG_TRUNC : 0);
-    size_t most = passed < PIECE ? passed : PIECE;
-    ssize_t size = recv(r->socket, passed ? NULL : r->front + END_SIZE - left,
-                        passed ? most : left, how);
+    uint64_t missing = data_length - r->received;
+    uint64_t skippable = missing > END_SIZE ? missing - END_SIZE : 0;
+    int flags = MSG_DONTWAIT | (skippable ? MSG_TRUNC : 0);
+    size_t limit = skippable < PIECE ? skippable : PIECE;
+    ssize_t size = recv(r->socket, skippable ? NULL : r->head + END_SIZE - missing,
+                        skippable ? limit : missing, flags);
     if (size < 0 && errno == EAGAIN)
         return false;
     if (size <= 0)
         fail("recv");
-    r->came += (uint64_t)size;
-    if (r->came == length && memcmp(r->front, last, sizeof last))
+    r->received += (uint64_t)size;
+    if (r->received == data_length && memcmp(r->head, end_of_data, sizeof end_of_data))
         fail("another end of data");
-    return r->came == length;
+    return r->received == data_length;
 }
 
-/* Reads the bytes that came of a notify and of changes. Returns whether the changes are
- * complete. */
+/* Reads the received bytes of a notify and of changes. Reports whether the changes are complete. */
 static bool read_changes(struct router *r)
 {
     static uint8_t bytes[BUFFER];
@@ -177,85 +180,85 @@ static bool read_changes(struct router *r)
         return false;
     if (size <= 0)
         fail("recv");
-    r->came += (uint64_t)size;
+    r->received += (uint64_t)size;
     int type = read_units(r, bytes, (size_t)size);
     if (type == NOTIFY)
         ask_changes(r);
     return type == END;
 }
 
-/* Runs all routers until they are done or the time is up; returns how many aren't done. */
-static size_t go_on(bool (*step)(struct router *), int64_t until)
+/* Runs all routers until they are done or the deadline. Returns how many aren't done. */
+static size_t run_all(bool (*step)(struct router *), int64_t deadline)
 {
     struct epoll_event events[EVENTS];
-    size_t left = count;
-    while (left && now() < until) {
-        int ready = epoll_wait(poller, events, EVENTS, 100);
+    size_t waiting = count;
+    while (waiting && now() < deadline) {
+        int ready = epoll_wait(epoll_fd, events, EVENTS, 100);
         for (int i = 0; i < ready; i++) {
             struct router *r = events[i].data.ptr;
-            left -= step(r);
+            waiting -= step(r);
         }
     }
-    return left;
+    return waiting;
 }
 
 static void connect_all(uint16_t port)
 {
     for (size_t i = 0; i < count; i++) {
         struct epoll_event event = {.events = EPOLLIN, .data.ptr = &routers[i]};
-        connect_one(&routers[i], i, port);
-        epoll_ctl(poller, EPOLL_CTL_ADD, routers[i].socket, &event);
+        connect_router(&routers[i], i, port);
+        epoll_ctl(epoll_fd, EPOLL_CTL_ADD, routers[i].socket, &event);
     }
 }
 
-/* Takes a step; returns how many routers aren't done when the time is up. */
-static size_t take(const char *step, uint16_t port, int64_t until)
+/* Runs a step. Returns how many routers aren't done at the deadline. */
+static size_t run_step(const char *step, uint16_t port, int64_t deadline)
 {
     for (size_t i = 0; i < count; i++)
-        routers[i].came = 0;
+        routers[i].received = 0;
     if (!strcmp(step, "connect")) {
         connect_all(port);
         return 0;
     }
     if (!strcmp(step, "changes"))
-        return go_on(read_changes, until);
+        return run_all(read_changes, deadline);
     for (size_t i = 0; i < count; i++)
         ask_all(&routers[i]);
-    return go_on(pass_over, until);
+    return run_all(skip_data, deadline);
 }
 
-static uint64_t bytes_that_came(void)
+static uint64_t bytes_received(void)
 {
     uint64_t bytes = 0;
     for (size_t i = 0; i < count; i++)
-        bytes += routers[i].came;
+        bytes += routers[i].received;
     return bytes;
 }
 
-int main(int words, char **word)
+int main(int argc, char **argv)
 {
-    if (words != 4) {
+    if (argc != 4) {
         fprintf(stderr, "usage: many PORT COUNT SECONDS\n");
         return 2;
     }
-    uint16_t port = (uint16_t)atoi(word[1]);
-    int64_t limit = (int64_t)(atof(word[3]) * 1e9);
-    count = (size_t)atol(word[2]);
+    uint16_t port = (uint16_t)atoi(argv[1]);
+    int64_t limit = (int64_t)(atof(argv[3]) * 1e9);
+    count = (size_t)atol(argv[2]);
     routers = calloc(count, sizeof *routers);
-    poller = epoll_create1(EPOLL_CLOEXEC);
+    epoll_fd = epoll_create1(EPOLL_CLOEXEC);
     setvbuf(stdout, NULL, _IOLBF, 0);
-    int64_t from = now();
-    read_first(port);
-    printf("first %" PRId64 " %" PRId64 " %" PRIu64 "\n", from, now(), length);
+    int64_t start = now();
+    read_all_data(port);
+    printf("first %" PRId64 " %" PRId64 " %" PRIu64 "\n", start, now(), data_length);
     char step[20];
     while (scanf("%19s", step) == 1) {
-        from = now();
-        size_t left = take(step, port, from + limit);
-        if (left) {
-            printf("late %zu %" PRIu64 "\n", left, bytes_that_came());
+        start = now();
+        size_t waiting = run_step(step, port, start + limit);
+        if (waiting) {
+            printf("late %zu %" PRIu64 "\n", waiting, bytes_received());
             return 1;
         }
-        printf("%s %" PRId64 " %" PRId64 " %" PRIu64 "\n", step, from, now(), bytes_that_came());
+        printf("%s %" PRId64 " %" PRId64 " %" PRIu64 "\n", step, start, now(), bytes_received());
     }
     return 0;
 }

@@ -21,23 +21,23 @@
 #include <rtrlib/rtrlib.h>
 #endif
 
-/* No VRP is of this AS. */
-#define NOBODY 4200000000u
+/* No VRP has this AS. */
+#define UNUSED_AS 4200000000u
 
 #define MOST_ROUNDS 99
 
-/* One VRP in FEW is a short one. */
-#define FEW 5000
+/* One VRP in SHORT_SHARE is short. */
+#define SHORT_SHARE 5000
 
-/* A VRP. Its bytes up to the AS compare in the order of payloads. */
+/* A VRP. Its bytes up to the AS have the order of payloads. */
 struct vrp {
-    uint8_t family, address[16], length, most;
+    uint8_t family, address[16], length, max_length;
     uint32_t asn;
 };
 
 static uint64_t seed = 88172645463325252u;
 
-static uint64_t any(uint64_t below)
+static uint64_t random_below(uint64_t below)
 {
     seed ^= seed << 13;
     seed ^= seed >> 7;
@@ -65,36 +65,36 @@ static void clear(uint8_t *address, uint8_t length)
         address[i / 8] &= (uint8_t)~(0x80 >> i % 8);
 }
 
-/* A random address of the space that is allocated to networks. */
-static void any_address(struct vrp *vrp)
+/* Sets a random address of the space that is allocated to networks. */
+static void random_address(struct vrp *vrp)
 {
     memset(vrp->address, 0, sizeof vrp->address);
     for (int i = 0; i < (vrp->family == 4 ? 4 : 16); i++)
-        vrp->address[i] = (uint8_t)any(256);
-    vrp->address[0] = vrp->family == 4 ? (uint8_t)(1 + any(222)) : (uint8_t)(0x20 + any(2));
+        vrp->address[i] = (uint8_t)random_below(256);
+    vrp->address[0] = (uint8_t)(vrp->family == 4 ? 1 + random_below(222) : 0x20 + random_below(2));
 }
 
-/* Lengths about as often as they are among the VRPs of the RPKI, where few are short, and half of
- * these VRPs below another. */
-static void any_vrp(struct vrp *vrp, const struct vrp *others, size_t count)
+/* Makes a random VRP, with lengths about as frequent as among the VRPs of the RPKI, where few are
+ * short; half of the VRPs are below another. */
+static void random_vrp(struct vrp *vrp, const struct vrp *others, size_t count)
 {
     static const uint8_t lengths[2][20] = {
         {24, 24, 24, 24, 24, 24, 24, 24, 24, 24, 24, 23, 23, 22, 22, 21, 20, 19, 18, 16},
         {48, 48, 48, 48, 48, 48, 48, 48, 48, 48, 44, 44, 40, 40, 36, 32, 32, 32, 32, 29},
     };
     static const uint8_t shortest[2][2] = {{8, 12}, {24, 28}};
-    vrp->length = any(FEW) ? lengths[vrp->family == 6][any(20)]
-                           : shortest[vrp->family == 6][any(2)];
-    any_address(vrp);
-    if (count > 0 && any(2)) {
-        const struct vrp *above = others + any(count);
+    vrp->length = random_below(SHORT_SHARE) ? lengths[vrp->family == 6][random_below(20)]
+                                            : shortest[vrp->family == 6][random_below(2)];
+    random_address(vrp);
+    if (count > 0 && random_below(2)) {
+        const struct vrp *above = others + random_below(count);
         if (above->family == vrp->family)
             for (int i = 0; i < above->length / 8; i++)
                 vrp->address[i] = above->address[i];
     }
     clear(vrp->address, vrp->length);
-    vrp->most = any(3) ? vrp->length : (uint8_t)(vrp->length + any(5));
-    vrp->asn = (uint32_t)(1 + any(70000));
+    vrp->max_length = random_below(3) ? vrp->length : (uint8_t)(vrp->length + random_below(5));
+    vrp->asn = (uint32_t)(1 + random_below(70000));
 }
 
 static int compare(const void *left, const void *right)
@@ -104,14 +104,14 @@ static int compare(const void *left, const void *right)
     return order ? order : (a->asn > b->asn) - (a->asn < b->asn);
 }
 
-/* Makes VRPs in their order, each once, and returns how many. */
+/* Makes different VRPs in their order, and returns how many. */
 static size_t make_vrps(struct vrp *vrps, size_t count)
 {
     size_t kept = 0;
     for (size_t i = 0; i < count; i++) {
         memset(vrps + i, 0, sizeof vrps[i]);
         vrps[i].family = i % 6 < 5 ? 4 : 6;
-        any_vrp(vrps + i, vrps, i);
+        random_vrp(vrps + i, vrps, i);
     }
     qsort(vrps, count, sizeof *vrps, compare);
     for (size_t i = 0; i < count; i++)
@@ -120,38 +120,39 @@ static size_t make_vrps(struct vrp *vrps, size_t count)
     return kept;
 }
 
-static void put32(uint8_t *at, uint32_t number)
+static void put32(uint8_t *bytes, uint32_t number)
 {
     for (int i = 0; i < 4; i++)
-        at[i] = (uint8_t)(number >> (24 - 8 * i));
+        bytes[i] = (uint8_t)(number >> (24 - 8 * i));
 }
 
 /* Writes the units that announce the VRPs, and an end of data of version 0. */
 static size_t write_data(const struct vrp *vrps, size_t count, uint8_t *data)
 {
-    uint8_t *at = data;
+    uint8_t *next = data;
     for (size_t i = 0; i < count; i++) {
         uint8_t octets = width(vrps + i) / 8, size = (uint8_t)(16 + octets);
         const uint8_t head[12] = {
-            0, vrps[i].family, 0, 0, 0, 0, 0, size, 1, vrps[i].length, vrps[i].most, 0,
+            0, vrps[i].family, 0, 0, 0, 0, 0, size, 1, vrps[i].length, vrps[i].max_length, 0,
         };
-        memcpy(at, head, 12);
-        memcpy(at + 12, vrps[i].address, octets);
-        put32(at + 12 + octets, vrps[i].asn);
-        at += size;
+        memcpy(next, head, 12);
+        memcpy(next + 12, vrps[i].address, octets);
+        put32(next + 12 + octets, vrps[i].asn);
+        next += size;
     }
     const uint8_t end[12] = {0, 7, 0, 1, 0, 0, 0, 12, 0, 0, 0, 1};
-    memcpy(at, end, 12);
-    return (size_t)(at + 12 - data);
+    memcpy(next, end, 12);
+    return (size_t)(next + 12 - data);
 }
 
-/* A route at or below a VRP, of any length that the VRP allows. */
-static void below(struct rtr_route *route, const struct vrp *vrp)
+/* Makes a random route at or below a VRP, of a length that the VRP allows. */
+static void random_route(struct rtr_route *route, const struct vrp *vrp)
 {
     route->family = vrp->family;
-    route->prefix_length = (uint8_t)(vrp->length + any(1u + vrp->most - vrp->length));
+    uint64_t longer = random_below(1u + vrp->max_length - vrp->length);
+    route->prefix_length = (uint8_t)(vrp->length + longer);
     for (int i = 0; i < width(vrp) / 8; i++)
-        route->address[i] = (uint8_t)any(256);
+        route->address[i] = (uint8_t)random_below(256);
     for (int i = 0; i < vrp->length; i++) {
         uint8_t bit = (uint8_t)(0x80 >> i % 8);
         uint8_t kept = route->address[i / 8] & (uint8_t)~bit;
@@ -160,16 +161,16 @@ static void below(struct rtr_route *route, const struct vrp *vrp)
     clear(route->address, route->prefix_length);
 }
 
-static void make_routes(struct rtr_route *routes, size_t count, const struct vrp *vrps, size_t many,
-                        const struct rtr_data *data)
+static void make_routes(struct rtr_route *routes, size_t count, const struct vrp *vrps,
+                        size_t vrp_count, const struct rtr_data *data)
 {
     for (size_t i = 0; i < count; i++) {
-        const struct vrp *vrp = vrps + any(many);
-        below(routes + i, vrp);
-        routes[i].asn = i % 3 == 0 ? vrp->asn : NOBODY;
+        const struct vrp *vrp = vrps + random_below(vrp_count);
+        random_route(routes + i, vrp);
+        routes[i].asn = i % 3 == 0 ? vrp->asn : UNUSED_AS;
         while (i % 3 == 2 && rtr_validate(data, routes + i) != RTR_NOT_FOUND) {
             struct vrp other = *vrp;
-            any_address(&other);
+            random_address(&other);
             memcpy(routes[i].address, other.address, sizeof other.address);
             clear(routes[i].address, routes[i].prefix_length);
         }
@@ -177,44 +178,44 @@ static void make_routes(struct rtr_route *routes, size_t count, const struct vrp
 }
 
 #ifdef WITH_RTRLIB
-static uint32_t get32(const uint8_t *at)
+static uint32_t get32(const uint8_t *bytes)
 {
     uint32_t number;
-    memcpy(&number, at, sizeof number);
+    memcpy(&number, bytes, sizeof number);
     return ntohl(number);
 }
 
-static struct lrtr_ip_addr theirs(uint8_t family, const uint8_t *address)
+static struct lrtr_ip_addr rtrlib_address(uint8_t family, const uint8_t *address)
 {
-    struct lrtr_ip_addr made = {.ver = family == 4 ? LRTR_IPV4 : LRTR_IPV6};
+    struct lrtr_ip_addr converted = {.ver = family == 4 ? LRTR_IPV4 : LRTR_IPV6};
     if (family == 4)
-        made.u.addr4.addr = get32(address);
+        converted.u.addr4.addr = get32(address);
     for (int i = 0; family == 6 && i < 4; i++)
-        made.u.addr6.addr[i] = get32(address + 4 * i);
-    return made;
+        converted.u.addr6.addr[i] = get32(address + 4 * i);
+    return converted;
 }
 
 static struct pfx_table table;
 
-static void their_tables(const struct vrp *vrps, size_t count)
+static void build_rtrlib_table(const struct vrp *vrps, size_t count)
 {
     pfx_table_init(&table, NULL);
     for (size_t i = 0; i < count; i++) {
         struct pfx_record record = {
-            .asn = vrps[i].asn, .prefix = theirs(vrps[i].family, vrps[i].address),
-            .min_len = vrps[i].length, .max_len = vrps[i].most,
+            .asn = vrps[i].asn, .prefix = rtrlib_address(vrps[i].family, vrps[i].address),
+            .min_len = vrps[i].length, .max_len = vrps[i].max_length,
         };
         pfx_table_add(&table, &record);
     }
 }
 
-static uint8_t their_validity(const struct rtr_route *route)
+static uint8_t rtrlib_validity(const struct rtr_route *route)
 {
     static const uint8_t validities[] = {
         [BGP_PFXV_STATE_VALID] = RTR_VALID, [BGP_PFXV_STATE_NOT_FOUND] = RTR_NOT_FOUND,
         [BGP_PFXV_STATE_INVALID] = RTR_INVALID,
     };
-    struct lrtr_ip_addr prefix = theirs(route->family, route->address);
+    struct lrtr_ip_addr prefix = rtrlib_address(route->family, route->address);
     enum pfxv_state state;
     pfx_table_validate(&table, route->asn, &prefix, route->prefix_length, &state);
     return validities[state];
@@ -236,9 +237,9 @@ static double median(double *times, int rounds)
 /* Compares by family, and then by address. */
 static int by_address(const void *left, const void *right)
 {
-    const struct rtr_route *one = left, *other = right;
-    int order = one->family - other->family;
-    return order ? order : memcmp(one->address, other->address, sizeof one->address);
+    const struct rtr_route *a = left, *b = right;
+    int order = a->family - b->family;
+    return order ? order : memcmp(a->address, b->address, sizeof a->address);
 }
 
 /* How routes in order are looked up. */
@@ -253,7 +254,7 @@ static void look_up(enum way way, const struct rtr_data *data, const struct rtr_
         answers[i] = rtr_validate(data, routes + i);
 #ifdef WITH_RTRLIB
     for (size_t i = 0; way == THEIRS && i < count; i++)
-        answers[i] = their_validity(routes + i);
+        answers[i] = rtrlib_validity(routes + i);
 #endif
 }
 
@@ -280,47 +281,48 @@ static size_t print_in_order(const struct rtr_data *data, const struct rtr_route
     return differ;
 }
 
-/* Allocates this much, or exits. */
-static void *room(size_t size)
+/* Allocates zeroed memory, or exits. */
+static void *allocate(size_t size)
 {
-    void *made = calloc(size, 1);
-    if (!made)
+    void *memory = calloc(size, 1);
+    if (!memory)
         exit(1);
-    return made;
+    return memory;
 }
 
 int main(int argc, char **argv)
 {
-    size_t asked = argc == 4 ? strtoul(argv[1], NULL, 10) : 0;
+    size_t requested = argc == 4 ? strtoul(argv[1], NULL, 10) : 0;
     size_t count = argc == 4 ? strtoul(argv[2], NULL, 10) : 0;
     int rounds = argc == 4 ? atoi(argv[3]) : 0;
-    if (asked == 0 || count < 6 || rounds < 1 || rounds > MOST_ROUNDS) {
+    if (requested == 0 || count < 6 || rounds < 1 || rounds > MOST_ROUNDS) {
         fprintf(stderr, "usage: routes VRPS ROUTES ROUNDS\n");
         return 2;
     }
-    struct vrp *vrps = room(asked * sizeof *vrps);
-    size_t many = make_vrps(vrps, asked);
-    uint8_t *bytes = room(32 * many + 12), *answers = room(count), *others = room(count);
-    size_t length = write_data(vrps, many, bytes);
+    struct vrp *vrps = allocate(requested * sizeof *vrps);
+    size_t vrp_count = make_vrps(vrps, requested);
+    uint8_t *bytes = allocate(32 * vrp_count + 12);
+    uint8_t *answers = allocate(count), *others = allocate(count);
+    size_t length = write_data(vrps, vrp_count, bytes);
     struct rtr_data data;
     struct rtr_data_answer answer;
-    double made[MOST_ROUNDS], building = 0, times[2][3][MOST_ROUNDS] = {{{0}}};
+    double check_times[MOST_ROUNDS], rtrlib_time = 0, times[2][3][MOST_ROUNDS] = {{{0}}};
     for (int round = 0; round < rounds; round++) {
         double start = now();
         if (rtr_check_data(bytes, length, &data, &answer) != RTR_OK)
             return 1;
-        made[round] = now() - start;
+        check_times[round] = now() - start;
     }
-    struct rtr_route *routes = room(count * sizeof *routes);
-    make_routes(routes, count, vrps, many, &data);
+    struct rtr_route *routes = allocate(count * sizeof *routes);
+    make_routes(routes, count, vrps, vrp_count, &data);
 #ifdef WITH_RTRLIB
-    double begun = now();
-    their_tables(vrps, many);
-    building = now() - begun;
+    double build_start = now();
+    build_rtrlib_table(vrps, vrp_count);
+    rtrlib_time = now() - build_start;
 #endif
-    size_t of_family[3] = {0, 0, count}, seen[3] = {0}, differ = 0;
+    size_t family_counts[3] = {0, 0, count}, state_counts[3] = {0}, differ = 0;
     for (size_t i = 0; i < count; i++)
-        of_family[routes[i].family == 6]++;
+        family_counts[routes[i].family == 6]++;
     for (int round = 0; round < rounds; round++) {
         for (int family = 0; family < 2; family++) {
             double start = now();
@@ -332,26 +334,28 @@ int main(int argc, char **argv)
 #ifdef WITH_RTRLIB
             for (size_t i = 0; i < count; i++)
                 if (routes[i].family == 4 + 2 * family)
-                    others[i] = their_validity(routes + i);
+                    others[i] = rtrlib_validity(routes + i);
             times[1][family][round] = now() - middle;
 #endif
         }
-        for (int who = 0; who < 2; who++)
-            times[who][2][round] = times[who][0][round] + times[who][1][round];
+        for (int library = 0; library < 2; library++)
+            times[library][2][round] = times[library][0][round] + times[library][1][round];
     }
     for (size_t i = 0; i < count; i++) {
-        seen[answers[i]]++;
+        state_counts[answers[i]]++;
 #ifdef WITH_RTRLIB
         differ += answers[i] != others[i];
 #endif
     }
-    printf("%zu %zu %.3f %.1f", many, length, median(made, rounds) / 1e6, building / 1e6);
-    for (int who = 0; who < 2; who++)
+    printf("%zu %zu %.3f %.1f", vrp_count, length, median(check_times, rounds) / 1e6,
+           rtrlib_time / 1e6);
+    for (int library = 0; library < 2; library++)
         for (int family = 0; family < 3; family++)
-            printf(" %.1f", median(times[who][family], rounds) / (double)of_family[family]);
+            printf(" %.1f", median(times[library][family], rounds) / (double)family_counts[family]);
     qsort(routes, count, sizeof *routes, by_address);
-    differ += print_in_order(&data, routes, of_family[0], answers, others, rounds);
-    differ += print_in_order(&data, routes + of_family[0], of_family[1], answers, others, rounds);
-    printf(" %zu %zu %zu %zu\n", seen[0], seen[1], seen[2], differ);
+    differ += print_in_order(&data, routes, family_counts[0], answers, others, rounds);
+    differ += print_in_order(&data, routes + family_counts[0], family_counts[1], answers, others,
+                             rounds);
+    printf(" %zu %zu %zu %zu\n", state_counts[0], state_counts[1], state_counts[2], differ);
     return differ != 0;
 }
