@@ -8,7 +8,7 @@ import threading
 import time
 from concurrent.futures import ThreadPoolExecutor
 
-from cache import ENDING, Cache, Lost, Router, is_of_edges, put
+from cache import ENDING, Cache, Lost, Router, is_of_edges, replace_file
 from units import INVALID_REQUEST, RESPONSE, SESSION, Wrong, end, prefix, unit
 
 FEW = ["10.0.0.0/8", "192.0.2.0/24", "198.51.100.0/24", "2001:db8::/32"]
@@ -95,51 +95,52 @@ def names(program):
 
 def content(serial, prefixes, session=SESSION):
     """Returns the file of data."""
-    return b"".join(prefix(one, 1) for one in prefixes) + end(serial, session=session)
+    return b"".join(prefix(text, 1) for text in prefixes) + end(serial, session=session)
 
 
 class Routers:
-    """Routers that follow a cache, and connect again when they lose it."""
+    """Routers that follow a cache, and reconnect when their connections end."""
 
     def __init__(self, cache, versions):
         self.cache, self.lost = cache, 0
         self.routers = [Router(cache, version) for version in versions]
         self.serials = [None for _ in versions]  # of the data that each has
 
-    def each(self, asks, reads, serial, prefixes):
-        """Has each router that hasn't the newest data ask, then each read, at once, since a cache
-        closes a connection that takes nothing for long; one whose connection ends connects again
-        and asks for all data."""
-        places = [place for place, has in enumerate(self.serials) if has != serial]
+    def run_each(self, ask, read, serial, prefixes):
+        """Runs `ask` for each router without the newest data, then `read`, for all at once, since a
+        cache closes a connection that takes nothing for long. A router whose connection ends
+        reconnects and asks for all data."""
+        indices = [index for index, held in enumerate(self.serials) if held != serial]
         lost = set()
         with ThreadPoolExecutor(len(self.routers)) as pool:
-            for step in asks, reads:
-                loses = list(pool.map(lambda place, step=step: self.loses(place, step), places))
-                lost.update(place for place, is_lost in zip(places, loses) if is_lost)
-        for place in places:
-            if place in lost:
-                self.reconnects(place, serial, prefixes)
-            self.serials[place] = serial
+            for step in ask, read:
+                are_lost = list(pool.map(
+                    lambda index, step=step: self.loses_connection(index, step), indices))
+                lost.update(index for index, is_lost in zip(indices, are_lost) if is_lost)
+        for index in indices:
+            if index in lost:
+                self.reconnect(index, serial, prefixes)
+            self.serials[index] = serial
 
-    def loses(self, place, step):
-        """Has a router do this; returns whether its connection ended."""
+    def loses_connection(self, index, step):
+        """Runs a step of a router, and reports whether its connection ended."""
         try:
-            step(self.routers[place])
+            step(self.routers[index])
         except Lost:
             return True
         return False
 
-    def reconnects(self, place, serial, prefixes):
-        version = self.routers[place].version
+    def reconnect(self, index, serial, prefixes):
+        version = self.routers[index].version
         while True:
             self.lost += 1
             if self.lost > MOST_LOST:
                 raise Wrong(f"{self.lost} connections ended")
-            self.routers[place].close()
-            self.routers[place] = Router(self.cache, version)
+            self.routers[index].close()
+            self.routers[index] = Router(self.cache, version)
             try:
-                self.routers[place].asks_all()
-                return self.routers[place].gets_answer(serial, prefixes)
+                self.routers[index].ask_all()
+                return self.routers[index].expect_answer(serial, prefixes)
             except Lost:
                 pass
 
@@ -148,16 +149,16 @@ class Routers:
             router.close()
 
 
-def refused(cache):
-    """A router that sends what only caches send, and more, gets a report. Returns how often its
-    connection ended before."""
-    about = unit(RESPONSE, SESSION)
+def count_refusals(cache):
+    """Checks that a router that sends a cache response, and more bytes, gets a report about it.
+    Returns how many of its connections ended before."""
+    refused = unit(RESPONSE, SESSION)
     count = 0
     while True:
         router = Router(cache)
         try:
-            router.sends(about + bytes(BEHIND))
-            router.gets_report(INVALID_REQUEST, about)
+            router.send(refused + bytes(BEHIND))
+            router.expect_last_report(INVALID_REQUEST, refused)
             return count
         except Lost:
             count += 1
@@ -171,48 +172,48 @@ def play_session(cache, prefixes, first):
     """Routers of all versions get all data, a notify and changes, and changes without a notify:
     the next one has a minute's pause (RFC 8210 section 5.2). One gets a report."""
     routers = Routers(cache, (2, 1, 0, 2))
-    routers.each(Router.asks_all, lambda router: router.gets_answer(1, prefixes), 1, prefixes)
+    routers.run_each(Router.ask_all, lambda router: router.expect_answer(1, prefixes), 1, prefixes)
 
     second = [*prefixes[2:], NEW[0]]
-    cache.puts(content(2, second))
-    cache.serves(2)
+    cache.replace(content(2, second))
+    cache.wait_for_serial(2)
     changed = ([NEW[0]], prefixes[:2])
 
-    def notified(router):
-        router.gets_notify(2)
-        router.asks_after(1)
-    routers.each(notified, lambda router: router.gets_answer(2, *changed), 2, second)
+    def take_notify(router):
+        router.expect_notify(2)
+        router.ask_after(1)
+    routers.run_each(take_notify, lambda router: router.expect_answer(2, *changed), 2, second)
 
     third = [NEW[1], *second]
-    cache.puts(content(3, third))
-    cache.serves(3)
+    cache.replace(content(3, third))
+    cache.wait_for_serial(3)
     of_ipv6 = [NEW[1]]
-    routers.each(lambda router: router.asks_after(2),
-                 lambda router: router.gets_answer(3, of_ipv6), 3, third)
+    routers.run_each(lambda router: router.ask_after(2),
+                     lambda router: router.expect_answer(3, of_ipv6), 3, third)
 
-    lost = routers.lost + refused(cache)
-    broken = sum(fault in ENDING for _, _, fault in cache.injected())
+    lost = routers.lost + count_refusals(cache)
+    broken = sum(fault in ENDING for _, _, fault in cache.injected_faults())
     if lost != broken:
         raise Wrong(f"{lost} connections ended, not {broken}")
     routers.close()
-    cache.settles(first, 3 if prefixes is MANY else 0)
+    cache.wait_for_resources(first, 3 if prefixes is MANY else 0)
 
 
-def leaves(cache, number):
-    """Connects a router, and has it leave in one of several ways."""
+def connect_and_leave(cache, number):
+    """Connects a router, which leaves in one of six ways."""
     router = Router(cache, number % 3)
     try:
         way = number % 6
         if way in (0, 1):
-            router.asks_all()
-            router.gets_answer(1, MANY)
+            router.ask_all()
+            router.expect_answer(1, MANY)
         elif way == 2:
-            router.sends(router.unit(0)[:5])
+            router.send(router.unit(0)[:5])
         elif way in (3, 4):
-            router.asks_all()
-            router.reads()
+            router.ask_all()
+            router.read_unit()
         if way in (1, 4):
-            router.resets()
+            router.reset()
     except Lost:
         pass
     router.close()
@@ -222,77 +223,77 @@ def play_leavings(cache, faults, first):
     """Two hundred routers that come and leave, in turn, take no memory, and don't disturb one that
     stays."""
     routers = Routers(cache, [1])
-    asks = Router.asks_all, lambda router: router.gets_answer(1, MANY), 1, MANY
-    routers.each(*asks)  # the cache closes a connection without a query after 30 seconds
+    steps = Router.ask_all, lambda router: router.expect_answer(1, MANY), 1, MANY
+    routers.run_each(*steps)  # the cache closes a connection without a query after 30 seconds
     sizes = []
     for _ in range(2):
         for number in range(100):
-            leaves(cache, number)
-        cache.settles(first, 3, len(routers.routers))
-        sizes.append(cache.resident())
+            connect_and_leave(cache, number)
+        cache.wait_for_resources(first, 3, len(routers.routers))
+        sizes.append(cache.memory_size())
     if sizes[1] > sizes[0] + MEMORY:
         raise Wrong(f"it has {sizes[1]} bytes of memory, and had {sizes[0]}")
     routers.serials = [None]
-    routers.each(*asks)
+    routers.run_each(*steps)
     if routers.lost and not faults:
         raise Wrong("the connection of a router that stays ended")
     routers.close()
-    cache.settles(first, 3)
+    cache.wait_for_resources(first, 3)
 
 
 def play_slow(cache, first):
     """A router that reads slowly gets all of its answer in the end, while others get newer data."""
-    slow, ended = Router(cache, 2, SLOW_BUFFER), threading.Event()
-    slow.asks_all()
-    trickle = threading.Thread(target=slow.trickles, args=(*SLOW_READS, ended), daemon=True)
+    slow_router, stop = Router(cache, 2, SLOW_BUFFER), threading.Event()
+    slow_router.ask_all()
+    trickle = threading.Thread(target=slow_router.trickle, args=(*SLOW_READS, stop), daemon=True)
     trickle.start()
     routers = Routers(cache, (2, 1, 2))
-    routers.each(Router.asks_all, lambda router: router.gets_answer(1, MOST), 1, MOST)
+    routers.run_each(Router.ask_all, lambda router: router.expect_answer(1, MOST), 1, MOST)
     second = MOST[1:]
-    cache.puts(content(2, second))
-    cache.serves(2)
+    cache.replace(content(2, second))
+    cache.wait_for_serial(2)
 
-    def notified(router):
-        router.gets_notify(2)
-        router.asks_after(1)
-    routers.each(notified, lambda router: router.gets_answer(2, [], MOST[:1]), 2, second)
+    def take_notify(router):
+        router.expect_notify(2)
+        router.ask_after(1)
+    routers.run_each(take_notify, lambda router: router.expect_answer(2, [], MOST[:1]), 2, second)
     if routers.lost:
         raise Wrong(f"{routers.lost} connections ended")
-    ended.set()
+    stop.set()
     trickle.join()
-    slow.gets_answer(1, MOST)
-    begun = time.monotonic()
-    slow.gets_notify(2)
-    if time.monotonic() - begun > SOON:
+    slow_router.expect_answer(1, MOST)
+    start = time.monotonic()
+    slow_router.expect_notify(2)
+    if time.monotonic() - start > SOON:
         raise Wrong("the notify didn't come as soon as the answer was sent")
-    slow.asks_after(1)
-    slow.gets_answer(2, [], MOST[:1])
-    slow.close()
+    slow_router.ask_after(1)
+    slow_router.expect_answer(2, [], MOST[:1])
+    slow_router.close()
     routers.close()
-    cache.settles(first, 3)
+    cache.wait_for_resources(first, 3)
 
 
 def play_no_accept(cache, _):
-    """While the system has no descriptors, the router that is there is served, and the cache pauses
-    between its tries, and goes on with them."""
-    began = time.monotonic()
+    """While the system has no descriptors, the cache serves the connected router, pauses between
+    its tries to accept, and keeps trying."""
+    start = time.monotonic()
     router, other = Router(cache), Router(cache)
-    other.asks_all()
-    while time.monotonic() < began + 1:
-        router.asks_all()
-        router.gets_answer(1, FEW)
+    other.ask_all()
+    while time.monotonic() < start + 1:
+        router.ask_all()
+        router.expect_answer(1, FEW)
         time.sleep(0.05)
-    tried = len(cache.injected())
-    seconds = time.monotonic() - began
-    if not 1 <= tried <= PAUSES * seconds:
-        raise Wrong(f"it tried {tried} times to accept in {seconds} seconds")
-    cache.waits(lambda: len(cache.injected()) > tried, "it tries again to accept")
+    attempts = len(cache.injected_faults())
+    seconds = time.monotonic() - start
+    if not 1 <= attempts <= PAUSES * seconds:
+        raise Wrong(f"it tried {attempts} times to accept in {seconds} seconds")
+    cache.wait_until(lambda: len(cache.injected_faults()) > attempts, "it tries again to accept")
     router.close()
     other.close()
 
 
 def scene_of(name):
-    """Returns the faults of a name, the data, and what is played."""
+    """Returns the faults of a name, the data, and the function that plays them."""
     if name in SESSIONS:
         faults, has_many = SESSIONS[name]
         data = MANY if has_many else FEW
@@ -306,22 +307,22 @@ def scene_of(name):
 
 
 def play(command, name, library, folder):
-    """Plays a cache with the faults of this name; returns what was wrong, or nothing."""
+    """Plays a cache with the faults of this name. Returns a text of what was wrong, or None."""
     faults, data, scene = scene_of(name)
-    put(f"{folder}/data", content(1, data))
+    replace_file(f"{folder}/data", content(1, data))
     cache = None
     try:
         cache = Cache(command, faults, library, folder)
-        cache.serves(1)
-        cache.waits(lambda: os.path.exists(f"{cache.path}.kept"), "it saves its data")
-        scene(cache, cache.holds())
-        if faults and not cache.injected():
+        cache.wait_for_serial(1)
+        cache.wait_until(lambda: os.path.exists(f"{cache.path}.kept"), "it saves its data")
+        scene(cache, cache.resources())
+        if faults and not cache.injected_faults():
             raise Wrong("the fault wasn't injected")
-        cache.ends()
+        cache.terminate()
         return None
     except (Wrong, Lost, OSError) as error:
-        said = cache.said()[-4000:] if cache else ""
-        return f"{error!r}\n{said}"
+        log = cache.log_text()[-4000:] if cache else ""
+        return f"{error!r}\n{log}"
     finally:
         if cache:
             cache.kill()

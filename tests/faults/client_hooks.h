@@ -1,7 +1,7 @@
-/* Is included before bindings/c/client.c: if FAULTS_PAUSE has milliseconds, the client reconnects
- * after these. If FAULTS_MEMORY names a file, that gets a line at each hundredth end of a
- * connection: how many objects and bytes are allocated. They are counted exactly, by functions in
- * the place of the C library's, whose own count has what it keeps for itself, too. */
+/* programs.py includes this before bindings/c/client.c: if FAULTS_PAUSE has milliseconds, the
+ * client reconnects after these. If FAULTS_MEMORY names a file, the client appends a line to it at
+ * each hundredth end of a connection: the numbers of allocated objects and bytes. Functions that
+ * replace those of the C library count exactly; its own count includes what it keeps for itself. */
 #define _POSIX_C_SOURCE 200809L
 #define _DEFAULT_SOURCE
 #include <malloc.h>
@@ -63,7 +63,7 @@ static void write_memory(const char *path)
 }
 
 /* Initializes a client that waits for the pause between connections. */
-static void init_soon(struct rtr_client *client, uint8_t version)
+static void init_with_pause(struct rtr_client *client, uint8_t version)
 {
     const char *pause = getenv("FAULTS_PAUSE");
     rtr_client_init(client, version);
@@ -71,8 +71,8 @@ static void init_soon(struct rtr_client *client, uint8_t version)
         client->settings.pause = (uint32_t)strtoul(pause, NULL, 10);
 }
 
-/* Returns what to do next; after a failure, that is to connect after the pause. */
-static enum rtr_client_event next_soon(struct rtr_client *client, int64_t now)
+/* Returns the next event of the client; after a failure the client connects after the pause. */
+static enum rtr_client_event next_with_pause(struct rtr_client *client, int64_t now)
 {
     enum rtr_client_event event = rtr_client_next(client, now);
     const char *path = getenv("FAULTS_MEMORY");
@@ -83,5 +83,5 @@ static enum rtr_client_event next_soon(struct rtr_client *client, int64_t now)
     return event;
 }
 
-#define rtr_client_init init_soon
-#define rtr_client_next next_soon
+#define rtr_client_init init_with_pause
+#define rtr_client_next next_with_pause

@@ -14,9 +14,9 @@ import subprocess
 import threading
 import time
 
-import held
+import process_state
 from cache import is_of_edges
-from units import AS, LONG, NOTIFY, REPORT, RESET_QUERY, RESPONSE, SERIAL_QUERY, SESSION, Wrong
+from units import AS, NOTIFY, REPORT, RESET_QUERY, RESPONSE, SERIAL_QUERY, SESSION, TIMEOUT, Wrong
 from units import end, prefix, size_of, unit
 
 RECONNECTS = 4
@@ -27,7 +27,8 @@ LINES = 20  # of what a client wrote to standard error, that a failure shows
 CONNECTS = "two hundred connects"
 PAUSE = "10"  # milliseconds between two connections
 HUNDRED = 100
-MORE = (HUNDRED // 2, 1 << 12)  # fewer objects than one for each second connection, and bytes
+# The most objects, one for each second connection, and bytes by which a client may grow.
+MOST_GROWTH = (HUNDRED // 2, 1 << 12)
 COUNTING = ("C client", "Python", "asyncio", "Node", "Rust that counts", "Go", "tokio")
 
 # A cache whose first answer is a unit of a type that nobody knows: the client has to send a whole
@@ -73,7 +74,7 @@ def line(text, sign):
 
 
 class Cache:
-    """A cache that answers each query by its rules, with data that change; but the first by
+    """A cache that answers queries as RFC 8210 says, with data that change; but the first one by
     `refused`, if that isn't empty."""
 
     def __init__(self, family, refused):
@@ -81,7 +82,7 @@ class Cache:
         self.listener = socket.create_server((host, 0), family=family)
         self.port = self.listener.getsockname()[1]
         self.lock = threading.Lock()
-        self.serial, self.had = 1, {1: ["10.0.0.0/8", "192.0.2.0/24", "2001:db8::/32"]}
+        self.serial, self.history = 1, {1: ["10.0.0.0/8", "192.0.2.0/24", "2001:db8::/32"]}
         self.connections, self.accepted = [], 0
         self.refused, self.reports, self.queries = refused, [], []
         threading.Thread(target=self.accept, daemon=True).start()
@@ -98,12 +99,12 @@ class Cache:
 
     def serve(self, connection):
         """Answers queries until the connection ends."""
-        held = b""
+        unread = b""
         try:
-            while came := connection.recv(4096):
-                held += came
-                while len(held) >= 8 and len(held) >= (size := size_of(held)):
-                    query, held = held[:size], held[size:]
+            while received := connection.recv(4096):
+                unread += received
+                while len(unread) >= 8 and len(unread) >= (size := size_of(unread)):
+                    query, unread = unread[:size], unread[size:]
                     with self.lock:
                         connection.sendall(self.answer(query))
         except OSError:
@@ -121,16 +122,16 @@ class Cache:
         if self.refused:
             refused, self.refused = self.refused, b""
             return refused
-        old, new = self.had.get(since, []), self.had[self.serial]
-        changes = [prefix(one, 1) for one in new if one not in old]
-        changes += [prefix(one, 0) for one in old if one not in new]
+        old, new = self.history.get(since, []), self.history[self.serial]
+        changes = [prefix(text, 1) for text in new if text not in old]
+        changes += [prefix(text, 0) for text in old if text not in new]
         return unit(RESPONSE, SESSION) + b"".join(changes) + end(self.serial)
 
     def change(self, data, notifies):
-        """Makes these the data of the next serial number."""
+        """Serves these data under the next serial number."""
         with self.lock:
             self.serial += 1
-            self.had[self.serial] = data
+            self.history[self.serial] = data
             if notifies:
                 for connection in self.connections:
                     try:
@@ -153,7 +154,7 @@ class Cache:
 
 
 def silent_at(port):
-    """Returns sockets that keep the queue of the first address full."""
+    """Returns sockets that fill the queue of the first address."""
     listener = socket.socket()
     listener.bind(("127.0.0.2", port))
     listener.listen(0)
@@ -174,52 +175,52 @@ class Run:
         refused, counts = UNKNOWN if name == REFUSED else b"", name == CONNECTS
         self.cache = Cache(socket.AF_INET, refused)
         self.silent = silent_at(self.cache.port) if name == SILENT else ()
-        self.seen, self.state, self.memory = (os.path.join(folder, name)
-                                              for name in ("seen", "state", "memory"))
-        counting = {"FAULTS_PAUSE": PAUSE, "FAULTS_MEMORY": self.memory} if counts else {}
-        self.said = open(os.path.join(folder, "said"), "w+b")
+        self.fault_log, self.state_path, self.memory_path = (
+            os.path.join(folder, name) for name in ("seen", "state", "memory"))
+        counting = {"FAULTS_PAUSE": PAUSE, "FAULTS_MEMORY": self.memory_path} if counts else {}
+        self.output_file = open(os.path.join(folder, "said"), "w+b")
         # The name has two addresses in sockets.c, and the cache is at the second.
         words = [word.replace("ADDRESS", f"localhost:{self.cache.port}") for word in command]
         self.process = subprocess.Popen(
-            words, stdout=subprocess.PIPE, stderr=self.said,
-            env={**os.environ, "LD_PRELOAD": library, "FAULTS": faults, "FAULTS_SEEN": self.seen,
-                 "FAULTS_STATE": self.state, **counting})
-        self.held, self.lines = b"", collections.deque()
+            words, stdout=subprocess.PIPE, stderr=self.output_file,
+            env={**os.environ, "LD_PRELOAD": library, "FAULTS": faults,
+                 "FAULTS_SEEN": self.fault_log, "FAULTS_STATE": self.state_path, **counting})
+        self.unread, self.lines = b"", collections.deque()
 
-    def read(self, wanted):
-        """The client prints these lines next, the signs of one change in any order."""
-        until = time.monotonic() + LONG
-        while len(self.lines) < len(wanted):
-            left = until - time.monotonic()
-            if left <= 0 or not select.select([self.process.stdout], [], [], left)[0]:
-                raise Wrong(f"it printed {list(self.lines)} alone, not {wanted}")
-            came = os.read(self.process.stdout.fileno(), 4096)
-            if not came:
+    def read(self, expected):
+        """Checks that the client prints these lines next, those of one change in any order."""
+        deadline = time.monotonic() + TIMEOUT
+        while len(self.lines) < len(expected):
+            remaining = deadline - time.monotonic()
+            if remaining <= 0 or not select.select([self.process.stdout], [], [], remaining)[0]:
+                raise Wrong(f"it printed {list(self.lines)} alone, not {expected}")
+            received = os.read(self.process.stdout.fileno(), 4096)
+            if not received:
                 raise Wrong(f"it ended with status {self.process.wait()}")
-            self.held += came
-            *whole, self.held = self.held.split(b"\n")
-            self.lines.extend(one.decode() for one in whole)
-        got = [self.lines.popleft() for _ in wanted]
-        if sorted(got) != sorted(wanted):
-            raise Wrong(f"it printed {got}, not {wanted}")
+            self.unread += received
+            *whole, self.unread = self.unread.split(b"\n")
+            self.lines.extend(line.decode() for line in whole)
+        printed = [self.lines.popleft() for _ in expected]
+        if sorted(printed) != sorted(expected):
+            raise Wrong(f"it printed {printed}, not {expected}")
 
-    def holds(self):
+    def resources(self):
         """Returns how many descriptors, and threads or goroutines, the client has."""
         descriptors = len(os.listdir(f"/proc/{self.process.pid}/fd"))
-        return descriptors, held.tasks(self.process, self.state)
+        return descriptors, process_state.tasks(self.process, self.state_path)
 
-    def settles(self, wanted):
-        """The client has at most these descriptors and threads, after a while."""
-        until = time.monotonic() + LONG
-        while any(now > most for now, most in zip(self.holds(), wanted)):
-            if time.monotonic() > until:
-                raise Wrong(f"it has {self.holds()} descriptors and threads, and had {wanted}")
+    def wait_for_resources(self, limits):
+        """Waits until the client has at most these numbers of descriptors and threads."""
+        deadline = time.monotonic() + TIMEOUT
+        while any(count > limit for count, limit in zip(self.resources(), limits)):
+            if time.monotonic() > deadline:
+                raise Wrong(f"it has {self.resources()} descriptors and threads, and had {limits}")
             time.sleep(0.1)
 
     def change(self, number):
-        """The data change, and the client gets the changes: by a notify if the number is 0, else by
-        a new connection."""
-        data = self.cache.had[self.cache.serial]
+        """Changes the data, and checks that the client prints the changes: after a notify if the
+        number is 0, else over a new connection."""
+        data = self.cache.history[self.cache.serial]
         new = [*data[1:], f"198.51.{number}.0/24"]
         self.cache.change(new, notifies=not number)
         if number:
@@ -227,68 +228,68 @@ class Run:
         self.read([line(data[0], "-"), line(new[-1], "+")])
 
     def play(self, may_break, reconnects):
-        self.read([line(one, "+") for one in self.cache.had[1]])
+        self.read([line(text, "+") for text in self.cache.history[1]])
         if self.silent and is_connecting(self.cache.port):
             raise Wrong("it has data, and still opens a connection to the first address")
-        first = self.holds()
+        first = self.resources()
         for number in range(1 + reconnects):
             self.change(number)
             if may_break and not number:
-                first = self.holds()  # the first connection may have ended before it was counted
+                first = self.resources()  # the first connection may have ended before that
             if not may_break and not number:
-                self.has_asked_soon()
+                self.check_queries()
             if number and number % HUNDRED == 0:
-                self.settles(first)
+                self.wait_for_resources(first)
         if reconnects > HUNDRED:
-            self.has_as_much()
-        self.settles(first)
+            self.check_memory()
+        self.wait_for_resources(first)
         if not may_break and self.cache.accepted != 1 + reconnects:
             raise Wrong(f"it connected {self.cache.accepted} times, not {1 + reconnects}")
         self.process.send_signal(signal.SIGTERM)
-        status = self.process.wait(LONG)
+        status = self.process.wait(TIMEOUT)
         if status not in (0, -signal.SIGTERM):
             raise Wrong(f"it ended with status {status} at SIGTERM")
-        if self.lines or self.held:
+        if self.lines or self.unread:
             raise Wrong(f"it printed more: {list(self.lines)}")
 
-    def has_asked_soon(self):
-        """It has asked for all data, and at the notify for what changed (RFC 8210 section 8.2), on
-        one connection: the refresh time is an hour."""
-        asked, accepted = self.cache.queries, self.cache.accepted
-        if asked != [unit(RESET_QUERY, 0), unit(SERIAL_QUERY, SESSION, struct.pack(">I", 1))]:
-            raise Wrong(f"its queries are {[query.hex() for query in asked]}")
+    def check_queries(self):
+        """Checks that the client asked for all data, and at the notify for the changes (RFC 8210
+        section 8.2), on one connection: the refresh time is an hour."""
+        queries, accepted = self.cache.queries, self.cache.accepted
+        if queries != [unit(RESET_QUERY, 0), unit(SERIAL_QUERY, SESSION, struct.pack(">I", 1))]:
+            raise Wrong(f"its queries are {[query.hex() for query in queries]}")
         if accepted != 1:
             raise Wrong(f"it connected {accepted} times before a connection ended")
 
-    def has_as_much(self):
-        """It had allocated as much at the end of the 200th connection as at that of the 100th."""
-        with open(self.memory, encoding="ascii") as file:
+    def check_memory(self):
+        """Checks that the client has allocated as much after 200 connections as after 100."""
+        with open(self.memory_path, encoding="ascii") as file:
             earlier, later = ([int(word) for word in counted.split()] for counted in file)
-        if any(now > then + more for now, then, more in zip(later, earlier, MORE)):
+        if any(after > before + most for after, before, most in zip(later, earlier, MOST_GROWTH)):
             raise Wrong(f"it has {later} objects and bytes, and had {earlier} before")
 
-    def has_reported(self):
-        """The client has sent one report, about the unit of a type that nobody knows."""
-        got = self.cache.reports
+    def check_report(self):
+        """Checks that the client sent one report, about the unit of an unknown type."""
+        reports = self.cache.reports
         code, about = bytes([REPORT, 0, UNKNOWN_TYPE]), struct.pack(">I", len(UNKNOWN)) + UNKNOWN
-        if len(got) != 1 or got[0][1:4] != code or not got[0][8:].startswith(about):
-            raise Wrong(f"it sent these reports: {[one.hex() for one in got]}")
+        if len(reports) != 1 or reports[0][1:4] != code or not reports[0][8:].startswith(about):
+            raise Wrong(f"it sent these reports: {[report.hex() for report in reports]}")
 
     def end(self):
         self.process.kill()
         self.process.wait()
         self.process.stdout.close()
         self.cache.end()
-        for one in self.silent:
-            one.close()
-        self.said.seek(0)
-        said = b"".join(collections.deque(self.said, LINES)).decode(errors="replace")
-        self.said.close()
-        return said
+        for silent in self.silent:
+            silent.close()
+        self.output_file.seek(0)
+        output = b"".join(collections.deque(self.output_file, LINES)).decode(errors="replace")
+        self.output_file.close()
+        return output
 
 
 def play(command, name, library, folder):
-    """Plays a client with the faults of this name; returns what was wrong, or nothing."""
+    """Plays a client with the faults of this name. Returns a text of what was wrong, or None."""
     faults = FAULTS.get(name, "")
     run = Run(command, faults, library, folder, name)
     wrong = None
@@ -296,13 +297,13 @@ def play(command, name, library, folder):
         reconnects = {CONNECTS: 2 * HUNDRED, SILENT: SILENT_RECONNECTS}.get(name, RECONNECTS)
         run.play(name in BREAKING or name in (CONNECTS, REFUSED), reconnects)
         if name == REFUSED:
-            run.has_reported()
-        if faults and not os.path.exists(run.seen):
+            run.check_report()
+        if faults and not os.path.exists(run.fault_log):
             raise Wrong("the fault wasn't injected")
     except (Wrong, OSError, subprocess.TimeoutExpired) as error:
         wrong = error
-    said = run.end()
-    return wrong and f"{wrong}\n{said}"
+    output = run.end()
+    return wrong and f"{wrong}\n{output}"
 
 
 def names(program):

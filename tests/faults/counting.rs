@@ -28,7 +28,7 @@ unsafe impl GlobalAlloc for Counting {
     }
 }
 
-/// How often a connection ended, and where that leads to.
+/// Counts the ends of connections, and writes what is allocated.
 pub struct Counter {
     ends: u32,
     path: Option<String>,

@@ -34,7 +34,7 @@ class Call(NamedTuple):
 
 
 class State(NamedTuple):
-    """What a cut leaves: the bytes of both files; nothing for one that isn't there."""
+    """What a cut leaves: the bytes of both files, None for a missing one."""
 
     kept: Optional[bytes]
     new: Optional[bytes]
@@ -51,19 +51,19 @@ def calls_of(path, first):
     from this call on a path."""
     with open(path, encoding="utf-8") as file:
         lines = [line.split() for line in file]
-    found = [number for number, words in enumerate(lines) if (words[3], words[5]) == first]
-    if not found:
+    starts = [number for number, words in enumerate(lines) if (words[3], words[5]) == first]
+    if not starts:
         raise Wrong(f"it made no call {first}")
-    lines, calls, begun = lines[found[0]:], [], {}
+    lines, calls, begin_lines = lines[starts[0]:], [], {}
     for number, (_, thread, what, name, returned, path, *_) in enumerate(lines):
         if what == "begins":
-            begun[thread] = number
+            begin_lines[thread] = number
         else:
-            calls.append(Call(name, path, begun.pop(thread), number, int(returned)))
+            calls.append(Call(name, path, begin_lines.pop(thread), number, int(returned)))
     calls = [call for call in calls if (call.name, call.returned) not in FINDS_NONE]
     failed = [call for call in calls if call.returned < 0]
-    if begun or failed:
-        raise Wrong(f"it has calls that failed, or didn't end: {failed} {begun}")
+    if begin_lines or failed:
+        raise Wrong(f"it has calls that failed, or didn't end: {failed} {begin_lines}")
     return calls, [int(words[0]) for words in lines]
 
 
@@ -89,67 +89,67 @@ def entries(calls, new, line):
     """Returns which of both names the new file may have. A rename that isn't synced may have made
     its new name, and not yet removed the old one. A folder that was created may be lost with all
     that is in it, until the one above is synced."""
-    may, must = {}, {"mkdir": True}
+    possible_calls, lasting_calls = {}, {"mkdir": True}
     for call in calls:
         creates_folder = call.name == "mkdir" and call.path == os.path.dirname(new)
         if call.begins <= line and (call.name in ("open", "rename") or creates_folder):
-            may[call.name] = True
-            must[call.name] = is_synced(calls, call, os.path.dirname(call.path), line)
-    without_folder = set() if must["mkdir"] else {()}
-    if must.get("rename"):
+            possible_calls[call.name] = True
+            lasting_calls[call.name] = is_synced(calls, call, os.path.dirname(call.path), line)
+    without_folder = set() if lasting_calls["mkdir"] else {()}
+    if lasting_calls.get("rename"):
         return {(KEPT,)} | without_folder
-    possible = without_folder | ({(NEW,)} if must.get("open") else {(), (NEW,)})
-    if "open" not in may:
+    possible = without_folder | ({(NEW,)} if lasting_calls.get("open") else {(), (NEW,)})
+    if "open" not in possible_calls:
         return {()}
-    return possible | {(KEPT,), (KEPT, NEW)} if "rename" in may else possible
+    return possible | {(KEPT,), (KEPT, NEW)} if "rename" in possible_calls else possible
 
 
 def states_at(calls, old, whole, new, line):
     """Returns what a cut after this line may leave."""
     possible = itertools.product(entries(calls, new, line), contents(calls, whole, new, line))
-    return {State(made if KEPT in has else old, made if NEW in has else None)
-            for has, made in possible}
+    return {State(replaced if KEPT in present else old, replaced if NEW in present else None)
+            for present, replaced in possible}
 
 
-def all_states(calls, times, old, whole, told):
+def all_states(calls, times, old, whole, received_at):
     """Returns what cuts may leave, and checks it: no part of a file has the name of the saved one,
-    and a router got the new data, at the time `told`, only after no cut could lose them. What is
-    left of the earlier writes is also left of the last one."""
+    and a router got the new data, at the time `received_at`, only after no cut could lose them. A
+    cut in the last write leaves all that one in an earlier write leaves."""
     [new] = {call.path for call in calls if call.name == "open"}
     last = max(call.begins for call in calls if call.name == "write")
-    every = set()
-    for line, until in enumerate([*times[1:], None]):
+    found_states = set()
+    for line, next_time in enumerate([*times[1:], None]):
         states = states_at(calls, old, whole, new, line)
         for state in states:
             if state.kept not in (old, whole):
                 raise Wrong(f"a cut may leave {len(state.kept)} bytes of {len(whole)}")
-            if state.kept != whole and (until is None or told < until):
+            if state.kept != whole and (next_time is None or received_at < next_time):
                 raise Wrong("a cut may lose data that a router had")
-        every |= states if line >= last else set()
-    return every
+        found_states |= states if line >= last else set()
+    return found_states
 
 
 # ---- playing
 
 class Follower(threading.Thread):
-    """A router that asks all the time until it is told of a serial number; `told` is when, in
+    """A router that asks repeatedly until it gets a serial number, at the time `received_at` in
     nanoseconds."""
 
     def __init__(self, cache, serial):
         super().__init__(daemon=True)
-        self.router, self.serial, self.told, self.wrong = Router(cache), serial, None, None
+        self.router, self.serial, self.received_at, self.wrong = Router(cache), serial, None, None
 
     def run(self):
         try:
-            while not self.told:
+            while not self.received_at:
                 if self.serial == 1:
-                    self.router.asks_all()
+                    self.router.ask_all()
                 else:
-                    self.router.asks_after(self.serial - 1)
-                while (came := self.router.reads())[1] not in (NOTIFY, REPORT, END):
+                    self.router.ask_after(self.serial - 1)
+                while (received := self.router.read_unit())[1] not in (NOTIFY, REPORT, END):
                     pass
-                if came[1] != REPORT and came[8:12] == bytes((0, 0, 0, self.serial)):
-                    self.told = time.monotonic_ns()
+                if received[1] != REPORT and received[8:12] == bytes((0, 0, 0, self.serial)):
+                    self.received_at = time.monotonic_ns()
                 time.sleep(0.001)
         except (Lost, Wrong) as error:
             self.wrong = error
@@ -163,38 +163,39 @@ class Traced(NamedTuple):
     times: list
     old: Optional[bytes]
     whole: bytes
-    told: int
+    received_at: int
     session: int
 
 
 def saving(saved, serial):
     """Traces the saving of the data of this serial number."""
-    cache = saved.begins("", "calls") if serial == 1 else saved.started("", "calls")
-    first = "open", cache.kept + BESIDE
+    cache = saved.start_empty("", "calls") if serial == 1 else saved.start_saved("", "calls")
+    first = "open", cache.saved_path + BESIDE
     if serial == 1 and saved.draws_session:
-        first = "mkdir", os.path.dirname(cache.kept)
+        first = "mkdir", os.path.dirname(cache.saved_path)
     try:
         if serial > 1:
-            cache.serves(serial - 1)
-        old = read(cache.kept) if serial > 1 else None
+            cache.wait_for_serial(serial - 1)
+        old = read(cache.saved_path) if serial > 1 else None
         follower = Follower(cache, serial)
         follower.start()
-        cache.puts(content(serial, DATA[serial]))
-        cache.serves(serial)
-        cache.waits(lambda: follower.told or follower.wrong, "a router gets the data")
+        cache.replace(content(serial, DATA[serial]))
+        cache.wait_for_serial(serial)
+        cache.wait_until(lambda: follower.received_at or follower.wrong, "a router gets the data")
         if follower.wrong:
             raise follower.wrong
         follower.join()
         follower.router.close()
-        cache.ends()
+        cache.terminate()
         calls, times = calls_of(cache.calls, first)
-        return Traced(calls, times, old, read(cache.kept), follower.told, cache.session)
+        whole = read(cache.saved_path)
+        return Traced(calls, times, old, whole, follower.received_at, cache.session)
     finally:
         cache.kill()
 
 
 def play(command, name, _, folder):
-    """Plays a cache; returns what was wrong, or nothing."""
+    """Plays a cache. Returns a text of what was wrong, or None."""
     try:
         saved = Saved(command if command[0] == TRACER else [TRACER, *command], "", folder)
         serial = 1 if name == FIRST else 2
@@ -202,8 +203,8 @@ def play(command, name, _, folder):
         saved.command = [word for word in command if word != TRACER]
         former = None if serial == 1 else 1
         for state in all_states(*traced):
-            saved.goes_on(state.kept, state.new, serial if state.kept == traced[3] else former,
-                          session)
+            expected = serial if state.kept == traced[3] else former
+            saved.check_start_over(state.kept, state.new, expected, session)
     except (Wrong, Lost, OSError) as error:
         return f"{error!r}"
     return None

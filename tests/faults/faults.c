@@ -56,7 +56,7 @@ static const struct {
 static pthread_mutex_t mutex = PTHREAD_MUTEX_INITIALIZER;
 static unsigned long counts[CALLS], recorded;
 
-/* A word of FAULTS. */
+/* A parsed word of FAULTS. */
 struct word {
     char call[16], fault[16];
     unsigned long first, last, step;
@@ -95,12 +95,12 @@ static int is_saved_folder(const char *path)
 {
     static const char *const files[] = {"data.kept", "editions"};
     char file[PATH_MAX];
-    struct stat found;
+    struct stat info;
     int error_before = errno, has_file = 0;
-    int is_folder = !stat(path, &found) && S_ISDIR(found.st_mode);
+    int is_folder = !stat(path, &info) && S_ISDIR(info.st_mode);
     for (size_t i = 0; is_folder && i < sizeof files / sizeof files[0]; i++) {
         int length = snprintf(file, sizeof file, "%s/%s", path, files[i]);
-        has_file |= length < (int)sizeof file && !stat(file, &found);
+        has_file |= length < (int)sizeof file && !stat(file, &info);
     }
     errno = error_before;
     return has_file;
@@ -120,7 +120,7 @@ int is_opening(const char *path, int creates, enum call *call)
     return is_saved_folder(path);
 }
 
-/* Writes which fault was injected, so that a test sees that it was. */
+/* Appends the injected fault to the file of FAULTS_SEEN, for the test. */
 static void record(enum call call, unsigned long count, const char *fault)
 {
     const char *path = getenv("FAULTS_SEEN");
@@ -130,10 +130,10 @@ static void record(enum call call, unsigned long count, const char *fault)
     int is_recorded = path && recorded++ < MOST_RECORDED;
     pthread_mutex_unlock(&mutex);
     int fd = is_recorded ? open(path, O_WRONLY | O_APPEND | O_CREAT | O_CLOEXEC, 0600) : -1;
-    ssize_t (*writes)(int, const void *, size_t) = real("write");
+    ssize_t (*real_write)(int, const void *, size_t) = real("write");
     if (fd < 0)
         return;
-    if (writes(fd, line, (size_t)length) != length)
+    if (real_write(fd, line, (size_t)length) != length)
         abort();
     close(fd);
 }
@@ -166,7 +166,7 @@ static int error_of(const char *name)
     return 0;
 }
 
-int fault_of(enum call call, int can_block, size_t *most)
+int fault_of(enum call call, int can_block, size_t *limit)
 {
     struct word word;
     int error_before = errno;
@@ -179,21 +179,21 @@ int fault_of(enum call call, int can_block, size_t *most)
         int error = error_of(word.fault);
         if (!concerns(&word, call, count) || (error == EAGAIN && can_block))
             continue;
-        if (error || (most && number && number < *most))
+        if (error || (limit && number && number < *limit))
             record(call, count, word.fault);
         if (error == KILLED)
             return KILLED;
         if (error)
             return errno = error;
-        if (most && number && number < *most)
-            *most = number;
+        if (limit && number && number < *limit)
+            *limit = number;
     }
     errno = error_before; /* a call that succeeds leaves it */
     return 0;
 }
 
-int fault_on_file(enum call call, size_t *most)
+int fault_on_file(enum call call, size_t *limit)
 {
     int fault = call < OPEN ? 0 : fault_of(SAVE, 1, NULL);
-    return fault ? fault : fault_of(call, 1, most);
+    return fault ? fault : fault_of(call, 1, limit);
 }

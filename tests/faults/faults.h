@@ -1,5 +1,5 @@
-/* What those share that inject faults, and faults.c, which decides: sockets.c and files.c of the
- * preloaded library, and the program of traced.c. */
+/* Declares the functions of faults.c, which decides about faults, for sockets.c and files.c of the
+ * preloaded library, and for the program of traced.c, which inject them. */
 #ifndef FAULTS_H
 #define FAULTS_H
 
@@ -8,7 +8,7 @@
 
 #pragma GCC visibility push(hidden) /* the program may have functions of these names */
 
-/* The calls of which each kind is counted for itself; SAVE counts those from OPEN to RENAME. */
+/* The kinds of calls, each with a count; that of SAVE includes those from OPEN to RENAME. */
 enum call {
     CONNECT,
     ACCEPT,
@@ -28,28 +28,28 @@ enum call {
     CALLS
 };
 
-/* What fault_of returns where the process is to be killed: no error has this number. */
+/* fault_of returns this to kill the process: no error has this number. */
 enum { KILLED = -1 };
 
-/* The function of this name in the C library. */
+/* Returns the function of this name in the C library. */
 void *real(const char *name);
 
-/* Counts a call, and returns the error to inject, with errno set, or KILLED, or 0; sets `most` to
- * the most bytes that the call may move. EAGAIN is injected only where `can_block` is 0. */
-int fault_of(enum call call, int can_block, size_t *most);
+/* Counts a call, and returns the error to inject, with errno set, or KILLED, or 0; lowers `limit`
+ * to the most bytes that the call may move. EAGAIN is injected only where `can_block` is 0. */
+int fault_of(enum call call, int can_block, size_t *limit);
 
-/* The name of a call in FAULTS. */
+/* Returns the name of a call in FAULTS. */
 const char *name_of(enum call call);
 
-/* Reports whether a file of this path is one that a cache writes, and renames once it is whole. */
+/* Reports whether a cache writes the file of this path, and renames it once it is whole. */
 int is_saved_path(const char *path);
 
-/* Sets which call it is to open a path: OPEN or LOAD of a file that a cache saves, or FOLDER of its
- * folder; returns 0 if it is another path. */
+/* Sets the kind of a call that opens a path: OPEN or LOAD for a file that a cache saves, or FOLDER
+ * for its folder; returns 0 for another path. */
 int is_opening(const char *path, int creates, enum call *call);
 
-/* Counts a call on a file, as fault_of does; those from OPEN on are counted as SAVE, too. */
-int fault_on_file(enum call call, size_t *most);
+/* Counts a call on a file, as fault_of does, and those from OPEN on also as SAVE. */
+int fault_on_file(enum call call, size_t *limit);
 
 /* Writes to something else than a socket. */
 ssize_t write_file(int fd, const void *bytes, size_t size);

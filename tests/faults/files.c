@@ -1,5 +1,5 @@
-/* Calls on the file that a cache saves before it is renamed, and on its folder, in which faults are
- * injected, as faults.c says. */
+/* Injects faults, as faults.c decides, into calls on the file that a cache saves before it renames
+ * it, and on its folder. */
 #define _GNU_SOURCE
 #include <errno.h>
 #include <fcntl.h>
@@ -30,15 +30,15 @@ static int is_saved(int fd)
 
 static int is_folder(int fd)
 {
-    struct stat found;
-    int error_before = errno, failed = fstat(fd, &found);
+    struct stat info;
+    int error_before = errno, failed = fstat(fd, &info);
     errno = error_before;
-    return !failed && S_ISDIR(found.st_mode);
+    return !failed && S_ISDIR(info.st_mode);
 }
 
-/* Counts a call that moves no bytes, before which the process may be killed, and returns the fault
- * to inject, or 0. */
-static int fails(enum call call)
+/* Counts a call that moves no bytes, and returns the fault to inject, or 0. Kills the process if
+ * the fault is KILLED. */
+static int inject(enum call call)
 {
     int fault = fault_on_file(call, NULL);
     if (fault == KILLED)
@@ -63,7 +63,7 @@ static int open_file(const char *name, const char *path, int flags, mode_t mode)
 {
     int (*next)(const char *, int, ...) = real(name);
     enum call call;
-    if (is_opening(path, flags & O_CREAT, &call) && fails(call))
+    if (is_opening(path, flags & O_CREAT, &call) && inject(call))
         return -1;
     return next(path, flags, mode);
 }
@@ -88,7 +88,7 @@ int open64(const char *path, int flags, ...)
 
 /* ---- streams */
 
-/* Writes all, as the streams of the C library do; fewer bytes mean that it failed. */
+/* Writes all bytes, as the streams of the C library do. Returns fewer if a write failed. */
 static ssize_t write_stream(void *fd, const char *bytes, size_t size)
 {
     size_t written = 0;
@@ -106,12 +106,12 @@ static int close_stream(void *fd)
     return closed;
 }
 
-/* Such a stream is one at a time, and only for writing. */
-FILE *fopen(const char *path, const char *how)
+/* Opens at most one such stream at a time, only for writing. */
+FILE *fopen(const char *path, const char *mode)
 {
     FILE *(*next)(const char *, const char *) = real("fopen");
-    if (!is_saved_path(path) || how[0] != 'w')
-        return next(path, how);
+    if (!is_saved_path(path) || mode[0] != 'w')
+        return next(path, mode);
     stream_fd = open(path, O_WRONLY | O_CREAT | O_TRUNC | O_CLOEXEC, 0666);
     if (stream_fd < 0)
         return NULL;
@@ -131,20 +131,20 @@ int fileno(FILE *file)
 int fsync(int fd)
 {
     int (*next)(int) = real("fsync");
-    return (is_saved(fd) || is_folder(fd)) && fails(SYNC) ? -1 : next(fd);
+    return (is_saved(fd) || is_folder(fd)) && inject(SYNC) ? -1 : next(fd);
 }
 
 int fdatasync(int fd)
 {
     int (*next)(int) = real("fdatasync");
-    return is_saved(fd) && fails(SYNC) ? -1 : next(fd);
+    return is_saved(fd) && inject(SYNC) ? -1 : next(fd);
 }
 
-/* A close that fails has closed the descriptor. */
+/* Closes the descriptor also if the call fails. */
 int close(int fd)
 {
     int (*next)(int) = real("close");
-    int failed = is_saved(fd) ? fails(CLOSE) : 0;
+    int failed = is_saved(fd) ? inject(CLOSE) : 0;
     int closed = next(fd);
     return failed ? -1 : closed;
 }
@@ -152,11 +152,11 @@ int close(int fd)
 int rename(const char *from, const char *to)
 {
     int (*next)(const char *, const char *) = real("rename");
-    return is_saved_path(from) && fails(RENAME) ? -1 : next(from, to);
+    return is_saved_path(from) && inject(RENAME) ? -1 : next(from, to);
 }
 
 int unlink(const char *path)
 {
     int (*next)(const char *) = real("unlink");
-    return is_saved_path(path) && fails(REMOVE) ? -1 : next(path);
+    return is_saved_path(path) && inject(REMOVE) ? -1 : next(path);
 }

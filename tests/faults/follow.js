@@ -20,16 +20,16 @@ const { FAULTS_PAUSE: pause, FAULTS_MEMORY: path } = process.env;
 // heap, as buffers.
 const COUNTED = new Set(["bigint", "closure", "native", "number", "object", "regexp"]);
 
-// The bytes of each part of the module's memory that is taken, by its address.
-const taken = new Map();
+// The sizes of the allocated parts of the module's memory, by their addresses.
+const allocated = new Map();
 const { take, release } = Heap.prototype;
 Heap.prototype.take = function (length) {
     const start = take.call(this, length);
-    taken.set(start, length);
+    allocated.set(start, length);
     return start;
 };
 Heap.prototype.release = function (start) {
-    taken.delete(start);
+    allocated.delete(start);
     return release.call(this, start);
 };
 
@@ -42,13 +42,13 @@ async function writeMemory() {
     const { snapshot: { meta }, nodes } = JSON.parse(text);
     const [size, type, bytes] = [meta.node_fields.length, meta.node_fields.indexOf("type"),
         meta.node_fields.indexOf("self_size")];
-    const sizes = [...taken.values()];
-    for (let at = 0; at < nodes.length; at += size) {
-        if (COUNTED.has(meta.node_types[0][nodes[at + type]])) {
-            sizes.push(nodes[at + bytes]);
+    const sizes = [...allocated.values()];
+    for (let node = 0; node < nodes.length; node += size) {
+        if (COUNTED.has(meta.node_types[0][nodes[node + type]])) {
+            sizes.push(nodes[node + bytes]);
         }
     }
-    appendFileSync(path, `${sizes.length} ${sizes.reduce((all, one) => all + one)}\n`);
+    appendFileSync(path, `${sizes.length} ${sizes.reduce((sum, bytes) => sum + bytes)}\n`);
 }
 
 const [address, module] = process.argv.slice(2);

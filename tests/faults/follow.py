@@ -47,7 +47,7 @@ class Counter:
 
 def main():
     host, _, port = sys.argv[1].rpartition(":")
-    made = rtr_wire.AsyncClient if "--asyncio" in sys.argv else rtr_wire.Client
+    client_class = rtr_wire.AsyncClient if "--asyncio" in sys.argv else rtr_wire.Client
     pause, path = os.environ.get("FAULTS_PAUSE"), os.environ.get("FAULTS_MEMORY")
     settings = rtr_wire.Settings(int(sys.argv[3]), pause=pause and int(pause) / 1000)
     counter = Counter(path) if path else None
@@ -58,8 +58,8 @@ def main():
             counter.write()
         if pause:
             client.ask_now()
-    client = made(host.strip("[]"), int(port), settings, failed=failed)
-    if made is rtr_wire.AsyncClient:
+    client = client_class(host.strip("[]"), int(port), settings, failed=failed)
+    if client_class is rtr_wire.AsyncClient:
         asyncio.run(show_all(client))
     for update in client:
         show(update)

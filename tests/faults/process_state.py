@@ -1,21 +1,21 @@
-"""What a program holds beside descriptors: threads or goroutines, children, memory."""
+"""Reads the state of a process: its threads or goroutines, its children, its memory."""
 import os
 import signal
 import time
 
-from units import LONG, Wrong
+from units import TIMEOUT, Wrong
 
 
-def state(process, path, asked=signal.SIGUSR1):
+def state(process, path, signal_number=signal.SIGUSR1):
     """Returns the numbers that a program writes to this file at a signal, in Go those of goroutines
-    and of bytes of memory; nothing for a program without such a file. No garbage is collected,
-    which would close forgotten descriptors, unless the signal is SIGUSR2."""
+    and of bytes of memory; None for a program without such a file. Only SIGUSR2 collects garbage,
+    which closes forgotten descriptors."""
     if not os.path.exists(path):
         return None
-    before, until = count(path), time.monotonic() + LONG
-    process.send_signal(asked)
-    while count(path) == before:
-        if time.monotonic() > until or process.poll() is not None:
+    before, deadline = count_lines(path), time.monotonic() + TIMEOUT
+    process.send_signal(signal_number)
+    while count_lines(path) == before:
+        if time.monotonic() > deadline or process.poll() is not None:
             raise Wrong("it doesn't say what it holds")
         time.sleep(0.001)
     with open(path, encoding="ascii") as file:
@@ -23,14 +23,14 @@ def state(process, path, asked=signal.SIGUSR1):
     return [int(word) for word in last.split()]
 
 
-def count(path):
-    """Returns how many lines a file has."""
+def count_lines(path):
+    """Returns the number of lines of a file."""
     with open(path, "rb") as file:
         return file.read().count(b"\n")
 
 
 def tasks(process, path):
-    """Returns how many threads a program has, or goroutines, and checks that it has no children."""
+    """Returns the number of a program's threads or goroutines. Raises Wrong if it has children."""
     folder = f"/proc/{process.pid}/task"
     threads = os.listdir(folder)
     for thread in threads:
@@ -45,10 +45,10 @@ def tasks(process, path):
 
 
 def memory(process, path):
-    """Returns the memory that a program counts, after a collection, and writes to this file; the
-    resident memory of one that doesn't count."""
-    counted = state(process, path, signal.SIGUSR2)
-    if counted:
-        return counted[-1]
+    """Returns the memory that a program writes to this file after a collection, or the resident
+    memory of a program that doesn't."""
+    numbers = state(process, path, signal.SIGUSR2)
+    if numbers:
+        return numbers[-1]
     with open(f"/proc/{process.pid}/statm", encoding="ascii") as file:
         return int(file.read().split()[1]) * os.sysconf("SC_PAGESIZE")

@@ -106,10 +106,10 @@ def c_program(name, sources, archives, work):
 def c_clients(archives, work):
     """Yields the program over rtr_client.h, and the shortest loop over the calls for a router's
     end."""
-    hurried = os.path.join(work, "client.o")
-    in_c(hurried, ["client.c"], os.path.join(BINDINGS, "c"), "-c", "-I.", "-include",
-         os.path.join(HERE, "soon.h"))
-    client = c_program("client", [hurried, "rtr_client.c"], archives, work)
+    client_object = os.path.join(work, "client.o")
+    in_c(client_object, ["client.c"], os.path.join(BINDINGS, "c"), "-c", "-I.", "-include",
+         os.path.join(HERE, "client_hooks.h"))
+    client = c_program("client", [client_object, "rtr_client.c"], archives, work)
     yield "C client", ["stdbuf", "-oL", client, "ADDRESS", "--version", "2"]
     link = c_program("link", ["link.c"], archives, work)
     yield "C link", ["stdbuf", "-oL", link, "ADDRESS", "2"]

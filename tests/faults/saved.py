@@ -1,10 +1,10 @@
-"""What a cache saves in its folder, and what a cache has that is started over it."""
+"""Checks what a cache saves in its folder by starting another cache over it."""
 import contextlib
 import os
 import re
 import shutil
 
-from cache import Cache, Router, kept, put
+from cache import Cache, Router, replace_file, saved_path
 from caches import NEW, content
 from units import SESSION, Wrong
 
@@ -16,24 +16,24 @@ OTHER_SESSION = SESSION + 1
 BESIDE = ".new"  # behind the name of a saved file: the one that replaces it
 
 
-def copied_if_there(path, copy):
-    """Copies a file; one that a cache which is trying again has removed meanwhile isn't copied."""
+def copy_if_exists(path, copy):
+    """Copies a file, unless a cache that retries has removed it meanwhile."""
     with contextlib.suppress(FileNotFoundError):
         shutil.copy2(path, copy)
 
 
 class Saved:
-    """A folder with what a cache saved of the first data."""
+    """A folder in which a cache has saved the first data."""
 
     def __init__(self, command, library, folder):
         self.command, self.library, self.folder = command, library, folder
         self.count = 0
-        first = self.begins("")
+        first = self.start_empty("")
         try:
-            first.puts(content(1, DATA[1]))
-            first.serves(1)
-            first.waits(lambda: os.path.exists(first.kept), "it saves its data")
-            first.ends()
+            first.replace(content(1, DATA[1]))
+            first.wait_for_serial(1)
+            first.wait_until(lambda: os.path.exists(first.saved_path), "it saves its data")
+            first.terminate()
         finally:
             first.kill()
         self.first, self.draws_session = first, first.draws_session
@@ -45,98 +45,100 @@ class Saved:
         os.mkdir(folder)
         return folder
 
-    def begins(self, faults, calls=None):
-        """Starts a cache that has no data, and saved none."""
+    def start_empty(self, faults, calls=None):
+        """Starts a cache without data, in an empty folder."""
         return Cache(self.command, faults, self.library, self.next_folder(), calls)
 
-    def begins_beside(self, faults, saves):
-        """The same where a saving left the half of its file, or after what was saved."""
+    def start_beside_partial(self, faults, saves):
+        """Starts a cache beside a part of the file of a saving that was cut off, and beside the
+        saved file if `saves` is true."""
         folder = self.next_folder()
         path = self.file_in(folder)
         if saves:
-            shutil.copy(self.first.kept, path)
-        put(path + BESIDE, read(self.first.kept)[:1_000])
+            shutil.copy(self.first.saved_path, path)
+        replace_file(path + BESIDE, read(self.first.saved_path)[:1_000])
         return Cache(self.command, faults, self.library, folder)
 
-    def started(self, faults, calls=None):
-        """Starts a cache after what was saved, without other data."""
+    def start_saved(self, faults, calls=None):
+        """Starts a cache over the saved file, without other data."""
         folder = self.next_folder()
-        shutil.copy(self.first.kept, self.file_in(folder))
+        shutil.copy(self.first.saved_path, self.file_in(folder))
         return Cache(self.command, faults, self.library, folder, calls)
 
     def file_in(self, folder):
-        """Returns the path of the saved file in a folder, in which there may be one."""
-        path = kept(self.command, folder)
+        """Returns the path of the saved file in a folder, and creates the folder."""
+        path = saved_path(self.command, folder)
         os.makedirs(os.path.dirname(path), exist_ok=True)
         return path
 
-    def finds(self, cache, serials):
-        """A cache that is started over what this one has left has the data of one of these serial
-        numbers, and the changes from the first; or no data, if None is one of them."""
+    def check_restart(self, cache, serials):
+        """Checks that a cache over a copy of this one's folder has the data of one of these serial
+        numbers, and the changes from the first; None stands for no data."""
         self.count += 1
         folder = os.path.join(self.folder, str(self.count))
-        shutil.copytree(os.path.dirname(cache.path), folder, copy_function=copied_if_there,
+        shutil.copytree(os.path.dirname(cache.path), folder, copy_function=copy_if_exists,
                         ignore=shutil.ignore_patterns("data", "log", "seen"))
-        self.restarts(folder, serials, cache.session)
+        self.check_folder(folder, serials, cache.session)
 
-    def goes_on(self, saved, beside, serial, session):
-        """A cache that is started over a file of these bytes, and one beside it, if these aren't
-        None, has the data of this serial number and session, and goes on with others; it begins
-        without data if the serial number is None."""
+    def check_start_over(self, saved, beside, serial, session):
+        """Checks that a cache over a saved file of these bytes, and one beside it, has the data of
+        this serial number and session, and then serves others. None stands for no file, and for no
+        data."""
         folder = self.next_folder()
-        for suffix, content_of in ("", saved), (BESIDE, beside):
-            if content_of is not None:
-                put(self.file_in(folder) + suffix, content_of)
-        self.restarts(folder, (serial,), session, goes_on=True)
+        for suffix, written in ("", saved), (BESIDE, beside):
+            if written is not None:
+                replace_file(self.file_in(folder) + suffix, written)
+        self.check_folder(folder, (serial,), session, checks_next=True)
 
-    def restarts(self, folder, serials, session, goes_on=False):
-        """Checks what a cache has that is started over this folder, and whether it serves others
-        afterwards."""
-        after = Cache(self.command, "", self.library, folder)
+    def check_folder(self, folder, serials, session, checks_next=False):
+        """Starts a cache over this folder, and checks its data, and with `checks_next` whether it
+        then serves others."""
+        cache = Cache(self.command, "", self.library, folder)
         try:
-            after.waits(lambda: re.search(r"(?i)No such file", after.said()),
+            cache.wait_until(lambda: re.search(r"(?i)No such file", cache.log_text()),
                         "it looks for its file")
-            found = re.search(r"session (\d+) serial (\d+): \d+ payload", after.said())
+            found = re.search(r"session (\d+) serial (\d+): \d+ payload", cache.log_text())
             if found and session and int(found[1]) != session:
-                raise Wrong(f"a restart found another session: {after.said()}")
+                raise Wrong(f"a restart found another session: {cache.log_text()}")
             serial = int(found[2]) if found else None
             if serial not in serials:
                 raise Wrong(f"a restart found serial {serial}, not one of {serials}: "
-                            + after.said())
+                            + cache.log_text())
             if found:
-                after.session = int(found[1])
-                self.has(after, serial, goes_on)
+                cache.session = int(found[1])
+                self.check_data(cache, serial, checks_next)
             else:
-                self.has_none(after)
-            after.ends()
+                self.check_no_data(cache)
+            cache.terminate()
         finally:
-            after.kill()
+            cache.kill()
 
-    def has(self, cache, serial, goes_on):
-        """A cache has the data of this serial number, and may go on with others."""
+    def check_data(self, cache, serial, checks_next):
+        """Checks that a cache has the data of this serial number, and with `checks_next` whether it
+        then serves others."""
         router = Router(cache)
-        router.asks_all()
-        router.gets_answer(serial, DATA[serial])
-        answers_changes(router, DATA[1], DATA[serial], 1, serial)
-        has_none_beside(cache)
-        if goes_on:
-            cache.puts(content(serial + 1, OTHERS))
-            cache.serves(serial + 1)
-            answers_changes(router, DATA[serial], OTHERS, serial, serial + 1)
+        router.ask_all()
+        router.expect_answer(serial, DATA[serial])
+        expect_changes(router, DATA[1], DATA[serial], 1, serial)
+        check_none_beside(cache)
+        if checks_next:
+            cache.replace(content(serial + 1, OTHERS))
+            cache.wait_for_serial(serial + 1)
+            expect_changes(router, DATA[serial], OTHERS, serial, serial + 1)
         router.close()
 
-    def has_none(self, cache):
-        """A cache has no data, and begins with others, of a session that it never had."""
+    def check_no_data(self, cache):
+        """Checks that a cache has no data, and then serves others, of a new session."""
         router = Router(cache)
-        router.asks_all()
-        router.gets_none()
+        router.ask_all()
+        router.expect_no_data()
         cache.session = None if cache.draws_session else OTHER_SESSION
-        cache.puts(content(1, OTHERS, OTHER_SESSION))
-        cache.serves(1)
+        cache.replace(content(1, OTHERS, OTHER_SESSION))
+        cache.wait_for_serial(1)
         router.session = cache.session
-        router.asks_all()
-        router.gets_answer(1, OTHERS)
-        has_none_beside(cache)
+        router.ask_all()
+        router.expect_answer(1, OTHERS)
+        check_none_beside(cache)
         router.close()
 
 
@@ -146,14 +148,14 @@ def read(path):
         return file.read()
 
 
-def has_none_beside(cache):
-    """No file is left beside the saved one."""
-    if os.path.exists(cache.kept + BESIDE):
+def check_none_beside(cache):
+    """Checks that no file is left beside the saved one."""
+    if os.path.exists(cache.saved_path + BESIDE):
         raise Wrong("a file that a killed cache left stays beside")
 
 
-def answers_changes(router, before, after, old, new):
-    """A router gets the changes from the data of one serial number to those of another."""
-    router.asks_after(old)
-    router.gets_answer(new, [one for one in after if one not in before],
-                       [one for one in before if one not in after])
+def expect_changes(router, before, after, old, new):
+    """Checks that a router gets the changes between the data of two serial numbers."""
+    router.ask_after(old)
+    router.expect_answer(new, [text for text in after if text not in before],
+                         [text for text in before if text not in after])

@@ -13,8 +13,8 @@ import time
 
 from cache import STATE, Lost, Router
 from caches import content
-from saved import BESIDE, DATA, Saved, answers_changes
-from units import LONG, Wrong
+from saved import BESIDE, DATA, Saved, expect_changes
+from units import TIMEOUT, Wrong
 
 CLOSE = "a saving with a failing close"
 # What is injected into the next saving, and the error that the cache logs, if any. Syncs are
@@ -80,8 +80,9 @@ def names(program):
     savings = [KILLS, *LASTING, FULL, DESCRIPTORS, *READ_ONLY, *FAULTS]
     if program == "Node cache":
         savings.remove(CLOSE)
-    every = [*STARTS, *savings, *(name.replace("saving", FIRST + "saving") for name in savings)]
-    return [MINUTE, *every] if program == "C cache" else every  # it says how long it pauses
+    first_savings = [name.replace("saving", FIRST + "saving") for name in savings]
+    all_names = [*STARTS, *savings, *first_savings]
+    return [MINUTE, *all_names] if program == "C cache" else all_names  # its log has the pauses
 
 
 def numbered(faults, command, is_first):
@@ -92,107 +93,108 @@ def numbered(faults, command, is_first):
 
 
 def text_of(number):
-    """Returns a pattern of what a program says of an error of the system: its text, or in Node its
-    name before another text."""
+    """Returns a pattern of an error of the system in a log: its text, or in Node its name before
+    another text."""
     return f"({os.strerror(number)}|{errno.errorcode[number]}: )"
 
 
 class Saving:
-    """A cache that is to save: data of the first serial number, if it is a first saving, or those
-    of the second, after it served the first ones."""
+    """A cache that saves next the data of the first serial number, if it is a first saving, or
+    those of the second, after it served the first ones."""
 
     def __init__(self, cache, is_first):
         self.cache, self.is_first = cache, is_first
         self.serial = 1 if is_first else 2
         if not is_first:
-            cache.serves(1)
-        self.held, self.routers = self.holds(), []
+            cache.wait_for_serial(1)
+        self.first_resources, self.routers = self.resources(), []
 
-    def holds(self):
-        """Returns what the cache holds; nothing of rtr-cache, which starts processes and doesn't say
-        how many goroutines it has."""
-        return None if self.cache.draws_session else self.cache.holds()
+    def resources(self):
+        """Returns the cache's numbers of descriptors and threads; None for rtr-cache, which starts
+        processes and doesn't print its number of goroutines."""
+        return None if self.cache.draws_session else self.cache.resources()
 
-    def is_followed(self):
-        """Two routers connect, and get the data before; returns this."""
+    def connect_routers(self):
+        """Connects two routers, which get the former data. Returns self."""
         for version in 2, 1:
             self.routers.append(Router(self.cache, version))
-            self.has_former(self.routers[-1])
+            self.expect_former(self.routers[-1])
         return self
 
-    def has_former(self, router):
-        """A router gets the data before, or learns that there are none."""
+    def expect_former(self, router):
+        """Checks that a router gets the former data, or a report that there are none."""
         if self.is_first:
-            router.asks_all()
-            router.gets_none()
+            router.ask_all()
+            router.expect_no_data()
         else:
-            answers_changes(router, DATA[1], DATA[1], 1, 1)
+            expect_changes(router, DATA[1], DATA[1], 1, 1)
 
-    def have_former(self):
-        """All routers do."""
+    def expect_former_of_all(self):
+        """Checks that for all routers."""
         for router in self.routers:
-            self.has_former(router)
+            self.expect_former(router)
 
-    def comes(self):
-        """Gives the cache the data."""
-        self.cache.puts(content(self.serial, DATA[self.serial]))
+    def give_data(self):
+        """Replaces the cache's file by the data."""
+        self.cache.replace(content(self.serial, DATA[self.serial]))
 
-    def succeeds(self):
-        """The cache serves the data, once they are saved, and routers get them."""
-        self.cache.serves(self.serial)
+    def expect_served(self):
+        """Checks that the cache serves the data, and that routers get them."""
+        self.cache.wait_for_serial(self.serial)
         for router in self.routers:
             if self.serial == 1:
                 router.session = self.cache.session
-                router.asks_all()
-                router.gets_answer(1, DATA[1])
+                router.ask_all()
+                router.expect_answer(1, DATA[1])
             else:
-                answers_changes(router, DATA[self.serial - 1], DATA[self.serial], self.serial - 1,
+                expect_changes(router, DATA[self.serial - 1], DATA[self.serial], self.serial - 1,
                                 self.serial)
 
-    def takes(self):
-        """Gives the cache the data, which it saves, and then serves."""
+    def save(self):
+        """Gives the cache the data, and checks that it saves and then serves them."""
         before = inode(self.cache)
-        self.comes()
-        self.cache.serves(self.serial)
+        self.give_data()
+        self.cache.wait_for_serial(self.serial)
         if inode(self.cache) == before:
             raise Wrong(f"it serves serial {self.serial}, and hasn't saved it")
-        self.succeeds()
+        self.expect_served()
 
-    def takes_next(self):
-        """The same with the next data."""
+    def save_next(self):
+        """Does the same with the next data."""
         self.serial += 1
-        self.takes()
+        self.save()
 
-    def ends(self):
-        """The routers leave, and the cache has what it had before them, and ends."""
+    def terminate(self):
+        """Closes the routers, checks that the cache has its first numbers of descriptors and
+        threads again, and ends it."""
         for router in self.routers:
             router.close()
-        if self.held:
-            self.cache.settles(self.held, 1)
-        self.cache.ends()
+        if self.first_resources:
+            self.cache.wait_for_resources(self.first_resources, 1)
+        self.cache.terminate()
 
 
 def inode(cache):
     """Returns the inode of the saved file; nothing if there is none."""
-    return os.stat(cache.kept).st_ino if os.path.exists(cache.kept) else None
+    return os.stat(cache.saved_path).st_ino if os.path.exists(cache.saved_path) else None
 
 
-def is_said(cache, number):
-    """The cache says why it can't save: a failure about a file, by the system's text."""
-    cache.says(rf"(?i)({NAMED}): {text_of(number)}.*")
+def expect_log(cache, number):
+    """Checks that the cache logs why it can't save: a file, and the system's text."""
+    cache.wait_for_line(rf"(?i)({NAMED}): {text_of(number)}.*")
 
 
 def play_fault(saved, cache, is_first, number):
     """The next saving fails, or doesn't; the next try succeeds."""
     try:
-        saving = Saving(cache, is_first).is_followed()
-        saving.takes()
+        saving = Saving(cache, is_first).connect_routers()
+        saving.save()
         if number:
-            is_said(cache, number)
-        saved.finds(cache, (saving.serial,))
-        saving.takes_next()
-        saved.finds(cache, (saving.serial,))
-        saving.ends()
+            expect_log(cache, number)
+        saved.check_restart(cache, (saving.serial,))
+        saving.save_next()
+        saved.check_restart(cache, (saving.serial,))
+        saving.terminate()
     finally:
         cache.kill()
 
@@ -200,18 +202,18 @@ def play_fault(saved, cache, is_first, number):
 def play_injected(saved, cache, is_first, faults, number):
     """The same with faults that have to be injected."""
     play_fault(saved, cache, is_first, number)
-    if faults and not cache.injected():
+    if faults and not cache.injected_faults():
         raise Wrong("the fault wasn't injected")
 
 
 def play_full(saved, cache, is_first):
     """The same on a full disk."""
-    os.symlink("/dev/full", cache.kept + BESIDE)
+    os.symlink("/dev/full", cache.saved_path + BESIDE)
     play_fault(saved, cache, is_first, errno.ENOSPC)
 
 
 def starve(cache):
-    """Leaves a process no other descriptors than those that it has; returns its limits."""
+    """Lowers the limit of descriptors to those that a process has. Returns its former limits."""
     used = {int(name) for name in os.listdir(f"/proc/{cache.process.pid}/fd")}
     free = next(number for number in itertools.count() if number not in used)
     soft, hard = resource.prlimit(cache.process.pid, resource.RLIMIT_NOFILE)
@@ -223,56 +225,58 @@ def play_descriptors(saved, cache, is_first):
     """A process without descriptors says so, and serves the data before, or has one in reserve by
     which it saves; once it has descriptors it serves the data."""
     try:
-        saving = Saving(cache, is_first).is_followed()
+        saving = Saving(cache, is_first).connect_routers()
         limits = starve(cache)
-        saving.comes()
-        lacks, serves = text_of(errno.EMFILE), f"serial {saving.serial}: {len(DATA[1])}"
-        cache.waits(lambda: re.search(f"(?i){lacks}|{serves}", cache.said()), "it has tried")
-        if serves not in cache.said():
-            saving.have_former()
+        saving.give_data()
+        failure, success = text_of(errno.EMFILE), f"serial {saving.serial}: {len(DATA[1])}"
+        cache.wait_until(lambda: re.search(f"(?i){failure}|{success}", cache.log_text()),
+                         "it has tried")
+        if success not in cache.log_text():
+            saving.expect_former_of_all()
         resource.prlimit(cache.process.pid, resource.RLIMIT_NOFILE, limits)
-        saving.succeeds()
-        saved.finds(cache, (saving.serial,))
-        saving.ends()
+        saving.expect_served()
+        saved.check_restart(cache, (saving.serial,))
+        saving.terminate()
     finally:
         cache.kill()
 
 
 def failures(cache, number):
-    """Returns how often it logged that a saving failed for this error. A cache in Go logs the same
-    error once: how often it failed then."""
-    logged = len(re.findall(rf"(?i)({NAMED}): {text_of(number)}", cache.said()))
-    return len(cache.injected()) if logged and os.path.exists(cache.state) else logged
+    """Returns how often the cache logged that a saving failed by this error. A cache in Go logs the
+    same error once: then it is the number of injected faults."""
+    logged = len(re.findall(rf"(?i)({NAMED}): {text_of(number)}", cache.log_text()))
+    return len(cache.injected_faults()) if logged and os.path.exists(cache.state_path) else logged
 
 
 def play_lasting(saved, cache, is_first, number, replaces):
-    """All savings fail: routers get the data before, and no other file is left."""
+    """All savings fail: routers get the former data, and no other file is left."""
     try:
         saving = Saving(cache, is_first)
-        saving.comes()
-        cache.waits(lambda: failures(cache, number), "it logs the failure")
-        saving.held = saving.holds()  # in Rust with a thread that waits for the next try
-        saving.is_followed()
+        saving.give_data()
+        cache.wait_until(lambda: failures(cache, number), "it logs the failure")
+        saving.first_resources = saving.resources()  # in Rust also a thread that waits to retry
+        saving.connect_routers()
         for count in 1, 2:
-            cache.waits(lambda wanted=count: failures(cache, number) >= wanted, "it tries again")
-            saving.have_former()
-        cache.waits(lambda: not os.path.exists(cache.kept + BESIDE), "it removes its file")
+            cache.wait_until(lambda least=count: failures(cache, number) >= least, "it tries again")
+            saving.expect_former_of_all()
+        cache.wait_until(lambda: not os.path.exists(cache.saved_path + BESIDE),
+                         "it removes its file")
         former = None if is_first else 1
-        saved.finds(cache, (saving.serial if replaces else former,))
-        saving.ends()
+        saved.check_restart(cache, (saving.serial if replaces else former,))
+        saving.terminate()
     finally:
         cache.kill()
 
 
 def play_minute(saved):
     """All savings fail: the pauses between them double, up to a minute."""
-    cache = saved.started("write:1:0:ENOSPC")
+    cache = saved.start_saved("write:1:0:ENOSPC")
     try:
-        cache.serves(1)
-        cache.puts(content(2, DATA[2]))
+        cache.wait_for_serial(1)
+        cache.replace(content(2, DATA[2]))
         for seconds in PAUSES:
-            cache.says(rf"trying again in {seconds} seconds?")
-        cache.ends()
+            cache.wait_for_line(rf"trying again in {seconds} seconds?")
+        cache.terminate()
     finally:
         cache.kill()
 
@@ -282,16 +286,16 @@ def play_start(saved, faults, number):
     nothing. Its last run may have ended between the rename and the sync, and after a power cut the
     file would be an older one."""
     try:
-        cache = saved.started(faults)
+        cache = saved.start_saved(faults)
     except Wrong:
         pass
     else:
         cache.kill()
         raise Wrong("it listens")
     with open(os.path.join(saved.folder, str(saved.count), "log"), encoding="utf-8") as log:
-        said = log.read()
-    if not re.search(f"(?i){text_of(number)}", said) or "serial 1" in said:
-        raise Wrong(said)
+        log_text = log.read()
+    if not re.search(f"(?i){text_of(number)}", log_text) or "serial 1" in log_text:
+        raise Wrong(log_text)
 
 
 def play_kills(saved, is_first):
@@ -301,20 +305,21 @@ def play_kills(saved, is_first):
     at_start = 0 if is_first and not saved.draws_session else 1
     while is_killed:
         number = at_start + count + 1
-        cache = starts(saved, is_first, f"save:{number}:{number}:KILL")
+        cache = start_cache(saved, is_first, f"save:{number}:{number}:KILL")
         try:
-            saving = Saving(cache, is_first).is_followed()
-            saving.comes()
-            until, serves = time.monotonic() + LONG, f"serial {saving.serial}: {len(DATA[1])}"
-            while cache.process.poll() is None and serves not in cache.said():
-                if time.monotonic() > until:
+            saving = Saving(cache, is_first).connect_routers()
+            saving.give_data()
+            success = f"serial {saving.serial}: {len(DATA[1])}"
+            deadline = time.monotonic() + TIMEOUT
+            while cache.process.poll() is None and success not in cache.log_text():
+                if time.monotonic() > deadline:
                     raise Wrong("it neither ended nor served the data")
                 time.sleep(0.01)
             is_killed = cache.process.poll() == -signal.SIGKILL
-            if is_killed != bool(cache.injected()):
+            if is_killed != bool(cache.injected_faults()):
                 raise Wrong(f"its status is {cache.process.poll()}")
             former = None if is_first else 1
-            saved.finds(cache, (former, saving.serial) if is_killed else (saving.serial,))
+            saved.check_restart(cache, (former, saving.serial) if is_killed else (saving.serial,))
             count += is_killed
         finally:
             cache.kill()
@@ -322,9 +327,9 @@ def play_kills(saved, is_first):
         raise Wrong(f"it was killed at {count} calls")
 
 
-def starts(saved, is_first, faults):
-    """Starts a cache that is to save with these faults."""
-    return saved.begins(faults) if is_first else saved.started(faults)
+def start_cache(saved, is_first, faults):
+    """Starts a cache that saves with these faults."""
+    return saved.start_empty(faults) if is_first else saved.start_saved(faults)
 
 
 def play_savings(saved, command, name, is_first):
@@ -332,26 +337,26 @@ def play_savings(saved, command, name, is_first):
     if name == KILLS:
         play_kills(saved, is_first)
     elif name == FULL:
-        play_full(saved, starts(saved, is_first, ""), is_first)
+        play_full(saved, start_cache(saved, is_first, ""), is_first)
     elif name == DESCRIPTORS:
-        play_descriptors(saved, starts(saved, is_first, ""), is_first)
+        play_descriptors(saved, start_cache(saved, is_first, ""), is_first)
     elif name in READ_ONLY:
         faults, has_beside = READ_ONLY[name]
-        cache = (saved.begins_beside(faults, not is_first) if has_beside
-                 else starts(saved, is_first, faults))
+        cache = (saved.start_beside_partial(faults, not is_first) if has_beside
+                 else start_cache(saved, is_first, faults))
         play_injected(saved, cache, is_first, faults, errno.EROFS)
     elif name in LASTING:
         faults, number, replaces = LASTING[name]
         faults = numbered(faults, command, is_first)
-        play_lasting(saved, starts(saved, is_first, faults), is_first, number, replaces)
+        play_lasting(saved, start_cache(saved, is_first, faults), is_first, number, replaces)
     else:
         faults, number = FAULTS[name]
         faults = numbered(faults, command, is_first)
-        play_injected(saved, starts(saved, is_first, faults), is_first, faults, number)
+        play_injected(saved, start_cache(saved, is_first, faults), is_first, faults, number)
 
 
 def play(command, name, library, folder):
-    """Plays a cache with the faults of this name; returns what was wrong, or nothing."""
+    """Plays a cache with the faults of this name. Returns a text of what was wrong, or None."""
     try:
         saved = Saved(command, library, folder)
         if name in STARTS:

@@ -1,4 +1,4 @@
-/* Calls on sockets in which faults are injected, as faults.c says. */
+/* Injects faults into calls on sockets, as faults.c decides. */
 #define _GNU_SOURCE
 #include <errno.h>
 #include <fcntl.h>
@@ -11,8 +11,7 @@
 #include <sys/uio.h>
 #include "faults.h"
 
-/* Reports whether this is a socket of a connection, or one that listens, and not one of a pair by
- * which a program wakes itself. */
+/* Reports whether this is an internet socket; a program wakes itself by a pair of others. */
 static int is_socket(int fd)
 {
     struct sockaddr_storage address;
@@ -28,7 +27,7 @@ static int is_nonblocking(int fd, int flags)
     return (flags & MSG_DONTWAIT) || (fcntl(fd, F_GETFL) & O_NONBLOCK);
 }
 
-/* ---- names: localhost has two addresses, and nobody listens at the first */
+/* ---- names: localhost has two addresses, and no server listens at the first */
 
 int getaddrinfo(const char *host, const char *port, const struct addrinfo *hints,
                 struct addrinfo **found)
@@ -50,7 +49,7 @@ int getaddrinfo(const char *host, const char *port, const struct addrinfo *hints
     return 0;
 }
 
-/* ---- new connections: one that isn't accepted stays in the queue */
+/* ---- new connections: a connection that isn't accepted stays in the queue */
 
 int connect(int fd, const struct sockaddr *address, socklen_t length)
 {
@@ -140,57 +139,59 @@ ssize_t read(int fd, void *bytes, size_t size)
     return next(fd, bytes, size);
 }
 
-/* ---- calls on several buffers: a short one moves some of the first */
+/* ---- calls on several buffers: a short call moves a part of the first buffer */
 
 ssize_t writev(int fd, const struct iovec *parts, int count)
 {
     ssize_t (*next)(int, const struct iovec *, int) = real("writev");
-    size_t size = count > 0 ? parts[0].iov_len : 0, most = size;
+    size_t size = count > 0 ? parts[0].iov_len : 0, limit = size;
     if (!is_socket(fd))
         return next(fd, parts, count);
-    if (fault_of(SEND, !is_nonblocking(fd, 0), &most))
+    if (fault_of(SEND, !is_nonblocking(fd, 0), &limit))
         return -1;
-    struct iovec first = {count > 0 ? parts[0].iov_base : NULL, most};
-    return most < size ? next(fd, &first, 1) : next(fd, parts, count);
+    struct iovec first = {count > 0 ? parts[0].iov_base : NULL, limit};
+    return limit < size ? next(fd, &first, 1) : next(fd, parts, count);
 }
 
 ssize_t sendmsg(int fd, const struct msghdr *message, int flags)
 {
     ssize_t (*next)(int, const struct msghdr *, int) = real("sendmsg");
-    size_t size = message->msg_iovlen ? message->msg_iov[0].iov_len : 0, most = size;
+    size_t size = message->msg_iovlen ? message->msg_iov[0].iov_len : 0, limit = size;
     if (message->msg_name || !is_socket(fd))
         return next(fd, message, flags);
-    if (fault_of(SEND, !is_nonblocking(fd, flags), &most))
+    if (fault_of(SEND, !is_nonblocking(fd, flags), &limit))
         return -1;
     struct msghdr shorter = *message;
-    struct iovec first = {size ? message->msg_iov[0].iov_base : NULL, most};
+    struct iovec first = {size ? message->msg_iov[0].iov_base : NULL, limit};
     shorter.msg_iov = &first;
     shorter.msg_iovlen = 1;
-    return next(fd, most < size ? &shorter : message, flags);
+    return next(fd, limit < size ? &shorter : message, flags);
 }
 
-/* ---- waits: a signal interrupts them */
+/* ---- waits, which a signal interrupts */
 
-int poll(struct pollfd *waits, nfds_t count, int limit)
+int poll(struct pollfd *descriptors, nfds_t count, int timeout)
 {
     int (*next)(struct pollfd *, nfds_t, int) = real("poll");
-    return count && fault_of(WAIT, 1, NULL) ? -1 : next(waits, count, limit);
+    return count && fault_of(WAIT, 1, NULL) ? -1 : next(descriptors, count, timeout);
 }
 
-int ppoll(struct pollfd *waits, nfds_t count, const struct timespec *limit, const sigset_t *mask)
+int ppoll(struct pollfd *descriptors, nfds_t count, const struct timespec *timeout,
+          const sigset_t *mask)
 {
     int (*next)(struct pollfd *, nfds_t, const struct timespec *, const sigset_t *) = real("ppoll");
-    return count && fault_of(WAIT, 1, NULL) ? -1 : next(waits, count, limit, mask);
+    return count && fault_of(WAIT, 1, NULL) ? -1 : next(descriptors, count, timeout, mask);
 }
 
-int epoll_wait(int fd, struct epoll_event *events, int most, int limit)
+int epoll_wait(int fd, struct epoll_event *events, int capacity, int timeout)
 {
     int (*next)(int, struct epoll_event *, int, int) = real("epoll_wait");
-    return fault_of(WAIT, 1, NULL) ? -1 : next(fd, events, most, limit);
+    return fault_of(WAIT, 1, NULL) ? -1 : next(fd, events, capacity, timeout);
 }
 
-int epoll_pwait(int fd, struct epoll_event *events, int most, int limit, const sigset_t *mask)
+int epoll_pwait(int fd, struct epoll_event *events, int capacity, int timeout,
+                const sigset_t *mask)
 {
     int (*next)(int, struct epoll_event *, int, int, const sigset_t *) = real("epoll_pwait");
-    return fault_of(WAIT, 1, NULL) ? -1 : next(fd, events, most, limit, mask);
+    return fault_of(WAIT, 1, NULL) ? -1 : next(fd, events, capacity, timeout, mask);
 }

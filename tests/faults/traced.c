@@ -5,7 +5,7 @@
  *
  * The program keeps this process. A process of its own traces it by ptrace(2), and ends with it;
  * without leave for that, traced exits with status 77. If FAULTS_CALLS names a file, each call on
- * files that are saved begins LATE milliseconds late, while other threads go on, and the file gets
+ * files that are saved begins DELAY milliseconds late, while other threads go on, and the file gets
  * a line before and after it: the time in nanoseconds (CLOCK_MONOTONIC), the thread, `begins` or
  * `ends`, the call, what it returned, the path, and for a rename the new one. */
 #define _GNU_SOURCE
@@ -28,20 +28,20 @@
 #include <unistd.h>
 #include "faults.h"
 
-enum { MOST_THREADS = 256, LATE = 20, NOT_ALLOWED = 77 };
+enum { MOST_THREADS = 256, DELAY = 20, NOT_ALLOWED = 77 };
 
 /* A thread of the program, and its call on a file, if it is in one. */
 static struct thread {
     pid_t id;
-    int is_late; /* it is stopped before its call, until `until` */
-    int64_t until;
+    int is_delayed; /* stopped before its call, until `resume_at` */
+    int64_t resume_at;
     int is_in_call, fault;
     enum call call;
-    char path[PATH_MAX], to[PATH_MAX];
+    char path[PATH_MAX], new_path[PATH_MAX];
 } threads[MOST_THREADS];
 
 static pid_t program;
-static FILE *calls; /* null unless FAULTS_CALLS names a file */
+static FILE *call_log; /* NULL unless FAULTS_CALLS names a file */
 
 static int64_t now(void)
 {
@@ -50,7 +50,7 @@ static int64_t now(void)
     return (int64_t)time.tv_sec * 1000000000 + time.tv_nsec;
 }
 
-/* Returns the entry of a thread, which is a new one if it has none. */
+/* Returns the entry of a thread, and adds one if it has none. */
 static struct thread *thread_of(pid_t id)
 {
     struct thread *unused = NULL;
@@ -66,12 +66,12 @@ static struct thread *thread_of(pid_t id)
     return unused;
 }
 
-static void go_on(pid_t id, int number)
+static void resume(pid_t id, int number)
 {
     ptrace(PTRACE_SYSCALL, id, NULL, (void *)(intptr_t)number);
 }
 
-/* ---- what a call is about */
+/* ---- which calls concern saved files */
 
 /* Reads a text of the program. */
 static void read_text(pid_t id, uint64_t address, char text[PATH_MAX])
@@ -100,8 +100,8 @@ static void read_path(pid_t id, uint64_t descriptor, char path[PATH_MAX])
 
 static int is_folder(const char *path)
 {
-    struct stat found;
-    return !stat(path, &found) && S_ISDIR(found.st_mode);
+    struct stat info;
+    return !stat(path, &info) && S_ISDIR(info.st_mode);
 }
 
 /* Reports whether a call opens the file that is saved, or its folder. */
@@ -119,15 +119,15 @@ static int removes(struct thread *t, uint64_t path)
     return is_saved_path(t->path);
 }
 
-/* A call creates a folder: only the list of calls has it. */
+/* Reports whether a call that creates a folder is logged: it gets no fault. */
 static int creates(struct thread *t, uint64_t path)
 {
     t->call = MKDIR;
     read_text(t->id, path, t->path);
-    return calls != NULL;
+    return call_log != NULL;
 }
 
-/* Reports whether a call is one on a descriptor of this file, or of a folder if it syncs that. */
+/* Reports whether a call is on a descriptor of that file, or syncs a folder. */
 static int is_on(struct thread *t, enum call call, uint64_t descriptor)
 {
     t->call = call;
@@ -135,44 +135,44 @@ static int is_on(struct thread *t, enum call call, uint64_t descriptor)
     return is_saved_path(t->path) || (call == SYNC && is_folder(t->path));
 }
 
-/* Reports whether a call renames this file. */
-static int renames(struct thread *t, uint64_t from, uint64_t to)
+/* Reports whether a call renames that file. */
+static int renames(struct thread *t, uint64_t from, uint64_t new_path)
 {
     t->call = RENAME;
     read_text(t->id, from, t->path);
-    read_text(t->id, to, t->to);
+    read_text(t->id, new_path, t->new_path);
     return is_saved_path(t->path);
 }
 
-/* Reports whether a call is about files that are saved. */
-static int concerns_saving(struct thread *t, uint64_t number, const uint64_t words[6])
+/* Reports whether a call concerns files that are saved. */
+static int concerns_saving(struct thread *t, uint64_t number, const uint64_t arguments[6])
 {
-    t->to[0] = 0;
+    t->new_path[0] = 0;
     switch (number) {
     case SYS_open:
-        return opens(t, words[0], words[1]);
+        return opens(t, arguments[0], arguments[1]);
     case SYS_openat:
-        return opens(t, words[1], words[2]);
+        return opens(t, arguments[1], arguments[2]);
     case SYS_unlink:
-        return removes(t, words[0]);
+        return removes(t, arguments[0]);
     case SYS_unlinkat:
-        return removes(t, words[1]);
+        return removes(t, arguments[1]);
     case SYS_mkdir:
-        return creates(t, words[0]);
+        return creates(t, arguments[0]);
     case SYS_mkdirat:
-        return creates(t, words[1]);
+        return creates(t, arguments[1]);
     case SYS_write:
-        return is_on(t, WRITE, words[0]);
+        return is_on(t, WRITE, arguments[0]);
     case SYS_fsync:
     case SYS_fdatasync:
-        return is_on(t, SYNC, words[0]);
+        return is_on(t, SYNC, arguments[0]);
     case SYS_close:
-        return is_on(t, CLOSE, words[0]);
+        return is_on(t, CLOSE, arguments[0]);
     case SYS_rename:
-        return renames(t, words[0], words[1]);
+        return renames(t, arguments[0], arguments[1]);
     case SYS_renameat:
     case SYS_renameat2:
-        return renames(t, words[1], words[3]);
+        return renames(t, arguments[1], arguments[3]);
     default:
         return 0;
     }
@@ -180,12 +180,12 @@ static int concerns_saving(struct thread *t, uint64_t number, const uint64_t wor
 
 /* ---- faults */
 
-/* Writes a line to the list of calls. */
-static void list(const struct thread *t, const char *what, int64_t returned)
+/* Appends a line to the list of calls. */
+static void log_call(const struct thread *t, const char *what, int64_t returned)
 {
-    if (calls)
-        fprintf(calls, "%" PRId64 " %d %s %s %" PRId64 " %s %s\n", now(), t->id, what,
-                name_of(t->call), returned, t->path, t->to);
+    if (call_log)
+        fprintf(call_log, "%" PRId64 " %d %s %s %" PRId64 " %s %s\n", now(), t->id, what,
+                name_of(t->call), returned, t->path, t->new_path);
 }
 
 static void kill_program(void)
@@ -193,9 +193,9 @@ static void kill_program(void)
     kill(program, SIGKILL);
 }
 
-/* Changes the registers of a call that begins: its number, so that it does nothing, or how many
- * bytes it writes. */
-static void change(pid_t id, int is_skipped, uint64_t size)
+/* Changes the registers of a call that begins: its number, so that it does nothing, or the number
+ * of bytes that it writes. */
+static void change_registers(pid_t id, int is_skipped, uint64_t size)
 {
     struct user_regs_struct registers;
     ptrace(PTRACE_GETREGS, id, NULL, &registers);
@@ -206,25 +206,25 @@ static void change(pid_t id, int is_skipped, uint64_t size)
     ptrace(PTRACE_SETREGS, id, NULL, &registers);
 }
 
-/* A call on a file begins: injects its fault. A process that is to be killed in a write is killed
- * in its middle. A close that fails has closed the descriptor. */
-static void begin(struct thread *t, uint64_t size)
+/* Injects the fault of a call on a file that begins. A process that is killed in a write is killed
+ * in its middle. A close that fails still closes the descriptor. */
+static void begin_call(struct thread *t, uint64_t size)
 {
     size_t most = size;
     t->fault = fault_on_file(t->call, t->call == WRITE ? &most : NULL);
     if (t->fault == KILLED && t->call != WRITE)
         kill_program();
     else if (t->fault == KILLED)
-        change(t->id, 0, size / 2);
+        change_registers(t->id, 0, size / 2);
     else if (t->fault && t->call != CLOSE)
-        change(t->id, 1, 0);
+        change_registers(t->id, 1, 0);
     else if (most < size)
-        change(t->id, 0, most);
-    list(t, "begins", 0);
+        change_registers(t->id, 0, most);
+    log_call(t, "begins", 0);
 }
 
-/* The call has ended. */
-static void end(struct thread *t, int64_t returned)
+/* Sets the result of a call that has ended, or kills the program. */
+static void end_call(struct thread *t, int64_t returned)
 {
     struct user_regs_struct registers;
     t->is_in_call = 0;
@@ -235,71 +235,71 @@ static void end(struct thread *t, int64_t returned)
         registers.rax = (unsigned long long)-t->fault;
         ptrace(PTRACE_SETREGS, t->id, NULL, &registers);
     }
-    list(t, "ends", returned);
+    log_call(t, "ends", returned);
 }
 
 /* ---- stops */
 
-/* A thread enters or leaves a system call. */
-static void at_call(struct thread *t)
+/* Handles a thread that enters or leaves a system call. */
+static void handle_call(struct thread *t)
 {
     struct __ptrace_syscall_info info;
     if (ptrace(PTRACE_GET_SYSCALL_INFO, t->id, (void *)sizeof info, &info) <= 0)
         return;
     if (info.op == PTRACE_SYSCALL_INFO_EXIT) {
         if (t->is_in_call)
-            end(t, info.exit.rval);
+            end_call(t, info.exit.rval);
     } else if (info.op == PTRACE_SYSCALL_INFO_ENTRY) {
-        uint64_t words[6];
-        memcpy(words, info.entry.args, sizeof words);
-        t->is_in_call = concerns_saving(t, info.entry.nr, words);
-        if (t->is_in_call && calls && !t->is_late) {
-            t->is_late = 1;
-            t->until = now() + LATE * 1000000;
+        uint64_t arguments[6];
+        memcpy(arguments, info.entry.args, sizeof arguments);
+        t->is_in_call = concerns_saving(t, info.entry.nr, arguments);
+        if (t->is_in_call && call_log && !t->is_delayed) {
+            t->is_delayed = 1;
+            t->resume_at = now() + DELAY * 1000000;
             return;
         }
-        t->is_late = 0;
+        t->is_delayed = 0;
         if (t->is_in_call)
-            begin(t, words[2]);
+            begin_call(t, arguments[2]);
     }
-    go_on(t->id, 0);
+    resume(t->id, 0);
 }
 
-/* Has those threads go on that were stopped for long enough; returns how many are still late. */
-static int release(void)
+/* Resumes the threads whose delay is over. Returns the number of those that are still delayed. */
+static int resume_delayed(void)
 {
-    int late = 0;
+    int delayed = 0;
     for (size_t i = 0; i < MOST_THREADS; i++) {
-        if (threads[i].id && threads[i].is_late && threads[i].until <= now())
-            at_call(&threads[i]);
-        late += threads[i].id && threads[i].is_late;
+        if (threads[i].id && threads[i].is_delayed && threads[i].resume_at <= now())
+            handle_call(&threads[i]);
+        delayed += threads[i].id && threads[i].is_delayed;
     }
-    return late;
+    return delayed;
 }
 
-static void at_stop(pid_t id, int status)
+static void handle_stop(pid_t id, int status)
 {
     int number = WSTOPSIG(status), event = status >> 16;
     if (number == (SIGTRAP | 0x80))
-        at_call(thread_of(id));
+        handle_call(thread_of(id));
     else if (event == PTRACE_EVENT_STOP && number != SIGTRAP)
         ptrace(PTRACE_LISTEN, id, NULL, NULL);
     else
-        go_on(id, event ? 0 : number);
+        resume(id, event ? 0 : number);
 }
 
-/* Traces until no thread is left. */
+/* Traces until the last thread has ended. */
 static void trace(void)
 {
     for (;;) {
         int status;
-        pid_t id = waitpid(-1, &status, __WALL | (release() ? WNOHANG : 0));
+        pid_t id = waitpid(-1, &status, __WALL | (resume_delayed() ? WNOHANG : 0));
         if (id < 0 && errno != EINTR)
             return;
         if (id == 0)
             nanosleep(&(struct timespec){.tv_nsec = 1000000}, NULL);
         else if (id > 0 && WIFSTOPPED(status))
-            at_stop(id, status);
+            handle_stop(id, status);
         else if (id > 0)
             thread_of(id)->id = 0;
     }
@@ -307,18 +307,18 @@ static void trace(void)
 
 /* ---- the start */
 
-/* The process that traces: tells the program by the pipe that it does. */
-static void follow(int ready)
+/* Traces the program, once a byte in the pipe has told it so. */
+static void trace_program(int ready)
 {
     const char *path = getenv("FAULTS_CALLS");
     uintptr_t options = PTRACE_O_TRACESYSGOOD | PTRACE_O_TRACECLONE | PTRACE_O_EXITKILL;
     if (ptrace(PTRACE_SEIZE, program, NULL, (void *)options) < 0)
         _exit(NOT_ALLOWED);
     ptrace(PTRACE_INTERRUPT, program, NULL, NULL);
-    if (path && !(calls = fopen(path, "we")))
+    if (path && !(call_log = fopen(path, "we")))
         abort();
-    if (calls)
-        setvbuf(calls, NULL, _IOLBF, 0);
+    if (call_log)
+        setvbuf(call_log, NULL, _IOLBF, 0);
     if (write(ready, "", 1) != 1)
         abort();
     close(ready);
@@ -326,7 +326,7 @@ static void follow(int ready)
     _exit(0);
 }
 
-int main(int count, char **words)
+int main(int count, char **command)
 {
     int ready[2];
     char byte;
@@ -334,19 +334,19 @@ int main(int count, char **words)
         return 2;
     program = getpid();
     prctl(PR_SET_PTRACER, PR_SET_PTRACER_ANY, 0, 0, 0);
-    /* The child of a child that has ended, so that the program has no child. */
+    /* The tracer is the child of a child that ends, so that the program has no child. */
     pid_t child = fork();
     if (child == 0) {
         close(ready[0]);
         if (fork() == 0)
-            follow(ready[1]);
+            trace_program(ready[1]);
         _exit(0);
     }
     close(ready[1]);
     waitpid(child, NULL, 0);
     if (read(ready[0], &byte, 1) != 1)
         return NOT_ALLOWED;
-    execvp(words[1], words + 1);
-    perror(words[1]);
+    execvp(command[1], command + 1);
+    perror(command[1]);
     return 127;
 }

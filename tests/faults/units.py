@@ -6,7 +6,7 @@ import struct
 SESSION = 4660
 TIMINGS = (3600, 600, 7200)
 AS = 64496
-LONG = 300  # seconds for what has to happen
+TIMEOUT = 300  # seconds for each wait
 
 # The types of units.
 NOTIFY, SERIAL_QUERY, RESET_QUERY, RESPONSE, IPV4, IPV6, END, REPORT = 0, 1, 2, 3, 4, 6, 7, 10

@@ -8,7 +8,7 @@ import socket
 import subprocess
 import time
 
-from units import LONG, REPORT, Wrong, unit
+from units import REPORT, TIMEOUT, Wrong, unit
 
 NAME = "the waits of twelve clients"
 CLIENTS = 12
@@ -24,31 +24,31 @@ def names(_):
     return [NAME]
 
 
-def measured(listeners):
+def measured_waits(listeners):
     """Returns the wait of each client, in seconds."""
-    closed, waits = {one: [] for one in listeners}, {}
-    until = time.monotonic() + LONG
+    refusals, waits = {listener: [] for listener in listeners}, {}
+    deadline = time.monotonic() + TIMEOUT
     with selectors.DefaultSelector() as selector:
-        for one in listeners:
-            selector.register(one, selectors.EVENT_READ)
+        for listener in listeners:
+            selector.register(listener, selectors.EVENT_READ)
         while len(waits) < len(listeners):
-            ready = selector.select(until - time.monotonic())
+            ready = selector.select(deadline - time.monotonic())
             if not ready:
                 raise Wrong(f"only {len(waits)} clients connected {WAIT + 1} times")
             for key, _ in ready:
-                one = key.fileobj
-                connection, _ = one.accept()
-                if len(closed[one]) == WAIT:
-                    waits[one] = time.monotonic() - closed[one][-1]
-                    selector.unregister(one)
-                closed[one].append(refuse(connection))
+                listener = key.fileobj
+                connection, _ = listener.accept()
+                if len(refusals[listener]) == WAIT:
+                    waits[listener] = time.monotonic() - refusals[listener][-1]
+                    selector.unregister(listener)
+                refusals[listener].append(refuse(connection))
     return sorted(waits.values())
 
 
 def refuse(connection):
     """Answers a query by a report without a unit and a text, and closes. Returns a time before
     which no wait for the next connection begins."""
-    connection.settimeout(LONG)
+    connection.settimeout(TIMEOUT)
     query = connection.recv(16)
     before = time.monotonic()
     if query:
@@ -58,27 +58,27 @@ def refuse(connection):
 
 
 def play(command, _, __, folder):
-    """Plays the clients; returns what was wrong, or nothing."""
+    """Plays the clients. Returns a text of what was wrong, or None."""
     listeners = [socket.create_server(("127.0.0.1", 0)) for _ in range(CLIENTS)]
     processes = []
-    with open(os.path.join(folder, "said"), "wb") as said:
-        for one in listeners:
-            address = f"127.0.0.1:{one.getsockname()[1]}"
+    with open(os.path.join(folder, "said"), "wb") as log:
+        for listener in listeners:
+            address = f"127.0.0.1:{listener.getsockname()[1]}"
             words = [word.replace("ADDRESS", address) for word in command]
-            processes.append(subprocess.Popen(words, stdout=said, stderr=said))
+            processes.append(subprocess.Popen(words, stdout=log, stderr=log))
     try:
-        waits = measured(listeners)
-        text = ", ".join(f"{wait:.3f}" for wait in waits)
+        waits = measured_waits(listeners)
+        listed = ", ".join(f"{wait:.3f}" for wait in waits)
         if waits[0] < SECONDS / 2:
-            return f"a wait is shorter than {SECONDS / 2} seconds: {text}"
+            return f"a wait is shorter than {SECONDS / 2} seconds: {listed}"
         if waits[-1] - waits[0] < SPREAD:
-            return f"the waits are alike: {text}"
+            return f"the waits are alike: {listed}"
     except Wrong as wrong:
         return f"{wrong}"
     finally:
         for process in processes:
             process.kill()
             process.wait()
-        for one in listeners:
-            one.close()
+        for listener in listeners:
+            listener.close()
     return None

@@ -27,8 +27,8 @@ type faults struct {
 
 func newFaults(text, seen string) *faults {
 	f := &faults{counts: map[string]uint64{}, seen: seen}
-	for _, one := range strings.Fields(text) {
-		parts := strings.Split(one+":1", ":")
+	for _, field := range strings.Fields(text) {
+		parts := strings.Split(field+":1", ":")
 		w := word{call: parts[0], fault: parts[3]}
 		for i, number := range []*uint64{&w.first, &w.last, nil, &w.step} {
 			if number != nil {
@@ -49,8 +49,8 @@ var numbers = map[string]syscall.Errno{
 	"EINTR": syscall.EINTR, "EAGAIN": syscall.EAGAIN,
 }
 
-// of counts a call. It returns its error, and the most bytes that it may move.
-func (f *faults) of(call string, most int) (errno syscall.Errno, limit int) {
+// inject counts a call. It returns the error to inject, and the most bytes that the call may move.
+func (f *faults) inject(call string, size int) (errno syscall.Errno, limit int) {
 	f.Lock()
 	defer f.Unlock()
 	f.counts[call]++
@@ -62,8 +62,8 @@ func (f *faults) of(call string, most int) (errno syscall.Errno, limit int) {
 		}
 		f.record(call, count, w.fault)
 		if number, err := strconv.Atoi(w.fault); err == nil {
-			if number < most {
-				most = number
+			if number < size {
+				size = number
 			}
 			continue
 		}
@@ -72,10 +72,10 @@ func (f *faults) of(call string, most int) (errno syscall.Errno, limit int) {
 			panic("no fault " + w.fault)
 		}
 	}
-	return errno, most
+	return errno, size
 }
 
-// record notes a fault that is injected.
+// record appends an injected fault to the file.
 func (f *faults) record(call string, count uint64, fault string) {
 	file, err := os.OpenFile(f.seen, os.O_CREATE|os.O_APPEND|os.O_WRONLY, 0o600)
 	if err != nil {
@@ -85,7 +85,7 @@ func (f *faults) record(call string, count uint64, fault string) {
 	fmt.Fprintln(file, call, count, fault)
 }
 
-// failed returns an error as net has it; nil for one that net handles by another call.
+// failed returns an error as net wraps it, or nil for one after which net repeats the call.
 func failed(op, call string, errno syscall.Errno) error {
 	if errno == 0 || errno == syscall.EINTR || errno == syscall.EAGAIN {
 		return nil
@@ -93,8 +93,8 @@ func failed(op, call string, errno syscall.Errno) error {
 	return &net.OpError{Op: op, Net: "tcp", Err: os.NewSyscallError(call, errno)}
 }
 
-// conn is a connection of a client whose reads and writes get faults. A short write is one that its
-// deadline ended.
+// conn is a connection of a client whose reads and writes get faults. A short write fails as if its
+// deadline were exceeded.
 type conn struct {
 	*net.TCPConn
 	faults *faults
@@ -102,26 +102,26 @@ type conn struct {
 
 func (c conn) Read(bytes []byte) (int, error) {
 	for {
-		errno, most := c.faults.of("receive", len(bytes))
+		errno, limit := c.faults.inject("receive", len(bytes))
 		if err := failed("read", "read", errno); err != nil {
 			return 0, err
 		}
 		if errno == 0 {
-			return c.TCPConn.Read(bytes[:most])
+			return c.TCPConn.Read(bytes[:limit])
 		}
 	}
 }
 
 func (c conn) Write(bytes []byte) (int, error) {
 	for {
-		errno, most := c.faults.of("send", len(bytes))
+		errno, limit := c.faults.inject("send", len(bytes))
 		if err := failed("write", "write", errno); err != nil {
 			return 0, err
 		}
 		if errno > 0 {
 			continue
 		}
-		n, err := c.TCPConn.Write(bytes[:most])
+		n, err := c.TCPConn.Write(bytes[:limit])
 		if err == nil && n < len(bytes) {
 			err = os.ErrDeadlineExceeded
 		}
@@ -159,7 +159,7 @@ type rawConn struct {
 
 func (r rawConn) Write(write func(socket uintptr) bool) error {
 	return r.RawConn.Write(func(descriptor uintptr) bool {
-		errno, _ := r.faults.of("send", 0)
+		errno, _ := r.faults.inject("send", 0)
 		switch {
 		case errno == syscall.EINTR || errno == syscall.EAGAIN:
 			if write(full) {
@@ -172,7 +172,7 @@ func (r rawConn) Write(write func(socket uintptr) bool) error {
 	})
 }
 
-// full has no room, and broken no peer.
+// full is a socket whose buffer is full, and broken one without a peer.
 var full, broken = sockets()
 
 func sockets() (full, broken uintptr) {
@@ -193,18 +193,18 @@ func sockets() (full, broken uintptr) {
 	return uintptr(a[0]), uintptr(b[0])
 }
 
-// listener is one whose accepts get faults.
+// listener is a listener whose accepts get faults.
 type listener struct {
 	net.Listener
 	faults *faults
 }
 
-// The least size of a send buffer in the system, which makes most writes short.
-const small = 1
+// smallBuffer sets the system's smallest send buffer, which makes most writes short.
+const smallBuffer = 1
 
 func (l listener) Accept() (net.Conn, error) {
 	for {
-		errno, _ := l.faults.of("accept", 0)
+		errno, _ := l.faults.inject("accept", 0)
 		if err := failed("accept", "accept4", errno); err != nil {
 			return nil, err
 		}
@@ -218,20 +218,20 @@ func (l listener) Accept() (net.Conn, error) {
 		connection := socket{conn{accepted.(*net.TCPConn), l.faults}}
 		for _, w := range l.faults.words {
 			if _, err := strconv.Atoi(w.fault); err == nil && w.call == "send" {
-				connection.SetWriteBuffer(small)
+				connection.SetWriteBuffer(smallBuffer)
 			}
 		}
 		return connection, nil
 	}
 }
 
-// dialed connects, unless that gets a fault.
-func (f *faults) dialed(dial func() (net.Conn, error)) (net.Conn, error) {
-	errno, _ := f.of("connect", 0)
+// dial connects, unless that gets a fault.
+func (f *faults) dial(connect func() (net.Conn, error)) (net.Conn, error) {
+	errno, _ := f.inject("connect", 0)
 	if err := failed("dial", "connect", errno); err != nil {
 		return nil, err
 	}
-	connection, err := dial()
+	connection, err := connect()
 	if err != nil {
 		return nil, err
 	}

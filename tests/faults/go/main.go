@@ -36,7 +36,7 @@ func main() {
 	ctx, stop := signal.NotifyContext(context.Background(), syscall.SIGTERM)
 	defer stop()
 	if path := os.Getenv("FAULTS_STATE"); path != "" {
-		states(path)
+		writeStates(path)
 	}
 	injected := newFaults(os.Getenv("FAULTS"), os.Getenv("FAULTS_SEEN"))
 	run := follow
@@ -49,18 +49,18 @@ func main() {
 	}
 }
 
-// states starts to answer signals.
-func states(path string) {
+// writeStates starts to write the state at signals.
+func writeStates(path string) {
 	file, err := os.Create(path)
 	if err != nil {
 		panic(err)
 	}
-	asked := make(chan os.Signal, 1)
-	signal.Notify(asked, syscall.SIGUSR1, syscall.SIGUSR2)
+	signals := make(chan os.Signal, 1)
+	signal.Notify(signals, syscall.SIGUSR1, syscall.SIGUSR2)
 	go func() {
-		for which := range asked {
+		for received := range signals {
 			var memory runtime.MemStats
-			if which == syscall.SIGUSR2 {
+			if received == syscall.SIGUSR2 {
 				debug.FreeOSMemory()
 				debug.FreeOSMemory() // what a finalizer or a pool let go of at the first
 			}
@@ -70,7 +70,8 @@ func states(path string) {
 	}()
 }
 
-// memoryPath names the file that gets what is allocated; then each allocation is in the profile.
+// memoryPath names the file for the numbers of allocated objects and bytes. If it is set, the
+// profile has each allocation.
 var memoryPath = os.Getenv("FAULTS_MEMORY")
 
 func init() {
@@ -102,14 +103,14 @@ func writeMemory(ends int) {
 	fmt.Fprintln(file, objects, bytes)
 }
 
-// isKept reports whether the runtime keeps what is allocated here, to use it again: for goroutines,
-// which are counted, and for their waits.
+// isKept reports whether the runtime reuses what is allocated here: for goroutines, which are
+// counted, and for their waits.
 func isKept(stack []uintptr) bool {
 	first, _ := runtime.CallersFrames(stack).Next()
 	return first.Function == "runtime.malg" || first.Function == "runtime.acquireSudog"
 }
 
-// profile returns what is allocated, by where that was done.
+// profile returns the allocated memory by its call stacks.
 func profile() []runtime.MemProfileRecord {
 	for length := 1 << 12; ; length *= 2 {
 		records := make([]runtime.MemProfileRecord, length)
@@ -140,7 +141,7 @@ func follow(ctx context.Context, injected *faults, words []string) error {
 		}
 	}
 	client.Dial = func(ctx context.Context, network, address string) (net.Conn, error) {
-		return injected.dialed(func() (net.Conn, error) {
+		return injected.dial(func() (net.Conn, error) {
 			return new(net.Dialer).DialContext(ctx, network, address)
 		})
 	}
@@ -156,28 +157,29 @@ func follow(ctx context.Context, injected *faults, words []string) error {
 func serve(ctx context.Context, injected *faults, words []string) error {
 	server := rtr.NewServer()
 	defer server.Close()
-	say := func(words ...any) { fmt.Fprintln(os.Stderr, words...) }
-	sayServed := func(data rtr.Data) {
-		say(fmt.Sprintf("session %d serial %d: %d payloads", data.Session(), data.Serial(), data.Len()))
+	printLine := func(words ...any) { fmt.Fprintln(os.Stderr, words...) }
+	printServed := func(data rtr.Data) {
+		printLine(fmt.Sprintf("session %d serial %d: %d payloads", data.Session(), data.Serial(),
+			data.Len()))
 	}
-	server.Ended = func(client net.Addr, err error) { say(client, err) }
+	server.Ended = func(client net.Addr, err error) { printLine(client, err) }
 	if data, err := server.Restore(words[0] + rtr.KeptSuffix); err == nil {
-		sayServed(data)
+		printServed(data)
 	} else if !errors.Is(err, os.ErrNotExist) {
 		return err
 	}
-	accepting, err := net.Listen("tcp", words[2])
+	inner, err := net.Listen("tcp", words[2])
 	if err != nil {
 		return err
 	}
-	say("listening on", accepting.Addr())
-	go func() { say(server.Serve(listener{accepting, injected})) }()
+	printLine("listening on", inner.Addr())
+	go func() { printLine(server.Serve(listener{inner, injected})) }()
 	server.Watch(ctx, words[0], interval, func(data rtr.Data, err error) {
 		if err != nil {
-			say(err)
+			printLine(err)
 			return
 		}
-		sayServed(data)
+		printServed(data)
 	})
 	return nil
 }
