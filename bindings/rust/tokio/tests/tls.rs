@@ -11,7 +11,7 @@ mod peers;
 
 use certificates::{now, paths, Authority, Folder, Names, NAME};
 use example::{accept, acceptor, connect, connector};
-use openssl::OpenSsl;
+use self::openssl::OpenSsl;
 use peers::{data, milliseconds, Peer, LATE, PATIENCE};
 use rtr_wire::{ClientError, ClientOptions, Data, ServerOptions};
 use rtr_wire_tokio::{AsyncClient, AsyncServer};

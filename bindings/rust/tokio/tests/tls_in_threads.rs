@@ -11,7 +11,7 @@ mod peers;
 use ::openssl::ssl::{Ssl, SslConnector, SslStream};
 use certificates::{now, paths, Authority, Folder, Names, NAME};
 use example::{acceptor, connector};
-use openssl::OpenSsl;
+use self::openssl::OpenSsl;
 use peers::{alone, data, holds, milliseconds, Peer, LATE, PATIENCE};
 use rtr_wire::{Client, ClientError, ClientOptions, Event, Server, ServerOptions, Socket};
 use std::io::{self, ErrorKind, Read, Write};
