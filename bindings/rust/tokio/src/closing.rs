@@ -1,7 +1,9 @@
 //! Closes a client's connection.
 
-use rtr_wire::ClientOptions;
+use crate::running::Open;
+use rtr_wire::{ClientOptions, Router};
 use std::future::Future;
+use std::io;
 use std::pin::Pin;
 use std::task::{Context, Poll};
 use std::time::Duration;
@@ -10,24 +12,19 @@ use tokio::time::{sleep, Sleep};
 
 /// A connection that sends its last bytes and is then closed.
 pub(crate) struct Closing<S> {
-    stream: S,
-    rest: Vec<u8>,
-    /// How many of the bytes were sent.
-    sent: usize,
+    open: Open<S>,
     is_shut: bool,
     discarded: usize,
     time: Pin<Box<Sleep>>,
 }
 
 impl<S: AsyncRead + AsyncWrite + Unpin> Closing<S> {
-    /// Sends these bytes, and reads what the peer sends until that closes, for at most this time:
+    /// Sends the output, and reads what the peer sends until that closes, for at most this time:
     /// closing with unread bytes would reset the connection, and the peer might lose what was sent
     /// last.
-    pub(crate) fn new(stream: S, rest: &[u8], time: Duration) -> Self {
+    pub(crate) fn new(open: Open<S>, time: Duration) -> Self {
         Closing {
-            stream,
-            rest: rest.to_vec(),
-            sent: 0,
+            open,
             is_shut: false,
             discarded: 0,
             time: Box::pin(sleep(time)),
@@ -35,47 +32,38 @@ impl<S: AsyncRead + AsyncWrite + Unpin> Closing<S> {
     }
 
     /// Sends and reads until the connection can be closed.
-    pub(crate) fn poll(&mut self, cx: &mut Context<'_>) -> Poll<()> {
+    pub(crate) fn poll(&mut self, router: &mut Router, cx: &mut Context<'_>) -> Poll<()> {
+        match self.poll_last(router, cx) {
+            Poll::Ready(_) => Poll::Ready(()),
+            Poll::Pending => self.time.as_mut().poll(cx),
+        }
+    }
+
+    /// Sends the output, shuts the stream down for writing, then reads and discards what comes.
+    fn poll_last(&mut self, router: &mut Router, cx: &mut Context<'_>) -> Poll<io::Result<()>> {
+        while !router.output().is_empty() {
+            if self.open.send(router, cx)?.is_pending() {
+                return Poll::Pending;
+            }
+        }
+        let mut stream = Pin::new(&mut self.open.stream);
         if !self.is_shut {
-            match self.poll_send(cx) {
-                Poll::Ready(true) => self.is_shut = true,
-                Poll::Ready(false) => return Poll::Ready(()),
-                Poll::Pending => {}
+            if stream.as_mut().poll_shutdown(cx)?.is_pending() {
+                return Poll::Pending;
             }
+            self.is_shut = true;
         }
-        if self.is_shut && self.poll_discard(cx).is_ready() {
-            return Poll::Ready(());
-        }
-        self.time.as_mut().poll(cx)
-    }
-
-    /// Sends the rest, and shuts the stream down for writing; reports whether it could.
-    fn poll_send(&mut self, cx: &mut Context<'_>) -> Poll<bool> {
-        while self.sent < self.rest.len() {
-            let rest = &self.rest[self.sent..];
-            match Pin::new(&mut self.stream).poll_write(cx, rest) {
-                Poll::Ready(Ok(count @ 1..)) => self.sent += count,
-                Poll::Ready(_) => return Poll::Ready(false),
-                Poll::Pending => return Poll::Pending,
-            }
-        }
-        let shut = Pin::new(&mut self.stream).poll_shutdown(cx);
-        shut.map(|done| done.is_ok())
-    }
-
-    /// Reads and discards what still comes.
-    fn poll_discard(&mut self, cx: &mut Context<'_>) -> Poll<()> {
         while self.discarded < ClientOptions::LAST_BYTES {
             let mut bytes = [0; 4096];
             let mut buffer = ReadBuf::new(&mut bytes);
-            match Pin::new(&mut self.stream).poll_read(cx, &mut buffer) {
-                Poll::Ready(Ok(())) if !buffer.filled().is_empty() => {
-                    self.discarded += buffer.filled().len();
-                }
-                Poll::Ready(_) => break,
-                Poll::Pending => return Poll::Pending,
+            if stream.as_mut().poll_read(cx, &mut buffer)?.is_pending() {
+                return Poll::Pending;
+            }
+            match buffer.filled().len() {
+                0 => break,
+                count => self.discarded += count,
             }
         }
-        Poll::Ready(())
+        Poll::Ready(Ok(()))
     }
 }

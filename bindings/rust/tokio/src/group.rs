@@ -1,6 +1,7 @@
 //! Caches by preference.
 
-use crate::client::{since, AsyncClient};
+use crate::client::AsyncClient;
+use crate::running::since;
 use crate::timer::Timer;
 use rtr_wire::{Data, Decision, Event, GroupSettings, Preferred, Step, TooManyMembers};
 use std::fmt;
