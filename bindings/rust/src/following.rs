@@ -1,6 +1,6 @@
 //! Runs a router with a socket, in one thread.
 
-use crate::asking::Asking;
+use crate::asking::Asked;
 use crate::client::Client;
 use crate::client_error::ClientError;
 use crate::group::News;
@@ -9,15 +9,14 @@ use crate::options::ClientOptions;
 use crate::owned_data::Data;
 use crate::router::{Event, Router, Step};
 use crate::socket::Socket;
-use crate::timed::{after, has_to_wait, milliseconds_since, send_last, write, TICK};
-use crate::waiting::{Awaited, Woken};
+use crate::timed::{after, has_to_wait, milliseconds_since, send_last, write};
+use crate::waiting::Awaited;
 use std::boxed::Box;
 use std::collections::hash_map::RandomState;
 use std::hash::{BuildHasher, Hasher};
 use std::io::{self, ErrorKind};
 use std::net::{SocketAddr, TcpStream, ToSocketAddrs};
 use std::ops::ControlFlow;
-use std::sync::Arc;
 use std::time::{Duration, Instant};
 use std::vec::Vec;
 
@@ -46,9 +45,7 @@ pub(crate) struct Follower<'c> {
     client: &'c Client,
     begun: Instant,
     router: Router,
-    asking: Arc<Asking>,
-    /// Wakes it when the caller asks for data, if the system had descriptors for that.
-    woken: Option<Woken>,
+    asked: Asked,
     socket: Option<Box<dyn Socket>>,
     /// Whether the socket has to be flushed.
     holds: bool,
@@ -58,13 +55,11 @@ impl<'c> Follower<'c> {
     /// Returns a follower that continues with the router of an earlier run, if there is one.
     pub(crate) fn new(client: &'c Client, earlier: Option<Timed>) -> Self {
         let Timed { router, begun } = earlier.unwrap_or_else(|| Timed::new(&client.options));
-        let (asking, woken) = client.askings.add();
         Follower {
             client,
             begun,
             router,
-            asking,
-            woken,
+            asked: client.askings.add(),
             socket: None,
             holds: false,
         }
@@ -116,7 +111,7 @@ impl<'c> Follower<'c> {
     /// Runs until the next step for the caller, or until the client is stopped.
     fn next(&mut self) -> Option<Step> {
         while !self.client.stop.is_set() {
-            if self.asking.take() {
+            if self.asked.take() {
                 self.router.ask_now();
             }
             match self.router.next(self.now()) {
@@ -136,19 +131,6 @@ impl<'c> Follower<'c> {
     fn tell_log(&self, step: &Step) {
         if let (Some(log), Some(event)) = (&self.client.log, self.router.event(step)) {
             event.log(log);
-        }
-    }
-
-    /// Waits for the socket, if there is one, and until the caller asks for data.
-    fn wait_for(&self, socket: Option<Awaited>, most: Duration) {
-        let most = match &self.woken {
-            Some(_) => most,
-            None => most.min(TICK),
-        };
-        let woken = self.woken.as_ref().map(Woken::awaited);
-        self.client.stop.wait(socket.into_iter().chain(woken), most);
-        if let Some(woken) = &self.woken {
-            woken.clear();
         }
     }
 
@@ -178,37 +160,45 @@ impl<'c> Follower<'c> {
         }
     }
 
-    /// Sends unsent bytes, or else reads; waits if it can do neither.
+    /// Carries bytes; waits if it can't, or until the router's next tick without a connection.
     fn wait(&mut self) {
-        let left = self.left();
-        let socket = match &mut self.socket {
-            Some(socket) => socket,
-            None => return self.wait_for(None, left),
-        };
-        let sends = self.holds || !self.router.output().is_empty();
-        let done = match self.router.output() {
-            [] if sends => socket.flush().map(|()| self.holds = false),
-            [] => {
-                let read = socket.read(self.router.room());
-                read.map(|count| self.router.filled(count))
+        match self.carry() {
+            Ok(()) => {}
+            Err(error) if has_to_wait(&error) => self.rest(),
+            Err(error) => self.router.lost(self.now(), error),
+        }
+    }
+
+    /// Sends unsent bytes, then flushes the socket, or else reads. Without a connection it would
+    /// block.
+    fn carry(&mut self) -> io::Result<()> {
+        let socket = self.socket.as_mut().ok_or(ErrorKind::WouldBlock)?;
+        match self.router.output() {
+            [] if self.holds => {
+                socket.flush()?;
+                self.holds = false;
             }
-            output => write(socket, output).map(|count| {
+            [] => {
+                let count = socket.read(self.router.room())?;
+                self.router.filled(count);
+            }
+            output => {
+                let count = write(socket, output)?;
                 self.holds = true;
                 self.router.sent(count);
-            }),
-        };
-        match done {
-            Err(error) if has_to_wait(&error) => {
-                let awaited = if sends {
-                    Awaited::to_write(&socket.socket())
-                } else {
-                    Awaited::to_read(&socket.socket())
-                };
-                self.wait_for(Some(awaited), left);
             }
-            Err(error) => self.router.lost(self.now(), error),
-            Ok(()) => {}
         }
+        Ok(())
+    }
+
+    /// Waits until the socket is ready, the caller asks for data, or the router's next tick.
+    fn rest(&self) {
+        let sends = self.holds || !self.router.output().is_empty();
+        let awaited = self.socket.as_ref().map(|socket| match sends {
+            true => Awaited::to_write(&socket.socket()),
+            false => Awaited::to_read(&socket.socket()),
+        });
+        self.asked.wait(&self.client.stop, awaited, self.left());
     }
 
     /// Sends the report that is owed, if one is, and closes the connection.
