@@ -288,32 +288,52 @@ def test_max_clients():
         router.asks(RESET_QUERY, response(data(1, [1])))
 
 
+def in_time(play, seconds):
+    """Plays a scene that has to end before other deadlines of the cache: it returns when the part
+    that has this many seconds began, and ended. A busy machine may be too slow for it once."""
+    for _ in range(3):
+        begun, ended = play()
+        if ended - begun < seconds:
+            return
+    raise AssertionError(ended - begun)
+
+
 def test_door():
     """Connections above both limits wait in the system's queue, at no cost, until one leaves: a
     router that closes, or that still reads its report after 10 seconds."""
+    in_time(play_door, 6)
+
+
+def play_door():
     with started(data(1, [1]), words=["--max-clients", "1"]) as cache, \
             contextlib.ExitStack() as stack:
         served = stack.enter_context(Router(cache))
         served.asks(RESET_QUERY, response(data(1, [1])))
+        begun = time.monotonic()
         refused = [stack.enter_context(Router(cache)) for _ in range(64)]
         for router in refused:
             router.gets_report(2, 1)
         waiting = [stack.enter_context(Router(cache)) for _ in range(3)]
         before = cache.seconds()
-        assert waiting[0].is_quiet(1) and cache.seconds() - before < 0.05
-        begun = time.monotonic()
+        first_waits, seconds = waiting[0].is_quiet(1), cache.seconds() - before
         refused[0].socket.close()
         waiting[0].gets_report(2, 1)
-        assert time.monotonic() - begun < 5
-        assert waiting[1].is_quiet(0.2)
-        served.socket.close()
-        waiting[1].asks(RESET_QUERY, response(data(1, [1])))
-        waiting[2].gets_report(2, 1)
+        second_waits, ended = waiting[1].is_quiet(0.2), time.monotonic()
+        if ended - begun < 6:
+            assert first_waits and second_waits and seconds < 0.05, seconds
+            served.socket.close()
+            waiting[1].asks(RESET_QUERY, response(data(1, [1])))
+            waiting[2].gets_report(2, 1)
+        return begun, ended
 
 
 def test_door_with_room():
     """64 refused routers that neither read nor close delay no router for which there is room.
     Without room the next one gets its report when the first of them had its 10 seconds."""
+    in_time(play_door_with_room, 5)
+
+
+def play_door_with_room():
     with started(data(1, [1]), words=["--max-clients", "2"]) as cache, \
             contextlib.ExitStack() as stack:
         served = [stack.enter_context(Router(cache)) for _ in range(2)]
@@ -325,10 +345,12 @@ def test_door_with_room():
         served[0].socket.close()
         router = stack.enter_context(Router(cache))
         router.asks(RESET_QUERY, response(data(1, [1])))
-        assert time.monotonic() - begun < 5
-        late = stack.enter_context(Router(cache))
-        late.gets_report(2, 1)
-        assert 9.5 < time.monotonic() - begun < 30, time.monotonic() - begun
+        ended = time.monotonic()
+        if ended - begun < 5:
+            late = stack.enter_context(Router(cache))
+            late.gets_report(2, 1)
+            assert 9.5 < time.monotonic() - begun < 30, time.monotonic() - begun
+        return begun, ended
 
 
 def test_pipelining():

@@ -53,8 +53,7 @@ func TestExpires(t *testing.T) {
 }
 
 // expireSoon has the three payloads that a cache serves expire six and nine seconds after the time
-// that it returns. If a busy machine reads the list only then, the cache holds it, and it is written
-// again.
+// that it returns. If a busy machine reads the list only then, it is held, and written again.
 func expireSoon(t *testing.T, process *trial.Process, path string) (now int64) {
 	t.Helper()
 	for held := 1; ; held++ {

@@ -594,7 +594,7 @@ fn stops_in_a_callback() {
     }
 }
 
-/// A server, and the texts of why it ended connections, each with its moment of the server's thread.
+/// A server, and the texts of why it ended connections, each with that moment of its thread.
 fn telling(options: ServerOptions) -> (Server, Receiver<(String, Stamp)>) {
     let (sender, told) = channel();
     let sender = Mutex::new(sender);

@@ -242,7 +242,7 @@ impl Stamp {
         later.time - self.time
     }
 
-    /// How much of that time the thread slept: a thread that is ready to run doesn't, however long a
+    /// How much of that time the thread slept. One that is ready to run doesn't, however long a
     /// busy machine lets it wait for a processor.
     pub fn slept_until(self, later: Stamp) -> Duration {
         let awake = later.awake.saturating_sub(self.awake);
