@@ -53,14 +53,14 @@ const settled = 2 * time.Second
 // look reads the files that changed, or all of them if asked to, and reports whether a file is
 // still being written.
 func (c *Cache) look(ctx context.Context, asked bool) (changing bool) {
-	system, running := c.time()
-	c.tick(system, running)
+	c.tick(c.time())
 	c.save()
 	for _, file := range c.files {
 		state, there := c.stateOf(file)
 		if !there {
 			continue
 		}
+		running := c.running() // the file may have changed until its state was read
 		expires := file.expires(state, c.clock.Now())
 		if !c.needsRead(file, state, running) && !expires && !asked {
 			continue

@@ -49,3 +49,23 @@ func TestWrittenInPieces(t *testing.T) {
 	}
 	c.shows(time.Nanosecond, 9, 2, "")
 }
+
+// A file that is written while a check begins has stayed the same only from then on.
+func TestWrittenDuringCheck(t *testing.T) {
+	c := newClocked(t, 10)
+	c.shows(0, 10, 1, "")
+	piece, clock := c.list(9)[:100], c.time
+	c.time = func() (time.Time, time.Duration) {
+		system, running := clock()
+		if piece != "" {
+			c.running += settled
+			if err := os.WriteFile(c.path, []byte(piece), 0o600); err != nil {
+				t.Error(err)
+			}
+			piece = ""
+		}
+		return system, running
+	}
+	c.shows(time.Second, 10, 1, "")
+	c.shows(time.Nanosecond, 10, 1, "")
+}
