@@ -12,7 +12,7 @@ use crate::differences::print_changes;
 use crate::printer::Printer;
 use crate::words::{Form, Request};
 use data_recordings::{Recording, Stop, StopCause, read_recording};
-use program_frame::{Escaped, Failed, report};
+use program_frame::{Escaped, FAILED, Failed, REFUSED, WELL, report};
 use rtr_units::end::EndOfData;
 use rtr_units::fault::Fault;
 use rtr_units::source::{Sink, Source};
@@ -20,14 +20,8 @@ use std::alloc::Global;
 use std::io;
 use std::io::Write;
 
-/// The status where nothing differs.
-const SAME: u8 = 0;
-
-/// The status where something does.
-const DIFFERENT: u8 = 1;
-
-/// The status where the files weren't compared, or the changes not printed.
-const TROUBLE: u8 = 3;
+/// The status where something differs.
+const DIFFERENT: u8 = REFUSED;
 
 /// What comparing two files told.
 #[derive(Clone, Copy, Debug)]
@@ -154,18 +148,18 @@ fn tell<F: Write>(
         Ok(compared) => compared,
         Err(trouble) => {
             tell_trouble(name, request, &trouble, faults);
-            return TROUBLE;
+            return FAILED;
         }
     };
     match flushed {
         Ok(()) => {
             tell_cut(name, request.old, compared.old_cut, faults);
             tell_cut(name, request.new, compared.new_cut, faults);
-            if compared.differs { DIFFERENT } else { SAME }
+            if compared.differs { DIFFERENT } else { WELL }
         }
         Err(error) => {
             report(name, &Fault::Writer(error), faults);
-            TROUBLE
+            FAILED
         }
     }
 }

@@ -8,22 +8,13 @@ ghost use Rattle.list_lines.specs.ListStatus.{Runs, counts_units, listing_status
 ghost use Rattle.list_lines.specs.ListStatus.{wanted_by_words};
 
 use crate::printer::Printer;
-use program_frame::report;
+use program_frame::{FAILED, REFUSED, WELL, report};
 use rtr_units::fault::Fault;
 use rtr_units::source::{Sink, Source};
 use std::alloc::Global;
 use std::io;
 use std::io::Write;
 use unit_any::AnyUnit;
-
-/// The status where nothing was found.
-const WELL: u8 = 0;
-
-/// The status where a rule was found broken, and at a fault of the input.
-const BROKEN: u8 = 1;
-
-/// The status where reading, writing or memory failed.
-const FAILED: u8 = 3;
 
 /// What a run is asked to print.
 #[derive(Clone, Copy)]
@@ -131,7 +122,7 @@ fn tell<F: Write>(
         Err(fault) => return tell_fault(name, &fault, flushed, offset, faults),
     };
     match flushed {
-        Ok(()) => { if found { BROKEN } else { WELL } }
+        Ok(()) => { if found { REFUSED } else { WELL } }
         Err(error) => {
             report(name, &Fault::Writer(error), faults);
             FAILED
@@ -153,7 +144,7 @@ fn tell_fault<F: Write>(
         (if is_ok flushed then listing_status (Err (cause_of fault.now)) else 3) }
 {
     let status = fault_status(fault);
-    if status == BROKEN {
+    if status == REFUSED {
         let _ = writeln!(faults, "{name}: offset {offset}: {fault}");
     }
     match flushed {
@@ -176,7 +167,7 @@ fn fault_status(fault: &Fault) -> u8
 {
     match fault {
         Fault::Reader(_) | Fault::Writer(_) | Fault::TooMany | Fault::Memory => FAILED,
-        _ => BROKEN,
+        _ => REFUSED,
     }
 }
 

@@ -10,22 +10,13 @@ ghost use Rattle.list_summary.specs.SummaryStatus.{Summarises};
 use crate::summary::Summary;
 use crate::text::add_summary;
 use list_lines::Line;
-use program_frame::report;
+use program_frame::{FAILED, REFUSED, WELL, report};
 use rtr_units::fault::Fault;
 use rtr_units::piece::put;
 use rtr_units::source::{Sink, Source};
 use std::alloc::Global;
 use std::io::Write;
 use unit_any::AnyUnit;
-
-/// The status where the input ended and its summary was printed.
-const PRINTED: u8 = 0;
-
-/// The status at a fault of the input.
-const REFUSED: u8 = 1;
-
-/// The status where reading, writing or memory failed.
-const FAILED: u8 = 3;
 
 /// Reads units up to the end of the input or to the first fault, prints the summary of all of them,
 /// flushes the output once, and returns the exit status:
@@ -111,7 +102,7 @@ fn tell<F: Write>(name: &str, answer: &Result<(), Fault>, offset: u64, faults: &
     ensures quiet { result ≡ 0 → faults.new ≡ faults.old }
 {
     match answer {
-        Ok(()) => PRINTED,
+        Ok(()) => WELL,
         Err(fault) => tell_fault(name, fault, offset, faults),
     }
 }

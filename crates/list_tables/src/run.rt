@@ -11,21 +11,12 @@ use crate::words::Table;
 use data_memory::{ChangeError, Data};
 use data_recordings::{Recording, Refusal, Stop, StopCause, read_recording};
 use list_lines::Line;
-use program_frame::report;
+use program_frame::{FAILED, REFUSED, WELL, report};
 use rtr_units::fault::Fault;
 use rtr_units::piece::put;
 use rtr_units::source::{Sink, Source};
 use std::alloc::{AllocError, Global};
 use std::io::Write;
-
-/// The status where the table was printed.
-const PRINTED: u8 = 0;
-
-/// The status at a fault of the input.
-const REFUSED: u8 = 1;
-
-/// The status where reading, writing or memory failed.
-const FAILED: u8 = 3;
 
 /// Reads a recording up to the end of the input, as `read_recording` does, prints the table of the
 /// data that it leaves, flushes the output once, and returns the exit status:
@@ -77,7 +68,7 @@ fn print<W: Sink, F: Write>(
             Ok(()) => {
                 report_left_out(name, table, &recording.payloads, faults);
                 report_cut(name, recording.has_cut, faults);
-                PRINTED
+                WELL
             }
             Err(error) => fail(name, &Fault::Writer(error), faults),
         },

@@ -12,13 +12,10 @@ ghost use Rattle.list_tables.specs.TableStatus.{RunsTable, table_by_words};
 use list_lines::{form_wanted, print_units};
 use list_summary::{summarise, summary_wanted};
 use list_tables::{print_table, table_wanted};
-use program_frame::{Manual, about, usage, words_after_name};
+use program_frame::{FAILED, Manual, about, usage, words_after_name};
 use rtr_units::source::{Sink, Source};
 use std::alloc::Global;
 use std::io::Write;
-
-/// The status where what was asked for can't be written.
-const FAILED: u8 = 3;
 
 /// Runs the program with the words that it was started with, its name first, and returns the exit
 /// status: that of `list_tables::print_table` where they ask for a table, of

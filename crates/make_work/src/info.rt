@@ -3,7 +3,7 @@
 ghost use Rattle.std.specs.Prelude.{◌≡◌};
 ghost use Rattle.make_work.specs.MakeInfo.{PutsSomeText, TellsText, info_by_words, info_named};
 
-use program_frame::report;
+use program_frame::{FAILED, WELL, report};
 use rtr_units::fault::Fault;
 use rtr_units::piece::put;
 use rtr_units::source::Sink;
@@ -18,9 +18,6 @@ pub enum Info {
     Version,
 }
 
-/// The status if writing or flushing failed.
-const FAILED: u8 = 3;
-
 /// Its name.
 pub const NAME: &str = "rtr_make";
 
@@ -28,7 +25,7 @@ pub const NAME: &str = "rtr_make";
 const VERSION: &str = "rtr_make 0.3.0\n";
 
 /// How it is called, in a line.
-pub const USAGE: &str =
+pub const SYNOPSIS: &str =
     "usage: rtr_make --csv | --json [--version 0|1|2] [--session N] [--serial N] \
 [--refresh N] [--retry N] [--expire N] [--drop] [--empty] [--unended] [--ignore NAME] [--at N] \
 [--slurm FILE] [FILE]";
@@ -91,7 +88,7 @@ pub fn tell_info<W: Sink, F: Write>(info: Info, output: &mut W, faults: &mut F) 
     let flushed = output.flush();
     match written {
         Ok(()) => match flushed {
-            Ok(()) => 0,
+            Ok(()) => WELL,
             Err(error) => tell_unwritten(&Fault::Writer(error), faults),
         },
         Err(fault) => tell_unwritten(&fault, faults),

@@ -16,13 +16,14 @@ ghost use Rattle.make_work.specs.Taking.{HasTaken, entries_asked};
 use crate::csv_items::read_csv;
 use crate::expiring::Expired;
 use crate::gathering::{Gathering, Left};
-use crate::info::{NAME, USAGE, info_asked, tell_info, tell_unwritten};
+use crate::info::{NAME, SYNOPSIS, info_asked, tell_info, tell_unwritten};
 use crate::item::{Reason, Refusal};
 use crate::json_items::read_json;
 use crate::sequence::{Trouble, write_sequence};
 use crate::words::{Format, Request, asked, broken_timing};
 use data_slurm::Slurm;
 use json::Scratch;
+use program_frame::{FAILED, REFUSED, USAGE, WELL, words_after_name};
 use rtr_units::fault::Fault;
 use rtr_units::source::Sink;
 use session_times::TimeRule;
@@ -31,15 +32,6 @@ use std::fmt::Display;
 use std::io;
 use std::io::{ErrorKind, Read, Write};
 use std::process::ExitCode;
-
-/// The status if the input was refused.
-const REFUSED: u8 = 1;
-
-/// The status if the arguments are wrong.
-const WRONG_WORDS: u8 = 2;
-
-/// The status if reading, writing, flushing or memory failed.
-const FAILED: u8 = 3;
 
 /// Runs the program with the words that it was started with, its name first, and returns the code
 /// to end with, which is the status of `run`. If there are no words, since they can't be had as
@@ -88,13 +80,6 @@ pub fn program<N: Display, R: Read, W: Sink, F: Write>(
         faults,
     );
     ExitCode::from(status)
-}
-
-/// The words after the first one, which is the program's name.
-fn words_after_name(words: &[String]) -> &[String]
-    ensures { result.now ≡ drop 1 words.now }
-{
-    words.get(1..).unwrap_or(&[])
 }
 
 /// Says what the words after the program's name ask it to say of itself, or runs what else they ask
@@ -344,7 +329,7 @@ fn tell_made<F: Write>(
         result (F.contents faults.old) (F.contents faults.new) }
 {
     match tell_left_out(asked, left_out, expired, faults) {
-        Ok(()) => 0,
+        Ok(()) => WELL,
         Err(_) => FAILED,
     }
 }
@@ -433,13 +418,13 @@ fn tell_times<F: Write>(rule: TimeRule, faults: &mut F) -> u8
 {
     let text = rule.text();
     let _ = writeln!(faults, "{NAME}: {text}");
-    WRONG_WORDS
+    USAGE
 }
 
 /// Prints how the program is called, and answers status 2.
 fn usage<F: Write>(faults: &mut F) -> u8
     ensures { result ≡ 2 }
 {
-    let _ = writeln!(faults, "{USAGE}");
-    WRONG_WORDS
+    let _ = writeln!(faults, "{SYNOPSIS}");
+    USAGE
 }

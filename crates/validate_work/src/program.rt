@@ -24,24 +24,12 @@ use data_slurm::Slurm;
 use json::Scratch;
 use list_lines::Line;
 use make_work::{Expired, Reason};
-use program_frame::{Escaped, Failed, Front, hint, report};
+use program_frame::{Escaped, FAILED, Failed, Front, REFUSED, USAGE, WELL, hint, report};
 use rtr_units::fault::Fault;
 use rtr_units::source::{Sink, Source};
 use std::alloc::Global;
 use std::io;
 use std::io::{ErrorKind, Read, Write};
-
-/// The status where all routes were answered.
-const ANSWERED: u8 = 0;
-
-/// The status where the file or a line is refused.
-const REFUSED: u8 = 1;
-
-/// The status where the words are no route.
-const WRONG_WORDS: u8 = 2;
-
-/// The status where reading, writing or memory failed.
-const FAILED: u8 = 3;
 
 /// Reads the file, of a list without items that have expired at the requested time, or else
 /// `now`: seconds after the epoch. The filters of `slurm` remove payloads, and then its assertions
@@ -345,7 +333,7 @@ fn tell<F: Write>(
         return FAILED;
     }
     match answer {
-        Ok(0) => ANSWERED,
+        Ok(0) => WELL,
         Ok(refused) => tell_refused(name, refused, faults),
         Err(Stop::Line(_, _)) => REFUSED,
         Err(Stop::Fault(fault)) => {
@@ -380,7 +368,7 @@ fn tell_words<F: Write>(
         let asn = Escaped(words.asn);
         let _ = writeln!(faults, "{name}: {prefix} {asn}: {error}");
     }
-    WRONG_WORDS
+    USAGE
 }
 
 /// Says why a file couldn't be read, and returns the status.
