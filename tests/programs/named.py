@@ -87,9 +87,7 @@ def refused(name, folder):
     shown = missing.replace("\n", "\\n")
     yield compare(name, [*words, missing],
                   (b"", f"{prefix}{shown}: No such file or directory (os error 2)\n", 3))
-    reason = f"{prefix}read failed: Is a directory (os error 21)"
-    if name == "rtr_make":
-        reason = f"{prefix}{folder}: read failed: Is a directory (os error 21)"
+    reason = f"{prefix}{folder}: read failed: Is a directory (os error 21)"
     yield compare(name, [*words, folder], (b"", reason + "\n", 3))
     _, usage, _ = run([built.program(name), "--no-option"])
     for wrong in WRONG[name]:

@@ -231,6 +231,8 @@ RUNS = [
     # An input that can't be read, an output or a line that can't be written.
     (CSV, "<.", NONE, NONE, "read failed: Is a directory (os error 21)", 3),
     (VRPS, "<.", NONE, NONE, "read failed: Is a directory (os error 21)", 3),
+    ([*CSV, "."], "", NONE, NONE, ".: read failed: Is a directory (os error 21)", 3),
+    ([*VRPS, "."], "", NONE, NONE, ".: read failed: Is a directory (os error 21)", 3),
     (CSV, ">/dev/full", V4 + END, NONE, "write failed: No space left on device (os error 28)", 3),
     (CSV, ">/dev/full", KEY + END_1, NONE, "write failed: No space left on device (os error 28)", 3),
     (VRPS, ">/dev/full", END, NONE, "write failed: No space left on device (os error 28)", 3),

@@ -8,7 +8,7 @@ ghost use Rattle.list_lines.specs.ListStatus.{Runs, counts_units, listing_status
 ghost use Rattle.list_lines.specs.ListStatus.{wanted_by_words};
 
 use crate::printer::Printer;
-use program_frame::{FAILED, REFUSED, WELL, report};
+use program_frame::{FAILED, REFUSED, Subject, WELL};
 use rtr_units::fault::Fault;
 use rtr_units::source::{Sink, Source};
 use std::alloc::Global;
@@ -48,12 +48,13 @@ pub fn form_wanted(words: &[String]) -> Option<Wanted>
 /// - 1 if one was found, or the input has a fault;
 /// - 3 if reading, writing, flushing or memory failed.
 ///
-/// A fault and status 3 come with a line on `faults`, which begins with the program's name; a
-/// broken pipe is not reported. Where broken rules are wanted, a last line says how many units and
-/// answers were looked at. If a line can't be written, nothing else changes.
+/// A fault and status 3 come with a line on `faults`, which begins with the program's name, and has
+/// that of the file if reading it failed; a broken pipe is not reported. Where broken rules are
+/// wanted, a last line says how many units and answers were looked at. If a line can't be written,
+/// nothing else changes.
 pub fn print_units<R: Source, W: Sink, F: Write>(
     alloc: Global,
-    name: &str,
+    subject: Subject<'_>,
     wanted: Wanted,
     input: &mut R,
     output: &mut W,
@@ -73,9 +74,9 @@ pub fn print_units<R: Source, W: Sink, F: Write>(
     };
     let answer = list(alloc, wanted, &mut printer, &mut counts, input, output);
     let flushed = output.flush();
-    let status = tell(name, answer, flushed, printer.offset(), faults);
+    let status = tell(subject, answer, flushed, printer.offset(), faults);
     if let Wanted::Findings = wanted {
-        tell_counts(name, counts, faults);
+        tell_counts(subject.program, counts, faults);
     }
     status
 }
@@ -108,7 +109,7 @@ fn tell_counts<F: Write>(name: &str, counts: Counts, faults: &mut F) {
 
 /// Says what failed, if something did, and returns the exit status.
 fn tell<F: Write>(
-    name: &str,
+    subject: Subject<'_>,
     answer: Result<bool, Fault>,
     flushed: io::Result<()>,
     offset: u64,
@@ -119,12 +120,12 @@ fn tell<F: Write>(
 {
     let found = match answer {
         Ok(found) => found,
-        Err(fault) => return tell_fault(name, &fault, flushed, offset, faults),
+        Err(fault) => return tell_fault(subject, &fault, flushed, offset, faults),
     };
     match flushed {
         Ok(()) => { if found { REFUSED } else { WELL } }
         Err(error) => {
-            report(name, &Fault::Writer(error), faults);
+            subject.report(&Fault::Writer(error), faults);
             FAILED
         }
     }
@@ -134,7 +135,7 @@ fn tell<F: Write>(
 /// status. Where the flush after it failed, that is said of the output alone: reading may have
 /// failed since it flushes first.
 fn tell_fault<F: Write>(
-    name: &str,
+    subject: Subject<'_>,
     fault: &Fault,
     flushed: io::Result<()>,
     offset: u64,
@@ -145,17 +146,18 @@ fn tell_fault<F: Write>(
 {
     let status = fault_status(fault);
     if status == REFUSED {
+        let name = subject.program;
         let _ = writeln!(faults, "{name}: offset {offset}: {fault}");
     }
     match flushed {
         Ok(()) => {
             if status == FAILED {
-                report(name, fault, faults);
+                subject.report(fault, faults);
             }
             status
         }
         Err(error) => {
-            report(name, &Fault::Writer(error), faults);
+            subject.report(&Fault::Writer(error), faults);
             FAILED
         }
     }

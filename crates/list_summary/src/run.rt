@@ -10,7 +10,7 @@ ghost use Rattle.list_summary.specs.SummaryStatus.{Summarises};
 use crate::summary::Summary;
 use crate::text::add_summary;
 use list_lines::Line;
-use program_frame::{FAILED, REFUSED, WELL, report};
+use program_frame::{FAILED, REFUSED, Subject, WELL};
 use rtr_units::fault::Fault;
 use rtr_units::piece::put;
 use rtr_units::source::{Sink, Source};
@@ -24,12 +24,13 @@ use unit_any::AnyUnit;
 /// - 1 if the input has a fault;
 /// - 3 if reading, writing, flushing or memory failed.
 ///
-/// A fault and status 3 come with a line on `faults`, which begins with the program's name. A
-/// broken pipe is not reported. If a line can't be written, nothing else changes. Where memory for
-/// the text, an answer or the count of an AS can't be had nothing is printed.
+/// A fault and status 3 come with a line on `faults`, which begins with the program's name, and has
+/// that of the file if reading it failed. A broken pipe is not reported. If a line can't be
+/// written, nothing else changes. Where memory for the text, an answer or the count of an AS can't
+/// be had nothing is printed.
 pub fn summarise<R: Source, W: Sink, F: Write>(
     alloc: Global,
-    name: &str,
+    subject: Subject<'_>,
     input: &mut R,
     output: &mut W,
     faults: &mut F,
@@ -43,14 +44,14 @@ pub fn summarise<R: Source, W: Sink, F: Write>(
     let mut text = Line::new(alloc);
     match add_summary(alloc, &mut text, answer.is_ok(), &summary) {
         Ok(()) => print(
-            name,
+            subject,
             text.as_bytes(),
             &answer,
             summary.bytes,
             output,
             faults,
         ),
-        Err(_) => fail(name, &Fault::Memory, faults),
+        Err(_) => fail(subject, &Fault::Memory, faults),
     }
 }
 
@@ -72,7 +73,7 @@ fn read_units<R: Source>(alloc: Global, summary: &mut Summary, input: &mut R) ->
 /// Prints the text, flushes the output, and returns the status: by how reading ended, at this
 /// offset, where that succeeds.
 fn print<W: Sink, F: Write>(
-    name: &str,
+    subject: Subject<'_>,
     text: &[u8],
     answer: &Result<(), Fault>,
     offset: u64,
@@ -85,38 +86,44 @@ fn print<W: Sink, F: Write>(
 {
     let written = put(output, text);
     let flushed = output.flush();
-    let status = tell(name, answer, offset, faults);
+    let status = tell(subject, answer, offset, faults);
     match written {
         Ok(()) => match flushed {
             Ok(()) => status,
-            Err(error) => fail(name, &Fault::Writer(error), faults),
+            Err(error) => fail(subject, &Fault::Writer(error), faults),
         },
-        Err(fault) => fail(name, &fault, faults),
+        Err(fault) => fail(subject, &fault, faults),
     }
 }
 
 /// Says why reading stopped before the end of the input, if it did, and returns the status for
 /// that.
-fn tell<F: Write>(name: &str, answer: &Result<(), Fault>, offset: u64, faults: &mut F) -> u8
+fn tell<F: Write>(
+    subject: Subject<'_>,
+    answer: &Result<(), Fault>,
+    offset: u64,
+    faults: &mut F,
+) -> u8
     ensures status { result ≡ read_status (by_cause answer.now) }
     ensures quiet { result ≡ 0 → faults.new ≡ faults.old }
 {
     match answer {
         Ok(()) => WELL,
-        Err(fault) => tell_fault(name, fault, offset, faults),
+        Err(fault) => tell_fault(subject, fault, offset, faults),
     }
 }
 
 /// Says what the fault is, with the place of its unit where it is the input's, and returns the
 /// status for that.
-fn tell_fault<F: Write>(name: &str, fault: &Fault, offset: u64, faults: &mut F) -> u8
+fn tell_fault<F: Write>(subject: Subject<'_>, fault: &Fault, offset: u64, faults: &mut F) -> u8
     ensures { result ≡ listing_status (Err (cause_of fault.now)) }
 {
     match fault {
         Fault::Reader(_) | Fault::Writer(_) | Fault::TooMany | Fault::Memory => {
-            fail(name, fault, faults)
+            fail(subject, fault, faults)
         }
         _ => {
+            let name = subject.program;
             let _ = writeln!(faults, "{name}: offset {offset}: {fault}");
             REFUSED
         }
@@ -124,9 +131,9 @@ fn tell_fault<F: Write>(name: &str, fault: &Fault, offset: u64, faults: &mut F) 
 }
 
 /// Reports what failed, and returns the status.
-fn fail<F: Write>(name: &str, fault: &Fault, faults: &mut F) -> u8
+fn fail<F: Write>(subject: Subject<'_>, fault: &Fault, faults: &mut F) -> u8
     ensures { result ≡ 3 }
 {
-    report(name, fault, faults);
+    subject.report(fault, faults);
     FAILED
 }

@@ -11,7 +11,7 @@ use crate::words::Table;
 use data_memory::{ChangeError, Data};
 use data_recordings::{Recording, Refusal, Stop, StopCause, read_recording};
 use list_lines::Line;
-use program_frame::{FAILED, REFUSED, WELL, report};
+use program_frame::{FAILED, REFUSED, Subject, WELL};
 use rtr_units::fault::Fault;
 use rtr_units::piece::put;
 use rtr_units::source::{Sink, Source};
@@ -25,12 +25,13 @@ use std::io::Write;
 /// - 3 if reading, writing, flushing or memory failed.
 ///
 /// Nothing is written unless the whole table is made, which takes memory for all of its text.
-/// Statuses 1 and 3 come with a line on `faults`, which begins with the program's name, and status
-/// 0 with one where payloads are left out, and with one where an answer is. A broken pipe is not
-/// reported. If a line can't be written, nothing else changes.
+/// Statuses 1 and 3 come with a line on `faults`, which begins with the program's name, and has
+/// that of the file if reading it failed; status 0 comes with one where payloads are left out, and
+/// with one where an answer is. A broken pipe is not reported. If a line can't be written, nothing
+/// else changes.
 pub fn print_table<R: Source, W: Sink, F: Write>(
     alloc: Global,
-    name: &str,
+    subject: Subject<'_>,
     table: Table,
     input: &mut R,
     output: &mut W,
@@ -40,15 +41,15 @@ pub fn print_table<R: Source, W: Sink, F: Write>(
         (R.state input.old) (R.state input.new) (W.state output.old) (W.state output.new) }
 {
     match read_recording(alloc, input) {
-        Ok(recording) => print(alloc, name, table, &recording, output, faults),
-        Err(stop) => report_stop(name, &stop, faults),
+        Ok(recording) => print(alloc, subject, table, &recording, output, faults),
+        Err(stop) => report_stop(subject, &stop, faults),
     }
 }
 
 /// Prints the table of the payloads, flushes the output, and returns the status.
 fn print<W: Sink, F: Write>(
     alloc: Global,
-    name: &str,
+    subject: Subject<'_>,
     table: Table,
     recording: &Recording,
     output: &mut W,
@@ -59,28 +60,28 @@ fn print<W: Sink, F: Write>(
 {
     let mut text = Line::new(alloc);
     let Ok(()) = add_table(alloc, table, &mut text, &recording.payloads) else {
-        return fail(name, &Fault::Memory, faults);
+        return fail(subject, &Fault::Memory, faults);
     };
     let answer = put(output, text.as_bytes());
     let flushed = output.flush();
     match answer {
         Ok(()) => match flushed {
             Ok(()) => {
-                report_left_out(name, table, &recording.payloads, faults);
-                report_cut(name, recording.has_cut, faults);
+                report_left_out(subject.program, table, &recording.payloads, faults);
+                report_cut(subject.program, recording.has_cut, faults);
                 WELL
             }
-            Err(error) => fail(name, &Fault::Writer(error), faults),
+            Err(error) => fail(subject, &Fault::Writer(error), faults),
         },
-        Err(fault) => fail(name, &fault, faults),
+        Err(fault) => fail(subject, &fault, faults),
     }
 }
 
 /// Reports what failed, and returns the status.
-fn fail<F: Write>(name: &str, fault: &Fault, faults: &mut F) -> u8
+fn fail<F: Write>(subject: Subject<'_>, fault: &Fault, faults: &mut F) -> u8
     ensures { result ≡ 3 }
 {
-    report(name, fault, faults);
+    subject.report(fault, faults);
     FAILED
 }
 
@@ -133,19 +134,20 @@ fn report_counts<F: Write>(name: &str, left_out: LeftOut, faults: &mut F)
 
 /// Reports where reading stopped, and why: with the place of the unit where the input is at fault.
 /// Returns the status.
-fn report_stop<F: Write>(name: &str, stop: &Stop, faults: &mut F) -> u8
+fn report_stop<F: Write>(subject: Subject<'_>, stop: &Stop, faults: &mut F) -> u8
     ensures { result ≡ refused_status stop.now.cause }
 {
     let status = refused_status(&stop.cause);
     if status == REFUSED {
+        let name = subject.program;
         let offset = stop.offset;
         let cause = &stop.cause;
         let _ = writeln!(faults, "{name}: offset {offset}: {cause}");
         return status;
     }
     match &stop.cause {
-        StopCause::Read(fault) => report(name, fault, faults),
-        StopCause::Refused(_) => report(name, &Fault::Memory, faults),
+        StopCause::Read(fault) => subject.report(fault, faults),
+        StopCause::Refused(_) => subject.report(&Fault::Memory, faults),
     }
     status
 }

@@ -12,20 +12,22 @@ ghost use Rattle.list_tables.specs.TableStatus.{RunsTable, table_by_words};
 use list_lines::{form_wanted, print_units};
 use list_summary::{summarise, summary_wanted};
 use list_tables::{print_table, table_wanted};
-use program_frame::{FAILED, Manual, about, usage, words_after_name};
+use program_frame::{FAILED, Manual, Subject, about, usage, words_after_name};
 use rtr_units::source::{Sink, Source};
 use std::alloc::Global;
 use std::io::Write;
 
-/// Runs the program with the words that it was started with, its name first, and returns the exit
-/// status: that of `list_tables::print_table` where they ask for a table, of
-/// `list_summary::summarise` where they ask for a summary, and of `list_lines::print_units` where
-/// they ask for units or broken rules. Where they ask for help or the version it is 0, or 3 where
-/// that can't be written. Otherwise, and where there are no words, since they can't be had as
-/// texts, a line on `faults` says how the program is called, and the status is 2.
+/// Runs the program with the words that it was started with, its name first, over the input, which
+/// is `file` or standard input. The file isn't among the words. Returns the exit status: that of
+/// `list_tables::print_table` where they ask for a table, of `list_summary::summarise` where they
+/// ask for a summary, and of `list_lines::print_units` where they ask for units or broken rules.
+/// Where they ask for help or the version it is 0, or 3 where that can't be written. Otherwise a
+/// line on `faults` says which word is wrong, or how the program is called, as it does where there
+/// are no words, since they can't be had as texts, and the status is 2.
 pub fn program<R: Source, W: Sink, F: Write>(
     alloc: Global,
     manual: &Manual,
+    file: Option<&str>,
     words: Option<Vec<String>>,
     input: &mut R,
     output: &mut W,
@@ -66,14 +68,18 @@ pub fn program<R: Source, W: Sink, F: Write>(
         return usage(manual, faults);
     };
     let words = words_after_name(&all);
+    let subject = Subject {
+        program: manual.name,
+        file,
+    };
     if let Some(table) = table_wanted(words) {
-        return print_table(alloc, manual.name, table, input, output, faults);
+        return print_table(alloc, subject, table, input, output, faults);
     }
     if summary_wanted(words) {
-        return summarise(alloc, manual.name, input, output, faults);
+        return summarise(alloc, subject, input, output, faults);
     }
     if let Some(wanted) = form_wanted(words) {
-        return print_units(alloc, manual.name, wanted, input, output, faults);
+        return print_units(alloc, subject, wanted, input, output, faults);
     }
     about(manual, words, FAILED, output, faults)
 }

@@ -64,6 +64,17 @@ impl<'a> Subject<'a> {
         let _ = writeln!(faults, "{self}: {error}");
         FAILED
     }
+
+    /// Reports what failed, as `report` does, and of a failed read also the file.
+    pub fn report<F: Write>(self, fault: &Fault, faults: &mut F) {
+        match fault {
+            Fault::Reader(_) => {
+                let failed = Failed(fault);
+                let _ = writeln!(faults, "{self}: {failed}");
+            }
+            _ => report(self.program, fault, faults),
+        }
+    }
 }
 
 impl fmt::Display for Subject<'_> {

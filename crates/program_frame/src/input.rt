@@ -82,6 +82,8 @@ pub struct InputName<'a> {
     pub name: &'a str,
     /// The name in lines.
     pub shown: &'a str,
+    /// The file, if one is named.
+    pub file: Option<&'a str>,
 }
 
 impl<'a> InputName<'a> {
@@ -91,10 +93,12 @@ impl<'a> InputName<'a> {
             Some(name) => InputName {
                 name: name.as_str(),
                 shown: name.as_str(),
+                file: Some(name.as_str()),
             },
             None => InputName {
                 name: STANDARD_INPUT,
                 shown: "standard input",
+                file: None,
             },
         }
     }

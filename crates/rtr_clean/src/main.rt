@@ -68,6 +68,7 @@ fn clean_input(
     let status = run::program(
         rt.alloc(),
         &MANUAL,
+        input.file,
         Some(words),
         &mut source,
         &mut output,

@@ -9,27 +9,30 @@ ghost use Rattle.rtr_clean.specs.PrivateClean.{form_held};
 
 use crate::clean::clean;
 use crate::wanted::{WantedForm, form_wanted};
-use program_frame::{FAILED, Manual, REFUSED, WELL, about, report, usage, words_after_name};
+use program_frame::{FAILED, Manual, REFUSED, Subject, WELL, about, usage, words_after_name};
 use rtr_units::fault::Fault;
 use rtr_units::source::{Sink, Source};
 use std::alloc::Global;
 use std::io::Write;
 
-/// Runs the program with the words that it was started with, its name first, and returns the exit
-/// status. Where they ask for units, they are read up to the end of the input, what is wanted of
-/// them is written, and the output is flushed once more:
+/// Runs the program with the words that it was started with, its name first, over the input, which
+/// is `file` or standard input, and returns the exit status. The file isn't among the words. Where
+/// they ask for units, these are read up to the end of the input, what is wanted of them is
+/// written, and the output is flushed once more:
 /// - 0 if both succeeded;
 /// - 1 if the input was refused;
 /// - 3 if reading, writing, flushing or memory failed.
 ///
 /// A flush that fails after another status doesn't change it. Where they ask for help or the
-/// version that is written, with 0 or 3. Otherwise, and where there are no words, since they can't
-/// be had as texts, a line on `faults` says how the program is called, and the status is 2.
-/// Statuses 1 and 3 come with a line there that begins with the program's name; a broken pipe is
-/// not reported. If a line can't be written, nothing else changes.
+/// version that is written, with 0 or 3. Otherwise a line on `faults` says which word is wrong, or
+/// how the program is called, as it does where there are no words, since they can't be had as
+/// texts, and the status is 2. Statuses 1 and 3 come with a line there that begins with the
+/// program's name, and has that of the file if reading it failed; a broken pipe is not reported. If
+/// a line can't be written, nothing else changes.
 pub fn program<R: Source, W: Sink, F: Write>(
     alloc: Global,
     manual: &Manual,
+    file: Option<&str>,
     words: Option<Vec<String>>,
     input: &mut R,
     output: &mut W,
@@ -60,7 +63,11 @@ pub fn program<R: Source, W: Sink, F: Write>(
     };
     let words = words_after_name(&all);
     if let Some(wanted) = form_wanted(words) {
-        return run(alloc, manual.name, wanted, input, output, faults);
+        let subject = Subject {
+            program: manual.name,
+            file,
+        };
+        return run(alloc, subject, wanted, input, output, faults);
     }
     about(manual, words, FAILED, output, faults)
 }
@@ -69,7 +76,7 @@ pub fn program<R: Source, W: Sink, F: Write>(
 /// and returns the exit status, as `program` says.
 fn run<R: Source, W: Sink, F: Write>(
     alloc: Global,
-    name: &str,
+    subject: Subject<'_>,
     wanted: WantedForm,
     input: &mut R,
     output: &mut W,
@@ -86,25 +93,26 @@ fn run<R: Source, W: Sink, F: Write>(
         Ok(()) => match flushed {
             Ok(()) => WELL,
             Err(error) => {
-                report(name, &Fault::Writer(error), faults);
+                subject.report(&Fault::Writer(error), faults);
                 FAILED
             }
         },
-        Err(fault) => tell(name, &fault, offset, faults),
+        Err(fault) => tell(subject, &fault, offset, faults),
     }
 }
 
 /// Says what the fault is, with the place of its unit where it is the input's, and returns the
 /// status.
-fn tell<F: Write>(name: &str, fault: &Fault, offset: u64, faults: &mut F) -> u8
+fn tell<F: Write>(subject: Subject<'_>, fault: &Fault, offset: u64, faults: &mut F) -> u8
     ensures { result ≡ clean_status (Err (cause_of fault.now)) true }
 {
     match fault {
         Fault::Reader(_) | Fault::Writer(_) | Fault::Memory => {
-            report(name, fault, faults);
+            subject.report(fault, faults);
             FAILED
         }
         _ => {
+            let name = subject.program;
             let _ = writeln!(faults, "{name}: offset {offset}: {fault}");
             REFUSED
         }

@@ -72,6 +72,7 @@ fn print(rt: &HostRuntime, words: Vec<String>, input: InputName<'_>, faults: &mu
     let status = program(
         rt.alloc(),
         &MANUAL,
+        input.file,
         Some(words),
         &mut source,
         &mut output,

@@ -70,7 +70,15 @@ fn flushes(alloc: Global, run: &str) -> Option<String> {
     let mut output = Counted::new(Recorder::failing(alloc, 7, writing));
     let mut faults = Recorder::new(alloc, usize::MAX);
     let words = words(alloc, text);
-    let _ = program(alloc, &MANUAL, words, &mut reader, &mut output, &mut faults);
+    let _ = program(
+        alloc,
+        &MANUAL,
+        None,
+        words,
+        &mut reader,
+        &mut output,
+        &mut faults,
+    );
     output.into_inner().flushes().to_string(alloc).ok()
 }
 
