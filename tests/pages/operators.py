@@ -43,7 +43,7 @@ PREBUILT = re.compile(r"prebuilt/x86_64/(rtr_\w+)")
 FINDINGS = [("text_findings/src/finding.rt", "impl fmt::Display for Finding"),
             ("session_times/src/times.rt", "pub fn text")]
 FILE = re.compile(r"<!-- file: (\S+) -->$")
-USAGE = re.compile(r"usage: (rtr_\w+)")
+USAGE = re.compile(r"usage: (rtr_\w+)|(rtr_\w+): unknown option ")
 COMMAND = "$ "
 
 # The programs that the page may call: PATH has only these, and those of the system.
@@ -207,7 +207,7 @@ def printed(lines, shell):
         if line.startswith(COMMAND):
             output = shell.run(PREBUILT.sub(r"\1", line[len(COMMAND):]))
             usage = USAGE.match(output[0]) if output else None
-            if usage and not built.fresh(usage[1]):
+            if usage and not built.fresh(usage[1] or usage[2]):
                 warn(f"`{line}` prints {output[0]!r}: the prebuilt program is older than the page, "
                      "and the block is left out")
                 return None

@@ -202,17 +202,20 @@ RUNS = [
     (["--version"], "<.", NONE, b"rtr_clean 0.3.0\n", "", 0),
     (["--help"], "<.", NONE, HELP, "", 0),
     (["--help"], ">/dev/full", NONE, NONE, NO_WRITE, 3),
-    (["--version", "--help"], "", STRAY, NONE, USAGE, 2),
-    (["--version", "3"], "", STRAY, NONE, USAGE, 2),
-    (["--version", "00"], "", STRAY, NONE, USAGE, 2),
-    (["--version", ""], "", STRAY, NONE, USAGE, 2),
-    (["--version=1"], "", STRAY, NONE, USAGE, 2),
-    (["--Version", "1"], "", STRAY, NONE, USAGE, 2),
-    (["-1"], "", STRAY, NONE, USAGE, 2),
-    (["x", "x"], "", STRAY, NONE, USAGE, 2),
-    (["--version", "0", "-x"], "", STRAY, NONE, USAGE, 2),
+    (["--version", "--help"], "", STRAY, NONE, "--version: \"--help\" isn't 0, 1 or 2", 2),
+    (["--version", "3"], "", STRAY, NONE, "--version: \"3\" isn't 0, 1 or 2", 2),
+    (["--version", "00"], "", STRAY, NONE, "--version: \"00\" isn't 0, 1 or 2", 2),
+    (["--version", ""], "", STRAY, NONE, "--version: \"\" isn't 0, 1 or 2", 2),
+    (["--version=1"], "", STRAY, NONE, 'unknown option "--version=1"', 2),
+    (["--Version", "1"], "", STRAY, NONE, 'unknown option "--Version"', 2),
+    (["-1"], "", STRAY, NONE, 'unknown option "-1"', 2),
+    (["x", "x"], "", STRAY, NONE, 'unexpected argument "x"', 2),
+    (["--version", "0", "-x"], "", STRAY, NONE, 'unknown option "-x"', 2),
+    (["--version", "0", "--version", "0"], "", STRAY, NONE, "--version: it is given twice", 2),
+    (["x", "--version", "0"], "", STRAY, NONE, '--version has to come before "x"', 2),
+    (["--x\n\u00e9"], "", STRAY, NONE, 'unknown option "--x\\n\\xc3\\xa9"', 2),
     ([b"\xff"], "", STRAY, NONE, USAGE, 2),
-    (["--x"], "<. >/dev/full", NONE, NONE, USAGE, 2),
+    (["--x"], "<. >/dev/full", NONE, NONE, 'unknown option "--x"', 2),
     # An input that can't be read, an output that can't be written, a line that can't be.
     ([], "<.", NONE, NONE, NO_READ, 3),
     ([], "<&-", NONE, NONE, "read failed: " + NO_DESCRIPTOR, 3),
@@ -299,7 +302,7 @@ def error_line(row):
     """Returns the line of a row: after the program's name, and at a fault with the offset of the
     unit: the length of the whole units read before it."""
     *_, given, _, line, status = row
-    if not line or status == 2:
+    if not line or line == USAGE:
         return line + "\n" if line else ""
     where = f"offset {taken(given)}: " if status == 1 else ""
     return f"rtr_clean: {where}{line}\n"

@@ -151,8 +151,9 @@ def rows():
         for count in range(1, len(form) + 2):
             came = form[:count - 1], line + "\n", 1
             yield program, arguments, taken + refused, {"WRITING": count}, came
-    for program, more in (("rtr_normalise", ""), ("rtr_clean", " [FILE]")):
-        came = NONE, f"usage: {program} [--version 0|1|2]{more}\n", 2
+    for program, line in (("rtr_normalise", "usage: rtr_normalise [--version 0|1|2]"),
+                          ("rtr_clean", "rtr_clean: --version: \"3\" isn't 0, 1 or 2")):
+        came = NONE, line + "\n", 2
         yield program, WRONG, END, {"READING": 1, "WRITING": 1}, came
 
 

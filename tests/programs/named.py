@@ -45,12 +45,25 @@ PROGRAMS = {
                         ["--version", "1", "--csv", "--empty"]]),
 }
 
-# Wrong arguments, with FILE for a file that exists.
+# Wrong arguments, with FILE for a file that exists, and what is said of them.
+ALONE = "--help has to stand alone"
+MORE = 'unexpected argument "FILE"'
 WRONG = {
-    "rtr_list": ["FILE FILE", "FILE --json", "--help FILE", "--json --csv FILE", "--check -FILE"],
-    "rtr_clean": ["FILE FILE", "FILE --version 0", "--version FILE", "--version 3 FILE",
-                  "--help FILE"],
-    "rtr_make": ["FILE", "FILE --csv", "--csv FILE FILE", "--csv --serial FILE", "--help FILE"],
+    "rtr_list": {
+        "FILE FILE": MORE, "FILE --json": '--json has to come before "FILE"', "--help FILE": ALONE,
+        "--json --csv FILE": "--csv doesn't go with --json",
+        "--check -FILE": 'unknown option "-FILE"',
+    },
+    "rtr_clean": {
+        "FILE FILE": MORE, "FILE --version 0": '--version has to come before "FILE"',
+        "--version FILE": '--version: "FILE" isn\'t 0, 1 or 2',
+        "--version 3 FILE": '--version: "3" isn\'t 0, 1 or 2', "--help FILE": ALONE,
+    },
+    "rtr_make": {
+        "FILE --csv": '--csv has to come before "FILE"', "--csv FILE FILE": MORE,
+        "--csv --serial FILE": '--serial: "FILE" isn\'t a number up to 4294967295',
+        "--help FILE": ALONE, "--csv --ignore roas FILE": "--ignore needs --json",
+    },
 }
 
 
@@ -89,9 +102,9 @@ def refused(name, folder):
                   (b"", f"{prefix}{shown}: No such file or directory (os error 2)\n", 3))
     reason = f"{prefix}{folder}: read failed: Is a directory (os error 21)"
     yield compare(name, [*words, folder], (b"", reason + "\n", 3))
-    _, usage, _ = run([built.program(name), "--no-option"])
-    for wrong in WRONG[name]:
-        yield compare(name, wrong.replace("FILE", path).split(), (b"", usage, 2))
+    for wrong, line in WRONG[name].items():
+        expected = b"", f"{prefix}{line}\n".replace("FILE", path), 2
+        yield compare(name, wrong.replace("FILE", path).split(), expected)
 
 
 def faulty(name, folder):

@@ -240,11 +240,11 @@ RUNS = [
     (CSV, "2>/dev/full", V4, NONE, "", 1),
     (CSV, "2>/dev/full", V4 + KEY + END_1, csv(V4_ROW), "", 0),
     # Wrong arguments.
-    (["--csv", "--vrps"], "", V4 + END, NONE, USAGE, 2),
-    (["--csv", "--csv"], "", V4 + END, NONE, USAGE, 2),
-    (["--json", "--csv"], "", V4 + END, NONE, USAGE, 2),
-    (["--CSV"], "", V4 + END, NONE, USAGE, 2),
-    (["--vrp"], "", V4 + END, NONE, USAGE, 2),
+    (["--csv", "--vrps"], "", V4 + END, NONE, "--vrps doesn't go with --csv", 2),
+    (["--csv", "--csv"], "", V4 + END, NONE, "--csv: it is given twice", 2),
+    (["--json", "--csv"], "", V4 + END, NONE, "--csv doesn't go with --json", 2),
+    (["--CSV"], "", V4 + END, NONE, 'unknown option "--CSV"', 2),
+    (["--vrp"], "", V4 + END, NONE, 'unknown option "--vrp"', 2),
     ([b"--csv\xff"], "", V4 + END, NONE, USAGE, 2),
 ]
 # fmt: on
@@ -330,7 +330,7 @@ def check_rows(program):
     for where, row in zip(places(globals()), RUNS):
         arguments, redirection, given, output, line, status = row
         stderr = line + "\n" if line else ""
-        if stderr and status != 2:
+        if stderr and line != USAGE:
             stderr = "rtr_list: " + stderr
         got = run(program, arguments, redirection, given)
         if got != (output, stderr, status):

@@ -17,6 +17,7 @@ pub mod laws;
 mod make;
 mod plus;
 mod quotes;
+mod refusing;
 mod sequence;
 mod words;
 
@@ -29,5 +30,6 @@ pub use json_items::read_json;
 pub use json_names::{Holding, Kind, Part};
 pub use make::{program, run};
 pub use quotes::check_quotes;
+pub use refusing::SYNTAX;
 pub use sequence::{Trouble, write_sequence};
 pub use words::{Format, Request, Version, asked, broken_timing, is_ignored, long_number};

@@ -16,9 +16,10 @@ ghost use Rattle.make_work.specs.Taking.{HasTaken, entries_asked};
 use crate::csv_items::read_csv;
 use crate::expiring::Expired;
 use crate::gathering::{Gathering, Left};
-use crate::info::{NAME, SYNOPSIS, info_asked, tell_info, tell_unwritten};
+use crate::info::{NAME, info_asked, tell_info, tell_unwritten};
 use crate::item::{Reason, Refusal};
 use crate::json_items::read_json;
+use crate::refusing::{refuse_words, usage};
 use crate::sequence::{Trouble, write_sequence};
 use crate::words::{Format, Request, asked, broken_timing};
 use data_slurm::Slurm;
@@ -110,7 +111,7 @@ fn run_words<N: Display, R: Read, W: Sink, F: Write>(
     }
 }
 
-/// Runs what the words after the program's name ask for, or prints the usage.
+/// Runs what the words after the program's name ask for, or says what is wrong with them.
 fn run_asked<N: Display, R: Read, W: Sink, F: Write>(
     alloc: Global,
     now: u64,
@@ -136,7 +137,7 @@ fn run_asked<N: Display, R: Read, W: Sink, F: Write>(
     }
     match broken_timing(words) {
         Some(rule) => tell_times(rule, faults),
-        None => usage(faults),
+        None => refuse_words(words, faults),
     }
 }
 
@@ -418,13 +419,5 @@ fn tell_times<F: Write>(rule: TimeRule, faults: &mut F) -> u8
 {
     let text = rule.text();
     let _ = writeln!(faults, "{NAME}: {text}");
-    USAGE
-}
-
-/// Prints how the program is called, and answers status 2.
-fn usage<F: Write>(faults: &mut F) -> u8
-    ensures { result ≡ 2 }
-{
-    let _ = writeln!(faults, "{SYNOPSIS}");
     USAGE
 }

@@ -11,6 +11,7 @@ ghost use Rattle.make_work.specs.MakeWords.{setting_named, version_of};
 ghost use Rattle.make_work.specs.Making.{version_number};
 ghost use Rattle.make_work.specs.PrivateWords.{word_taken};
 
+use program_frame::{Wrong, file_after};
 use rtr_base::state::{Serial, State};
 use rtr_base::timing::Timing;
 use session_times::{TimeRule, broken_time_rule};
@@ -122,6 +123,18 @@ pub fn broken_timing(words: &[String]) -> Option<TimeRule>
     match said_by(words) {
         Some(said) => broken_time_rule(said.timing()),
         None => None,
+    }
+}
+
+/// The first option that doesn't go with another one, where that is what is wrong with the words.
+/// The last one of them may name a file.
+pub fn misplaced(words: &[String]) -> Option<Wrong<'static>> {
+    match said_by(words) {
+        Some(said) => said.misplaced(),
+        None => match file_after(words) {
+            Some((before, _)) => said_by(before)?.misplaced(),
+            None => None,
+        },
     }
 }
 
@@ -315,6 +328,34 @@ impl Said {
             Format::Csv => self.ignores,
             Format::Json => self.takes_unended.is_some(),
         }
+    }
+
+    /// The first option that doesn't go with another one.
+    fn misplaced(&self) -> Option<Wrong<'static>> {
+        match self.format {
+            Some(Format::Csv) if self.ignores => Some(Wrong::Needs("--ignore", "--json")),
+            Some(Format::Json) if self.takes_unended.is_some() => {
+                Some(Wrong::Needs("--unended", "--csv"))
+            }
+            _ => self.untimely(),
+        }
+    }
+
+    /// The first timing of version 0, which has none.
+    fn untimely(&self) -> Option<Wrong<'static>> {
+        if self.version != Some(Version::V0) {
+            return None;
+        }
+        let name = if self.refresh.is_some() {
+            "--refresh"
+        } else if self.retry.is_some() {
+            "--retry"
+        } else if self.expire.is_some() {
+            "--expire"
+        } else {
+            return None;
+        };
+        Some(Wrong::Excluded(name, "--version 0"))
     }
 
     /// The timings that were said, and for the others the recommended ones.

@@ -14,8 +14,10 @@ mod painted;
 mod prompt;
 mod questions;
 mod status;
+mod syntax;
 mod terminal;
 mod words;
+mod wrong;
 
 pub use buffers::{BUFFER_SIZE, buffered_input, buffered_output};
 pub use clock::seconds_since_epoch;
@@ -27,5 +29,7 @@ pub use painted::Painted;
 pub use prompt::{Prompt, Shared, Watched};
 pub use questions::{Manual, about, usage};
 pub use status::{FAILED, REFUSED, USAGE, WELL};
+pub use syntax::{Setting, Syntax, Value};
 pub use terminal::wants_colours;
 pub use words::{program_words, words_after_name};
+pub use wrong::{Wrong, refuse};

@@ -47,7 +47,7 @@ pub fn take_file<F: FnOnce(&[String]) -> bool>(
 }
 
 /// Whether the word can name a file.
-fn is_file_name(word: &str) -> bool
+pub(crate) fn is_file_name(word: &str) -> bool
     ensures { result ≡ names_file word.now }
 {
     match word.as_bytes() {

@@ -4,12 +4,14 @@ ghost use Rattle.std.specs.Prelude.{◌≡◌, ◌≢◌, None, IfSome};
 ghost use Rattle.program_frame.specs.Questions.{WritesText, asked_of, manual_text};
 
 use crate::status::{USAGE, WELL};
+use crate::syntax::Syntax;
+use crate::wrong::refuse;
 use rtr_units::fault::Fault;
 use rtr_units::piece::put;
 use rtr_units::source::Sink;
 use std::io::Write;
 
-/// What a program says of itself. Each text ends with a line feed.
+/// What a program says of itself, where each text ends with a line feed, and which words it takes.
 #[derive(Clone, Copy)]
 pub struct Manual {
     /// Its name.
@@ -20,6 +22,8 @@ pub struct Manual {
     pub usage: &'static str,
     /// What it does, and what each of its words does.
     pub help: &'static str,
+    /// The words that it takes, except for those that stand alone.
+    pub syntax: Syntax,
 }
 
 /// What a program is asked about itself.
@@ -80,7 +84,8 @@ fn answer<W: Sink, F: Write>(
 }
 
 /// Answers what the words after the program's name ask about it, as `answer` does, and the exit
-/// status. Where they ask nothing it says how the program is called, as `usage` does.
+/// status. Where they ask nothing it says which of them is wrong, or if none is, how the program is
+/// called, as `usage` does.
 pub fn about<W: Sink, F: Write>(
     manual: &Manual,
     words: &[String],
@@ -96,6 +101,17 @@ pub fn about<W: Sink, F: Write>(
 {
     match asked(words) {
         Some(question) => answer(manual, question, failed, output, faults),
+        None => refuse_words(manual, words, faults),
+    }
+}
+
+/// Says which word is wrong, or if none is, how the program is called, and returns the exit status
+/// for that.
+fn refuse_words<F: Write>(manual: &Manual, words: &[String], faults: &mut F) -> u8
+    ensures { result ≡ 2 }
+{
+    match manual.syntax.wrong_word(words) {
+        Some(wrong) => refuse(manual.name, wrong, faults),
         None => usage(manual, faults),
     }
 }

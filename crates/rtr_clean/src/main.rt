@@ -8,8 +8,8 @@ mod run;
 mod wanted;
 
 use program_frame::{
-    Front, Input, InputName, Manual, REFUSED, Subject, Watched, buffered_input, buffered_output,
-    hint, program_words, take_file, usage,
+    Front, Input, InputName, Manual, REFUSED, Setting, Subject, Syntax, Value, Watched,
+    buffered_input, buffered_output, hint, program_words, take_file, usage,
 };
 use rtr_units::buffered::{BufferedSink, BufferedSource};
 use std::cell::Cell;
@@ -36,6 +36,16 @@ wherever its bits mean nothing.
   --help       print this
   --version    without a number: print the program's version
 ",
+    syntax: Syntax {
+        forms: &[],
+        switches: &[],
+        settings: &[Setting {
+            name: "--version",
+            value: Value::OneOf(&["0", "1", "2"]),
+            repeats: false,
+        }],
+        operands: 1,
+    },
 };
 
 /// The file of this name, whose front is kept, behind a buffer, unbuffered if there is no memory

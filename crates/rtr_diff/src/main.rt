@@ -3,8 +3,9 @@
 
 use diff_work::{Form, Request, asked, run};
 use program_frame::{
-    BUFFER_SIZE, FAILED, Front, Input, Manual, Painted, STANDARD_INPUT, Subject, Watched, about,
-    buffered_output, hint, program_words, report_closed, usage, wants_colours, words_after_name,
+    BUFFER_SIZE, FAILED, Front, Input, Manual, Painted, STANDARD_INPUT, Subject, Syntax, Watched,
+    about, buffered_output, hint, program_words, report_closed, usage, wants_colours,
+    words_after_name,
 };
 use rtr_units::buffered::BufferedSource;
 use rtr_units::source::Counted;
@@ -32,6 +33,12 @@ prints the changes that lead from the payloads of OLD to those of NEW. The name
   --help     print this
   --version  print the program's version
 ",
+    syntax: Syntax {
+        forms: &["--json", "--units"],
+        switches: &[],
+        settings: &[],
+        operands: 2,
+    },
 };
 
 /// The input behind a buffer, whose front is kept.

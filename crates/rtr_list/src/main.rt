@@ -4,8 +4,9 @@
 
 use list_work::{program, reads_input};
 use program_frame::{
-    Front, Input, InputName, Manual, Painted, Prompt, REFUSED, Shared, Subject, buffered_input,
-    buffered_output, hint, program_words, take_file, usage, wants_colours, words_after_name,
+    Front, Input, InputName, Manual, Painted, Prompt, REFUSED, Shared, Subject, Syntax,
+    buffered_input, buffered_output, hint, program_words, take_file, usage, wants_colours,
+    words_after_name,
 };
 use rtr_units::buffered::BufferedSource;
 use rtr_units::source::Counted;
@@ -36,6 +37,12 @@ standard input if FILE is - or isn't given.
   --help     print this
   --version  print the program's version
 ",
+    syntax: Syntax {
+        forms: &["--json", "--check", "--summary", "--csv", "--vrps"],
+        switches: &[],
+        settings: &[],
+        operands: 1,
+    },
 };
 
 /// Lines that wait in a buffer.

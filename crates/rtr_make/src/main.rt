@@ -3,11 +3,11 @@
 #![tactic(auto)]
 
 use data_slurm::Slurm;
-use make_work::{asked, broken_timing, program};
+use make_work::{SYNTAX, asked, broken_timing, program};
 use program_exceptions::{Split, read_files, split_words};
 use program_frame::{
-    Input, STANDARD_INPUT, Subject, buffered_output, program_words, seconds_since_epoch, take_file,
-    words_after_name,
+    Input, STANDARD_INPUT, Subject, buffered_output, program_words, refuse, seconds_since_epoch,
+    take_file, words_after_name,
 };
 use rtr_units::source::Counted;
 use std::io;
@@ -16,6 +16,9 @@ use std::process::ExitCode;
 
 /// The program's name.
 const PROGRAM: &str = "rtr_make";
+
+/// The option that names a SLURM file.
+const SLURM: &str = "--slurm";
 
 /// Makes what the words ask for of the file, or of standard input.
 fn make(
@@ -42,11 +45,13 @@ fn make(
 
 fn main(rt: HostRuntime) -> ExitCode {
     let mut faults: Stderr = rt.stderr();
-    let split = match program_words(&rt) {
-        Some(words) => split_words(rt.alloc(), words, "--slurm", "--ignore"),
-        None => None,
+    let Some(words) = program_words(&rt) else {
+        return finish(&rt, None, &Slurm::new(rt.alloc()), None, &mut faults);
     };
-    match split {
+    if let Some(wrong) = SYNTAX.open_option(words_after_name(&words), SLURM) {
+        return ExitCode::from(refuse(PROGRAM, wrong, &mut faults));
+    }
+    match split_words(rt.alloc(), words, SLURM, "--ignore") {
         Some(split) => run(&rt, split, &mut faults),
         None => finish(&rt, None, &Slurm::new(rt.alloc()), None, &mut faults),
     }

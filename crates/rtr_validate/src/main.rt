@@ -6,8 +6,9 @@ mod progress;
 use data_slurm::Slurm;
 use program_exceptions::{read_files, split_words};
 use program_frame::{
-    FAILED, Front, Input, Manual, Prompt, Shared, Subject, about, buffered_input, buffered_output,
-    program_words, report_closed, seconds_since_epoch, usage, words_after_name,
+    FAILED, Front, Input, Manual, Prompt, Setting, Shared, Subject, Syntax, Value, Wrong, about,
+    buffered_input, buffered_output, program_words, refuse, report_closed, seconds_since_epoch,
+    usage, words_after_name,
 };
 use progress::{Counting, Screen};
 use rtr_units::buffered::BufferedSource;
@@ -60,7 +61,40 @@ stands for standard input, if PREFIX and ASN are given.
   --help          print this
   --version       print the program's version
 ",
+    syntax: Syntax {
+        forms: &[],
+        switches: &["--json", "--summary", "--strict"],
+        settings: &[
+            Setting {
+                name: "--format",
+                value: Value::OneOf(&["lines", "mrt", "bird", "frr"]),
+                repeats: false,
+            },
+            Setting {
+                name: "--at",
+                value: Value::Number(18446744073709551615),
+                repeats: false,
+            },
+            Setting {
+                name: SLURM,
+                value: Value::Any("FILE"),
+                repeats: true,
+            },
+            Setting {
+                name: AGAINST,
+                value: Value::Any("FILE"),
+                repeats: false,
+            },
+        ],
+        operands: 3,
+    },
 };
+
+/// The option that names a SLURM file.
+const SLURM: &str = "--slurm";
+
+/// The option that names the list to compare with.
+const AGAINST: &str = "--against";
 
 /// Lines that wait in a buffer.
 type Lines = RefCell<BufWriter<Stdout>>;
@@ -213,10 +247,10 @@ struct Asked {
     words: Vec<String>,
 }
 
-/// Splits the words. None if they can't be had, or no file follows an option that names one.
-fn asked_words(rt: &HostRuntime) -> Option<Asked> {
-    let by_slurm = split_words(rt.alloc(), program_words(rt)?, "--slurm", "--against")?;
-    let by_against = split_words(rt.alloc(), by_slurm.words, "--against", "")?;
+/// Splits the words. None if no file follows an option that names one, or memory runs out.
+fn asked_words(rt: &HostRuntime, words: Vec<String>) -> Option<Asked> {
+    let by_slurm = split_words(rt.alloc(), words, SLURM, AGAINST)?;
+    let by_against = split_words(rt.alloc(), by_slurm.words, AGAINST, "")?;
     Some(Asked {
         slurm: by_slurm.files,
         against: by_against.files,
@@ -224,17 +258,61 @@ fn asked_words(rt: &HostRuntime) -> Option<Asked> {
     })
 }
 
+/// Whether nothing is wrong with the words but that they ask for a summary of a route.
+fn summarises_route(words: &[String]) -> bool {
+    let of_many = Syntax {
+        operands: 1,
+        ..MANUAL.syntax
+    };
+    MANUAL.syntax.wrong_word(words).is_none()
+        && of_many.wrong_word(words).is_some()
+        && MANUAL.syntax.has_flag(words, "--summary")
+}
+
+/// Why the list that is asked for can't be compared with that of the file of this name.
+fn wrong_against<'a>(request: &Request<'_>, name: &'a str) -> Wrong<'a> {
+    if request.route.is_some() {
+        Wrong::Excluded(AGAINST, "PREFIX ASN")
+    } else {
+        Wrong::NoFile(AGAINST, name)
+    }
+}
+
+/// That no file follows the option that the words end with, if it names one.
+fn open_option(words: &[String]) -> Option<Wrong<'_>> {
+    match MANUAL.syntax.open_option(words, SLURM) {
+        Some(wrong) => Some(wrong),
+        None => MANUAL.syntax.open_option(words, AGAINST),
+    }
+}
+
+/// Splits the words, runs what they ask for, and returns the status.
+fn run_words(ends: Ends<'_>, words: Vec<String>, faults: &mut Faults<'_>) -> u8 {
+    if let Some(wrong) = open_option(words_after_name(&words)) {
+        return refuse(MANUAL.name, wrong, faults);
+    }
+    match asked_words(ends.rt, words) {
+        Some(all) => start(ends, &all, faults),
+        None => usage(&MANUAL, faults),
+    }
+}
+
 /// Runs what the words ask for, and returns the status.
 fn start(ends: Ends<'_>, all: &Asked, faults: &mut Faults<'_>) -> u8 {
     let words = words_after_name(&all.words);
     let Some(request) = asked(words) else {
+        if summarises_route(words) {
+            let wrong = Wrong::Excluded("--summary", "PREFIX ASN");
+            return refuse(MANUAL.name, wrong, faults);
+        }
         let mut output = Counted::new(Shared::new(ends.lines));
         return about(&MANUAL, words, FAILED, &mut output, faults);
     };
     let against = match all.against.as_slice() {
         [] => None,
         [name] if can_compare(&request, name.as_str()) => Some(name.as_str()),
-        _ => return usage(&MANUAL, faults),
+        [name] => return refuse(MANUAL.name, wrong_against(&request, name.as_str()), faults),
+        _ => return refuse(MANUAL.name, Wrong::Twice(AGAINST), faults),
     };
     match read_files(ends.rt, MANUAL.name, &all.slurm, faults) {
         Ok(slurm) => validate(ends, request, against, &slurm, faults),
@@ -251,8 +329,8 @@ fn main(rt: HostRuntime) -> ExitCode {
         lines: &lines,
         screen: &screen,
     };
-    let status = match asked_words(&rt) {
-        Some(all) => start(ends, &all, &mut faults),
+    let status = match program_words(&rt) {
+        Some(words) => run_words(ends, words, &mut faults),
         None => usage(&MANUAL, &mut faults),
     };
     ExitCode::from(status)

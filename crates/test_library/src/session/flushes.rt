@@ -3,7 +3,7 @@
 use crate::samples::{decoded, expect_rows};
 use crate::support::{ONES, Pieces, Recorder};
 use list_work::program;
-use program_frame::Manual;
+use program_frame::{Manual, Syntax};
 use rtr_units::source::Counted;
 use std::alloc::Global;
 
@@ -44,6 +44,12 @@ const MANUAL: Manual = Manual {
     version: "rtr_list 0\n",
     usage: "usage: rtr_list\n",
     help: "rtr_list\n",
+    syntax: Syntax {
+        forms: &["--json", "--check"],
+        switches: &[],
+        settings: &[],
+        operands: 0,
+    },
 };
 
 /// The words of the text, if there are some.
