@@ -15,8 +15,8 @@ ended after the last. The programs in Go are built where that is possible, or el
 package in prebuilt/debian; without either `session` is what rtr-client would record.
 
 A block is left out, loudly, where a program that it calls isn't here, or where a prebuilt one,
-which may be older than the page, prints its usage. It is also compared that the page has each line
-that `rtr_list --check` may print.
+which may be older than the page, prints its usage or doesn't know an option. It is also compared
+that the page has each line that `rtr_list --check` may print.
 """
 import contextlib
 import glob

@@ -1,12 +1,13 @@
 #!/usr/bin/env python3
 """Runs the programs that read one input, `rtr_list`, `rtr_clean` and `rtr_make`, on files named by
 their last argument. With the same options they print and end as on standard input; a file that
-can't be opened or read, and wrong arguments, get their line and status. Prints nothing if all is
-well.
+can't be opened or read, and wrong arguments, get their line and status. No program in Rattle calls
+an option of its man page unknown. Prints nothing if all is well.
 
 usage: named.py
 """
 import os
+import re
 import subprocess
 import sys
 import tempfile
@@ -107,6 +108,19 @@ def refused(name, folder):
         yield compare(name, wrong.replace("FILE", path).split(), expected)
 
 
+def known(name):
+    """Runs with each option of the man page before words that no program has. The first of them may
+    be its value."""
+    with open(os.path.join(TOP, "docs", "man", f"{name}.1"), encoding="utf-8") as page:
+        items = [line for line in page if line.startswith(".It Fl")]
+    for option in sorted(set(re.findall(r"Fl (-\w+)", " ".join(items)))):
+        _, line, status = run([built.program(name), f"-{option}", "--none", "--none"])
+        if status != 2 or f'"-{option}"' in line or line.startswith("usage: "):
+            print(f"tests/programs/named.py: {name} -{option} --none --none: {line}, {status}")
+            yield False
+        yield True
+
+
 def faulty(name, folder):
     """Runs over files with faults: a line says by the file's name that it looks like a capture."""
     path = os.path.join(folder, "faulty")
@@ -130,6 +144,8 @@ def main():
     with tempfile.TemporaryDirectory() as folder:
         results = [result for name in PROGRAMS for result in (*same(name), *refused(name, folder))]
         results += [result for name in ("rtr_list", "rtr_clean") for result in faulty(name, folder)]
+        results += [result for name in (*PROGRAMS, "rtr_diff", "rtr_validate")
+                    for result in known(name)]
     sys.exit(not all(results))
 
 
