@@ -76,7 +76,7 @@ var (
 // Errors: a Fault, a Breach, a Reported, ErrTooSlow, ErrTooLong, ErrNoMemory, ErrClosed, that of
 // the context, or one of the connection.
 func (c *Client) Fetch(ctx context.Context) (Data, error) {
-	f := c.follower(ctx, newClock(), func(Update) error { return nil })
+	f := c.follower(ctx, newClock(), func(Update) error { return errDone })
 	f.once = true
 	if err := f.runFor(c); err != errDone {
 		return Data{}, unlessEnded(ctx, err)

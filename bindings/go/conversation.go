@@ -2,8 +2,6 @@
 
 package rtr
 
-import "io"
-
 // follower is a running Client: the link, which decides what to do, and the connection.
 type follower struct {
 	link       *link
@@ -42,13 +40,6 @@ func (f *follower) next() todo {
 	return f.link.next(f.peer.now())
 }
 
-// takeTodo returns the link's last action, once; then nil.
-func (f *follower) takeTodo() *todo {
-	taken := f.todo
-	f.todo = nil
-	return taken
-}
-
 // perform performs an action.
 func (f *follower) perform(t todo) {
 	f.todo = &t
@@ -83,30 +74,24 @@ func (f *follower) wait(until uint64) {
 	}
 }
 
-// connect connects. It leaves a timeout to the link.
+// connect connects. If the deadline passes, the link ends the attempt.
 func (f *follower) connect(until uint64) {
+	var err error
 	f.received, f.logged = 0, 0
-	err := f.peer.connect(until)
-	switch {
-	case err == nil:
-		f.connected = true
+	if f.connected, err = f.peer.connect(until); f.connected {
 		f.logs(LevelDebug, "connected")
 		f.link.opened()
-	case !isTimeout(err) || f.peer.now() < until:
-		f.lost(err)
 	}
+	f.checkLost(err)
 }
 
-// send sends some of the unsent bytes. TLS whose write timed out refuses each later one at once, by
-// the same error.
+// send sends some of the unsent bytes.
 func (f *follower) send(until uint64) {
 	f.logQueries()
 	count, err := f.peer.write(f.link.unsent(f.peer.now()), until)
 	f.link.sent(count)
 	f.logged -= count
-	if err != nil && (!isTimeout(err) || count == 0 && f.peer.now() < until) {
-		f.lost(err)
-	}
+	f.checkLost(err)
 }
 
 // receive reads some bytes from the cache.
@@ -114,19 +99,17 @@ func (f *follower) receive(until uint64) {
 	count, err := f.peer.read(f.link.inputTail(f.peer.now()), until)
 	f.link.received(count)
 	f.received += int64(count)
-	switch {
-	case err == io.EOF:
-		f.lost(ErrClosed)
-	case err != nil && !isTimeout(err):
-		f.lost(err)
-	}
+	f.checkLost(err)
 }
 
-// lost tells the link that connecting failed, or that the connection is lost.
-func (f *follower) lost(err error) {
-	f.err = err
-	f.link.lost()
-	f.stop(f.peer.ended())
+// checkLost tells the link, if err isn't nil, that connecting failed, or that the connection is
+// lost.
+func (f *follower) checkLost(err error) {
+	if err != nil {
+		f.err = err
+		f.link.lost()
+		f.stop(f.peer.ended())
+	}
 }
 
 // close sends the unsent bytes, and closes the connection.

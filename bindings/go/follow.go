@@ -212,6 +212,13 @@ func (c *chooser) start(ctx context.Context, index int) {
 	}()
 }
 
+// takeTodo returns the link's last action, once; then nil.
+func (f *follower) takeTodo() *todo {
+	taken := f.todo
+	f.todo = nil
+	return taken
+}
+
 // stop stops following a source, and drops its data.
 func (c *chooser) stop(index int) {
 	if m := &c.members[index]; m.stop != nil {

@@ -135,6 +135,7 @@ func (l *link) step(now uint64, call func() (todo, C.uint8_t)) todo {
 		next, status := call()
 		must(status)
 		if next.kind < todoGrow {
+			l.follow(next)
 			return next
 		}
 		if !l.grow(next) {
@@ -148,7 +149,15 @@ func (l *link) giveUp(now uint64) todo {
 	l.gaveUp = true
 	next := C.link_give_up(&l.end, l.buffers(), C.uint64_t(now))
 	must(next.result)
+	l.follow(next.todo)
 	return next.todo
+}
+
+// follow releases the buffers of data that an action drops.
+func (l *link) follow(t todo) {
+	if bool(t.drops) || t.kind == todoDropped {
+		l.data = [2][]byte{}
+	}
 }
 
 // grow grows the buffer that an action names, and reports whether the limit allows it. The input
@@ -205,11 +214,6 @@ func (l *link) newData(now uint64) Data {
 	l.data[which] = shown
 	l.release(now)
 	return checkedData(shown)
-}
-
-// dropped releases the buffers of data that were dropped.
-func (l *link) dropped() {
-	l.data = [2][]byte{}
 }
 
 // release frees the memory that a long answer needed.

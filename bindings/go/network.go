@@ -7,20 +7,20 @@ import (
 	"io"
 	"math"
 	"net"
-	"os"
 	"time"
 )
 
 // peer is the cache of a follower: a clock, and at most one connection. Times are in milliseconds
-// of the clock, which is monotonic. After a deadline the error is a timeout.
+// of the clock, which is monotonic. That a deadline has passed is no error.
 type peer interface {
 	now() uint64
 	// ended returns the error with which the follower has to end, or nil.
 	ended() error
 	// rest waits without a connection until a deadline, or until AskNow.
 	rest(until uint64) error
-	connect(until uint64) error
-	// read reads until a deadline, or until AskNow, which gives a timeout too.
+	// connect connects until a deadline, and reports whether it did.
+	connect(until uint64) (bool, error)
+	// read reads until a deadline, or until AskNow.
 	read(buffer []byte, until uint64) (int, error)
 	// write writes until a deadline, and returns the number of written bytes, also with an error.
 	write(bytes []byte, until uint64) (int, error)
@@ -74,7 +74,7 @@ func (n *network) rest(until uint64) error {
 	return n.ctx.Err()
 }
 
-func (n *network) connect(until uint64) error {
+func (n *network) connect(until uint64) (bool, error) {
 	ctx, cancel := context.WithDeadline(n.ctx, n.at(until))
 	defer cancel()
 	connection, err := n.dial(ctx, "tcp", n.address)
@@ -86,12 +86,12 @@ func (n *network) connect(until uint64) error {
 	}
 	switch {
 	case err != nil && ctx.Err() == context.DeadlineExceeded && n.ctx.Err() == nil:
-		return os.ErrDeadlineExceeded
+		return false, nil
 	case err != nil:
-		return err
+		return false, err
 	}
 	n.connection, n.release = connection, closeAtEnd(n.ctx, connection)
-	return nil
+	return true, nil
 }
 
 func (n *network) read(buffer []byte, until uint64) (int, error) {
@@ -99,10 +99,12 @@ func (n *network) read(buffer []byte, until uint64) (int, error) {
 	switch {
 	case count < 0 || count > len(buffer):
 		return 0, errCount
-	case count > 0:
+	case count > 0 || isTimeout(err):
 		return count, nil
 	case err == nil:
 		return 0, io.ErrNoProgress
+	case err == io.EOF:
+		return 0, ErrClosed
 	}
 	return 0, err
 }
@@ -117,7 +119,10 @@ func (n *network) write(bytes []byte, until uint64) (int, error) {
 		return 0, errCount
 	case count < len(bytes) && err == nil:
 		return count, io.ErrShortWrite
+	case isTimeout(err) && (count > 0 || n.now() >= until):
+		return count, nil
 	}
+	// TLS whose write timed out refuses each later one at once, also by a timeout.
 	return count, err
 }
 

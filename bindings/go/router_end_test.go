@@ -4,7 +4,6 @@ package rtr
 
 import (
 	"errors"
-	"io"
 	"os"
 	"strings"
 	"time"
@@ -62,18 +61,20 @@ func (p *routerEnd) rest(until uint64) error {
 
 var errBroken = errors.New("broken")
 
-func (p *routerEnd) connect(until uint64) error {
+func (p *routerEnd) connect(until uint64) (bool, error) {
 	p.does("connects")
 	p.open, p.broken = true, false
 	for {
 		s, err := p.next(until)
 		switch {
+		case errors.Is(err, os.ErrDeadlineExceeded):
+			return false, nil
 		case err != nil:
-			return err
+			return false, err
 		case s.what == "accepts":
-			return nil
+			return true, nil
 		case s.what == "refuses":
-			return errBroken
+			return false, errBroken
 		case s.what == "asks":
 			p.askRequest.set()
 		}
@@ -84,18 +85,20 @@ func (p *routerEnd) read(buffer []byte, until uint64) (int, error) {
 	for {
 		s, err := p.next(until)
 		switch {
+		case errors.Is(err, os.ErrDeadlineExceeded):
+			return 0, nil
 		case err != nil:
 			return 0, err
 		case s.what == ">":
 			return copy(buffer, s.data), nil
 		case s.what == "closes":
-			return 0, io.EOF
+			return 0, ErrClosed
 		case s.what == "breaks":
 			p.broken = true
 			return 0, errBroken
 		case s.what == "asks":
 			p.askRequest.set()
-			return 0, os.ErrDeadlineExceeded
+			return 0, nil
 		}
 	}
 }

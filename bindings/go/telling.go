@@ -11,14 +11,10 @@ var errDone = errors.New("rtr: done")
 func (f *follower) show(data Data) {
 	f.logs(LevelInfo, "data", data.fields()...)
 	f.update(data)
-	if f.once {
-		f.stop(errDone)
-	}
 }
 
 // drop drops the data, if there are any.
 func (f *follower) drop() {
-	f.link.dropped()
 	if !f.data.IsZero() {
 		f.logs(LevelWarn, "data dropped", f.data.fields()...)
 		f.update(Data{})

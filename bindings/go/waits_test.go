@@ -1,0 +1,180 @@
+//go:build cgo && linux
+
+package rtr
+
+import (
+	"context"
+	"errors"
+	"io"
+	"net"
+	"testing"
+	"time"
+)
+
+// handshaking is a connection whose handshake ends by its context, or fails.
+type handshaking struct {
+	net.Conn
+	began, closed chan struct{}
+	fails         bool
+}
+
+func (h *handshaking) HandshakeContext(ctx context.Context) error {
+	close(h.began)
+	if h.fails {
+		return errors.New("no handshake")
+	}
+	<-ctx.Done()
+	return ctx.Err()
+}
+
+func (h *handshaking) Close() error {
+	close(h.closed)
+	return h.Conn.Close()
+}
+
+// told closes a channel at the first read or write.
+type told struct {
+	net.Conn
+	reads, writes chan struct{}
+}
+
+func (c *told) Read(bytes []byte) (int, error) {
+	close(c.reads)
+	return c.Conn.Read(bytes)
+}
+
+func (c *told) Write(bytes []byte) (int, error) {
+	close(c.writes)
+	return c.Conn.Write(bytes)
+}
+
+// A context that ends interrupts a client in each of its waits, long before the limits of these do.
+func TestContextInEachWait(t *testing.T) {
+	noLeaks(t)
+	for name, row := range map[string]func(began chan struct{}) (net.Conn, error){
+		"a write": func(began chan struct{}) (net.Conn, error) {
+			near, _ := net.Pipe()
+			return &told{near, nil, began}, nil
+		},
+		"a read": func(began chan struct{}) (net.Conn, error) {
+			near, far := net.Pipe()
+			go io.CopyN(io.Discard, far, headerSize) // a reset query (RFC 8210 section 5.4)
+			return &told{near, began, make(chan struct{})}, nil
+		},
+		"a handshake": func(began chan struct{}) (net.Conn, error) {
+			near, _ := net.Pipe()
+			return &handshaking{near, began, make(chan struct{}), false}, nil
+		},
+		"a pause": func(began chan struct{}) (net.Conn, error) {
+			close(began)
+			return nil, errBroken
+		},
+		"a dial": nil,
+	} {
+		began, ended := make(chan struct{}), make(chan error)
+		ctx, cancel := context.WithCancel(context.Background())
+		client := NewClient("")
+		client.Limits.Pause = patience // there is one dial
+		client.Dial = func(ctx context.Context, _, _ string) (net.Conn, error) {
+			if row != nil {
+				return row(began)
+			}
+			close(began)
+			<-ctx.Done()
+			return nil, ctx.Err()
+		}
+		go func() { ended <- client.Run(ctx, func(Update) error { return nil }) }()
+		<-began
+		cancel()
+		select {
+		case err := <-ended:
+			if err != context.Canceled {
+				t.Errorf("%s: %v", name, err)
+			}
+		case <-time.After(patience):
+			t.Fatalf("%s: the client runs on", name)
+		}
+	}
+}
+
+// A connection whose handshake fails, or isn't done in time, is closed.
+func TestFailedHandshakes(t *testing.T) {
+	for name, fails := range map[string]bool{"it fails": true, "it takes too long": false} {
+		near, _ := net.Pipe()
+		connection := &handshaking{near, make(chan struct{}), make(chan struct{}), fails}
+		client := NewClientConn(connection)
+		client.Limits.Dial = 20 * time.Millisecond
+		ctx, cancel := limited(t)
+		if _, err := client.Fetch(ctx); err == nil {
+			t.Errorf("%s: there are data", name)
+		}
+		select {
+		case <-connection.closed:
+		case <-time.After(patience):
+			t.Errorf("%s: the connection is open", name)
+		}
+		cancel()
+	}
+}
+
+// Each dial has its own limit, which begins with it.
+func TestTimesOfDials(t *testing.T) {
+	const each, limit = 60 * time.Millisecond, time.Second
+	client := NewClient("")
+	client.Limits.Dial, client.Limits.Pause = limit, time.Millisecond
+	client.Retry = time.Millisecond
+	ctx, cancel := limited(t)
+	defer cancel()
+	dials := 0
+	client.Dial = func(ctx context.Context, _, _ string) (net.Conn, error) {
+		until, _ := ctx.Deadline()
+		if dials++; time.Until(until) > limit {
+			t.Errorf("dial %d has %s", dials, time.Until(until))
+		}
+		if dials == 4 {
+			cancel()
+		}
+		time.Sleep(each)
+		return nil, errBroken
+	}
+	client.Run(ctx, func(Update) error { return nil })
+	if dials != 4 {
+		t.Error(dials)
+	}
+}
+
+// A request that comes between the check for one and the wait ends that wait; one that was taken
+// doesn't.
+func TestRequestsBeforeAWait(t *testing.T) {
+	for name, row := range map[string]struct {
+		before func(*askRequest)
+		ends   bool
+	}{
+		"none":            {func(*askRequest) {}, false},
+		"before the wait": {(*askRequest).set, true},
+		"twice":           {func(r *askRequest) { r.set(); r.set() }, true},
+		"taken":           {func(r *askRequest) { r.set(); r.take() }, false},
+		"after a wait": {func(r *askRequest) {
+			r.setCancel(func() {})
+			r.setCancel(nil)
+			r.set()
+		}, true},
+		"in the wait before": {func(r *askRequest) {
+			r.setCancel(func() {})
+			r.set()
+			r.setCancel(nil)
+		}, false},
+	} {
+		var request askRequest
+		row.before(&request)
+		ended := false
+		request.setCancel(func() { ended = true })
+		if ended != row.ends {
+			t.Errorf("%s: the wait ended: %t", name, ended)
+		}
+		ended = false
+		if request.set(); !ended {
+			t.Errorf("%s: a request in the wait didn't end it", name)
+		}
+	}
+}
