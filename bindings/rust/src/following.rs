@@ -194,9 +194,12 @@ impl<'c> Follower<'c> {
     /// Waits until the socket is ready, the caller asks for data, or the router's next tick.
     fn rest(&self) {
         let sends = self.holds || !self.router.output().is_empty();
-        let awaited = self.socket.as_ref().map(|socket| match sends {
-            true => Awaited::to_write(&socket.socket()),
-            false => Awaited::to_read(&socket.socket()),
+        let awaited = self.socket.as_ref().map(|socket| {
+            if sends {
+                Awaited::to_write(&socket.socket())
+            } else {
+                Awaited::to_read(&socket.socket())
+            }
         });
         self.asked.wait(&self.client.stop, awaited, self.left());
     }
