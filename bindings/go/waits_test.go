@@ -7,6 +7,7 @@ import (
 	"errors"
 	"io"
 	"net"
+	"reflect"
 	"testing"
 	"time"
 )
@@ -75,6 +76,7 @@ func TestContextInEachWait(t *testing.T) {
 		ctx, cancel := context.WithCancel(context.Background())
 		client := NewClient("")
 		client.Limits.Pause = patience // there is one dial
+		client.Limits.Dial, client.Limits.Response = 2*patience, 2*patience
 		client.Dial = func(ctx context.Context, _, _ string) (net.Conn, error) {
 			if row != nil {
 				return row(began)
@@ -176,5 +178,98 @@ func TestRequestsBeforeAWait(t *testing.T) {
 		if request.set(); !ended {
 			t.Errorf("%s: a request in the wait didn't end it", name)
 		}
+	}
+}
+
+// A report arrives whole, also at a cache that sends on: bytes that the client didn't read would
+// reset the connection.
+func TestReportsArrive(t *testing.T) {
+	noLeaks(t)
+	unknown := []byte{0, 5, 0, 0, 0, 0, 0, 8} // no unit has this type (RFC 8210 section 5.1)
+	for name, more := range map[string]int{"a unit": 0, "it sends on": 1 << 19} {
+		name, more := name, more
+		reports := make(chan []byte, 1)
+		client := NewClient(fakeCache(t, func(cache *net.TCPConn) {
+			defer cache.Close()
+			reader := NewReader(cache)
+			readUnit(reader)
+			cache.SetWriteBuffer(1 << 14)
+			if _, err := cache.Write(append(unknown, make([]byte, more)...)); err != nil {
+				t.Errorf("%s: %v", name, err)
+			}
+			reports <- readUnit(reader)
+		}))
+		client.AskIn(0)
+		client.Limits.Report = patience
+		ctx, cancel := limited(t)
+		if _, err := client.Fetch(ctx); err == nil || ctx.Err() != nil {
+			t.Errorf("%s: %v", name, err)
+		}
+		cancel()
+		if report := <-reports; len(report) < reportSize || Kind(report[1]) != ErrorReport {
+			t.Errorf("%s: it sent %x", name, report)
+		}
+	}
+}
+
+// The wait for a cache to read its report ends by its time, at one that doesn't close, and by the
+// number of bytes, at one that sends on.
+func TestReportsEnd(t *testing.T) {
+	noLeaks(t)
+	unknown := []byte{0, 5, 0, 0, 0, 0, 0, 8}
+	for name, limit := range map[string]time.Duration{
+		"it stays": 50 * time.Millisecond, "it sends on": 2 * patience,
+	} {
+		name, ended := name, make(chan struct{})
+		client := NewClient(fakeCache(t, func(cache *net.TCPConn) {
+			readUnit(NewReader(cache))
+			cache.Write(unknown)
+			if name == "it sends on" {
+				forever(cache, unknown)
+			}
+			<-ended
+		}))
+		client.AskIn(0)
+		client.Limits.Report = limit
+		ctx, cancel := limited(t)
+		if _, err := client.Fetch(ctx); err == nil || ctx.Err() != nil {
+			t.Errorf("%s: %v", name, err)
+		}
+		cancel()
+		close(ended)
+	}
+}
+
+// The offset of a fault counts the bytes of its own connection, also after others.
+func TestOffsetsOfConnections(t *testing.T) {
+	noLeaks(t)
+	unknown := []byte{1, 5, 0, 0, 0, 0, 0, 8}
+	play := func(answer []byte) func(*net.TCPConn) {
+		return func(cache *net.TCPConn) {
+			defer cache.Close()
+			readUnit(NewReader(cache))
+			cache.Write(answer)
+			io.Copy(io.Discard, cache)
+		}
+	}
+	whole := full(7, 1, ipv4)
+	client := quick(fakeCache(t, play(unknown), play(join(whole, unknown)), play(unknown)))
+	client.Version = 1
+	ctx, cancel := limited(t)
+	defer cancel()
+	var offsets []int64
+	client.Failed = func(err error) {
+		var fault *Fault
+		if errors.As(err, &fault) {
+			offsets = append(offsets, fault.Offset)
+		}
+		if len(offsets) == 3 {
+			cancel()
+		}
+	}
+	client.Run(ctx, func(Update) error { return nil })
+	want := []int64{0, int64(len(whole)), 0}
+	if !reflect.DeepEqual(offsets, want) {
+		t.Errorf("%d, not %d", offsets, want)
 	}
 }
