@@ -74,3 +74,47 @@ impl Askings {
         }
     }
 }
+
+#[cfg(test)]
+mod tests {
+    use super::{Asked, Askings};
+    use crate::timed::Stop;
+    use std::time::{Duration, Instant};
+
+    const LONG: Duration = Duration::from_secs(60);
+    const SHORT: Duration = Duration::from_millis(50);
+
+    /// Returns how long a wait of at most this time took.
+    fn waited(asked: &Asked, most: Duration) -> Duration {
+        let begun = Instant::now();
+        asked.wait(&Stop::default(), None, most);
+        begun.elapsed()
+    }
+
+    /// A request ends a wait also if it came before that, once, and is taken once.
+    #[test]
+    fn requests_before_a_wait() {
+        for count in [1, 2] {
+            let askings = Askings::default();
+            let asked = askings.add();
+            (0..count).for_each(|_| askings.ask());
+            assert!(waited(&asked, LONG) < LONG / 2, "{count} requests");
+            assert!(asked.take() && !asked.take(), "{count} requests");
+            assert!(waited(&asked, SHORT) >= SHORT, "{count} requests");
+        }
+    }
+
+    /// Each thread gets the requests that come once it is there, and none before.
+    #[test]
+    fn requests_to_threads() {
+        let askings = Askings::default();
+        let first = askings.add();
+        askings.ask();
+        let second = askings.add();
+        assert!(first.take() && !second.take());
+        assert!(waited(&second, SHORT) >= SHORT);
+        askings.ask();
+        assert!(first.take() && second.take());
+        assert!(waited(&second, LONG) < LONG / 2);
+    }
+}

@@ -101,6 +101,26 @@ fn writes_of_nothing() {
     }
 }
 
+/// A report arrives whole, also at a cache that sends on: bytes that the client didn't read would
+/// reset the connection.
+#[test]
+fn reports_arrive() {
+    let _alone = alone();
+    for more in [0, 1 << 19] {
+        let (client, mut other, _) = client(u32::MAX, None, PATIENCE);
+        let cache = std::thread::spawn(move || {
+            other.write_all(&UNKNOWN)?;
+            other.write_all(&vec![0; more])?;
+            let mut came = Vec::new();
+            other.read_to_end(&mut came).map(|_| came)
+        });
+        client.fetch().unwrap_err();
+        let came = cache.join().unwrap().unwrap();
+        assert_eq!(came[..8], reset_query(0), "{more}");
+        assert_eq!(came[8..10], [0, 10], "{more}");
+    }
+}
+
 /// The time for a report ends the connection of a cache that takes none of it, and of one that
 /// takes it and doesn't close.
 #[test]
