@@ -337,9 +337,11 @@ fn by_preference() {
     assert_eq!(String::from_utf8(got.stdout).unwrap(), wanted);
     assert!(got.stderr.starts_with(b"127.0.0.1:1: "));
     assert_eq!(got.status.code(), Some(0));
-    let got = client(&[absent, absent].concat());
+    let got = client(&[&absent[..], &["--prefer", "127.0.0.2:1"]].concat());
     assert_eq!((got.status.code(), got.stdout), (Some(1), Vec::new()));
-    let got = client(&["--prefer", address].repeat(17));
+    let many: Vec<_> = (1..=17).map(|host| format!("127.0.0.{host}:1")).collect();
+    let too_many = many.iter().flat_map(|address| ["--prefer", address.as_str()]);
+    let got = client(&too_many.collect::<Vec<_>>());
     assert_eq!(got.status.code(), Some(2));
     assert_eq!(cache.end("TERM"), Some(0));
 }

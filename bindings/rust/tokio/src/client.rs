@@ -98,7 +98,8 @@ impl<S: AsyncRead + AsyncWrite + Unpin> AsyncClient<S> {
     }
 
     /// Requests the present data: the next call of [`next`](AsyncClient::next) queries the cache,
-    /// or connects, before it is time ([`Router::ask_now`]).
+    /// or connects, before it is time
+    /// ([`Router::ask_now`](rtr_wire::Router::ask_now)).
     pub fn ask_now(&mut self) {
         self.running.router.ask_now();
     }
