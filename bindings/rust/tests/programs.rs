@@ -340,7 +340,9 @@ fn by_preference() {
     let got = client(&[&absent[..], &["--prefer", "127.0.0.2:1"]].concat());
     assert_eq!((got.status.code(), got.stdout), (Some(1), Vec::new()));
     let many: Vec<_> = (1..=17).map(|host| format!("127.0.0.{host}:1")).collect();
-    let too_many = many.iter().flat_map(|address| ["--prefer", address.as_str()]);
+    let too_many = many
+        .iter()
+        .flat_map(|address| ["--prefer", address.as_str()]);
     let got = client(&too_many.collect::<Vec<_>>());
     assert_eq!(got.status.code(), Some(2));
     assert_eq!(cache.end("TERM"), Some(0));
