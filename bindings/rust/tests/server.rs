@@ -628,10 +628,10 @@ fn answers_that_are_cut() {
         }
         assert!(told.recv_timeout(milliseconds(300)).is_err());
         server.update(data_of(session, 4, 20)).unwrap();
-        let served = Stamp::of("rtr cache");
+        let updated = Stamp::of("rtr cache");
         let (why, ended) = told.recv_timeout(PATIENCE).expect("it ends");
         assert_eq!(why, text);
-        let slept = served.slept_until(ended);
+        let slept = updated.slept_until(ended);
         assert!(slept < milliseconds(500), "it ended late: {slept:?}");
         assert!(holds(|| server.clients() == 0));
     }

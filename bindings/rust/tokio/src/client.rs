@@ -81,7 +81,7 @@ impl<S: AsyncRead + AsyncWrite + Unpin> AsyncClient<S> {
     {
         let dial = Box::new(move || -> Dialed<S> { Box::pin(dial()) });
         AsyncClient {
-            running: Running::new(&options, random, dial),
+            running: Running::new(options, random, dial),
             last: None,
         }
     }

@@ -7,7 +7,6 @@ use std::future::Future;
 use std::io::{self, ErrorKind};
 use std::pin::Pin;
 use std::task::{Context, Poll};
-use std::time::Duration;
 use tokio::io::{AsyncRead, AsyncWrite, ReadBuf};
 use tokio::time::Instant;
 
@@ -20,8 +19,7 @@ pub(crate) struct Running<S> {
     pub(crate) log: Option<Box<Log>>,
     dial: Box<dyn FnMut() -> Dialed<S> + Send>,
     link: Link<S>,
-    /// The time limit for the last bytes of a connection.
-    report: Duration,
+    options: ClientOptions,
     /// When the router's clock began: at the first call.
     begun: Option<Instant>,
     timer: Timer,
@@ -44,16 +42,16 @@ pub(crate) struct Open<S> {
 
 impl<S> Running<S> {
     pub(crate) fn new(
-        options: &ClientOptions,
+        options: ClientOptions,
         random: u16,
         dial: Box<dyn FnMut() -> Dialed<S> + Send>,
     ) -> Self {
         Running {
-            router: Router::new(options, random),
+            router: Router::new(&options, random),
             log: None,
             dial,
             link: Link::None,
-            report: options.report,
+            options,
             begun: None,
             timer: Timer::default(),
         }
@@ -131,7 +129,7 @@ impl<S: AsyncRead + AsyncWrite + Unpin> Running<S> {
     fn close(&mut self) {
         self.link = match std::mem::replace(&mut self.link, Link::None) {
             Link::Open(open) if !self.router.output().is_empty() => {
-                Link::Closing(Closing::new(open, self.report))
+                Link::Closing(Closing::new(open, self.options.report))
             }
             _ => Link::None,
         };
@@ -143,7 +141,7 @@ impl<S: AsyncRead + AsyncWrite + Unpin> Open<S> {
     fn carry(&mut self, router: &mut Router, cx: &mut Context<'_>) -> Poll<io::Result<()>> {
         match self.send(router, cx) {
             Poll::Pending => self.receive(router, cx),
-            sent => sent,
+            sent @ Poll::Ready(_) => sent,
         }
     }
 

@@ -76,7 +76,7 @@ async fn cache(mut stream: DuplexStream, then: Then) {
         Then::Sends => {
             let many = vec![0; 2 * ClientOptions::LAST_BYTES];
             let _ = stream.write_all(&many).await;
-            pending().await
+            pending::<()>().await;
         }
     }
 }

@@ -9,9 +9,9 @@ mod openssl;
 #[path = "../../tests/peers/mod.rs"]
 mod peers;
 
+use self::openssl::OpenSsl;
 use certificates::{now, paths, Authority, Folder, Names, NAME};
 use example::{accept, acceptor, connect, connector};
-use self::openssl::OpenSsl;
 use peers::{data, milliseconds, Peer, LATE, PATIENCE};
 use rtr_wire::{ClientError, ClientOptions, Data, ServerOptions};
 use rtr_wire_tokio::{AsyncClient, AsyncServer};
