@@ -265,7 +265,7 @@ static void handle_call(struct thread *t)
     resume(t->id, 0);
 }
 
-/* Resumes the threads whose delay is over. Returns the number of those that are still delayed. */
+/* Resumes each thread whose delay is over, and returns how many threads are still delayed. */
 static int resume_delayed(void)
 {
     int delayed = 0;

@@ -87,9 +87,9 @@ impl Canonical {
             .take(self.payloads)
     }
 
-    /// Returns the changes from these data to new data of any versions and sessions, or those that
-    /// withdraw all if there are no new data. They are in the higher of the versions, so that
-    /// payloads that the lower one can't carry are withdrawn.
+    /// Returns the changes from these data to the new data. Versions and sessions may differ. If
+    /// there are no new data, the changes withdraw everything. They are in the higher of the two
+    /// versions, so that payloads that the lower one can't carry are withdrawn.
     ///
     /// # Errors
     ///
