@@ -1,5 +1,5 @@
-//! All that a program in Rattle calls, under one name: sequences of payload units here, and a
-//! module for each library beside them. Its code and contracts stand in those crates.
+//! Everything that a program in Rattle calls, under one name: sequences of payload units here, and
+//! a module for each library beside them. The code and the contracts are in those crates.
 #![tactic(auto)]
 
 pub use data_memory as data;

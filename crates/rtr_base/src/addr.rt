@@ -99,7 +99,7 @@ impl Prefix {
         Ok(prefix)
     }
 
-    /// The IPv4 prefix of this length that has the address. Host bits are cleared.
+    /// The IPv4 prefix of this length that contains the address. Host bits are cleared.
     #[inline(always)]
     pub fn new_v4_relaxed(addr: Ipv4Addr, len: u8) -> Result<Self, PrefixError>
         ensures ok { IfOk result (λ p. p ≡
@@ -146,7 +146,7 @@ impl Prefix {
         Ok(prefix)
     }
 
-    /// The IPv6 prefix of this length that has the address. Host bits are cleared.
+    /// The IPv6 prefix of this length that contains the address. Host bits are cleared.
     #[inline(always)]
     pub fn new_v6_relaxed(addr: Ipv6Addr, len: u8) -> Result<Self, PrefixError>
         ensures ok { IfOk result (λ p. p ≡
@@ -200,7 +200,7 @@ impl Prefix {
         }
     }
 
-    /// The address as a number, whose host bits are zero. That of an IPv4 prefix is below 2^32.
+    /// The address as a number. Its host bits are zero; that of an IPv4 prefix is below 2^32.
     #[inline(always)]
     pub fn bits(self) -> u128
         ensures number { result ≡ self.address }
@@ -209,7 +209,7 @@ impl Prefix {
         self.bits
     }
 
-    /// How many bits of the address count.
+    /// The length of the prefix in bits.
     #[inline(always)]
     pub fn len(self) -> u8
         ensures len { result ≡ self.len }
@@ -265,7 +265,7 @@ impl Ord for Prefix {
     }
 }
 
-/// A prefix of IP addresses and, if one was given, the longest prefix length that is meant with it.
+/// A prefix of IP addresses with an optional max length, the longest prefix length that it allows.
 #[derive(Clone, Copy, Debug)]
 pub struct MaxLenPrefix {
     prefix: Prefix,
@@ -284,7 +284,7 @@ impl Model for MaxLenPrefix {
     ghost inverse = { λ p. record { prefix = p.prefix; max_len = p.max_len } };
 }
 
-/// Why a max length doesn't go with a prefix.
+/// Why a max length is out of range for a prefix.
 #[derive(Clone, Copy, Debug, PartialEq, Eq)]
 pub enum MaxLenError {
     /// The max length is over 32 for IPv4 or over 128 for IPv6.
@@ -384,7 +384,7 @@ impl MaxLenPrefix {
         self.max_len
     }
 
-    /// The longest prefix length that is meant: the max length, or if none was given the prefix
+    /// The longest prefix length that is allowed: the max length or, if none was given, the prefix
     /// length.
     #[inline(always)]
     pub fn resolved_max_len(self) -> u8
@@ -422,9 +422,9 @@ fn joined(high: u64, low: u64) -> u128
     u128::from(high) * (1 << 64) + u128::from(low)
 }
 
-/// The first half of an address with all bits after the first `len` of the whole cleared. Here and
-/// in the second half the lengths choose between values that are there already: where they come in
-/// no order, a jump would often be predicted wrongly.
+/// The first half of an address with all bits after the first `len` of the whole cleared. In both
+/// halves the length selects between values that are already computed: a branch would often be
+/// mispredicted where lengths come in no order.
 #[inline(always)]
 fn cleared_first(high: u64, len: u8) -> u64
     requires { len ≤ 128 }
@@ -452,7 +452,7 @@ fn cleared_last(low: u64, len: u8) -> u64
     if len > 64 { part } else { 0 }
 }
 
-/// How many bits come after the first `len` of an address in the half that these end in.
+/// How many bits of the half in which the first `len` bits of an address end come after these.
 #[inline(always)]
 fn bits_after(len: u8) -> u8
     requires { len ≤ 128 }

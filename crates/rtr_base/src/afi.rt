@@ -35,14 +35,14 @@ impl Afi {
         Afi(1)
     }
 
-    /// Whether the byte says IPv4.
+    /// Whether the byte means IPv4.
     pub fn is_ipv4(self) -> bool
         ensures { IsTrue result ↔ (self % 2 ≡ 0) }
     {
         self.0 % 2 == 0
     }
 
-    /// Whether the byte says IPv6.
+    /// Whether the byte means IPv6.
     pub fn is_ipv6(self) -> bool
         ensures { IsTrue result ↔ (self % 2 ≡ 1) }
     {

@@ -6,7 +6,7 @@
 pub struct ErrorCode(pub u16);
 
 impl ErrorCode {
-    /// The data that came can't be read, or its fields contradict one another: 0.
+    /// The received data can't be decoded, or its fields contradict one another: 0.
     pub const CORRUPT_DATA: Self = ErrorCode(0);
 
     /// The peer failed for a reason of its own: 1.
@@ -15,7 +15,7 @@ impl ErrorCode {
     /// The cache has no data yet: 2.
     pub const NO_DATA_AVAILABLE: Self = ErrorCode(2);
 
-    /// The request makes no sense to the cache: 3.
+    /// The cache can't make sense of the request: 3.
     pub const INVALID_REQUEST: Self = ErrorCode(3);
 
     /// The peer doesn't speak this version of the protocol: 4.
@@ -24,16 +24,16 @@ impl ErrorCode {
     /// The peer doesn't know units of this type: 5.
     pub const UNSUPPORTED_PDU_TYPE: Self = ErrorCode(5);
 
-    /// A record was withdrawn that the router doesn't have: 6.
+    /// The router doesn't have the record that was withdrawn: 6.
     pub const WITHDRAWAL_OF_UNKNOWN_RECORD: Self = ErrorCode(6);
 
-    /// A record was announced that the router has already: 7.
+    /// The router already has the record that was announced: 7.
     pub const DUPLICATE_ANNOUNCEMENT_RECEIVED: Self = ErrorCode(7);
 
     /// A unit has another version than the one agreed on: 8.
     pub const UNEXPECTED_PROTOCOL_VERSION: Self = ErrorCode(8);
 
-    /// The providers of an ASPA unit are not allowed, as in the Rust crate `rpki`: 9.
+    /// The list of providers of an ASPA unit isn't allowed, as in the Rust crate `rpki`: 9.
     pub const ASPA_PROVIDER_LIST_ERROR: Self = ErrorCode(9);
 
     /// The connection failed, as in the Rust crate `rpki`: 10.

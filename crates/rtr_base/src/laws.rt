@@ -36,14 +36,14 @@ pub fn error_codes()
     ensures ordering_error { ErrorCode.ORDERING_ERROR.0 ≡ 11 }
 {}
 
-/// Prefixes are totally ordered, and two compare as equal exactly if they are equal.
+/// Prefixes are totally ordered, and two compare as equal if and only if they are equal.
 pub fn prefix_order()
     ensures total { IsTotalOrder prefix_cmp }
     ensures exact { (p q : PrefixParts) → (prefix_cmp p q ≡ Equal) ↔ (p ≡ q) }
 {}
 
-/// Swapping two serial numbers reverses their order. They have none exactly if they are half the
-/// circle apart, and compare as equal exactly if they are equal.
+/// Swapping two serial numbers reverses their order. They have no order if and only if they are
+/// half the circle apart, and compare as equal if and only if they are equal.
 pub fn serial_reversed()
     ensures reversed { (a b : ℕ) → a < 2 ^ 32 → b < 2 ^ 32 →
         serial_cmp a b ≡ reversed (serial_cmp b a) }
@@ -52,7 +52,7 @@ pub fn serial_reversed()
     ensures equal { (a b : ℕ) → a < 2 ^ 32 → b < 2 ^ 32 → (serial_cmp a b ≡ Some Equal) ↔ (a ≡ b) }
 {}
 
-/// Within half the circle from a number, serial numbers compare as their distances from it.
+/// Serial numbers less than half the circle after a number compare as their distances from it.
 pub fn serial_half_circle()
     ensures { (a m n : ℕ) → a < 2 ^ 32 → m < 2 ^ 31 → n < 2 ^ 31 →
         serial_cmp ((a + m) % 2 ^ 32) ((a + n) % 2 ^ 32) ≡ Some (nat_cmp m n) }

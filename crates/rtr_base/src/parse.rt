@@ -55,11 +55,11 @@ fn without_as(text: &str) -> &str
 pub enum ParsePrefixError {
     /// There is no slash.
     MissingLen,
-    /// What is before the first slash isn't an address.
+    /// The text before the first slash isn't an address.
     Addr(AddrParseError),
-    /// What is after the first slash isn't a number, or is over 255.
+    /// The text after the first slash isn't a number, or is over 255.
     Len(ParseIntError),
-    /// The length is too great for the address, or the address has bits after it.
+    /// The length is too great for the address, or the address has bits set after it.
     Prefix(PrefixError),
 }
 
@@ -105,11 +105,11 @@ impl FromStr for Prefix {
 /// Why a text isn't a prefix with a max length.
 #[derive(Clone, Debug, Drop, PartialEq, Eq)]
 pub enum ParseMaxLenPrefixError {
-    /// What is before the first dash, or the whole text if there is none, isn't a prefix.
+    /// The text before the first dash, or the whole text if there is none, isn't a prefix.
     Prefix(ParsePrefixError),
-    /// What is after the first dash isn't a number, or is over 255.
+    /// The text after the first dash isn't a number, or is over 255.
     MaxLen(ParseIntError),
-    /// The max length doesn't go with the prefix.
+    /// The max length is out of range for the prefix.
     Value(MaxLenError),
 }
 

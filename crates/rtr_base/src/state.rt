@@ -10,10 +10,10 @@ use std::marker::Model;
 use std::num::ParseIntError;
 use std::str::FromStr;
 
-/// A serial number: 32 bits, compared as RFC 1982 says.
+/// A serial number: 32 bits, compared as in RFC 1982.
 ///
-/// The comparison isn't transitive, so there are no operators `<` and `>`: `partial_cmp` is called
-/// by name.
+/// The comparison isn't transitive, so there are no operators `<` and `>`: call `partial_cmp` by
+/// name.
 #[derive(Clone, Copy, Debug, PartialEq, Eq, Hash, Default)]
 pub struct Serial(pub u32);
 
@@ -43,7 +43,7 @@ impl Serial {
         self.0
     }
 
-    /// The number `other` after this one; after the greatest comes 0 (RFC 1982 section 3.1).
+    /// The number `other` after this one; the greatest is followed by 0 (RFC 1982 section 3.1).
     pub fn add(self, other: u32) -> Self
         requires { other ≤ 2147483647 }
         ensures { result.0 ≡ (self.0 + other) % 2 ^ 32 }
@@ -51,7 +51,7 @@ impl Serial {
         Serial(self.0.wrapping_add(other))
     }
 
-    /// The order of two serial numbers (RFC 1982 section 3.2): none if they are half the circle
+    /// The order of two serial numbers (RFC 1982 section 3.2), or none if they are half the circle
     /// apart.
     pub fn partial_cmp(&self, other: &Serial) -> Option<Ordering>
         ensures { result ≡ serial_cmp self.now.0 other.now.0 }
@@ -136,7 +136,7 @@ impl State {
         State { session, serial }
     }
 
-    /// Goes on to the next serial number; after the greatest comes 0.
+    /// Moves to the next serial number; the greatest is followed by 0.
     pub fn inc(&mut self)
         ensures { self.new ≡ record self.old { serial = (self.old.serial + 1) % 2 ^ 32 } }
     {

@@ -70,7 +70,7 @@ impl fmt::Display for Action {
 
 impl ErrorCode {
     /// The name of the code: up to 8 as in RFC 8210 section 12, for 9, 10 and 11 as in the Rust
-    /// crate `rpki`. Other codes have none.
+    /// crate `rpki`. None for other codes.
     #[tactic(auto, unfolding(crate::specs::PlainTexts::code_name))]
     pub fn name(self) -> Option<&'static str>
         ensures { option_copied result ≡ code_name self.0 }

@@ -7,9 +7,9 @@ use std::time::Duration;
 /// The timing parameters of a cache, in seconds (RFC 8210 section 6).
 #[derive(Clone, Copy, Debug, PartialEq, Eq, Hash)]
 pub struct Timing {
-    /// How long to wait before the cache is asked again.
+    /// How long to wait before the next query.
     pub refresh: u32,
-    /// How long to wait after a failed attempt.
+    /// How long to wait after a failed attempt before the next one.
     pub retry: u32,
     /// How long data may be used without a successful refresh.
     pub expire: u32,
@@ -18,7 +18,7 @@ pub struct Timing {
 impl Timing {
     ghost use Rattle.std.specs.Duration.{as_nanos};
 
-    /// The time before the cache is asked again.
+    /// How long to wait before the next query.
     pub fn refresh_duration(self) -> Duration
         ensures { as_nanos result ≡ self.refresh * 1_000_000_000 }
     {

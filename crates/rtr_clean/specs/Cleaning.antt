@@ -38,8 +38,8 @@ StopsAt what by_writer last left written = (unit : AnyFields) × (last ≡ any_l
     × IsPassed unit × WritesPartOf what unit written
 StopsAt what cause last left written = IsKeptBack cause last left × (written ≡ [])
 
--- How a run of so many units ended, by the answer: the last bytes that it took after them, what it
--- left of the input, and what it wrote for the last bytes.
+-- How a run of this many units ended, by the answer: the last bytes that it took after them, what
+-- it left of the input, and what it wrote for the last bytes.
 abbrev pub CleanEnds : Output → ℕ → Result Unit Cause → List ℕ → Option (List ℕ) → List ℕ → Type 0
 -- at the end of the input, between two units
 CleanEnds what count (Ok _) last left written = (last ≡ []) × IsAtEnd left × (written ≡ [])

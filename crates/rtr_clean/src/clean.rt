@@ -30,15 +30,15 @@ use rtr_units::unit::Unit;
 use std::alloc::Global;
 use unit_any::AnyUnit;
 
-/// Reads units up to the end of the input, and writes what is wanted of each before it reads on. It
-/// allocates one unit at a time.
+/// Reads units up to the end of the input, and writes the requested form of each before it reads
+/// the next. It allocates one unit at a time.
 ///
-/// The output is flushed after each unit that ends an answer: all do but a cache response and
-/// payload units, after which an end of data comes. So what a peer waits for never waits here. Of
-/// flushes the clause says only that they add no byte, and when one of them failed: that they come
-/// is tested.
+/// The output is flushed after each unit that ends an answer: all units except a cache response and
+/// payload units, which an end of data follows. So a unit that a peer waits for is never held back.
+/// The clause states about flushes only that they add no byte, and when one of them failed: that
+/// they are made is tested.
 ///
-/// The sizes of units that were passed on are added to the offset, which stays at 2^64 - 1.
+/// The sizes of units that were passed on are added to the offset, which saturates at 2^64 - 1.
 ///
 /// Faults are those of `AnyUnit::read` and `pdu::Payload::into_payload`, with nothing written of
 /// the unit, `Writer`, and `TooMany` after 2^64 - 1 units.
@@ -65,14 +65,14 @@ pub fn clean<R: Source, W: Sink>(
 /// A unit that was passed on.
 #[derive(Drop)]
 pub enum PassedUnit {
-    /// One after which more of the same answer comes.
+    /// A unit that is followed by more of the same answer.
     Part,
-    /// One that ends an answer, after which the output was flushed.
+    /// A unit that ends an answer. The output was flushed after it.
     Answer(Flushed),
 }
 
-/// Reads a unit and writes what is wanted of it, and adds its size to the offset. Returns none
-/// where the input has ended.
+/// Reads a unit and writes the requested form of it, and adds its size to the offset. Returns none
+/// at the end of the input.
 fn pass<R: Source, W: Sink>(
     alloc: Global,
     wanted: WantedForm,
@@ -123,7 +123,7 @@ fn write<W: Sink>(unit: Option<AnyUnit>, output: &mut W) -> Result<(), Fault>
     }
 }
 
-/// Whether the unit ends what a peer says.
+/// Whether the unit ends an answer.
 fn ends_answer(unit: &AnyUnit) -> bool
     ensures { result ≡ ends (any_fields unit.now) }
 {
@@ -138,7 +138,7 @@ fn ends_answer(unit: &AnyUnit) -> bool
     }
 }
 
-/// The unit that is written for this one, or none.
+/// The unit to write for this unit, or none.
 fn form(alloc: Global, wanted: WantedForm, unit: AnyUnit) -> Result<Option<AnyUnit>, Fault>
     requires { HasAnyFields (any_bytes unit) (any_fields unit) }
     ensures written { IfOk result (λ o. KeepsRule (any_fields unit) ×
@@ -161,7 +161,7 @@ fn form(alloc: Global, wanted: WantedForm, unit: AnyUnit) -> Result<Option<AnyUn
     }
 }
 
-/// The end of data that is written for this one.
+/// The end of data to write for this one.
 fn end_form(wanted: WantedForm, end: EndOfData) -> EndOfData
     requires { IsEnd (end_bytes end) (end_meaning end) }
     ensures { end_bytes result ≡ end_list ((form_held wanted).end (end_meaning end)) }
@@ -174,7 +174,7 @@ fn end_form(wanted: WantedForm, end: EndOfData) -> EndOfData
     }
 }
 
-/// The payload unit that is written for this one, or none where the wanted version doesn't have its
+/// The payload unit to write for this one, or none if the requested version doesn't have its
 /// payload.
 fn payload_form(alloc: Global, wanted: WantedForm, unit: Payload) -> Result<Option<AnyUnit>, Fault>
     ensures written { IfOk result (λ o. LengthsAgree (unit_fields unit) × (bytes_to_write o ≡
@@ -200,8 +200,8 @@ fn payload_form(alloc: Global, wanted: WantedForm, unit: Payload) -> Result<Opti
 }
 
 /// The smallest version of the protocol that has the payload, by the constants of its kind of unit.
-/// `rtr_payload` asks this of a payload that is lent, and `rtr_wire` of a view: each has a type of
-/// its own, which one `match` has to take apart.
+/// `rtr_payload` computes this for a borrowed payload, and `rtr_wire` for a view: each has a type
+/// of its own, which one `match` has to take apart.
 fn smallest_version(payload: &payload::Payload) -> u8
     ensures { result ≡ smallest (payload_of payload.now) }
 {

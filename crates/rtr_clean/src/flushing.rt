@@ -1,17 +1,17 @@
-//! Flushes that can be told from none.
+//! Flushes that contracts can require.
 
 ghost use Rattle.rtr_clean.specs.PrivateClean.{PassesOn};
 
 use rtr_units::fault::Fault;
 use rtr_units::source::Sink;
 
-/// A sign that a writer was flushed: `flush` alone makes one.
+/// A proof that a writer was flushed: only `flush` makes one.
 #[derive(Drop)]
 pub struct Flushed {
     _sign: (),
 }
 
-/// Passes on what was written.
+/// Flushes what was written.
 pub fn flush<W: Sink>(output: &mut W) -> Result<Flushed, Fault>
     ensures { PassesOn result (W.state output.old) (W.state output.new) }
 {

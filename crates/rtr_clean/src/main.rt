@@ -48,8 +48,8 @@ wherever its bits mean nothing.
     },
 };
 
-/// The file of this name, whose front is kept, behind a buffer, unbuffered if there is no memory
-/// for one.
+/// Opens the file of this name, keeps its first bytes, and buffers it, unless there is no memory
+/// for a buffer.
 fn open<'a>(
     rt: &HostRuntime,
     name: &str,

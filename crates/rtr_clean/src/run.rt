@@ -16,19 +16,19 @@ use std::alloc::Global;
 use std::io::Write;
 
 /// Runs the program with the words that it was started with, its name first, over the input, which
-/// is `file` or standard input, and returns the exit status. The file isn't among the words. Where
-/// they ask for units, these are read up to the end of the input, what is wanted of them is
-/// written, and the output is flushed once more:
+/// is `file` or standard input, and returns the exit status. The file isn't among the words. If
+/// they ask for units, these are read up to the end of the input, written in the requested form,
+/// and the output is flushed once more:
 /// - 0 if both succeeded;
 /// - 1 if the input was refused;
 /// - 3 if reading, writing, flushing or memory failed.
 ///
-/// A flush that fails after another status doesn't change it. Where they ask for help or the
-/// version that is written, with 0 or 3. Otherwise a line on `faults` says which word is wrong, or
-/// how the program is called, as it does where there are no words, since they can't be had as
-/// texts, and the status is 2. Statuses 1 and 3 come with a line there that begins with the
-/// program's name, and has that of the file if reading it failed; a broken pipe is not reported. If
-/// a line can't be written, nothing else changes.
+/// A flush that fails after another status doesn't change it. If they ask for help or the version,
+/// that is written, with status 0 or 3. Otherwise a line on `faults` states which word is wrong, or
+/// the usage, and the status is 2; so it is if there are no words because they aren't text.
+/// Statuses 1 and 3 come with a line there that begins with the program's name, and has that of the
+/// file if reading it failed; a broken pipe is not reported. If a line can't be written, nothing
+/// else changes.
 pub fn program<R: Source, W: Sink, F: Write>(
     alloc: Global,
     manual: &Manual,
@@ -72,8 +72,8 @@ pub fn program<R: Source, W: Sink, F: Write>(
     about(manual, words, FAILED, output, faults)
 }
 
-/// Reads units up to the end of the input and writes what is wanted, flushes the output once more,
-/// and returns the exit status, as `program` says.
+/// Reads units up to the end of the input and writes the requested form, flushes the output once
+/// more, and returns the exit status, as `program` does.
 fn run<R: Source, W: Sink, F: Write>(
     alloc: Global,
     subject: Subject<'_>,
@@ -101,8 +101,7 @@ fn run<R: Source, W: Sink, F: Write>(
     }
 }
 
-/// Says what the fault is, with the place of its unit where it is the input's, and returns the
-/// status.
+/// Reports the fault, with the offset of its unit if it is the input's, and returns the status.
 fn tell<F: Write>(subject: Subject<'_>, fault: &Fault, offset: u64, faults: &mut F) -> u8
     ensures { result ≡ clean_status (Err (cause_of fault.now)) true }
 {

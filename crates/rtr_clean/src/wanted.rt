@@ -1,20 +1,20 @@
-//! What a run is asked to write.
+//! The requested form.
 
 ghost use Rattle.std.specs.Prelude.{◌≡◌, option_map};
 ghost use Rattle.rtr_clean.specs.CleanWords.{form_asked, version_asked};
 ghost use Rattle.rtr_clean.specs.PrivateClean.{form_held};
 
-/// What a run is asked to write.
+/// The requested form.
 #[derive(Clone, Copy)]
 pub enum WantedForm {
-    /// Each payload unit and each end of data in its version.
+    /// Writes each payload unit and each end of data in its version.
     Everything,
-    /// Those that this version of the protocol has, in this version.
+    /// Writes the units that this version of the protocol has, in this version.
     Version(u8),
 }
 
-/// What the words after the program's name ask for: everything without words, and one version with
-/// `--version` and its number.
+/// The form that the words after the program's name ask for: everything without words, and one
+/// version with `--version` and its number.
 pub fn form_wanted(words: &[String]) -> Option<WantedForm>
     ensures { option_map form_held result ≡ form_asked words.now }
 {

@@ -29,8 +29,8 @@ use crate::pdu::{Aspa, ProviderAsns, RouterKey};
 use rtr_units::header::MAX_SIZE;
 
 /// The types of the units, and the limits on their sizes: the bytes of a unit that is read, and the
-/// providers of an ASPA. `pdu::RouterKey::max_key_info_size` says the bytes of key info. Answered
-/// are the types of router keys and of ASPA units.
+/// providers of an ASPA. `pdu::RouterKey::max_key_info_size` returns the limit of key info. Returns
+/// the types of router keys and of ASPA units.
 pub fn types_and_limits() -> (u8, u8)
     ensures router_key { result.0 ≡ 9 }
     ensures aspa { result.1 ≡ 11 }
@@ -40,9 +40,8 @@ pub fn types_and_limits() -> (u8, u8)
     (RouterKey::PDU, Aspa::PDU)
 }
 
-/// The bytes of the fixed part of a router key (RFC 8210 section 5.10) and of an ASPA unit (as in
-/// the
-/// Rust crate `rpki`), which are answered.
+/// Returns the size in bytes of the fixed part of a router key (RFC 8210 section 5.10) and of an
+/// ASPA unit (as in the Rust crate `rpki`).
 pub fn fixed_sizes() -> (usize, usize)
     ensures router_key { result.0 ≡ 32 }
     ensures aspa { result.1 ≡ 12 }
@@ -50,7 +49,8 @@ pub fn fixed_sizes() -> (usize, usize)
     (RouterKey::FIXED, Aspa::FIXED)
 }
 
-/// With one version and one pair of flags, payloads have one form exactly where they are equal.
+/// With the same version and the same flags, two payloads have the same form if and only if they
+/// are equal.
 pub fn payload_forms()
     ensures exact { (v f : ℕ) (p q : Payload) → IsPayload p → IsPayload q →
         (form v f p ≡ form v f q) ↔ (p ≡ q) }
@@ -61,9 +61,9 @@ pub fn payload_forms()
         record { version = v; action = act f; payload = stripped (act f) p } }
 {}
 
-/// What `pdu::Payload::new` makes has the flags that were given, and `to_payload` gives back the
-/// version, the action of the flags and the payload: of an ASPA with even flags, without its
-/// providers. None is refused, and where memory is wanted, it is for a key or an ASPA.
+/// `pdu::Payload::new` makes a unit with the given flags, and `to_payload` returns the version, the
+/// action of the flags and the payload, without the providers of an ASPA with even flags. None of
+/// these units is refused, and only a key or an ASPA needs memory.
 pub fn made_and_read()
     ensures flags { (v f : ℕ) (p : Payload) (u : Unit) → IsWritten v f p u → flags_in u ≡ f }
     ensures means { (v f : ℕ) (p : Payload) (u : Unit) (a : Action) (q : Value) →
@@ -74,14 +74,14 @@ pub fn made_and_read()
         (c ≡ no_memory) × (IsPrefixUnit u → ⊥) }
 {}
 
-/// A unit of one kind and a unit by its fields are the same, and a form is the list of the fields
-/// that are written.
+/// A unit of one kind is the same as a unit given by its fields, and a form is the list of the
+/// written fields.
 pub fn units_by_fields()
     ensures units { (b : List ℕ) (m : Meaning) → IsUnit b m ↔ HasMeaning b m }
     ensures forms { (v f : ℕ) (p : Payload) → form v f p ≡ unit_list (written_fields v f p) }
 {}
 
-/// No unit begins another, and one list has one meaning.
+/// No unit is a proper prefix of another, and one list has one meaning.
 pub fn unit_self_delimiting()
     ensures units { (a b r s : List ℕ) (m n : Meaning) → IsUnit a m → IsUnit b n → a ++ r ≡ b ++ s →
         (a ≡ b) × (m ≡ n) × (r ≡ s) }
@@ -89,8 +89,8 @@ pub fn unit_self_delimiting()
         form_of m ++ r ≡ form_of n ++ s → (m ≡ n) × (r ≡ s) }
 {}
 
-/// For each list of bytes exactly one holds: a front of it is a unit, a front of it is an end of
-/// data, or a step names a fault.
+/// For each list of bytes exactly one of three holds: it begins with a unit, it begins with an end
+/// of data, or a step names a fault.
 pub fn exactly_one()
     ensures one { (r : List ℕ) → IsBytes r → BeginsUnit r ⊎ (BeginsEnd r ⊎ IsSome (first_fault r)) }
     ensures frame { (r : List ℕ) → IsBytes r → frame_fault r ≡ None → BeginsShape r ⊎ BeginsEnd r }
@@ -99,25 +99,25 @@ pub fn exactly_one()
     ensures apart { (r : List ℕ) → BeginsUnit r → BeginsEnd r → ⊥ }
 {}
 
-/// Where reading a payload unit may ask for memory, said by what was read.
+/// Where reading a payload unit may ask for memory, by what was read.
 pub fn memory_places()
     ensures { (h : List ℕ) → AsksAfter payload_unit h ↔ MayAskMemory h }
 {}
 
-/// The rule on the lengths of a prefix that is computed, with the part of it that is broken, is the
-/// one that is stated.
+/// The computed check of the lengths of a prefix agrees with the stated rule, and names the part of
+/// it that is broken.
 pub fn prefix_lengths()
     ensures { (u : Fields) → (rule_of u ≡ None) ↔ LengthsAgree u }
 {}
 
-/// The order of payloads is total, and payloads that compare as equal are one.
+/// The order of payloads is total, and payloads that compare as equal are the same payload.
 pub fn payload_order()
     ensures total { IsTotalOrder payload_cmp }
     ensures exact { (p q : Payload) → (payload_cmp p q ≡ Equal) ↔ (p ≡ q) }
 {}
 
-/// Providers in their bytes, compared byte by byte, stand as the lists of their numbers do: the
-/// first differing number decides, and a proper prefix is less.
+/// Comparing the bytes of providers orders them as their lists of numbers: the first different
+/// number decides, and a proper prefix is less.
 pub fn provider_order()
     ensures { (ps qs : List ℕ) → AllByRecursion (λ p. p < 2 ^ 32) ps →
         AllByRecursion (λ q. q < 2 ^ 32) qs →

@@ -37,7 +37,7 @@ impl RouteOrigin {
         RouteOrigin { prefix, asn }
     }
 
-    /// Whether the prefix is one of IPv4 addresses.
+    /// Whether the prefix is an IPv4 prefix.
     pub fn is_v4(self) -> bool
         ensures family { result ≡ v4_test self.prefix.prefix.family }
         ensures valid { IsMaxLenPrefix self.prefix }
@@ -70,8 +70,8 @@ impl RouterKey {
         }
     }
 
-    /// Another handle to the same key. It shares the bytes of its info, so nothing is allocated;
-    /// `AllocError` comes if the count of handles is at its maximum.
+    /// Another handle to the same key. It shares the bytes of its info, so nothing is allocated; it
+    /// returns `AllocError` if the count of handles is at its maximum.
     pub fn clone(&self) -> Result<Self, AllocError>
         ensures { IfOk result (λ k. k ≡ self.now) }
     {
@@ -82,9 +82,9 @@ impl RouterKey {
 
 /// An ASPA: a customer and its providers, whose order counts (as in the Rust crate).
 ///
-/// A withdrawal of it is made of what `withdraw` answers: `pdu::Payload::new(2, 0,
-/// aspa.withdraw(alloc)?)`. A unit that is made of the ASPA itself holds all its providers, with
-/// even flags too, though they mean nothing there.
+/// To withdraw it, pass the result of `withdraw`: `pdu::Payload::new(2, 0, aspa.withdraw(alloc)?)`.
+/// A unit made of the ASPA itself holds all its providers, even with even flags, where they have no
+/// meaning.
 #[derive(Debug, Drop)]
 pub struct Aspa {
     /// The customer.
@@ -104,15 +104,15 @@ impl Aspa {
         }
     }
 
-    /// What the ASPA is known by: its customer.
+    /// The key by which an ASPA is known: its customer.
     pub fn key(&self) -> Asn
         ensures { result ≡ self.now.customer }
     {
         self.customer
     }
 
-    /// The ASPA as it is withdrawn: the same customer, and no providers. No memory is asked for: it
-    /// never answers `AllocError`.
+    /// The withdrawal of the ASPA: the same customer, and no providers. It allocates nothing and
+    /// never returns `AllocError`.
     pub fn withdraw(&self, alloc: Global) -> Result<Self, AllocError>
         ensures withdrawn { IfOk result
             (λ a. a ≡ record { customer = self.now.customer; providers = [] }) }
@@ -123,7 +123,7 @@ impl Aspa {
     }
 
     /// Another handle to the same ASPA. It shares the bytes of its providers, so nothing is
-    /// allocated; `AllocError` comes if the count of handles is at its maximum.
+    /// allocated; it returns `AllocError` if the count of handles is at its maximum.
     pub fn clone(&self) -> Result<Self, AllocError>
         ensures { IfOk result (λ a. a ≡ self.now) }
     {
@@ -188,7 +188,7 @@ impl Payload {
         }
     }
 
-    /// Of which kind the payload is.
+    /// The kind of the payload.
     pub fn payload_type(&self) -> PayloadType
         ensures { result ≡ kind_of self.now }
     {
@@ -199,7 +199,7 @@ impl Payload {
         }
     }
 
-    /// The route origin, where it is one.
+    /// The route origin, or none if the payload is of another kind.
     pub fn to_origin(&self) -> Option<RouteOrigin>
         ensures { result ≡ origin_in self.now }
     {
@@ -209,7 +209,7 @@ impl Payload {
         }
     }
 
-    /// The router key, where it is one.
+    /// The router key, or none if the payload is of another kind.
     pub fn as_router_key(&self) -> Option<&RouterKey>
         ensures { option_copied result ≡ key_in self.now }
     {
@@ -219,7 +219,7 @@ impl Payload {
         }
     }
 
-    /// The ASPA, where it is one.
+    /// The ASPA, or none if the payload is of another kind.
     pub fn as_aspa(&self) -> Option<&Aspa>
         ensures { option_copied result ≡ aspa_in self.now }
     {
@@ -229,7 +229,7 @@ impl Payload {
         }
     }
 
-    /// The same payload once more. A route origin asks for no memory.
+    /// A copy of the payload. Copying a route origin needs no memory.
     pub fn clone(&self) -> Result<Self, AllocError>
         ensures same { IfOk result (λ p. p ≡ self.now) }
         ensures origin { IsSome (origin_in self.now) → IsOk result }
@@ -266,7 +266,7 @@ impl From<Aspa> for Payload {
     }
 }
 
-/// A payload that is borrowed. An origin is copied.
+/// A borrowed payload. An origin is copied.
 #[derive(Clone, Copy, Debug)]
 pub enum PayloadRef<'a> {
     /// A route origin.

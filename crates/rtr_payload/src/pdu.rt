@@ -1,4 +1,4 @@
-//! The payload units, and what the variable ones hold.
+//! The payload units, and the contents of the variable ones.
 
 mod aspa;
 mod frame;

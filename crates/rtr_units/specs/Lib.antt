@@ -1,5 +1,6 @@
 pub mod StopCauses
 pub mod Codes
+pub mod PeerFaults
 pub mod End
 pub mod FixedUnits
 pub mod AnyEnd

@@ -1,4 +1,4 @@
-//! Buffered readers and writers that count their failures, and for which short pieces are cheap.
+//! Buffered readers and writers that count their failures and handle short pieces cheaply.
 
 ghost use Rattle.std.specs.Prelude.{◌≡◌, ◌<◌, OnOk, None, [], length};
 ghost use Rattle.std.specs.Io.Buffered.{reader_buffer, reader_remaining, writer_buffer};
@@ -14,8 +14,8 @@ use std::io;
 use std::io::{BufRead, BufReader, BufWriter, Read, Write};
 use std::marker::Model;
 
-/// A buffered reader that counts its errors. It gives what a `Counted` of it gives, but a piece
-/// that lies whole in the buffer is copied where it is asked for, without a call of the reader.
+/// A buffered reader that counts its errors. It reads what a `Counted` of the same reader reads,
+/// but copies a piece that lies whole in the buffer without a call of the reader.
 #[derive(Debug, Drop)]
 pub struct BufferedSource<R> {
     counted: Counted<BufReader<R>>,
@@ -50,8 +50,8 @@ impl<R> BufferedSource<R> {
 }
 
 impl<R: Read> BufferedSource<R> {
-    /// Reads where the buffer holds less than is asked for: all that it holds, or else as `Counted`
-    /// does. It is kept out of line, so that the code of the fast path stays small.
+    /// Reads when the buffer holds less than the piece: all that the buffer holds or, if it is
+    /// empty, as `Counted` does. It stays out of line to keep the code of the fast path small.
     #[cold]
     #[inline(never)]
     fn read_on(&mut self, piece: &mut [u8]) -> io::Result<usize>
@@ -71,8 +71,9 @@ impl<R: Read> BufferedSource<R> {
         self.counted.read(piece)
     }
 
-    /// The same, with the result built again. On entry the compiler zeroes a slot for the result of
-    /// each call that is out of line: here the slot is this function's, and the fast path has none.
+    /// Does the same and rebuilds the result. The compiler zeroes on entry a slot for the result of
+    /// each out-of-line call: here the slot belongs to this function, so that the fast path has
+    /// none.
     #[inline(always)]
     fn read_apart(&mut self, piece: &mut [u8]) -> io::Result<usize>
         requires { length (reader_buffer self.old.inner) < length piece.old }
@@ -95,10 +96,10 @@ impl<R: Read> Source for BufferedSource<R> {
 
     // Deliberately without an inline hint: see docs/decisions/SPEED.md.
     //
-    /// Reads some bytes into the front of the piece, as any `Source`. While the buffer holds bytes
-    /// these are given, and the reader behind it is not asked: so a piece that came whole never
-    /// waits for a peer. What that reader has given is what was taken here, and what the buffer
-    /// holds.
+    /// Reads some bytes into the front of the piece, as any `Source`. While the buffer holds bytes,
+    /// it returns these without a call of the inner reader, so that a piece that has come whole
+    /// never waits for a peer. What was read from the inner reader is what was read here and what
+    /// the buffer still holds.
     fn read(&mut self, piece: &mut [u8]) -> io::Result<usize>
         ensures counted { ReadsCounted (reader_remaining R.remaining) result
             self.old self.new piece.new }
@@ -121,8 +122,8 @@ impl<R: Read> Source for BufferedSource<R> {
     }
 }
 
-/// A buffered writer that counts its failures. It takes what a `Counted` of it takes; a piece for
-/// which the buffer has room is copied there.
+/// A buffered writer that counts its failures. It writes what a `Counted` of the same writer
+/// writes, and copies a piece that fits into the buffer.
 #[derive(Debug, Drop)]
 pub struct BufferedSink<W: Write + Drop> {
     counted: Counted<BufWriter<W>>,
@@ -163,8 +164,7 @@ impl<W: Write + Drop> BufferedSink<W> {
         held <= writer.capacity() && size < writer.capacity() - held
     }
 
-    /// Writes as `Counted` does. It is kept out of line, so that the code of the fast path stays
-    /// small.
+    /// Writes as `Counted` does. It stays out of line to keep the code of the fast path small.
     #[cold]
     #[inline(never)]
     fn write_on(&mut self, piece: &[u8]) -> io::Result<usize>
@@ -173,7 +173,7 @@ impl<W: Write + Drop> BufferedSink<W> {
         self.counted.write(piece)
     }
 
-    /// The same, with the result built again, as in `read_apart` of `BufferedSource`.
+    /// Does the same and rebuilds the result, as `read_apart` of `BufferedSource`.
     #[inline(always)]
     fn write_apart(&mut self, piece: &[u8]) -> io::Result<usize>
         ensures { WritesCounted (writer_contents W.contents) result self.old self.new piece.now }

@@ -1,10 +1,10 @@
-//! Arrays of bytes that are borrowed whole.
+//! Byte arrays that are borrowed as a whole.
 
 ghost use Rattle.std.specs.Prelude.{◌≡◌, length};
 ghost use Rattle.std.specs.Borrow.{sem};
 ghost use Rattle.rtr_base.specs.Bytes.{IsBytes};
 
-/// N bytes, in which a unit of a fixed size can keep its own.
+/// N bytes, which a unit of a fixed size uses as its storage.
 #[derive(Clone, Copy, Debug, PartialEq, Eq, Hash)]
 pub struct Cells<const N: usize> {
     /// The bytes.
@@ -14,7 +14,7 @@ pub struct Cells<const N: usize> {
 impl<const N: usize> Cells<N> {
     ghost use Rattle.rtr_units.specs.Lending.{LendsCells};
 
-    /// These bytes.
+    /// The cells with these bytes.
     #[inline(always)]
     pub fn new(bytes: [u8; N]) -> Self
         ensures { result.bytes ≡ bytes.entry }
@@ -32,7 +32,7 @@ impl<const N: usize> Cells<N> {
         whole(&self.bytes)
     }
 
-    /// All bytes, to be changed in place.
+    /// All bytes, mutable.
     #[inline(always)]
     pub fn as_mut(&mut self) -> &mut [u8]
         ensures* writes_back { sem 𝓛 (LendsCells N.row self.entry result) }

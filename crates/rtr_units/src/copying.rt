@@ -1,4 +1,4 @@
-//! Copies of pieces that are read.
+//! Copying bytes that were read into the caller's buffer.
 
 ghost use Rattle.std.specs.Prelude.{◌≡◌, ◌≤◌, length};
 
@@ -10,11 +10,13 @@ const IPV4_REST: usize = 12;
 /// The bytes that follow the header of an IPv6 prefix.
 const IPV6_REST: usize = 24;
 
-/// Copies all bytes: a header, and what follows it in a prefix, in words, and all else at once.
+/// Copies all bytes. A header, and what follows it in a prefix, are copied in words, and all else
+/// at once.
 ///
-/// A prefix unit has a word of four bytes after its header, and then an address and an ASN. This
-/// way the address is stored as it is loaded. Else its load would wait for two stores, which takes
-/// half of the time of an IPv6 prefix, or the compiler would keep its bytes in memory.
+/// A prefix unit has a word of four bytes after its header, and then an address and an ASN. Copied
+/// so, the address is stored with the width in which it is loaded later. Otherwise its load would
+/// wait for two stores, which takes half of the time of an IPv6 prefix, or the compiler would keep
+/// its bytes in memory.
 #[inline(always)]
 pub(crate) fn copy(piece: &mut [u8], bytes: &[u8])
     requires { length piece.old ≡ length bytes.now }
@@ -52,7 +54,7 @@ fn copy_ipv6_rest(piece: &mut [u8], bytes: &[u8])
     copy_word::<4>(asn, asn_bytes);
 }
 
-/// Copies as many bytes as this in one move.
+/// Copies `SIZE` bytes in one move.
 #[inline(always)]
 fn copy_word<const SIZE: usize>(piece: &mut [u8], bytes: &[u8])
     requires piece { length piece.old ≡ SIZE }

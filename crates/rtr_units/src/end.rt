@@ -39,7 +39,7 @@ impl EndOfData {
     /// The type of an end of data.
     pub const PDU: u8 = EndOfDataV0::PDU;
 
-    /// The end of data in this state. Version 0 has no place for the timing parameters. The version
+    /// The end of data in this state. Version 0 has no field for the timing parameters. The version
     /// is not checked; reading refuses versions above 2.
     #[inline(always)]
     pub fn new(version: u8, state: State, timing: Timing) -> Self
@@ -162,7 +162,7 @@ impl EndOfData {
         }
     }
 
-    /// All bytes of the unit, to be changed in place. Its variant stays the same.
+    /// All bytes of the unit, mutable. The variant stays the same.
     #[inline(always)]
     pub fn as_mut(&mut self) -> &mut [u8]
         ensures* writes_back { sem 𝓛 (LendsEnd self.entry result) }

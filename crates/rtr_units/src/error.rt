@@ -42,7 +42,8 @@ impl Error {
     /// The type of an error report.
     pub const PDU: u8 = 10;
 
-    /// The report with this version and error code, the unit that it is about (or none), and text.
+    /// The report with this version and error code, the unit that it is about (or none), and this
+    /// text.
     pub fn new(
         alloc: Global,
         version: u8,
@@ -64,7 +65,7 @@ impl Error {
         Ok(Error { bytes })
     }
 
-    /// No bytes at all.
+    /// A report without any bytes.
     pub fn empty(alloc: Global) -> Self
         ensures { result ≡ [] }
     {
@@ -73,7 +74,7 @@ impl Error {
         }
     }
 
-    /// Skips what follows the header, whatever its type. No byte after the unit is asked for.
+    /// Skips what follows the header, whatever its type. It reads no byte after the unit.
     ///
     /// Faults, in this order: `TooLong` for a length field over 65535 and `UnitLength` for one
     /// under 8, with nothing read; `Short` or `Reader` inside the unit. This order is this
@@ -107,7 +108,7 @@ impl Error {
         self.bytes.as_slice()
     }
 
-    /// The bytes of the report, to be changed in place.
+    /// The bytes of the report, mutable.
     pub fn as_mut(&mut self) -> &mut [u8]
         ensures* writes_back { sem 𝓛 (LendsError self.entry result) }
         ensures bytes { result.now ≡ self.old }
@@ -124,7 +125,7 @@ impl Error {
     }
 }
 
-/// The bytes as a report. None of them is checked.
+/// The bytes as a report. They aren't checked.
 impl From<Vec<u8>> for Error {
     ghost from_gives = { λ bytes error. error ≡ bytes.items };
 
@@ -133,7 +134,7 @@ impl From<Vec<u8>> for Error {
     }
 }
 
-/// The bytes of the report. None is copied.
+/// The bytes of the report. They aren't copied.
 impl From<Error> for Vec<u8> {
     ghost from_gives = { λ error bytes. bytes.items ≡ error };
 

@@ -9,12 +9,12 @@ ghost use Rattle.std.proofs.lemmas.Bool.{ltb-true};
 use crate::cells::Cells;
 use crate::unit::Unit;
 
-/// The sizes in bytes that units of a fixed size have.
+/// The sizes in bytes of the units of a fixed size.
 pub struct Sizes;
 
-/// That a size is one of these.
+/// Implemented for each of these sizes.
 pub trait Include<const SIZE: usize> {
-    /// It holds a header, and fits a length field.
+    /// The size holds a header, and fits a length field.
     ghost sized: { (8 ≤ SIZE) × (SIZE < 2 ^ 32) };
 }
 
@@ -91,7 +91,7 @@ impl<const TYPE: u8, const SIZE: usize> Default for FixedUnit<TYPE, SIZE> {
 }
 
 impl<const TYPE: u8, const SIZE: usize> FixedUnit<TYPE, SIZE> {
-    /// The unit of these bytes, of which none is checked.
+    /// The unit of these bytes, which aren't checked.
     #[inline(always)]
     pub(crate) fn of(bytes: [u8; SIZE]) -> Self
         ensures { fixed_bytes result ≡ bytes.entry }

@@ -18,15 +18,15 @@ use crate::numbers::{u16_at, u32_at};
 use crate::piece::{fill, put};
 use crate::source::{Sink, Source};
 
-/// The most bytes of a unit of no fixed size that is read or skipped, header included (as in the
-/// Rust crate `rpki`).
+/// The greatest size in bytes, header included, of a unit of variable size that is read or skipped
+/// (as in the Rust crate `rpki`).
 pub const MAX_SIZE: u32 = 65535;
 
-/// The bytes of a header.
+/// The size of a header in bytes.
 pub const HEADER_SIZE: usize = 8;
 
-/// The last known version of the protocol. No end of data of a later version is read, and no
-/// sequence is written in one, which is this library's own.
+/// The last known version of the protocol. This library reads no end of data of a later version,
+/// and writes no sequence in one; this limit is its own.
 pub const LAST_VERSION: u8 = 2;
 
 /// The header that each unit begins with: eight bytes.
@@ -61,8 +61,8 @@ impl Header {
         }
     }
 
-    /// Reads a header: eight bytes, which are not checked. At `Short` and `Reader` the bytes that
-    /// came before are taken.
+    /// Reads a header: eight bytes, which are not checked. After `Short` and `Reader` the bytes
+    /// that came before are consumed.
     #[inline(always)]
     pub fn read<R: Source>(reader: &mut R) -> Result<Self, Fault>
         ensures { ReadsFrom R.Source header_bytes result reader.old reader.new (FillsPiece 8) }
@@ -115,8 +115,8 @@ impl Header {
         u32_at(self.as_ref(), 4)
     }
 
-    /// The length field as a size in memory. It always fits, so the `UnitLength` of the Rust crate
-    /// never comes.
+    /// The length field as a size in memory. It always fits, so this never returns the `UnitLength`
+    /// of the Rust crate.
     pub fn pdu_len(&self) -> Result<usize, Fault>
         ensures ok { IsOk result }
         ensures length { IfOk result (λ n. n ≡ length_field (header_bytes self.now)) }
@@ -137,7 +137,7 @@ impl Header {
         self.cells.as_ref()
     }
 
-    /// The eight bytes, to be changed in place.
+    /// The eight bytes, mutable.
     #[inline(always)]
     pub fn as_mut(&mut self) -> &mut [u8]
         ensures* writes_back { sem 𝓛 (LendsHeader self.entry result) }

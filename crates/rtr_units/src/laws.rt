@@ -49,7 +49,7 @@ pub fn fixed_types() -> [u8; 9]
     ]
 }
 
-/// The constants of any unit of a fixed size are those that contracts name.
+/// The constants of any unit of a fixed size are the ones that contracts name.
 pub fn type_and_size<U: Unit>() -> (u8, usize)
     ensures kind { result.0 ≡ U.PDU }
     ensures size { result.1 ≡ U.LENGTH }
@@ -57,13 +57,13 @@ pub fn type_and_size<U: Unit>() -> (u8, usize)
     (U::PDU, U::LENGTH)
 }
 
-/// No end of data begins another, and equal lists mean the same.
+/// No end of data is a proper prefix of another, and equal lists mean the same.
 pub fn end_self_delimiting()
     ensures { (a b r s : List ℕ) (d e : EndMeaning) → IsEnd a d → IsEnd b e → a ++ r ≡ b ++ s →
         (a ≡ b) × (d ≡ e) × (r ≡ s) }
 {}
 
-/// Each end of data has one list.
+/// Each end of data has exactly one list of bytes.
 pub fn end_form()
     ensures { (e : EndMeaning) → IsEndMeaning e → IsEnd (end_list e) e }
 {}

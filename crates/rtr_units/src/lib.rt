@@ -12,6 +12,7 @@ pub mod fixed_unit;
 pub mod header;
 pub mod laws;
 pub mod numbers;
+pub mod peer_fault;
 pub mod piece;
 pub mod prefixes;
 pub mod queries;

@@ -47,7 +47,7 @@ impl Ipv4Prefix {
         Ipv4Prefix::from_bits(version, flags, prefix_len, max_len, bits, asn)
     }
 
-    /// As `new`, of plain numbers.
+    /// As `new`, with the address and the ASN as numbers.
     #[inline]
     pub fn from_bits(
         version: u8,
@@ -79,7 +79,7 @@ impl Ipv4Prefix {
         FixedUnit::of(bytes)
     }
 
-    /// The flags, of which the lowest bit announces.
+    /// The flags. If the lowest bit is set, the unit announces.
     #[inline(always)]
     pub fn flags(&self) -> u8
         ensures { result ≡ (prefix_at v4 (fixed_bytes self.now)).flags }
@@ -95,7 +95,7 @@ impl Ipv4Prefix {
         self.as_ref()[9]
     }
 
-    /// The max length: the longest prefix length that is meant.
+    /// The max length: the longest prefix length that may be announced.
     #[inline(always)]
     pub fn max_len(&self) -> u8
         ensures { result ≡ (prefix_at v4 (fixed_bytes self.now)).origin.max_len }
@@ -103,7 +103,7 @@ impl Ipv4Prefix {
         self.as_ref()[10]
     }
 
-    /// The address, host bits included.
+    /// The address, with its host bits as they came.
     #[inline(always)]
     #[tactic(auto, using(crate::proofs::Addresses::ipv4_of_bits))]
     pub fn prefix(&self) -> Ipv4Addr
@@ -112,7 +112,7 @@ impl Ipv4Prefix {
         Ipv4Addr::from_bits(self.prefix_bits())
     }
 
-    /// The address as a number, host bits included.
+    /// The address as a number, with its host bits as they came.
     #[inline(always)]
     pub fn prefix_bits(&self) -> u32
         ensures { result ≡ (prefix_at v4 (fixed_bytes self.now)).origin.address }
@@ -164,7 +164,7 @@ impl Ipv6Prefix {
         Ipv6Prefix::from_bits(version, flags, prefix_len, max_len, bits, asn)
     }
 
-    /// As `new`, of plain numbers.
+    /// As `new`, with the address and the ASN as numbers.
     #[inline]
     pub fn from_bits(
         version: u8,
@@ -196,7 +196,7 @@ impl Ipv6Prefix {
         FixedUnit::of(bytes)
     }
 
-    /// The flags, of which the lowest bit announces.
+    /// The flags. If the lowest bit is set, the unit announces.
     #[inline(always)]
     pub fn flags(&self) -> u8
         ensures { result ≡ (prefix_at v6 (fixed_bytes self.now)).flags }
@@ -212,7 +212,7 @@ impl Ipv6Prefix {
         self.as_ref()[9]
     }
 
-    /// The max length: the longest prefix length that is meant.
+    /// The max length: the longest prefix length that may be announced.
     #[inline(always)]
     pub fn max_len(&self) -> u8
         ensures { result ≡ (prefix_at v6 (fixed_bytes self.now)).origin.max_len }
@@ -220,7 +220,7 @@ impl Ipv6Prefix {
         self.as_ref()[10]
     }
 
-    /// The address, host bits included.
+    /// The address, with its host bits as they came.
     #[inline(always)]
     #[tactic(auto, using(crate::proofs::Addresses::ipv6_of_bits))]
     pub fn prefix(&self) -> Ipv6Addr
@@ -229,7 +229,7 @@ impl Ipv6Prefix {
         Ipv6Addr::from_bits(self.prefix_bits())
     }
 
-    /// The address as a number, host bits included.
+    /// The address as a number, with its host bits as they came.
     #[inline(always)]
     pub fn prefix_bits(&self) -> u128
         ensures { result ≡ (prefix_at v6 (fixed_bytes self.now)).origin.address }

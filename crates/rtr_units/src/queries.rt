@@ -1,5 +1,5 @@
-//! Units by which a router and a cache speak of their states (RFC 6810 and RFC 8210 sections 5.2 to
-//! 5.5 and 5.9).
+//! Units by which a router and a cache tell each other their states (RFC 6810 and RFC 8210 sections
+//! 5.2 to 5.5 and 5.9).
 
 ghost use Rattle.std.specs.Prelude.{◌≡◌, ◌≤◌, length, replicate};
 ghost use Rattle.std.specs.Borrow.{sem};
@@ -21,7 +21,7 @@ use crate::unit::Unit;
 use rtr_base::state::{Serial, State};
 
 impl<const TYPE: u8> FixedUnit<TYPE, 12> {
-    /// The serial number, with which each unit of 12 bytes ends.
+    /// The serial number, which is the last field of each unit of 12 bytes.
     #[inline(always)]
     pub fn serial(&self) -> Serial
         ensures { result.0 ≡ serial_field (fixed_bytes self.now) }
@@ -49,7 +49,7 @@ impl<const TYPE: u8> FixedUnit<TYPE, 12> {
     }
 }
 
-/// The cache says that it has new data (section 5.2): 12 bytes.
+/// A serial notify: the cache has new data (section 5.2): 12 bytes.
 pub type SerialNotify = FixedUnit<0, 12>;
 
 impl SerialNotify {
@@ -65,7 +65,7 @@ impl SerialNotify {
     }
 }
 
-/// A router's query for the changes since a state (section 5.3): 12 bytes.
+/// A serial query: a router asks for the changes since a state (section 5.3): 12 bytes.
 pub type SerialQuery = FixedUnit<1, 12>;
 
 impl SerialQuery {
@@ -101,7 +101,7 @@ impl Default for SerialQueryPayload {
 impl SerialQueryPayload {
     ghost use Rattle.rtr_units.specs.LendingUnits.{LendsQueryPayload};
 
-    /// The serial number as it is after the header.
+    /// The payload with this serial number.
     #[inline(always)]
     pub fn new(serial: Serial) -> Self
         ensures { query_payload_bytes result ≡ be serial.0 4 }
@@ -111,7 +111,7 @@ impl SerialQueryPayload {
         }
     }
 
-    /// Reads four bytes. At `Short` and `Reader` the bytes that came before are taken.
+    /// Reads four bytes. After `Short` and `Reader` the bytes that came before are consumed.
     #[inline(always)]
     pub fn read<R: Source>(reader: &mut R) -> Result<Self, Fault>
         ensures { ReadsFrom R.Source query_payload_bytes result reader.old reader.new
@@ -148,7 +148,7 @@ impl SerialQueryPayload {
         self.cells.as_ref()
     }
 
-    /// The four bytes, to be changed in place.
+    /// The four bytes, mutable.
     #[inline(always)]
     pub fn as_mut(&mut self) -> &mut [u8]
         ensures* writes_back { sem 𝓛 (LendsQueryPayload self.entry result) }
@@ -159,14 +159,14 @@ impl SerialQueryPayload {
     }
 }
 
-/// A router asks for all data (section 5.4): 8 bytes.
+/// A reset query: a router asks for all data (section 5.4): 8 bytes.
 pub type ResetQuery = FixedUnit<2, 8>;
 
 impl ResetQuery {
     /// The type of the unit.
     pub const PDU: u8 = 2;
 
-    /// The reset query with this version. Its session field, which means nothing, is zero.
+    /// The reset query with this version. Its session field, which has no meaning, is zero.
     #[inline(always)]
     pub fn new(version: u8) -> Self
         ensures { fixed_bytes result ≡ bare_list version 2 0 }
@@ -175,7 +175,7 @@ impl ResetQuery {
     }
 }
 
-/// The cache begins its answer (section 5.5): 8 bytes.
+/// A cache response: the cache begins to send data (section 5.5): 8 bytes.
 pub type CacheResponse = FixedUnit<3, 8>;
 
 impl CacheResponse {
@@ -192,14 +192,15 @@ impl CacheResponse {
     }
 }
 
-/// The cache doesn't have the changes since the state of the query (section 5.9): 8 bytes.
+/// A cache reset: the cache doesn't have the changes since the state in the query (section 5.9): 8
+/// bytes.
 pub type CacheReset = FixedUnit<8, 8>;
 
 impl CacheReset {
     /// The type of the unit.
     pub const PDU: u8 = 8;
 
-    /// The cache reset with this version. Its session field, which means nothing, is zero.
+    /// The cache reset with this version. Its session field, which has no meaning, is zero.
     #[inline(always)]
     pub fn new(version: u8) -> Self
         ensures { fixed_bytes result ≡ bare_list version 8 0 }

@@ -31,10 +31,10 @@ pub trait Unit: Drop + Copy {
     /// The unit with other bytes.
     ghost with_bytes: { Self → List ℕ → Self };
 
-    /// The type, as contracts name it.
+    /// The type, by which contracts name it.
     ghost PDU: { ℕ };
 
-    /// The size, as contracts name it.
+    /// The size, by which contracts name it.
     ghost LENGTH: { ℕ };
 
     /// The type of the unit.
@@ -53,7 +53,7 @@ pub trait Unit: Drop + Copy {
         ensures size { length result.now ≡ LENGTH }
         ensures range { IsBytes result.now };
 
-    /// All bytes of the unit, to be changed in place.
+    /// All bytes of the unit, mutable.
     fn as_mut(&mut self) -> &mut [u8]
         ensures* writes_back { sem 𝓛
             (Lends Self.row (Array u8 0) self.entry result (with_bytes self.old)) }
@@ -63,7 +63,7 @@ pub trait Unit: Drop + Copy {
     /// The size holds a header, and fits a length field.
     ghost sized: { (8 ≤ LENGTH) × (LENGTH < 2 ^ 32) };
 
-    /// The unit with other bytes has these.
+    /// The bytes of `with_bytes` are the given ones.
     ghost kept: { (unit : Self) (l : List ℕ) → bytes (with_bytes unit l) ≡ l };
 
     /// The version of the protocol.
@@ -93,7 +93,7 @@ pub trait Unit: Drop + Copy {
     /// Reads a unit.
     ///
     /// Faults, in this order: `Short` or `Reader` inside the header; `UnitType` and then
-    /// `UnitLength` with the header taken; `Short` or `Reader` inside the unit.
+    /// `UnitLength` with the header consumed; `Short` or `Reader` inside the unit.
     #[inline(always)]
     final fn read<R: Source>(reader: &mut R) -> Result<Self, Fault>
         ensures { ReadsFrom R.Source bytes result reader.old reader.new
@@ -106,8 +106,8 @@ pub trait Unit: Drop + Copy {
         Self::read_payload(header, reader)
     }
 
-    /// Reads a unit as `read` does. If an error report comes instead, it answers the header of
-    /// that, and reads no further.
+    /// Reads a unit as `read` does. If an error report comes instead, it returns its header and
+    /// reads no further.
     #[inline(always)]
     final fn try_read<R: Source>(reader: &mut R) -> Result<Result<Self, Header>, Fault>
         ensures bytes { MatchResult result
@@ -149,7 +149,7 @@ pub trait Unit: Drop + Copy {
     /// Reads what follows the header as `read_payload` does, into this unit.
     ///
     /// After `UnitLength` the unit is unchanged. After `Short` and `Reader` it begins with the
-    /// header and then the bytes that were taken.
+    /// header and the bytes that were consumed.
     #[inline(always)]
     final fn read_rest<R: Source>(&mut self, header: Header, reader: &mut R) -> Result<(), Fault>
         ensures bytes { ReadsAfter (of_size LENGTH) (header_bytes header)

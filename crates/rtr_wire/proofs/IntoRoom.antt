@@ -53,7 +53,7 @@ form_fits (aspa_unit u) =
     fewer u.version (flags_of (act u.flags)) u.flags u.free u.aspa.customer (act u.flags)
     u.aspa.providers
 
-unit_fits : (b : List ℕ) (m : Meaning) → IsUnit b m → length (form_of m) ≤ length b
+pub unit_fits : (b : List ℕ) (m : Meaning) → IsUnit b m → length (form_of m) ≤ length b
 unit_fits b m unit =
     let h = unit_fields_of b m unit in
     omega (arith, form_fits h.fields, ap length h.bytes, ap (λ m. length (form_of m)) h.means)

@@ -1,6 +1,6 @@
--- What calls inside this crate leave: one unit read and what is to be written for it written, in
--- terms of the bytes that were taken and written. Only contracts of private functions cite these,
--- and the law `plain_way`, which compares the plain calls with a step.
+-- The effect of calls inside this crate: one unit is read and its output is written, in terms of
+-- the bytes that were read and written. Only contracts of private functions cite these, and the law
+-- `plain_way`, which compares the plain calls with a step.
 use Rattle.std.specs.Prelude.{◌≡◌, ℕ, ◌≤◌, Bool, true, false, List, [], ◌++◌, length, drop}
 use Rattle.std.specs.Prelude.{Option, Some, None, Result, Ok, Err, IfSome}
 use Rattle.std.specs.Io.KnownBytes.{Consumes, Appends}
@@ -35,15 +35,15 @@ use Rattle.rtr_wire.specs.SliceRun.{view_cause}
 
 -- ---- a step from a reader to a writer
 
--- by what the step passed: what is written for this meaning was written, as w, or nothing is
+-- by what the step read: this meaning's output was written, as w, or nothing was
 abbrev pub WritesMeaning : Output → Meaning → Passed → List ℕ → Type 0
 WritesMeaning what m passes.Written w =
     (n : Meaning) × (what.unit m ≡ Some n) × (w ≡ form_of n)
 WritesMeaning what m passes.LeftOut w = (what.unit m ≡ None) × (w ≡ [])
 WritesMeaning what m passes.End w = ⊥
 
--- What writing for the unit u says of the bytes w that were written: they are all that is to be
--- written, or a proper prefix of it; or none, where there is no payload or no memory for it.
+-- The bytes w that were written for the unit u: all of its output, or a proper prefix of it; or
+-- none, if there is no payload or no memory for it.
 abbrev pub FormTells : Output → Payload → Result Passed Cause → List ℕ → Type 0
 FormTells what u (Ok step) w =
     LengthsAgree (unit_fields u) × WritesMeaning what (meaning (unit_fields u)) step w
@@ -52,8 +52,8 @@ FormTells what u (Err by_writer) w =
     (what.unit (meaning (unit_fields u)) ≡ Some n) × IsProperPrefix w (form_of n)
 FormTells what u (Err c) w = HasNoPayload u c × (w ≡ [])
 
--- One unit was read, and what is to be written for it was written; or an end of data, at which a
--- run ends, as it does at a fault. t was taken and w written.
+-- One unit was read, and its output was written; or an end of data, at which a run ends, as it does
+-- at a fault. t was read and w written.
 abbrev pub StepTells : Output → Result Passed Cause → List ℕ → List ℕ → Option (List ℕ) → Type 0
 StepTells what (Ok passes.End) t w left = IfSome left (λ left. Ends what (Ok 0) t left w)
 StepTells what (Ok step) t w left = (m : Meaning) × IsUnit t m × WritesMeaning what m step w
@@ -76,7 +76,7 @@ abbrev pub Steps :
 Steps what r old new held holds =
     Moves old new held holds (λ t w. StepTells what (by_cause r) t w new)
 
--- one unit after its header h: what is said is said of all that was taken, of h and of what follows
+-- one unit after its header h: the statement is about all bytes that were read, h and what follows
 -- it
 abbrev pub StepsAfter :
     Output → List ℕ → Result Passed Fault → (old new held holds : Option (List ℕ)) → Type 0
@@ -98,7 +98,7 @@ is_payload_unit (views.RouterKey v) = true
 is_payload_unit (views.Aspa v) = true
 is_payload_unit (views.End e) = false
 
--- why a step stopped at the front of the rest: some last bytes were taken, and perhaps a part of
+-- why a step stopped at the front of the rest: some last bytes were read, and perhaps a part of
 -- their form written
 abbrev pub StopsStep : ViewFault → List ℕ → Option (List ℕ) → Option (List ℕ) → Type 0
 StopsStep e rest held holds =
@@ -107,7 +107,7 @@ StopsStep e rest held holds =
 
 -- ---- a step from a slice into another
 
--- one unit was taken, and what is to be written for it was written; or an end of data
+-- one unit was read, and its output was written; or an end of data
 pub record Stepped (what : Output) (s : Step) (rest before after : List ℕ) : Type 0 where
   pub took : List ℕ
   pub wrote : List ℕ
@@ -118,8 +118,7 @@ pub record Stepped (what : Output) (s : Step) (rest before after : List ℕ) : T
   pub output : after ≡ wrote ++ drop s.written before
   pub tells : StepTells what (Ok s.passed) took wrote (Some (drop s.taken rest))
 
--- why a step stopped at the front of the rest, of which it wrote nothing, where there is so much
--- room
+-- why a step stopped at the front of the rest and wrote nothing, given an output of this length
 abbrev pub StopsStepInto : Output → IntoFault → List ℕ → ℕ → Type 0
 StopsStepInto what NoRoom rest room =
     (last left : List ℕ) × (rest ≡ last ++ left) × LacksRoom what last room
@@ -134,12 +133,12 @@ StepsInto what (Err f) rest before after =
 
 -- ---- the form of an input, kept in memory
 
--- the cause to a caller whose writer fails only where memory is refused
+-- the cause for a caller whose writer fails only if memory runs out
 abbrev pub in_memory_cause : Cause → Cause
 in_memory_cause by_writer = no_memory
 in_memory_cause c = c
 
--- the form of what the input means
+-- the form of the input's meaning
 abbrev pub IsFormOf : ℕ → List ℕ → List ℕ → Type 0
 IsFormOf limit input form =
     (ms : List Meaning) × (e : EndMeaning) × Accepted limit input ms e × (form ≡ sequence_form ms e)

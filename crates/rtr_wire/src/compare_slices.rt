@@ -1,4 +1,4 @@
-//! Comparison of what two sequences in slices mean, without memory.
+//! Comparison of the meanings of two sequences in slices, without memory.
 
 ghost use Rattle.std.specs.Prelude.{◌≡◌, ◌≤◌, ◌+◌, ◌-◌, ◌↔◌, IsTrue, List, length, take, ℕ};
 ghost use Rattle.std.specs.Prelude.{IfOk, IfErr, IfSome, None};
@@ -22,29 +22,29 @@ use unit_views::view::UnitView;
 /// One of two inputs that are compared.
 #[derive(Clone, Copy, Debug, PartialEq, Eq)]
 pub enum Side {
-    /// The first one.
+    /// The first input.
     Left,
-    /// The second one.
+    /// The second input.
     Right,
 }
 
-/// Why two inputs can't be compared: the first fault of the left one, or else of the right one. The
-/// text is that of the fault.
+/// Why two inputs can't be compared: the first fault of the left input, or else of the right one.
+/// Its text is that of the fault.
 #[derive(Debug, Drop, thiserror::Error)]
 #[error("{fault}")]
 pub struct ComparisonFault {
-    /// Whose fault it is.
+    /// The input that has the fault.
     pub side: Side,
-    /// Where in that input the unit begins that is refused, or is one too many, or is missing: how
-    /// many bytes the whole units before it have.
+    /// The offset in that input at which the unit begins that is refused, exceeds the limit, or is
+    /// missing: the length of the whole units before it.
     pub offset: usize,
-    /// What is wrong there.
+    /// What is wrong at that offset.
     pub fault: ViewFault,
 }
 
-/// As `same_meaning`, without any memory.
+/// As `same_meaning`, without allocating.
 ///
-/// Both are read to their ends of data. The fault of `left` comes first, else that of `right`:
+/// Both are read to their ends of data. The fault of `left` comes first, then that of `right`:
 /// those of `normalise_slice`, but never `Writer`.
 pub fn same_meaning_slice(left: &[u8], right: &[u8], limit: u64) -> Result<bool, ViewFault>
     ensures { ComparesSlices limit result left.now right.now }
@@ -55,10 +55,10 @@ pub fn same_meaning_slice(left: &[u8], right: &[u8], limit: u64) -> Result<bool,
     }
 }
 
-/// As `same_meaning_slice`. It says whose fault it is that there is no answer, and where.
+/// As `same_meaning_slice`, but a fault comes with its input and its offset.
 ///
-/// Both are read at once, a unit of each after the other. From the first difference on the rest of
-/// each is only checked, the left one first.
+/// Both are read in turn, one unit of each at a time. After the first difference the rest of each
+/// is only checked, the left one first.
 pub fn compare_meanings(left: &[u8], right: &[u8], limit: u64) -> Result<bool, ComparisonFault>
     ensures { ComparesMeanings limit result left.now right.now }
 {
@@ -87,7 +87,7 @@ pub fn compare_meanings(left: &[u8], right: &[u8], limit: u64) -> Result<bool, C
     })
 }
 
-/// Checks what is left of an input, at most `limit` units of it.
+/// Checks the rest of an input, at most `limit` units of it.
 fn check_side(side: Side, input: &[u8], rest: &[u8], limit: u64) -> Result<(), ComparisonFault>
     requires { length rest.now ≤ length input.now }
     ensures accepted { IfOk result (λ _. IsAccepted limit rest.now) }
@@ -106,8 +106,8 @@ fn check_side(side: Side, input: &[u8], rest: &[u8], limit: u64) -> Result<(), C
     }
 }
 
-/// Checks the sequence that the input begins with, of less than `limit` units. Answers where the
-/// unit begins that is refused, and why.
+/// Checks the sequence at the front of the input, of fewer than `limit` units. If a unit is
+/// refused, returns its offset and the fault.
 fn check(input: &[u8], limit: u64) -> Result<(), (usize, ViewFault)>
     ensures accepted { IfOk result (λ _. IsAccepted limit input.now) }
     ensures refused { IfErr result (λ f. (last : List ℕ)
@@ -129,10 +129,10 @@ fn check(input: &[u8], limit: u64) -> Result<(), (usize, ViewFault)>
     Err((input.len() - rest.len(), ViewFault::TooMany))
 }
 
-/// What follows the units, or the ends of data, at the front of both, if these mean the same; and
-/// whether they are payload units. None also where one of both is refused.
+/// Returns what follows the units, or the ends of data, at the front of both inputs if these mean
+/// the same, and whether they are payload units. Returns none also if one of them is refused.
 ///
-/// Each kind goes its own way, on which the compiler knows the kind of both views.
+/// Each kind has its own path, on which the compiler knows the kind of both views.
 #[inline(always)]
 fn pass_same<'a, 'b>(left: &'a [u8], right: &'b [u8]) -> Option<(bool, &'a [u8], &'b [u8])>
     ensures same { IfSome result (λ p. SameFront p.0 left.now right.now p.1.now p.2.now) }
@@ -150,7 +150,7 @@ fn pass_same<'a, 'b>(left: &'a [u8], right: &'b [u8]) -> Option<(bool, &'a [u8],
     }
 }
 
-/// The same, where this is the view of the left one's, which has this size.
+/// Does the same, given the view and the size of the left unit.
 #[inline(always)]
 fn pass_other<'a, 'b>(
     first: &UnitView<'_>,
@@ -175,7 +175,7 @@ fn pass_other<'a, 'b>(
     Some((is_unit(first), after_left, after_right))
 }
 
-/// Whether two views mean the same; of ends of data, whether their bytes are equal.
+/// Whether two views mean the same; ends of data, whether their bytes are equal.
 #[inline(always)]
 fn same_view(left: &UnitView<'_>, right: &UnitView<'_>) -> bool
     requires left { (unit : List ℕ) × IsViewOf left.now unit }
@@ -220,7 +220,7 @@ fn same_key(left: &RouterKeyView<'_>, right: &RouterKeyView<'_>) -> bool
         && left.key_info() == right.key_info()
 }
 
-/// Whether two ASPA units mean the same: of a withdrawal only the customer counts.
+/// Whether two ASPA units mean the same: in a withdrawal only the customer counts.
 #[inline(always)]
 fn same_aspa(left: &AspaView<'_>, right: &AspaView<'_>) -> bool
     requires left { HasFields left.now.unit.now (aspa_unit (aspa_at left.now.unit.now)) }

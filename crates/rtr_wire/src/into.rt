@@ -18,42 +18,42 @@ use unit_views::fault::ViewFault;
 use unit_views::placing::place;
 use unit_views::view::UnitView;
 
-/// How far a call came: whole units read from the front of the input, and the bytes written of them
-/// to the front of the output. No byte of a refused unit counts, whereas `normalise` has taken the
-/// bytes that show its fault from its reader.
+/// How far a call came: the whole units read from the front of the input, and the bytes written for
+/// them to the front of the output. No byte of a refused unit counts, whereas `normalise` has
+/// consumed the bytes of its reader that show the fault.
 #[derive(Clone, Copy, Debug, PartialEq, Eq)]
 pub struct Progress {
-    /// Payload units that were taken.
+    /// The number of payload units that were read.
     pub units: u64,
-    /// Those of them that were written.
+    /// The number of these that were written.
     pub forms: u64,
-    /// Bytes that were taken.
+    /// The number of bytes that were read.
     pub taken: usize,
-    /// Bytes that were written.
+    /// The number of bytes that were written.
     pub written: usize,
 }
 
 /// Why a call stopped before an end of data.
 #[derive(Debug, Drop, thiserror::Error)]
 pub enum IntoFault {
-    /// The output has no room for the next bytes.
+    /// The output is too short for the next unit.
     #[error("no room in the output")]
     NoRoom,
-    /// As many units as were allowed were taken.
+    /// The limit of units was reached.
     #[error("too many units")]
     TooMany,
-    /// What follows in the input is refused. The text is that of the fault.
+    /// The next unit of the input is refused. The text is that of the fault.
     #[error(transparent)]
     Refused(ViewFault),
 }
 
-/// As `normalise_slice`, into a slice. It returns how far it came, also at an early stop: the
+/// As `normalise_slice`, into a slice. It returns its progress, also when it stops early: the
 /// output then begins with the form of the whole units before the one at which it stopped, and no
-/// byte of that one counts as taken. The rest of the output is unchanged.
+/// byte of that unit counts as read. The rest of the output is unchanged.
 ///
-/// At most `limit` units are read, the end of data included: `TooMany` comes before the next one.
-/// Then `Refused`, with the faults of `UnitView::first`, and then `NoRoom`, which never comes if
-/// the output is at least as long as the input.
+/// At most `limit` units are read, the end of data included: `TooMany` comes before the next one is
+/// read. Then come `Refused`, with the faults of `UnitView::first`, and then `NoRoom`, which never
+/// comes if the output is at least as long as the input.
 pub fn normalise_into(
     input: &[u8],
     output: &mut [u8],
@@ -67,10 +67,10 @@ pub fn normalise_into(
 }
 
 /// As `normalise_for`, from a slice into a slice, as `normalise_into`. An end of data of version 0
-/// has 12 bytes and one of another version 24, so that the output suffices where it is at least 12
-/// bytes longer than the input.
+/// has 12 bytes and one of a later version 24, so an output that is 12 bytes longer than the input
+/// always suffices.
 ///
-/// `Refused` with `UnitVersion` comes first for a version above 2, with nothing taken or written.
+/// `Refused` with `UnitVersion` comes first for a version above 2, with nothing read or written.
 pub fn normalise_for_into(
     input: &[u8],
     output: &mut [u8],
@@ -92,8 +92,8 @@ pub fn normalise_for_into(
     run(ForVersion { version }, input, output, limit)
 }
 
-/// Takes units from the input up to an end of data, and writes for each, and for the end of data,
-/// what is to be written.
+/// Reads units from the input up to an end of data, and writes the output of each, and of the end
+/// of data.
 #[inline(always)]
 fn run<S: Writing>(
     writing: S,
@@ -123,7 +123,7 @@ fn run<S: Writing>(
     (progress, Err(IntoFault::TooMany))
 }
 
-/// The progress after `units`, of which `left_out` weren't written.
+/// The progress after `units` payload units, `left_out` of which weren't written.
 #[inline(always)]
 fn came(units: u64, left_out: u64, taken: usize, written: usize) -> Progress
     requires { left_out ≤ units }
@@ -145,17 +145,17 @@ fn came(units: u64, left_out: u64, taken: usize, written: usize) -> Progress
 /// One step of a run.
 #[derive(Clone, Copy)]
 struct Step {
-    /// What it passed.
+    /// What kind of unit it read.
     passed: Passed,
-    /// How many bytes it took.
+    /// How many bytes it read.
     taken: usize,
     /// How many bytes it wrote.
     written: usize,
 }
 
-/// Views one unit, and writes what is to be written for it.
+/// Views one unit, and writes its output.
 ///
-/// Each type goes its own way, on which the compiler knows the kind of the view at each step.
+/// Each type has its own path, on which the compiler knows the kind of the view at each step.
 #[inline(always)]
 fn take_step<S: Writing>(writing: S, rest: &[u8], output: &mut [u8]) -> Result<Step, IntoFault>
     ensures { StepsInto (S.what writing) result rest.now output.old output.new }
@@ -170,8 +170,8 @@ fn take_step<S: Writing>(writing: S, rest: &[u8], output: &mut [u8]) -> Result<S
     }
 }
 
-/// The step for units of one type, or of any other. The code doesn't read `TYPE`, which is there so
-/// that each type has a copy of it, as in `normalise_slice`.
+/// The step for units of one type, or of any other. The code doesn't read `TYPE`; it only makes the
+/// compiler copy the step for each type, as in `normalise_slice`.
 #[inline(always)]
 fn view_step<const TYPE: u8, S: Writing>(
     writing: S,
@@ -215,7 +215,7 @@ fn view_step<const TYPE: u8, S: Writing>(
     }
 }
 
-/// The version of the protocol that the payload of the unit came with.
+/// The first version of the protocol that has such a payload.
 #[inline(always)]
 fn smallest_version(view: &UnitView<'_>) -> u8
     ensures { (m : Meaning) → ViewMeans view.now m → result ≡ smallest m.payload }

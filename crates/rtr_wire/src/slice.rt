@@ -14,9 +14,8 @@ use rtr_units::unit::Unit;
 use unit_views::fault::ViewFault;
 use unit_views::view::UnitView;
 
-/// As `normalise`, of an input that lies in a slice, and without any memory. Answers the number of
-/// payload units and that of the bytes taken, which the end of data closes; what follows it doesn't
-/// count.
+/// As `normalise`, for an input in a slice, without allocating. Returns the number of payload units
+/// and the number of bytes read up to the end of data, included; what follows it doesn't count.
 ///
 /// At most `limit` units are viewed, the end of data included: `TooMany` comes before the next one.
 /// Other faults are those of `UnitView::first` and `UnitView::write_form`; the units before are
@@ -45,11 +44,11 @@ pub fn normalise_slice<W: Sink>(
     Err(ViewFault::TooMany)
 }
 
-/// Views one unit, and writes its form. Answers whether it was a payload unit, and no end of data,
+/// Views one unit, and writes its form. Returns whether it was a payload unit (not an end of data),
 /// and what follows it.
 ///
-/// Each type goes its own way, on which the compiler knows the kind of the view at each step. The
-/// results of the rare ones are rebuilt, which lets the common ones stay in registers.
+/// Each type has its own path, on which the compiler knows the kind of the view at each step. The
+/// results of the rare types are rebuilt, so that those of the common types stay in registers.
 #[inline(always)]
 fn step<'a, W: Sink>(rest: &'a [u8], writer: &mut W) -> Result<(bool, &'a [u8]), ViewFault>
     ensures unit { IfOk result (λ p. Steps everything (Ok (passed p.0))
@@ -76,10 +75,10 @@ fn step<'a, W: Sink>(rest: &'a [u8], writer: &mut W) -> Result<(bool, &'a [u8]),
 
 /// The step for units of one type, or of any other.
 ///
-/// The code doesn't read `TYPE`. It is there so that the compiler makes a copy of the step for each
-/// type, and keeps in it only what that type needs: without it all go through one step, in twice
-/// the instructions. `#[inline]`, and not always, has it simplify each copy before it puts them
-/// together.
+/// The code doesn't read `TYPE`. It makes the compiler copy the step for each type, with only the
+/// code that the type needs: without it all types share one step, which takes twice the
+/// instructions. `#[inline]` without `always` lets the compiler simplify each copy before it merges
+/// them.
 #[inline]
 fn view_step<'a, const TYPE: u8, W: Sink>(
     rest: &'a [u8],
@@ -107,7 +106,7 @@ fn view_step<'a, const TYPE: u8, W: Sink>(
     }
 }
 
-/// Whether the view is one of a payload unit.
+/// Whether the view is that of a payload unit.
 #[inline(always)]
 pub fn is_unit(view: &UnitView<'_>) -> bool
     ensures { result ≡ is_payload_unit view.now }

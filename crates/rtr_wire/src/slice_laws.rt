@@ -18,8 +18,8 @@ ghost use Rattle.rtr_wire.specs.declared.into.IntoFault.{IntoFault};
 ghost use Rattle.rtr_wire.specs.declared.into.Progress.{Progress};
 
 /// `normalise` over a reader of some bytes and `normalise_slice` over the same bytes, with the same
-/// limit, answer the same number or faults of one cause, take and leave the same bytes and write
-/// the same, where they blame neither the reader nor the writer nor memory.
+/// limit, return the same number or faults of the same cause, and read, leave and write the same
+/// bytes, unless the reader, the writer or memory failed.
 pub fn same_answer()
     ensures { (limit : ℕ) (input : List ℕ)
         (first : Result ℕ Fault) (second : Result (ℕ × ℕ) ViewFault)
@@ -32,8 +32,8 @@ pub fn same_answer()
         × (new.left ≡ Some q.left) × (p.written ≡ q.written) }
 {}
 
-/// `same_meaning` and `same_meaning_slice` over the same inputs, with the same limit, answer the
-/// same, or faults of one cause, unless memory ran out.
+/// `same_meaning` and `same_meaning_slice` over the same inputs, with the same limit, return the
+/// same, or faults of the same cause, unless memory ran out.
 pub fn same_comparison()
     ensures { (limit : ℕ) (first : Result Bool Fault) (second : Result Bool ViewFault)
         (left right : List ℕ) →
@@ -41,8 +41,8 @@ pub fn same_comparison()
         by_cause first ≢ Err no_memory → by_cause first ≡ by_view_cause q.last second }
 {}
 
-/// Two calls of `compare_meanings` over the same inputs, with the same limit, answer the same, or
-/// faults of one cause, of the same side and at the same offset.
+/// Two calls of `compare_meanings` over the same inputs, with the same limit, return the same, or
+/// faults of the same cause, side and offset.
 pub fn one_comparison()
     ensures { (limit : ℕ) (first second : Result Bool ComparisonFault) (left right : List ℕ)
         (p : ComparesMeanings limit first left right)
@@ -50,15 +50,15 @@ pub fn one_comparison()
         by_place p.last first ≡ by_place q.last second }
 {}
 
-/// What follows from the contract of `normalise_slice`, by the answer.
+/// What follows from the contract of `normalise_slice`, by the result.
 pub fn slice_promises()
     ensures { (limit : ℕ) (r : Result (ℕ × ℕ) ViewFault) (input : List ℕ)
         (old new : WriterState) (p : NormalisesSlice limit r input old new) →
         SlicePromises limit r input old new p }
 {}
 
-/// A call of `normalise_into` or `normalise_for_into` that goes on where another stopped, over the
-/// rest of the input and of the output and with its own limit, is one run with it.
+/// If a call of `normalise_into` or `normalise_for_into` stops, and a second call with its own
+/// limit continues over the rest of the input and of the output, both together are one run.
 pub fn resumed()
     ensures { (what : Output) (first limit : ℕ) (fault : IntoFault) (r : Result Unit IntoFault)
         (input before mid after : List ℕ) (p q : Progress) →

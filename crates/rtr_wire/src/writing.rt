@@ -1,4 +1,4 @@
-//! What a run writes for what it reads.
+//! Which output a run writes for the units that it reads.
 
 ghost use Rattle.std.specs.Prelude.{◌≡◌, Some, is_some};
 ghost use Rattle.rtr_payload.specs.Payloads.{Meaning, smallest_version};
@@ -13,13 +13,13 @@ pub(crate) trait Writing: Copy {
     /// What is written.
     ghost what: { Self → Output };
 
-    /// Whether units are written whose payload came with this version of the protocol: 0 for
+    /// Whether units of payloads that are new in this version of the protocol are written: 0 for
     /// origins, 1 for router keys, 2 for ASPAs.
     fn writes(self, smallest: u8) -> bool
         ensures { (m : Meaning) → smallest_version m.payload ≡ smallest →
             result ≡ is_some ((what self).unit m) };
 
-    /// The version in which a unit of this version is written, where it is.
+    /// The version in which a unit of this version is written, if it is.
     fn version(self, version: u8) -> u8
         ensures { (m n : Meaning) → m.version ≡ version → (what self).unit m ≡ Some n →
             n ≡ in_version result m };
@@ -30,7 +30,7 @@ pub(crate) trait Writing: Copy {
             end_bytes result ≡ end_list ((what self).end (end_meaning end)) };
 }
 
-/// Everything is written, as it is.
+/// Writes everything as it is.
 #[derive(Clone, Copy)]
 pub(crate) struct Everything;
 
@@ -53,7 +53,7 @@ impl Writing for Everything {
     }
 }
 
-/// What this version of the protocol has is written, in this version.
+/// Writes what this version of the protocol has, in this version.
 #[derive(Clone, Copy)]
 pub(crate) struct ForVersion {
     pub(crate) version: u8,

@@ -1,4 +1,4 @@
-//! What a fault owes the peer, written into a slice.
+//! Error reports for faults, written into a slice.
 
 ghost use Rattle.std.specs.Prelude.{◌≡◌, ◌==◌, option_map, ℕ, List};
 ghost use Rattle.rtr_units.specs.Codes.{code_of};
@@ -12,26 +12,26 @@ use rtr_base::error_code::ErrorCode;
 use rtr_units::fault::Fault;
 use unit_views::fault::ViewFault;
 
-/// What answers a fault.
+/// The reply to a fault.
 #[derive(Clone, Copy, Debug, PartialEq, Eq)]
 pub enum Reply {
-    /// An error report, of which this many bytes stand at the front of the output.
+    /// An error report of this many bytes, at the front of the output.
     Report(usize),
     /// Nothing: the fault isn't the peer's, or the refused unit is an error report, about which no
     /// report may be sent (RFC 8210 section 5.11).
     Nothing,
-    /// An error report for which the output has no room.
+    /// An error report that is longer than the output.
     NoRoom,
 }
 
-/// Answers a fault of a call that reads: writes the error report that is owed to the peer, if one
-/// is, to the front of the output (RFC 8210 section 5.11). If none is owed or it doesn't fit, the
+/// Replies to a fault of a call that reads: writes the error report that is owed to the peer, if
+/// any, to the front of the output (RFC 8210 section 5.11). If none is owed or it doesn't fit, the
 /// output is unchanged. Nothing is allocated.
 ///
-/// The report has this version, the code of the fault (`Fault::code`), and this text; the unit in
-/// it is `refused`, the part of the refused unit that the report copies: only the header, or all
-/// that came. If `refused` has fewer than two bytes, it isn't known to be of an error report. Both
-/// are cut as `place_report` cuts them, so 65535 bytes of output are always enough.
+/// The report has this version, the code of the fault (`Fault::code`), and this text. It copies
+/// `refused`, the part of the refused unit that the caller passes: only the header, or all that
+/// came. If `refused` has fewer than two bytes, it isn't known to be part of an error report. Both
+/// are cut as `place_report` cuts them, so 65535 bytes of output always suffice.
 pub fn reply_to_fault(
     version: u8,
     refused: &[u8],
@@ -45,7 +45,7 @@ pub fn reply_to_fault(
     reply_with_code(version, refused, fault.code(), text, output)
 }
 
-/// Answers a fault of a call on views, as `reply_to_fault` answers the same fault.
+/// Replies to a fault of a call on views, as `reply_to_fault` does to the same fault.
 pub fn reply_to_view_fault(
     version: u8,
     refused: &[u8],
@@ -60,8 +60,8 @@ pub fn reply_to_view_fault(
     reply_with_code(version, refused, fault.code(), text, output)
 }
 
-/// Answers a fault of this code, as `reply_to_fault`: for faults that a caller finds by itself, or
-/// a change that is refused. A fault without a code isn't the peer's.
+/// Replies to a fault of this code as `reply_to_fault` does: for faults that a caller finds itself,
+/// or a change that is refused. A fault without a code isn't the peer's.
 pub fn reply_with_code(
     version: u8,
     refused: &[u8],

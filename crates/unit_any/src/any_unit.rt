@@ -22,9 +22,9 @@ use std::alloc::Global;
 /// A unit of any type.
 #[derive(Debug, Drop, PartialEq, Eq, Hash)]
 pub enum AnyUnit {
-    /// The cache says that it has new data (RFC 8210 section 5.2).
+    /// The cache has new data (RFC 8210 section 5.2).
     SerialNotify(SerialNotify),
-    /// A router's query for the changes since a state (RFC 8210 section 5.3).
+    /// A router asks for the changes since a state (RFC 8210 section 5.3).
     SerialQuery(SerialQuery),
     /// A router asks for all data (RFC 8210 section 5.4).
     ResetQuery(ResetQuery),
@@ -35,7 +35,7 @@ pub enum AnyUnit {
     Payload(Payload),
     /// All data was sent (RFC 8210 section 5.8).
     EndOfData(EndOfData),
-    /// The cache has nothing for the router's state (RFC 8210 section 5.9).
+    /// The cache doesn't have the changes since the router's state (RFC 8210 section 5.9).
     CacheReset(CacheReset),
     /// An error report (RFC 8210 section 5.11).
     Error(Report),
@@ -48,8 +48,8 @@ impl AnyUnit {
     /// Reads the next unit, or none if no byte was left.
     ///
     /// Faults, in this order: `Short` or `Reader` inside the header; those of `read_payload`.
-    /// `Short` has taken at least one byte. `UnitType`, `UnitVersion`, `TooLong`, `UnitLength` and
-    /// `EmptyProviders` take only the header.
+    /// `Short` has consumed at least one byte. `UnitType`, `UnitVersion`, `TooLong`, `UnitLength`
+    /// and `EmptyProviders` consume only the header.
     pub fn read<R: Source>(alloc: Global, reader: &mut R) -> Result<Option<Self>, Fault>
         ensures bytes { ReadsAny result (R.state reader.old) (R.state reader.new) }
         ensures error { IfErr result (HoldsReadError (R.fails reader.new)) }
@@ -116,7 +116,7 @@ impl AnyUnit {
         }
     }
 
-    /// The version of the protocol, as the first byte has it.
+    /// The version of the protocol, the first byte.
     pub fn version(&self) -> u8
         ensures { result ≡ version_field (any_bytes self.now) }
     {
@@ -134,7 +134,7 @@ impl AnyUnit {
     }
 
     /// The session, for the units that have one: serial notify, serial query, cache response and
-    /// end of data. The others have something else at that place.
+    /// end of data. In other units that field means something else.
     pub fn session(&self) -> Option<u16>
         ensures { result ≡ any_session (any_fields self.now) }
     {

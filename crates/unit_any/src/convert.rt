@@ -9,7 +9,7 @@ use rtr_units::error::Error;
 use rtr_units::header::MAX_SIZE;
 use rtr_units::numbers::u32_at;
 
-/// The same bytes. None is copied.
+/// The same bytes, which aren't copied.
 impl From<Report> for Error {
     ghost from_gives = { λ report error. error ≡ report };
 
@@ -18,8 +18,8 @@ impl From<Report> for Error {
     }
 }
 
-/// The same bytes, where they are an error report: of type 10, and 16 to 65535, as many as their
-/// length field says. Else the error holds them. None is copied.
+/// The same bytes, if they are an error report: of type 10, and 16 to 65535 bytes, as many as the
+/// length field states. Otherwise the error holds them. They aren't copied.
 impl TryFrom<Error> for Report {
     type Error = Error;
 

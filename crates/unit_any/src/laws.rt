@@ -32,13 +32,13 @@ pub fn type_and_limits()
     ensures most { MAX_SIZE ≡ 65535 }
 {}
 
-/// The units are the lists of bytes whose header is valid and has their length.
+/// The units are exactly the lists of bytes whose header is valid and states their length.
 pub fn units_by_their_headers()
     ensures whole { (b : List ℕ) (f : AnyFields) → HasAnyFields b f → IsWhole session_unit b }
     ensures unit { (b : List ℕ) → IsWhole session_unit b → (f : AnyFields) × HasAnyFields b f }
 {}
 
-/// No unit begins another.
+/// No unit is a proper prefix of another.
 pub fn any_self_delimiting()
     ensures { (a b r s : List ℕ) (f g : AnyFields) → HasAnyFields a f → HasAnyFields b g →
         a ++ r ≡ b ++ s → (a ≡ b) × (r ≡ s) }
@@ -50,19 +50,19 @@ pub fn one_unit_and_text()
         (p ≡ q) × (t ≡ s) }
 {}
 
-/// A length that is said of a unit is one that units of its version and type have.
+/// The length that is returned for a unit is a length of units of its version and type.
 pub fn bounded_lengths()
     ensures { (b : List ℕ) (n : ℕ) → SaysLength b (Ok (Some n)) →
         IsBounded (version_field b) (type_field b) n }
 {}
 
-/// The view of a unit and the unit that was read of the same bytes say the same.
+/// The view of a unit and the unit read from the same bytes have the same fields.
 pub fn session_views_and_units()
     ensures { (v : SessionView) (u : AnyUnit) → ShowsUnit v (any_bytes u) →
         HasAnyFields (any_bytes u) (any_fields u) → ShowsFields v (any_fields u) }
 {}
 
-/// Of payload units and ends of data `SessionView` shows what `UnitView` does, with the same
+/// For payload units and ends of data `SessionView` shows what `UnitView` does, with the same
 /// faults.
 pub fn same_as_unit_views()
     ensures view { (v : SessionView) (b : List ℕ) → IsTrue (is_payload_or_end (type_field b)) →
@@ -71,14 +71,14 @@ pub fn same_as_unit_views()
         session_fault r ≡ first_fault r }
 {}
 
-/// The form of what a view shows is that of the unit's fields.
+/// The form of a view is that of the unit's fields.
 pub fn forms_of_session_views()
     ensures { (v : SessionView) (b : List ℕ) (f : AnyFields) → ShowsUnit v b → HasAnyFields b f →
         shown_form v ≡ session_form f }
 {}
 
-/// The form of what a view shows is a unit of at most 65535 bytes, without a fault, whatever
-/// follows it. Its own form is the same.
+/// The form of a view is a unit of at most 65535 bytes, without a fault, whatever follows it. Its
+/// own form is the same.
 pub fn session_forms()
     ensures unit { (v : SessionView) (b : List ℕ) → ShowsUnit v b →
         (f : AnyFields) × HasAnyFields (shown_form v) f }
@@ -90,9 +90,9 @@ pub fn session_forms()
         shown_form w ≡ shown_form v }
 {}
 
-/// What `place_report` writes is an error report of at most 65535 bytes, with its version and code,
-/// about the unit and with the text that it holds. It has no fault, whatever follows it, and its
-/// view is that of a report.
+/// `place_report` writes an error report of at most 65535 bytes, with its version and code, and
+/// with as much of the unit and of the text as it holds. It has no fault, whatever follows it, and
+/// its view is that of a report.
 pub fn placed_reports()
     ensures most { (v c : ℕ) (p t : List ℕ) → length (held_report v c p t) ≤ 65535 }
     ensures report { (v c : ℕ) (p t : List ℕ) → v < 2 ^ 8 → IsBytes p → IsBytes t →
@@ -108,7 +108,7 @@ pub fn placed_reports()
         (x : ReportView) × (w ≡ Error x) × (x.unit.now ≡ held_report v c p t) }
 {}
 
-/// No report is owed for an error report, so none for one that was owed itself.
+/// No report is owed for an error report, so none for a report that was owed itself.
 pub fn no_report_about_a_report()
     ensures unit { (v : ℕ) (code : Option ℕ) (p t : List ℕ) → type_field p ≡ 10 →
         owed_report v code p t ≡ None }

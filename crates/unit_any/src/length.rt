@@ -1,4 +1,4 @@
-//! How long a unit is, by its header alone.
+//! The length of a unit, by its header alone.
 
 ghost use Rattle.rtr_units.specs.Reading.{exact_length, least_length};
 ghost use Rattle.rtr_payload.specs.FirstFault.{header_fault};
@@ -16,16 +16,16 @@ use rtr_units::queries::{CacheReset, CacheResponse, ResetQuery, SerialNotify, Se
 use rtr_units::unit::Unit;
 use unit_views::fault::ViewFault;
 
-/// Returns the size of the unit that the bytes begin, by its header (RFC 8210 section 5.1), or none
-/// if fewer than the eight bytes of a header are there. What follows the header isn't read, and may
-/// be missing. Nothing is allocated.
+/// Returns the size of the unit at the front of the bytes, by its header (RFC 8210 section 5.1), or
+/// none if there are fewer than the eight bytes of a header. What follows the header isn't read,
+/// and may be missing. Nothing is allocated.
 ///
-/// The result is the size of the type, if that is fixed; of a router key, an error report and an
-/// ASPA unit it is at most 65535. So no length is trusted that no unit can have.
+/// The result is the size of the type if that is fixed; for a router key, an error report or an
+/// ASPA unit it is at most 65535. So no impossible length is trusted.
 ///
 /// Faults, in this order: `UnitType` for a type that no unit has; `UnitVersion` for an end of data
 /// of a version above 2; `TooLong` for a router key, an ASPA unit or an error report of more than
-/// 65535 bytes; `UnitLength`; `EmptyProviders` for an ASPA that is announced without providers.
+/// 65535 bytes; `UnitLength`; `EmptyProviders` for an announced ASPA without providers.
 #[inline(always)]
 pub fn unit_length(bytes: &[u8]) -> Result<Option<usize>, ViewFault>
     ensures { SaysLength bytes.now result }
@@ -103,9 +103,9 @@ fn end_size(version: u8, size: u32) -> Result<u32, ViewFault>
 
 /// The size in the header of an ASPA unit with these flags.
 ///
-/// `Aspa` and `AspaView` have the same tests over their own faults, inlined into what follows: a
-/// call whose answer they had to turn into theirs would cost instructions at each unit. All three
-/// are proved to answer as `header_fault`.
+/// `Aspa` and `AspaView` have the same tests over their own faults, inlined into their code: a call
+/// whose fault they had to convert would cost instructions at each unit. All three are proved to
+/// agree with `header_fault`.
 #[inline(always)]
 fn aspa_size(flags: u8, size: u32) -> Result<u32, ViewFault>
     ensures { SaysSize size (header_fault 0 11 flags size) result }

@@ -1,5 +1,5 @@
 //! Units of any type of the RPKI to Router protocol, error reports included, read and written one
-//! after the other, as in a session.
+//! after the other as in a session.
 #![tactic(auto)]
 
 pub mod answering;

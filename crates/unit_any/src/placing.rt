@@ -15,12 +15,12 @@ use rtr_units::queries::{CacheReset, ResetQuery};
 use rtr_units::unit::Unit;
 use unit_views::placing::place;
 
-/// The most bytes of a unit and a text that a report holds: of the 65535 of the longest report 16
-/// are its header and two lengths.
+/// The greatest number of bytes of a unit and a text in a report: the longest report has 65535, of
+/// which its header and two lengths take 16.
 const MOST_HELD: usize = 65519;
 
-/// Writes a unit of a fixed size to the front of the output and answers its length in bytes. If the
-/// output is shorter, it answers none and leaves the output unchanged. It allocates nothing.
+/// Writes a unit of a fixed size to the front of the output and returns its length in bytes. If the
+/// output is too short, it returns none and leaves the output unchanged. It allocates nothing.
 #[inline(always)]
 pub fn place_unit<U: Unit>(unit: &U, output: &mut [u8]) -> Option<usize>
     ensures { Places result (U.bytes unit.now) output.old output.new }
@@ -29,13 +29,13 @@ pub fn place_unit<U: Unit>(unit: &U, output: &mut [u8]) -> Option<usize>
 }
 
 impl<'a> SessionView<'a> {
-    /// Writes the written form of the unit to the front of the output and returns its length in
-    /// bytes, at most 65535. If the output is shorter, it returns none and leaves the output
-    /// unchanged. Nothing is allocated.
+    /// Writes the form of the unit to the front of the output and returns its length in bytes, at
+    /// most 65535. If the output is too short, it returns none and leaves the output unchanged.
+    /// Nothing is allocated.
     ///
     /// The form of a payload unit is that of its meaning: all free bytes are zero, and a withdrawn
-    /// ASPA has no providers. A reset query and a cache reset have zero where others have a session
-    /// (RFC 8210 sections 5.4 and 5.9). All other units are written as they are.
+    /// ASPA has no providers. A reset query and a cache reset have zero in the session field (RFC
+    /// 8210 sections 5.4 and 5.9). All other units are written as they are.
     #[inline(always)]
     pub fn place_form(&self, output: &mut [u8]) -> Option<usize>
         ensures { Places result (shown_form self.now) output.old output.new }
@@ -54,11 +54,11 @@ impl<'a> SessionView<'a> {
 
 /// Writes the error report (RFC 8210 section 5.11) with this version and error code, the unit that
 /// it is about (or none) and text to the front of the output, and returns its length in bytes. If
-/// the output is shorter, it returns none and leaves the output unchanged. Nothing is allocated.
+/// the output is too short, it returns none and leaves the output unchanged. Nothing is allocated.
 ///
 /// A report has at most 65535 bytes: the first 65519 bytes of the unit, and as many bytes of the
-/// text as then fit. So 65535 bytes of output are always enough. The RFC wants the text in UTF-8;
-/// if it is cut, its last character may be cut too.
+/// text as then fit. So 65535 bytes of output always suffice. The RFC wants the text in UTF-8; if
+/// it is cut, its last character may be cut too.
 pub fn place_report(
     version: u8,
     code: ErrorCode,
@@ -73,7 +73,7 @@ pub fn place_report(
     place_parts(version, code, pdu, text, output)
 }
 
-/// As many of the first bytes as this, or all if there are fewer.
+/// The first `most` bytes, or all if there are fewer.
 fn front(bytes: &[u8], most: usize) -> &[u8]
     ensures held { result.now ≡ take most bytes.now }
     ensures most { length result.now ≤ most }
@@ -110,7 +110,7 @@ fn place_parts(
     Some(size)
 }
 
-/// Writes the length of these bytes, and then them.
+/// Writes the length of these bytes, and then the bytes.
 fn lay_counted(bytes: &[u8], output: &mut [u8])
     requires size { length output.old ≡ 4 + length bytes.now }
     requires fits { length bytes.now ≤ most_held }

@@ -28,11 +28,11 @@ use std::alloc::Global;
 use std::hash::{Hash, Hasher};
 use std::marker::Model;
 
-/// The bytes of the smallest report: a header and two lengths.
+/// The size in bytes of the smallest report: a header and two lengths.
 pub(crate) const MIN_SIZE: u32 = 16;
 
 /// An error report that was read, which contracts see as the list of its bytes: 16 to 65535, as
-/// many as its length field says.
+/// many as its length field states.
 #[derive(Debug, Drop)]
 pub struct Report {
     pub(crate) bytes: Vec<u8>,
@@ -56,7 +56,7 @@ impl Report {
     /// Reads an error report.
     ///
     /// Faults, in this order: `Short` or `Reader` inside the header; those of `read_payload`, of
-    /// which `UnitType` and the two after it take only the header.
+    /// which `UnitType` and the two after it consume only the header.
     pub fn read<R: Source>(alloc: Global, reader: &mut R) -> Result<Self, Fault>
         ensures { ReadsFrom R.Source (λ report. report) result reader.old reader.new
             (Reads report_unit []) }
@@ -112,10 +112,10 @@ impl Report {
         self.view().code()
     }
 
-    /// The unit that the report is about; empty if it is about none.
+    /// The unit that the report is about; empty if there is none.
     ///
     /// None if the two lengths inside the report don't fit: a length of four bytes, that unit, a
-    /// length of four bytes and the text have to make up the report exactly.
+    /// length of four bytes and the text have to fill the report exactly.
     pub fn pdu(&self) -> Option<&[u8]>
         ensures { MatchOption result ((p t : List ℕ) → HasParts self.now p t → ⊥)
             (λ p. (t : List ℕ) × HasParts self.now p.now t) }
@@ -123,7 +123,7 @@ impl Report {
         self.view().pdu()
     }
 
-    /// The text, which may be empty and need not be UTF-8. None if `pdu` answers none.
+    /// The text, which may be empty and need not be UTF-8. None if `pdu` returns none.
     pub fn text(&self) -> Option<&[u8]>
         ensures { MatchOption result ((p t : List ℕ) → HasParts self.now p t → ⊥)
             (λ t. (p : List ℕ) × HasParts self.now p t.now) }

@@ -8,7 +8,7 @@ ghost use Rattle.unit_any.specs.PrivateHeaders.{IsCounted, IsCutShort};
 use rtr_base::error_code::ErrorCode;
 use rtr_units::numbers::{u16_at, u32_at};
 
-/// An error report that lies in a slice: 16 to 65535 bytes, as many as its length field says.
+/// An error report that lies in a slice: 16 to 65535 bytes, as many as its length field states.
 #[derive(Clone, Copy, Debug)]
 pub struct ReportView<'a> {
     pub(crate) unit: &'a [u8],
@@ -34,10 +34,10 @@ impl<'a> ReportView<'a> {
         ErrorCode(u16_at(self.unit, 2))
     }
 
-    /// The unit that the report is about, as in the input; empty if it is about none.
+    /// The unit that the report is about, as in the input; empty if there is none.
     ///
     /// None if the two lengths inside the report don't fit: a length of four bytes, that unit, a
-    /// length of four bytes and the text have to make up the report exactly.
+    /// length of four bytes and the text have to fill the report exactly.
     #[inline(always)]
     pub fn pdu(&self) -> Option<&'a [u8]>
         ensures { MatchOption result ((p t : List ℕ) → HasParts self.now.unit.now p t → ⊥)
@@ -47,7 +47,7 @@ impl<'a> ReportView<'a> {
         Some(pdu)
     }
 
-    /// The text, as in the input, which may be empty and need not be UTF-8. None if `pdu` answers
+    /// The text, as in the input, which may be empty and need not be UTF-8. None if `pdu` returns
     /// none.
     pub fn text(&self) -> Option<&'a [u8]>
         ensures { MatchOption result ((p t : List ℕ) → HasParts self.now.unit.now p t → ⊥)
@@ -64,7 +64,7 @@ impl<'a> ReportView<'a> {
         self.unit.len() as u32
     }
 
-    /// The unit that the report is about and the text, if they make up the report.
+    /// The unit that the report is about and the text, if they fill the report exactly.
     #[inline(always)]
     fn parts(&self) -> Option<(&'a [u8], &'a [u8])>
         ensures { MatchOption result ((p t : List ℕ) → HasParts self.now.unit.now p t → ⊥)
@@ -81,7 +81,8 @@ impl<'a> ReportView<'a> {
     }
 }
 
-/// Splits off a length of four bytes and as many bytes as it says: these, and what follows them.
+/// Splits off a length of four bytes and the bytes that it counts: returns these, and what follows
+/// them.
 #[inline(always)]
 fn counted(bytes: &[u8]) -> Option<(&[u8], &[u8])>
     ensures { MatchOption result (IsCutShort bytes.now)

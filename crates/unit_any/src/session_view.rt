@@ -24,9 +24,9 @@ use unit_views::view::UnitView;
 /// it; the others are copies of at most 32 bytes.
 #[derive(Clone, Copy, Debug)]
 pub enum SessionView<'a> {
-    /// The cache says that it has new data (RFC 8210 section 5.2).
+    /// The cache has new data (RFC 8210 section 5.2).
     SerialNotify(SerialNotify),
-    /// A router's query for the changes since a state (RFC 8210 section 5.3).
+    /// A router asks for the changes since a state (RFC 8210 section 5.3).
     SerialQuery(SerialQuery),
     /// A router asks for all data (RFC 8210 section 5.4).
     ResetQuery(ResetQuery),
@@ -35,33 +35,33 @@ pub enum SessionView<'a> {
     /// A payload unit or an end of data (RFC 8210 sections 5.6 to 5.8 and 5.10; ASPA units as in
     /// the Rust crate).
     Data(UnitView<'a>),
-    /// The cache has nothing for the router's state (RFC 8210 section 5.9).
+    /// The cache doesn't have the changes since the router's state (RFC 8210 section 5.9).
     CacheReset(CacheReset),
     /// An error report (RFC 8210 section 5.11).
     Error(ReportView<'a>),
 }
 
-/// Why a slice begins with no unit that can be shown.
+/// Why no unit can be read at the front of a slice.
 #[derive(Debug, Drop)]
 pub struct SessionFault {
     /// What is wrong.
     pub fault: ViewFault,
     /// The size of the unit, if it is whole and its fault is `Prefix`: a caller may report it and
-    /// go on after it.
+    /// continue after it.
     pub size: Option<usize>,
 }
 
 impl<'a> SessionView<'a> {
     // Data units are tried first, since most units are such. Each result is built again, which lets
     // the common ones stay in registers.
-    /// The view of the unit that the input begins with, and its length in bytes, which is that of
-    /// `unit_length`. It allocates nothing.
+    /// Returns a view of the unit at the front of the input, and its length in bytes, which is that
+    /// of `unit_length`. It allocates nothing.
     ///
     /// Faults, in this order: `Short` inside the header; `UnitType` for a type that no unit has;
     /// `UnitVersion` for an end of data of a version above 2; `TooLong` for a router key, an ASPA
-    /// unit or an error report of more than 65535 bytes; `UnitLength`; `EmptyProviders` for an ASPA
-    /// that is announced without providers; `Short` inside the unit; `Prefix` if the lengths of a
-    /// prefix break their rule, with the size of that unit beside it.
+    /// unit or an error report of more than 65535 bytes; `UnitLength`; `EmptyProviders` for an
+    /// announced ASPA without providers; `Short` inside the unit; `Prefix`, with the size of that
+    /// unit, if the lengths of a prefix break their rule.
     #[inline(always)]
     pub fn first(input: &'a [u8]) -> Result<(SessionView<'a>, usize), SessionFault>
         ensures view { IfOk result (λ p. ShowsUnit p.0 (take p.1 input.now)) }
@@ -84,8 +84,8 @@ impl<'a> SessionView<'a> {
         }
     }
 
-    /// The view of the unit that the input begins with, if it is no payload unit and no end of
-    /// data, as `first`. It is inlined, since out of line its answer would go through memory.
+    /// Returns a view of the unit at the front of the input as `first` does, if it isn't a payload
+    /// unit or an end of data. It is inlined, since out of line its result would go through memory.
     #[inline(always)]
     fn first_plain(input: &'a [u8]) -> Result<(SessionView<'a>, usize), SessionFault>
         requires header { 8 ≤ length input.now }
@@ -101,7 +101,7 @@ impl<'a> SessionView<'a> {
         }
     }
 
-    /// The view of a unit that is no payload unit and no end of data.
+    /// The view of a unit that isn't a payload unit or an end of data.
     #[inline(always)]
     fn of(unit: &'a [u8]) -> SessionView<'a>
         requires whole { IsWhole session_unit unit.now }
@@ -119,7 +119,7 @@ impl<'a> SessionView<'a> {
     }
 }
 
-/// A fault without a unit that a caller may step over.
+/// A fault of a unit that a caller can't skip.
 #[inline(always)]
 fn plain(fault: ViewFault) -> SessionFault
     ensures fault { result.fault ≡ fault }
@@ -128,7 +128,7 @@ fn plain(fault: ViewFault) -> SessionFault
     SessionFault { fault, size: None }
 }
 
-/// A fault of a unit of this size, which is beside `Prefix`.
+/// A fault of a unit of this size. Only `Prefix` keeps the size.
 #[inline(always)]
 fn refused(fault: ViewFault, size: usize) -> SessionFault
     ensures fault { result.fault ≡ fault }
@@ -141,7 +141,7 @@ fn refused(fault: ViewFault, size: usize) -> SessionFault
     SessionFault { fault, size }
 }
 
-/// The unit at the front of the input, by its header.
+/// The bytes of the unit at the front of the input, by its header.
 #[inline(always)]
 fn whole(input: &[u8]) -> Result<&[u8], ViewFault>
     requires { 8 ≤ length input.now }

@@ -38,7 +38,7 @@ impl<'a> AspaView<'a> {
         self.unit[0]
     }
 
-    /// The flags, of which the lowest bit says whether the ASPA is announced.
+    /// The flags. If the lowest bit is set, the ASPA is announced.
     #[inline(always)]
     pub fn flags(&self) -> u8
         ensures { result ≡ (aspa_at self.now.unit.now).flags }
@@ -54,7 +54,7 @@ impl<'a> AspaView<'a> {
         Asn::from_u32(u32_at(self.unit, 8))
     }
 
-    /// The providers, as in the input: four bytes each, on a withdrawal too.
+    /// The providers, as in the input: four bytes each, also in a withdrawal.
     #[inline(always)]
     pub fn providers(&self) -> &'a [u8]
         ensures { result.now ≡ drop 12 self.now.unit.now }
@@ -96,7 +96,7 @@ impl<'a> AspaView<'a> {
         }
     }
 
-    /// Writes the form of what the unit means: a withdrawal without its providers.
+    /// Writes the form of the unit's meaning: a withdrawal has no providers.
     #[inline(always)]
     pub(crate) fn write_form<W: Sink>(&self, writer: &mut W) -> Result<(), ViewFault>
         ensures { WritesPiece W.Sink result writer.old writer.new

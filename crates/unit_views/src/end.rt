@@ -16,8 +16,8 @@ use rtr_units::unit::Unit;
 
 /// The end of data at the front of the input.
 ///
-/// Each version has its own copy of what follows, since the units have different types, and `match`
-/// stands where `?` costs instructions.
+/// Each version has its own copy of the code, since the units have different types, and `match` is
+/// used where `?` costs instructions.
 pub fn first_end(input: &[u8]) -> Result<EndOfData, ViewFault>
     requires header { 8 ≤ length input.now }
     requires kind { type_field input.now ≡ 7 }
@@ -50,7 +50,8 @@ pub fn first_end(input: &[u8]) -> Result<EndOfData, ViewFault>
     }
 }
 
-/// The unit of these bytes. `front::unit_of` does the same, but inlined here it slows each unit.
+/// The unit of these bytes. `front::unit_of` does the same, but slows each unit down if it is
+/// inlined here.
 fn unit_of<U: Unit>(bytes: &[u8]) -> U
     requires { length bytes.now ≡ U.LENGTH }
     ensures { U.bytes result ≡ bytes.now }

@@ -1,4 +1,4 @@
-//! Pieces of forms, as they are written.
+//! Writing the pieces of forms.
 
 ghost use Rattle.std.specs.Prelude.{◌≡◌, ◌+◌, ◌≤◌, ◌<◌, ◌^◌, ◌∷◌, ◌++◌, length, IfErr};
 ghost use Rattle.std.specs.Prelude.{slice_index};
@@ -15,7 +15,7 @@ use rtr_units::end::EndOfData;
 use rtr_units::piece::write_all;
 use rtr_units::source::Sink;
 
-/// Writes all of the piece, as `write_all`, and answers `Writer` with its error.
+/// Writes the whole piece as `write_all` does, and returns its error as `Writer`.
 #[inline(always)]
 pub fn put_piece<W: Sink>(writer: &mut W, piece: &[u8]) -> Result<(), ViewFault>
     ensures { WritesPiece W.Sink result writer.old writer.new piece.now }
@@ -26,7 +26,7 @@ pub fn put_piece<W: Sink>(writer: &mut W, piece: &[u8]) -> Result<(), ViewFault>
     }
 }
 
-/// Writes a unit with flags: a header made from the fields, and then what follows it, `rest`.
+/// Writes a unit with flags: a header made from the fields, and then `rest`.
 #[inline(always)]
 pub fn put_flagged<W: Sink>(
     writer: &mut W,
@@ -44,7 +44,7 @@ pub fn put_flagged<W: Sink>(
     put_both(writer, &header, rest)
 }
 
-/// Writes a header, and then what follows it, `rest`.
+/// Writes a header, and then `rest`.
 #[inline(always)]
 pub fn put_both<W: Sink>(writer: &mut W, header: &[u8], rest: &[u8]) -> Result<(), ViewFault>
     ensures { WritesPiece W.Sink result writer.old writer.new (header.now ++ rest.now) }
@@ -55,8 +55,8 @@ pub fn put_both<W: Sink>(writer: &mut W, header: &[u8], rest: &[u8]) -> Result<(
     }
 }
 
-/// Writes what follows a header. It isn't always inlined, so that the compiler simplifies it first:
-/// else room for its answer is cleared at each unit.
+/// Writes what follows a header. It is inlined, but not always: so the compiler simplifies it
+/// first. Otherwise each unit would clear a slot for its result.
 #[inline]
 fn put_rest<W: Sink>(writer: &mut W, rest: &[u8]) -> Result<(), ViewFault>
     ensures { WritesPiece W.Sink result writer.old writer.new rest.now }
@@ -64,8 +64,8 @@ fn put_rest<W: Sink>(writer: &mut W, rest: &[u8]) -> Result<(), ViewFault>
     put_piece(writer, rest)
 }
 
-/// The header of the form of a router key, made from the header of the unit itself: of what is free
-/// in it only the lowest bit of the flags is kept.
+/// The header of the form of a router key, made from the header of the unit itself: the session
+/// field keeps only the lowest bit of the flags.
 #[inline(always)]
 pub fn cleared_header(unit: &[u8]) -> [u8; 8]
     requires { 8 ≤ length unit.now }
@@ -79,8 +79,8 @@ pub fn cleared_header(unit: &[u8]) -> [u8; 8]
     header
 }
 
-/// Writes the bytes of the end of data. It is out of line, so that the code that writes units stays
-/// small enough to be inlined: a sequence has only one end.
+/// Writes the bytes of the end of data. It is out of line to keep the code that writes units small
+/// enough to be inlined: a sequence has only one end.
 pub fn put_end<W: Sink>(writer: &mut W, end: &EndOfData) -> Result<(), ViewFault>
     ensures { WritesPiece W.Sink result writer.old writer.new (end_bytes end.now) }
 {

@@ -24,7 +24,7 @@ pub fn size_at(input: &[u8]) -> Result<usize, ViewFault>
     Ok(usize::from(u16_at(input, 6)))
 }
 
-/// The unit at the front of the input, which has `size` bytes by its header, or `Short`.
+/// The unit at the front of the input, of `size` bytes by its header, or `Short`.
 #[inline(always)]
 pub fn first_unit(input: &[u8], size: usize) -> Result<&[u8], ViewFault>
     requires header { 8 ≤ length input.now }
@@ -41,7 +41,7 @@ pub fn first_unit(input: &[u8], size: usize) -> Result<&[u8], ViewFault>
     Ok(unit)
 }
 
-/// The unit of a fixed size that these bytes are.
+/// The unit of a fixed size with these bytes.
 #[inline(always)]
 pub fn unit_of<U: Unit>(bytes: &[u8]) -> U
     requires { length bytes.now ≡ U.LENGTH }

@@ -10,7 +10,8 @@ ghost use Rattle.rtr_payload.specs.declared.pdu.payload.Payload.{Payload};
 ghost use Rattle.unit_views.specs.Views.{IsViewOf, ViewMeans, view_form};
 ghost use Rattle.unit_views.specs.declared.view.UnitView.{UnitView};
 
-/// A view of a payload unit means what the unit means, and its form is the written form of that.
+/// A view of a payload unit means what the unit means, and its form is the written form of that
+/// meaning.
 pub fn views_of_units()
     ensures means { (v : UnitView) (b : List ℕ) (m : Meaning) →
         IsViewOf v b → ViewMeans v m → IsUnit b m }

@@ -1,4 +1,4 @@
-//! Views of payload units that lie in a slice: what they say and mean, read without memory.
+//! Views of payload units in a slice: their fields and meanings, read without allocating.
 #![tactic(auto)]
 
 pub mod aspa;

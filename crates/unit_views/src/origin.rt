@@ -22,7 +22,7 @@ use rtr_units::prefixes::{Ipv4Prefix, Ipv6Prefix};
 use rtr_units::source::Sink;
 use rtr_units::unit::Unit;
 
-/// What a prefix unit says of a route origin.
+/// The route origin of a prefix unit, with its version and flags.
 #[derive(Clone, Copy, Debug)]
 pub struct OriginView {
     version: u8,
@@ -39,7 +39,7 @@ impl OriginView {
         self.version
     }
 
-    /// The flags, of which the lowest bit says whether the origin is announced.
+    /// The flags. If the lowest bit is set, the origin is announced.
     #[inline(always)]
     pub fn flags(&self) -> u8
         ensures { result ≡ self.now.flags }
@@ -100,7 +100,7 @@ impl OriginView {
         }
     }
 
-    /// Writes the form of what the unit means.
+    /// Writes the form of the unit's meaning.
     #[inline(always)]
     pub(crate) fn write_form<W: Sink>(&self, writer: &mut W) -> Result<(), ViewFault>
         ensures { WritesPiece W.Sink result writer.old writer.new

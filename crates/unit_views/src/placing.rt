@@ -21,8 +21,8 @@ use rtr_payload::pdu::{Aspa, PrefixUnit, RouterKey, flagged_header};
 use rtr_units::prefixes::{Ipv4Prefix, Ipv6Prefix};
 use rtr_units::unit::Unit;
 
-/// Writes two pieces to the front of the output, the second after the first, and answers their
-/// length in bytes. If the output is shorter, it answers none and leaves the output unchanged.
+/// Writes two pieces to the front of the output, one after the other, and returns their length in
+/// bytes. If the output is too short, it returns none and leaves the output unchanged.
 #[inline(always)]
 pub fn place(front: &[u8], back: &[u8], output: &mut [u8]) -> Option<usize>
     ensures { Places result (front.now ++ back.now) output.old output.new }
@@ -36,8 +36,7 @@ pub fn place(front: &[u8], back: &[u8], output: &mut [u8]) -> Option<usize>
     Some(size)
 }
 
-/// Writes a router key or an ASPA unit: a header made from the fields, and then `rest`, which
-/// follows the header.
+/// Writes a router key or an ASPA unit: a header made from the fields, and then `rest`.
 #[inline(always)]
 fn place_flagged(
     version: u8,
@@ -57,7 +56,7 @@ fn place_flagged(
 }
 
 impl OriginView {
-    /// Writes the form in this version of what the unit means.
+    /// Writes the form in this version of the unit's meaning.
     #[inline(always)]
     fn place_form_in(&self, version: u8, output: &mut [u8]) -> Option<usize>
         ensures { Places result (form_of (record (origin_meaning self.now) { version = version }))
@@ -77,7 +76,7 @@ impl OriginView {
 }
 
 impl<'a> RouterKeyView<'a> {
-    /// Writes the form in this version of what the unit means.
+    /// Writes the form in this version of the unit's meaning.
     #[inline(always)]
     fn place_form_in(&self, version: u8, output: &mut [u8]) -> Option<usize>
         ensures { Places result
@@ -91,7 +90,7 @@ impl<'a> RouterKeyView<'a> {
 }
 
 impl<'a> AspaView<'a> {
-    /// Writes the form in this version of what the unit means: a withdrawal without its providers.
+    /// Writes the form in this version of the unit's meaning: a withdrawal has no providers.
     #[inline(always)]
     fn place_form_in(&self, version: u8, output: &mut [u8]) -> Option<usize>
         ensures { Places result (form_of
@@ -123,8 +122,8 @@ impl<'a> UnitView<'a> {
         }
     }
 
-    /// Writes the form to the front of the output, as `write_form` does to a writer, and answers
-    /// its length in bytes. If the output is shorter, it answers none and leaves the output
+    /// Writes the form to the front of the output, as `write_form` does to a writer, and returns
+    /// its length in bytes. If the output is too short, it returns none and leaves the output
     /// unchanged.
     #[inline(always)]
     pub fn place_form(&self, output: &mut [u8]) -> Option<usize>
@@ -133,8 +132,8 @@ impl<'a> UnitView<'a> {
         self.place_form_in(self.version(), output)
     }
 
-    /// Writes the form in this version to the front of the output, as `place_form`. That of an end
-    /// of data stays as it is.
+    /// Writes the form in this version to the front of the output, as `place_form` does. An end of
+    /// data keeps its version.
     #[inline(always)]
     pub fn place_form_in(&self, version: u8, output: &mut [u8]) -> Option<usize>
         ensures form { Places result (view_form_in version self.now) output.old output.new }

@@ -37,7 +37,7 @@ impl<'a> RouterKeyView<'a> {
         self.unit[0]
     }
 
-    /// The flags, of which the lowest bit says whether the key is announced.
+    /// The flags. If the lowest bit is set, the key is announced.
     #[inline(always)]
     pub fn flags(&self) -> u8
         ensures { result ≡ (key_at self.now.unit.now).flags }
@@ -55,7 +55,7 @@ impl<'a> RouterKeyView<'a> {
         identifier
     }
 
-    /// The autonomous system that the key belongs to.
+    /// The autonomous system of the key.
     #[inline(always)]
     pub fn asn(&self) -> Asn
         ensures { result ≡ (key_at self.now.unit.now).key.asn }
@@ -102,7 +102,7 @@ impl<'a> RouterKeyView<'a> {
         }
     }
 
-    /// Writes the form of what the unit means.
+    /// Writes the form of the unit's meaning.
     #[inline(always)]
     pub(crate) fn write_form<W: Sink>(&self, writer: &mut W) -> Result<(), ViewFault>
         ensures { WritesPiece W.Sink result writer.old writer.new

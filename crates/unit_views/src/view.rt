@@ -1,4 +1,4 @@
-//! Views of what a slice begins with.
+//! Views of the unit at the front of a slice.
 
 ghost use Rattle.std.specs.Prelude.{◌≤◌, length, take, IfOk, IfErr};
 ghost use Rattle.unit_views.specs.Faults.{IsFirstFault, WritesPiece};
@@ -31,13 +31,13 @@ pub enum UnitView<'a> {
 }
 
 impl<'a> UnitView<'a> {
-    /// The view of the payload unit or the end of data that the input begins with, and its length
-    /// in bytes. It allocates nothing.
+    /// Returns a view of the payload unit or the end of data at the front of the input, and its
+    /// length in bytes. It allocates nothing.
     ///
     /// Faults, in this order: `Short` inside the header; `UnitType`; `UnitVersion` for an end of
     /// data of a version above 2; `TooLong` for a key or an ASPA unit of more than 65535 bytes;
-    /// `UnitLength`; `EmptyProviders` for an ASPA that is announced without providers; `Short`
-    /// inside the unit; `Prefix` if the lengths of a prefix break their rule.
+    /// `UnitLength`; `EmptyProviders` for an announced ASPA without providers; `Short` inside the
+    /// unit; `Prefix` if the lengths of a prefix break their rule.
     #[inline(always)]
     pub fn first(input: &'a [u8]) -> Result<(UnitView<'a>, usize), ViewFault>
         ensures view { IfOk result (λ p. IsViewOf p.0 (take p.1 input.now)) }
@@ -72,9 +72,8 @@ impl<'a> UnitView<'a> {
         }
     }
 
-    /// Writes the written form of what the unit means: all free bytes are zero, and a withdrawn
-    /// ASPA has no providers. For an end of data it writes the bytes. It allocates nothing and
-    /// doesn't flush.
+    /// Writes the form of the unit's meaning: all free bytes are zero, and a withdrawn ASPA has no
+    /// providers. An end of data is written as it is. It allocates nothing and doesn't flush.
     ///
     /// The only fault is `Writer`; then a part of the form was written.
     #[inline(always)]

@@ -1,5 +1,5 @@
-//! Equality, order and hash of route origins, router keys, ASPAs and payloads: those of what they
-//! mean, so that an origin without a max length is as one whose max length is its prefix length.
+//! Equality, order and hash of route origins, router keys, ASPAs and payloads, by what they mean:
+//! an origin without a max length equals one whose max length is its prefix length.
 
 ghost use Rattle.std.specs.Prelude.{◌≡◌, refl};
 ghost use Rattle.std.proofs.Common.{arith};
@@ -39,7 +39,7 @@ impl PartialOrd for RouteOrigin {
     }
 }
 
-/// By the prefix, then by the longest prefix length that is meant, then by the ASN.
+/// By the prefix, then by the longest prefix length that may be announced, then by the ASN.
 impl Ord for RouteOrigin {
     ghost cmp = { on origin_of payload_cmp };
 

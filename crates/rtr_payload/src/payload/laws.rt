@@ -13,7 +13,7 @@ ghost use Rattle.rtr_payload.specs.declared.payload.RouterKey.{RouterKey};
 use super::{Aspa, Payload, PayloadRef, RouteOrigin, RouterKey};
 
 #[tactic(auto, using(crate::proofs::Orders::payload_decides))]
-/// Values are equal exactly where they mean the same payload.
+/// Values are equal if and only if they mean the same payload.
 pub fn equal_values()
     ensures origins { (a b : RouteOrigin) → IsTrue (⟦<RouteOrigin as PartialEq>⟧.eq a b) ↔
         (origin_of a ≡ origin_of b) }
@@ -26,7 +26,7 @@ pub fn equal_values()
         (payload_of_ref a ≡ payload_of_ref b) }
 {}
 
-/// The parts of a payload are in their ranges, as the type of each part keeps them.
+/// The parts of a payload are in the ranges that the type of each part ensures.
 pub fn in_range(payload: &PayloadRef<'_>)
     ensures { IsPayload (payload_of_ref payload.now) }
 {

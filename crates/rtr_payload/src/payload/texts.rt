@@ -29,8 +29,8 @@ impl fmt::Display for RouterKey {
     }
 }
 
-/// Writes `ASPA`, the customer and its providers: `ASPA AS64496: AS64497 AS64498`, and without
-/// any `ASPA AS64496: no providers`.
+/// Writes `ASPA`, the customer and its providers: `ASPA AS64496: AS64497 AS64498`, or `ASPA
+/// AS64496: no providers` if it has none.
 impl fmt::Display for Aspa {
     ghost output = { λ aspa. Some (aspa_text aspa) };
 

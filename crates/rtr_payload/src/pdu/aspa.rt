@@ -25,14 +25,13 @@ use std::alloc::AllocError;
 /// The type of an ASPA unit.
 pub const PDU: u8 = 11;
 
-/// The bytes of an ASPA unit before its providers.
+/// The size in bytes of the fixed part of an ASPA unit, before its providers.
 pub const FIXED: usize = 12;
 
 /// An ASPA unit: `FIXED` bytes and its providers, four bytes each.
 ///
-/// Faults of its header, in this order: `TooLong` above length 65535; `UnitLength` below `FIXED`
-/// and where the length is not a multiple of 4; `EmptyProviders` where it is announced at length
-/// `FIXED`.
+/// Faults of its header, in this order: `TooLong` above length 65535; `UnitLength` if the length is
+/// below `FIXED` or not a multiple of 4; `EmptyProviders` if it is announced with length `FIXED`.
 pub type Aspa = VariableUnit<FIXED, ProviderAsns>;
 
 impl Body<FIXED> for ProviderAsns {
@@ -106,7 +105,7 @@ impl Aspa {
     /// The type of an ASPA unit.
     pub const PDU: u8 = PDU;
 
-    /// The bytes of an ASPA unit before its providers.
+    /// The size in bytes of the fixed part of an ASPA unit, before its providers.
     pub const FIXED: usize = FIXED;
 
     /// The unit with these fields.

@@ -14,8 +14,8 @@ use std::alloc::Global;
 
 /// Reads the next `size` bytes.
 ///
-/// Faults, in this order: `Memory`, with nothing read, where there is no room for the frame;
-/// `Short` or `Reader` inside it; `Memory`, with all of it read, where it can't be shared.
+/// Faults, in this order: `Memory`, with nothing read, if the frame can't be allocated; `Short` or
+/// `Reader` inside it; `Memory`, with all of it read, if it can't be shared.
 #[inline(always)]
 pub fn read_rest<R: Source>(alloc: Global, size: usize, reader: &mut R) -> Result<Bytes, Fault>
     ensures bytes { ReadsFrame size (by_bytes (λ frame. frame) result) (R.state reader.old)
@@ -34,8 +34,8 @@ pub fn read_rest<R: Source>(alloc: Global, size: usize, reader: &mut R) -> Resul
     }
 }
 
-/// Puts the header at the front of the unit, and reads the rest of its bytes. No memory is asked
-/// for.
+/// Copies the header to the front of the unit, and reads the rest of its bytes. It allocates
+/// nothing.
 #[inline(always)]
 pub fn fill_unit<R: Source>(head: &[u8], unit: &mut [u8], reader: &mut R) -> Result<(), Fault>
     requires head { length head.now ≡ 8 }

@@ -21,14 +21,14 @@ use std::fmt;
 use std::hash::{Hash, Hasher};
 use std::marker::Model;
 
-/// The most bytes of key info: a router key that holds them has the greatest length that its length
-/// field can say.
+/// The greatest number of bytes of key info. A router key with that many has the greatest length
+/// that its length field can hold.
 pub(crate) const MAX_LEN: usize = 4294967263;
 
 /// The key info of a router key: at most 4294967263 bytes.
 ///
-/// It is the DER encoding of a public key, which isn't looked into. It prints as its base64 text,
-/// unpadded and of the alphabet that is safe in URLs.
+/// It is the DER encoding of a public key, which isn't parsed. It prints as base64 without padding,
+/// in the alphabet that is safe in URLs.
 #[derive(Drop)]
 pub struct RouterKeyInfo(Bytes);
 
@@ -44,18 +44,18 @@ impl Model for RouterKeyInfo {
     ghost invariant = { λ a. length a.0 ≤ MOST };
 }
 
-/// Key info was longer than 4294967263 bytes.
+/// Key info is longer than 4294967263 bytes.
 #[derive(Clone, Copy, Debug, PartialEq, Eq, thiserror::Error)]
 #[error("router key size overflow")]
 pub struct KeyInfoError;
 
-/// Why key info could not be made of a vector.
+/// Why a vector can't become key info.
 #[derive(Clone, Copy, Debug, PartialEq, Eq, thiserror::Error)]
 pub enum KeyInfoVecError {
-    /// The vector was longer than 4294967263 bytes.
+    /// The vector is longer than 4294967263 bytes.
     #[error("router key size overflow")]
     Size(KeyInfoError),
-    /// An allocation was refused.
+    /// An allocation failed.
     #[error("out of memory")]
     Memory,
 }
@@ -63,7 +63,7 @@ pub enum KeyInfoVecError {
 impl RouterKeyInfo {
     ghost use Rattle.rtr_payload.specs.KeyErrors.{IsSize};
 
-    /// The key info that these bytes are. Too many are refused.
+    /// The key info with these bytes, or an error if there are more than 4294967263.
     pub fn new(bytes: Bytes) -> Result<Self, KeyInfoError>
         ensures ok { IfOk result (λ k. k ≡ bytes) }
         ensures exact { IsOk result ↔ (length bytes ≤ MAX_LEN) }
@@ -74,7 +74,7 @@ impl RouterKeyInfo {
         Ok(RouterKeyInfo::within_limit(bytes))
     }
 
-    /// The key info that these bytes are, which are not too many.
+    /// The key info with these bytes, which are within the limit.
     #[inline(always)]
     pub(crate) fn within_limit(bytes: Bytes) -> Self
         requires { length bytes ≤ MAX_LEN }
@@ -83,8 +83,8 @@ impl RouterKeyInfo {
         RouterKeyInfo(bytes)
     }
 
-    /// The key info that the bytes of the vector are. No byte is copied. Too many are refused; else
-    /// memory alone can refuse.
+    /// The key info with the bytes of the vector, which aren't copied. The only errors are `Size`,
+    /// if there are more than 4294967263 bytes, and `Memory`.
     pub fn from_vec(_alloc: Global, bytes: Vec<u8>) -> Result<Self, KeyInfoVecError>
         ensures ok { IfOk result (λ k. k ≡ bytes.items) }
         ensures size { MAX_LEN < length bytes.items → IsErrAnd result IsSize }
@@ -125,8 +125,8 @@ impl RouterKeyInfo {
         self.0
     }
 
-    /// Another handle to the same key info. It shares the bytes, so nothing is allocated;
-    /// `AllocError` comes if the count of handles is at its maximum.
+    /// Another handle to the same key info. It shares the bytes, so nothing is allocated; it
+    /// returns `AllocError` if the count of handles is at its maximum.
     pub fn clone(&self) -> Result<Self, AllocError>
         ensures { IfOk result (λ k. k ≡ self.now) }
     {
@@ -134,7 +134,8 @@ impl RouterKeyInfo {
         Ok(RouterKeyInfo(bytes))
     }
 
-    /// The base64 text, unpadded and of the alphabet that is safe in URLs (RFC 4648 section 5).
+    /// Returns the base64 text, without padding and in the alphabet that is safe in URLs (RFC 4648
+    /// section 5).
     pub fn to_text(&self, alloc: Global) -> Result<String, AllocError>
         ensures { IfOk result (λ text. string_bytes text ≡ encode_of url_safe_no_pad self.now) }
     {

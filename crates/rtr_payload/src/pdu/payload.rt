@@ -54,12 +54,12 @@ impl Payload {
     ghost use Rattle.rtr_payload.specs.UnitBytes.{IsOriginRef};
     ghost use Rattle.rtr_payload.specs.UnitBytes.{IsSupported};
 
-    /// The unit of this version and these flags that has the payload. Free bytes are zero. The
-    /// bytes of keys and ASPAs are shared, so nothing is allocated; `AllocError` comes if their
+    /// The unit of this version and these flags with this payload. Free bytes are zero. The bytes
+    /// of keys and ASPAs are shared, so nothing is allocated; it returns `AllocError` if their
     /// count of handles is at its maximum.
     ///
-    /// All providers of an ASPA are written, also with even flags: a withdrawal is made of
-    /// `payload::Aspa::withdraw`.
+    /// All providers of an ASPA are written, even with even flags: for a withdrawal, pass the
+    /// result of `payload::Aspa::withdraw`.
     #[inline(always)]
     pub fn new(version: u8, flags: u8, payload: &PayloadRef<'_>) -> Result<Self, AllocError>
         ensures made { IfOk result (λ u. IsWritten version flags (payload_of_ref payload.now) u) }
@@ -80,7 +80,7 @@ impl Payload {
         }
     }
 
-    /// As `new`, of a payload by value. It asks for no memory.
+    /// As `new`, of a payload by value. It allocates nothing.
     pub fn from_payload(version: u8, flags: u8, payload: payload::Payload) -> Self
         ensures { IsWritten version flags (payload_of payload) result }
     {
@@ -95,7 +95,7 @@ impl Payload {
         }
     }
 
-    /// The prefix unit that has the origin.
+    /// The prefix unit with this origin.
     #[inline(always)]
     fn from_origin(version: u8, flags: u8, origin: RouteOrigin) -> Self
         ensures { IsWritten version flags (origin_of origin) result }
@@ -108,7 +108,7 @@ impl Payload {
         }
     }
 
-    /// As `new`, or none where the version has no such payload: origins need version 0, router keys
+    /// As `new`, or none if the version has no such payload: origins need version 0, router keys
     /// version 1 and ASPAs version 2.
     pub fn new_if_supported(
         version: u8,
@@ -133,9 +133,9 @@ impl Payload {
     ///
     /// Faults, in this order: `Short` or `Reader` inside the header; `UnitType`; `UnitVersion` for
     /// an end of data of a version above 2; `TooLong` for a key or an ASPA unit of more than 65535
-    /// bytes; `UnitLength`; `EmptyProviders` for an ASPA that is announced without providers;
-    /// `Memory` for a key or an ASPA unit, right after its header or after its last byte; `Short`
-    /// or `Reader` inside the unit. `UnitType` and the next four take only the header.
+    /// bytes; `UnitLength`; `EmptyProviders` for an announced ASPA without providers; `Memory` for
+    /// a key or an ASPA unit, right after its header or after its last byte; `Short` or `Reader`
+    /// inside the unit. `UnitType` and the next four consume only the header.
     #[inline(always)]
     pub fn read<R: Source>(
         alloc: Global,
@@ -150,10 +150,10 @@ impl Payload {
         Payload::read_payload(alloc, header, reader)
     }
 
-    /// Reads what follows the header, which is kept as it is. Never answers none.
+    /// Reads what follows the header, which is kept as it is. Never returns none.
     ///
-    /// Faults are those of `read` after the header, in its order, `Memory` among them for a key or
-    /// an ASPA unit.
+    /// Faults are those of `read` after the header, in the same order, including `Memory` for a key
+    /// or an ASPA unit.
     pub fn read_payload<R: Source>(
         alloc: Global,
         header: Header,
@@ -202,7 +202,7 @@ impl Payload {
         }
     }
 
-    /// What the flags say: whether the payload is announced or withdrawn.
+    /// The action of the flags: whether the payload is announced or withdrawn.
     #[inline(always)]
     pub fn action(&self) -> Action
         ensures { result ≡ act (flags_in self.now) }
@@ -223,11 +223,11 @@ impl Payload {
         }
     }
 
-    /// The action and the payload that the unit means, by its variant, whatever its type and length
-    /// bytes say. The bytes of keys and ASPAs are shared.
+    /// Returns the action and the payload that the unit means, by its variant, whatever its type
+    /// and length bytes are. The bytes of keys and ASPAs are shared.
     ///
     /// `Refused` holds the report on a prefix that breaks the rule on its lengths. `Memory` comes
-    /// if there was none for that report, or if the count of handles to the bytes is at its
+    /// if that report can't be allocated, or if the count of handles to the bytes is at its
     /// maximum.
     pub fn to_payload(&self, alloc: Global) -> Result<(Action, payload::Payload), Fault>
         ensures ok { IfOk result (λ m. MeansPayload self.now m.0 m.1) }
@@ -239,8 +239,9 @@ impl Payload {
         }
     }
 
-    /// As `to_payload`, of a unit by value. Only a report is allocated: `Refused` holds it, and if
-    /// there is no memory for it, `Memory` comes for a prefix that breaks the rule on its lengths.
+    /// As `to_payload`, of a unit by value. Only a report is allocated: `Refused` holds the report
+    /// on a prefix that breaks the rule on its lengths, and `Memory` comes if that report can't be
+    /// allocated.
     pub fn into_payload(self, alloc: Global) -> Result<(Action, payload::Payload), Fault>
         ensures ok { IfOk result (λ m. MeansPayload self m.0 m.1) }
         ensures err { IfErr result (λ e. HasNoPayload self (cause_of e)) }
@@ -268,7 +269,7 @@ impl Payload {
     }
 
     /// Another handle to the same unit. The bytes of keys and ASPAs are shared, so nothing is
-    /// allocated; `AllocError` comes if their count of handles is at its maximum.
+    /// allocated; it returns `AllocError` if their count of handles is at its maximum.
     pub fn clone(&self) -> Result<Self, AllocError>
         ensures same { IfOk result (λ u. u ≡ self.now) }
         ensures prefix { IsPrefixUnit self.now → IsOk result }
@@ -324,7 +325,7 @@ fn smallest_version(payload: &PayloadRef<'_>) -> u8
 }
 
 /// The fault of a prefix unit that breaks the rule: a report with error code 0, the whole unit and
-/// a text, or `Memory` where there is none for the report.
+/// a text, or `Memory` if the report can't be allocated.
 #[inline(always)]
 pub(crate) fn refused(alloc: Global, version: u8, unit: &[u8], rule: PrefixRule) -> Fault
     requires { length unit.now ≤ 32 }
@@ -336,8 +337,8 @@ pub(crate) fn refused(alloc: Global, version: u8, unit: &[u8], rule: PrefixRule)
     }
 }
 
-/// The report on a prefix unit that breaks the rule. It stays out of line, and its answer is small,
-/// so that the way of the units that keep the rule sets no room aside for a fault.
+/// The report on a prefix unit that breaks the rule. It stays out of line and returns a small
+/// result, so that the path of units that keep the rule reserves no stack for a fault.
 #[inline(never)]
 fn report_on(alloc: Global, version: u8, unit: &[u8], rule: PrefixRule) -> Result<Error, AllocError>
     requires { length unit.now ≤ 32 }

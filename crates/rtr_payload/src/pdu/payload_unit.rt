@@ -39,24 +39,24 @@ use rtr_units::unit::Unit;
 use std::alloc::Global;
 
 /// A payload unit of one type: how it is read after its header, what it means, which unit has a
-/// meaning, and how it is written.
+/// given meaning, and how it is written.
 pub trait PayloadUnit: Drop {
     /// What such units mean.
     type Meaning: Drop;
 
-    /// The unit as one of any type.
+    /// The unit as a payload unit of any type.
     ghost unit: { Self → Payload };
 
-    /// The meaning as one of any kind.
+    /// The meaning as a payload of any kind.
     ghost value: { Self.Meaning → Value };
 
     /// What holds of each meaning of such units.
     ghost holds: { Self.Meaning → Type 0 };
 
-    /// The type, as contracts name it.
+    /// The type, by which contracts name it.
     ghost kind: { ℕ };
 
-    /// The smallest version of the protocol that has such units, as contracts name it.
+    /// The smallest version of the protocol that has such units, by which contracts name it.
     ghost SMALLEST_VERSION: { ℕ };
 
     /// The smallest version of the protocol that has such units.
@@ -83,15 +83,15 @@ pub trait PayloadUnit: Drop {
     fn flags_of(&self) -> u8
         ensures { result ≡ flags_in (unit self.now) };
 
-    /// The action and the meaning of the unit, whatever its type and length bytes say. Only a
-    /// report allocates.
+    /// The action and the meaning of the unit, whatever its type and length bytes are. Only a
+    /// report is allocated.
     fn into_meaning(self, alloc: Global) -> Result<(Action, Self::Meaning), Fault>
         ensures ok { IfOk result (λ m. MeansPayload (unit self) m.0 (value m.1)) }
         ensures holds { IfOk result (λ m. holds m.1) }
         ensures err { IfErr result (λ e. HasNoPayload (unit self) (cause_of e)) }
         ensures variable { (IsPrefixUnit (unit self) → ⊥) → IsOk result };
 
-    /// The unit of this version and these flags that has the meaning. Free bytes are zero.
+    /// The unit of this version and these flags with this meaning. Free bytes are zero.
     fn from_meaning(version: u8, flags: u8, meaning: Self::Meaning) -> Self
         requires { holds meaning }
         ensures { IsWritten version flags (payload_of (value meaning)) (unit result) };
@@ -100,11 +100,11 @@ pub trait PayloadUnit: Drop {
     fn put<W: Sink>(&self, writer: &mut W) -> Result<(), Fault>
         ensures { WritesTo W.Sink result writer.old writer.new (unit_bytes (unit self.now)) };
 
-    /// The unit as one of any type.
+    /// The unit as a payload unit of any type.
     fn into_unit(self) -> Payload
         ensures { result ≡ unit self };
 
-    /// The meaning as one of any kind.
+    /// The meaning as a payload of any kind.
     fn into_value(meaning: Self::Meaning) -> payload::Payload
         ensures { result ≡ value meaning };
 

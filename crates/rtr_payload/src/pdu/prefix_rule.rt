@@ -30,7 +30,7 @@ impl PrefixRule {
     }
 }
 
-/// The IPv4 prefix and the max length that stand in a unit. Host bits are cleared.
+/// The IPv4 prefix and the max length in a unit, with the host bits cleared.
 #[inline(always)]
 #[tactic(auto, unfolding(crate::specs::FirstFault::broken_rule))]
 pub fn ipv4_prefix(bits: u32, len: u8, max_len: u8) -> Result<MaxLenPrefix, PrefixRule>
@@ -48,7 +48,7 @@ pub fn ipv4_prefix(bits: u32, len: u8, max_len: u8) -> Result<MaxLenPrefix, Pref
     }
 }
 
-/// The IPv6 prefix and the max length that stand in a unit. Host bits are cleared.
+/// The IPv6 prefix and the max length in a unit, with the host bits cleared.
 #[inline(always)]
 #[tactic(auto, unfolding(crate::specs::FirstFault::broken_rule))]
 pub fn ipv6_prefix(bits: u128, len: u8, max_len: u8) -> Result<MaxLenPrefix, PrefixRule>

@@ -35,24 +35,25 @@ use rtr_units::source::Source;
 use rtr_units::unit::Unit;
 use std::alloc::Global;
 
-/// A unit of a prefix of IP addresses (RFC 8210 sections 5.6 and 5.7), which asks for no memory but
-/// for a report.
+/// A unit of a prefix of IP addresses (RFC 8210 sections 5.6 and 5.7), which allocates only for a
+/// report.
 pub trait PrefixUnit: Unit {
-    /// The unit as one of any kind.
+    /// The unit as a payload unit of any type.
     ghost unit: { Self → Payload };
 
     /// The family of its address.
     ghost family: { Family };
 
-    /// The unit of this version and these flags that has the origin, whose prefix is of this
-    /// family. Free bytes are zero.
+    /// The unit of this version and these flags with this origin, whose prefix is of this family.
+    /// Free bytes are zero.
     fn from_origin(version: u8, flags: u8, origin: RouteOrigin) -> Self
         requires { origin.prefix.prefix.family ≡ family }
         ensures form { Self.bytes result ≡ form version flags (origin_of origin) }
         ensures fields { prefix_unit (prefix_at family (Self.bytes result)) ≡
             written_fields version flags (origin_of origin) };
 
-    /// The prefix with these lengths whose address the bytes begin with. Host bits are cleared.
+    /// The prefix with these lengths and the address at the front of the bytes, with the host bits
+    /// cleared.
     fn prefix_of(address: &[u8], prefix_len: u8, max_len: u8) -> Result<MaxLenPrefix, PrefixRule>
         requires { address_bytes family ≤ length address.now }
         ensures ok { IfOk result (λ p. p ≡
@@ -69,21 +70,22 @@ pub trait PrefixUnit: Unit {
         ensures broken { IfErr result
             (λ r. broken_rule (width family) prefix_len max_len ≡ Some r) };
 
-    /// The unit as one of any kind.
+    /// The unit as a payload unit of any type.
     fn to_unit(self) -> Payload
         ensures { result ≡ unit self };
 
-    /// As a unit of any kind it has the same bytes and the fields of its family.
+    /// As a payload unit of any type it has the same bytes, and the fields of its family.
     ghost told: { (u : Self) → (unit_bytes (unit u) ≡ Self.bytes u) ×
         (unit_fields (unit u) ≡ prefix_unit (prefix_at family (Self.bytes u))) };
 
     /// It has the type and the size of its family.
     ghost typed: { (Self.PDU ≡ prefix_type family) × (Self.LENGTH ≡ prefix_size family) };
 
-    /// The action and the origin that the unit means, whatever its type and length bytes say.
+    /// Returns the action and the origin that the unit means, whatever its type and length bytes
+    /// are.
     ///
-    /// `Refused` with the report on a prefix that breaks the rule on its lengths, or `Memory` where
-    /// there is none for the report.
+    /// `Refused` holds the report on a prefix that breaks the rule on its lengths; `Memory` comes
+    /// if that report can't be allocated.
     #[inline(always)]
     final fn to_origin(&self, alloc: Global) -> Result<(Action, RouteOrigin), Fault>
         ensures ok { IfOk result (λ m. MeansPayload (unit self.now) m.0 (payloads.Origin m.1)) }
@@ -103,10 +105,11 @@ pub trait PrefixUnit: Unit {
         }
     }
 
-    /// Reads what follows a header of this type, into this unit. No memory is asked for.
+    /// Reads what follows a header of this type into this unit. It allocates nothing.
     ///
-    /// Faults, in this order: `UnitLength`, with nothing read and the unit as it was; `Short` or
-    /// `Reader` inside the unit, which then begins with the header and the bytes that were taken.
+    /// Faults, in this order: `UnitLength`, with nothing read and the unit unchanged; `Short` or
+    /// `Reader` inside the unit, which then begins with the header and the bytes that were
+    /// consumed.
     #[inline(always)]
     final fn fill_after<R: Source>(&mut self, header: Header, reader: &mut R) -> Result<(), Fault>
         requires { type_field (header_bytes header) ≡ Self.PDU }

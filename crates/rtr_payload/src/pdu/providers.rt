@@ -22,7 +22,7 @@ use std::fmt;
 use std::hash::{Hash, Hasher};
 use std::marker::Model;
 
-/// The providers that an ASPA names: at most 16380 ASNs in an order that counts, four bytes each.
+/// The providers of an ASPA: at most 16380 ASNs in an order that counts, four bytes each.
 #[derive(Drop)]
 pub struct ProviderAsns(Bytes);
 
@@ -44,13 +44,13 @@ impl Model for ProviderAsns {
 #[error("provider ASNs size overflow")]
 pub struct ProviderAsnsError(());
 
-/// Why no providers could be made of the items of an iterator.
+/// Why the items of an iterator can't become providers.
 #[derive(Clone, Copy, Debug, PartialEq, Eq, thiserror::Error)]
 pub enum ProviderIterError {
-    /// More than 16380 items came.
+    /// There are more than 16380 items.
     #[error("provider ASNs size overflow")]
     Count(ProviderAsnsError),
-    /// An allocation was refused.
+    /// An allocation failed.
     #[error("out of memory")]
     Memory,
 }
@@ -59,10 +59,10 @@ impl ProviderAsns {
     ghost use Rattle.rtr_payload.specs.Providers.{words_of};
     ghost use Rattle.rtr_payload.specs.Providers.{AreProviderBytes};
 
-    /// The most providers that an ASPA names: with them its length is 65532 bytes.
+    /// The greatest number of providers of an ASPA, whose length is then 65532 bytes.
     pub const MAX_COUNT: usize = 16380;
 
-    /// No providers, for which no memory is asked: it never answers `AllocError`.
+    /// No providers. It allocates nothing and never returns `AllocError`.
     pub fn empty(_alloc: Global) -> Result<Self, AllocError>
         ensures none { IfOk result (λ p. p ≡ []) }
         ensures granted { IsOk result }
@@ -70,19 +70,19 @@ impl ProviderAsns {
         Ok(ProviderAsns::none())
     }
 
-    /// No providers, for which no memory is asked.
+    /// No providers. It allocates nothing.
     pub(crate) fn none() -> Self
         ensures { result ≡ [] }
     {
         ProviderAsns(Bytes::new())
     }
 
-    /// The items of the iterator, in their order. At most 16381 are asked for, and its size hint
-    /// isn't.
+    /// The items of the iterator, in their order. It reads at most 16381 of them, and doesn't use
+    /// the size hint.
     ///
-    /// `Count` is answered where a 16381st item came. `Memory` is answered where an allocation is
-    /// refused: at an item, or after the last one, where the bytes are shared. How many items came
-    /// before that isn't said, as no caller can see it.
+    /// It returns `Count` if there is a 16381st item, and `Memory` if an allocation fails: at an
+    /// item, or after the last one, when the bytes are shared. How many items were read before that
+    /// isn't specified, as no caller can observe it.
     pub fn try_from_iter<I: Iterator<Item = Asn> + Drop>(
         alloc: Global,
         mut iter: I,
@@ -108,7 +108,7 @@ impl ProviderAsns {
         }
     }
 
-    /// The providers whose bytes were written one by one.
+    /// The providers whose bytes were appended one by one.
     fn from_written(bytes: BytesMut) -> Result<Self, ProviderIterError>
         requires { AreProviderBytes bytes.items }
         ensures { MatchResult result (λ p. p ≡ words_of bytes.items)
@@ -120,7 +120,7 @@ impl ProviderAsns {
         }
     }
 
-    /// The providers that these bytes are, four to each.
+    /// The providers with these bytes, four each.
     #[inline(always)]
     pub(crate) fn from_bytes(bytes: Bytes) -> Self
         requires { AreProviderBytes bytes }

@@ -23,7 +23,7 @@ use std::alloc::AllocError;
 /// The type of a router key.
 pub const PDU: u8 = 9;
 
-/// The bytes of a router key before its key info.
+/// The size in bytes of the fixed part of a router key, before its key info.
 pub const FIXED: usize = 32;
 
 /// A router key: `FIXED` bytes and its key info.
@@ -93,11 +93,11 @@ impl RouterKey {
     /// The type of a router key.
     pub const PDU: u8 = PDU;
 
-    /// The bytes of a router key before its key info.
+    /// The size in bytes of the fixed part of a router key, before its key info.
     pub const FIXED: usize = FIXED;
 
-    /// The most bytes of key info that a router key holds: its length field says no more. One that
-    /// is read has at most 65503.
+    /// The greatest number of bytes of key info in a router key, by its length field. A key that is
+    /// read has at most 65503.
     pub const fn max_key_info_size() -> usize
         ensures { result ≡ 4294967263 }
     {
@@ -139,7 +139,7 @@ impl RouterKey {
         identifier
     }
 
-    /// The autonomous system that the key belongs to.
+    /// The autonomous system of the key.
     pub fn asn(&self) -> Asn
         ensures { result ≡ (key_at self.now).key.asn }
     {

@@ -1,5 +1,5 @@
-//! Variable units: a part of a fixed size, and a body (RFC 8210 section 5.10; the ASPA unit as in
-//! the Rust crate).
+//! Variable units: a fixed part and a body (RFC 8210 section 5.10; the ASPA unit as in the Rust
+//! crate).
 
 ghost use Rattle.std.specs.Prelude.{◌≡◌, ◌≤◌, ◌<◌, ◌^◌, ◌+◌, ◌++◌, ◌∷◌, ℕ, List, [], length, take};
 ghost use Rattle.std.specs.Prelude.{◌⊎◌, drop};
@@ -33,7 +33,7 @@ use std::fmt;
 use std::hash::{Hash, Hasher};
 use std::marker::Model;
 
-/// What follows the fixed part of the variable units of one type.
+/// The body of the variable units of one type, which follows the fixed part.
 pub trait Body<const FIXED: usize>: fmt::Debug + Drop {
     /// The bytes of a body.
     ghost items: { Self → List ℕ };
@@ -41,16 +41,16 @@ pub trait Body<const FIXED: usize>: fmt::Debug + Drop {
     /// What holds of each body.
     ghost valid: { Self → Type 0 };
 
-    /// What bytes have to be, to be those of a body.
+    /// Whether bytes are those of a body.
     ghost is_body: { List ℕ → Type 0 };
 
-    /// The fields of a unit, read off its bytes.
+    /// The fields of a unit, by its bytes.
     ghost fields: { List ℕ → Fields };
 
-    /// The type of the unit, as contracts name it.
+    /// The type of the unit, by which contracts name it.
     ghost PDU: { ℕ };
 
-    /// The smallest version of the protocol that has such units, as contracts name it.
+    /// The smallest version of the protocol that has such units, by which contracts name it.
     ghost SMALLEST_VERSION: { ℕ };
 
     /// The type of the unit.
@@ -59,11 +59,11 @@ pub trait Body<const FIXED: usize>: fmt::Debug + Drop {
     /// The smallest version of the protocol that has such units.
     const SMALLEST_VERSION: u8;
 
-    /// The name that `Debug` prints of the unit.
+    /// The name of the unit in `Debug`.
     const NAME: &'static str;
 
-    /// Checks a header, which is taken for one of this type whatever type it names. A whole unit
-    /// whose header is in order has a fixed part and a body that fits.
+    /// Checks a header as that of this type, whatever type it has. A whole unit whose header passes
+    /// has a fixed part and a valid body.
     fn check_header(header: Header) -> Result<(), Fault>
         ensures answer { MatchResult result
             (λ _. (variable_unit PDU).fault (header_bytes header) ≡ None)
@@ -83,12 +83,12 @@ pub trait Body<const FIXED: usize>: fmt::Debug + Drop {
         ensures value { result.now ≡ items self.now }
         ensures short { FIXED + length (items self.now) < 2 ^ 32 };
 
-    /// The same body once more.
+    /// Another handle to the same body.
     fn clone(&self) -> Result<Self, AllocError>
         ensures { IfOk result (λ b. b ≡ self.now) };
 
-    /// The form in this version of what a unit with these bytes means, in two parts: its header,
-    /// and what follows it, which are bytes of the unit.
+    /// The form in this version of the meaning of a unit with these bytes, in two parts: its
+    /// header, and what follows it, which is a slice of the unit.
     fn form_parts(version: u8, unit: &[u8]) -> ([u8; 8], &[u8])
         requires whole { IsWhole (of_type PDU (variable_unit PDU)) unit.now }
         requires least { FIXED ≤ length unit.now }
@@ -99,8 +99,8 @@ pub trait Body<const FIXED: usize>: fmt::Debug + Drop {
     /// The type is that of router keys or that of ASPA units.
     ghost kinds: { (PDU ≡ 9) ⊎ (PDU ≡ 11) };
 
-    /// No rule on lengths can be broken, the version is in its place, and the smallest version that
-    /// has such units is that of each of their meanings.
+    /// Such a unit breaks no rule on lengths, its version is its first byte, and the smallest
+    /// version that has such units is that of each of their meanings.
     ghost meant: { (u : List ℕ) → LengthsAgree (fields u) ×
         ((meaning (fields u)).version ≡ version_field u) ×
         (smallest_version (meaning (fields u)).payload ≡ SMALLEST_VERSION) };
@@ -109,7 +109,8 @@ pub trait Body<const FIXED: usize>: fmt::Debug + Drop {
     ghost sized: { (12 ≤ FIXED) × (FIXED < 2 ^ 32) };
 }
 
-/// A variable unit: a fixed part, with its header, and a body. Its value is the list of its bytes.
+/// A variable unit: a fixed part, which begins with the header, and a body. Its value is the list
+/// of its bytes.
 #[derive(Drop)]
 pub struct VariableUnit<const FIXED: usize, B: Body<FIXED>> {
     fixed: [u8; FIXED],
@@ -138,8 +139,8 @@ impl<const FIXED: usize, B: Body<FIXED>> VariableUnit<FIXED, B> {
 
     /// Reads a unit.
     ///
-    /// Faults, in this order: `Short` or `Reader` inside the header; `UnitType` where its type
-    /// isn't that of the unit, with the header taken; those of `read_payload`, `Memory` among them.
+    /// Faults, in this order: `Short` or `Reader` inside the header; `UnitType`, with the header
+    /// consumed, if the type is another; those of `read_payload`, including `Memory`.
     pub fn read<R: Source>(alloc: Global, reader: &mut R) -> Result<Self, Fault>
         ensures bytes { Reads (of_type B.PDU (variable_unit B.PDU)) [] (by_bytes (λ u. u) result)
             (R.state reader.old) (R.state reader.new) }
@@ -156,10 +157,10 @@ impl<const FIXED: usize, B: Body<FIXED>> VariableUnit<FIXED, B> {
 
     /// Reads what follows the header, which is kept as it is. Its type is not checked.
     ///
-    /// Faults, in this order: those of the header that the unit's type names, with nothing read and
-    /// no memory asked for; `Memory`, with nothing read, where there is no room for the frame that
-    /// the rest is read into; `Short` or `Reader` inside the unit; `Memory`, with the whole unit
-    /// read, where the frame can't be shared. The body is split off it.
+    /// Faults, in this order: those of the header of the unit's type, with nothing read and nothing
+    /// allocated; `Memory`, with nothing read, if the frame for the rest of the unit can't be
+    /// allocated; `Short` or `Reader` inside the unit; `Memory`, with the whole unit read, if the
+    /// frame can't be shared. The body is split off the frame.
     #[inline(always)]
     pub fn read_payload<R: Source>(
         alloc: Global,
@@ -179,11 +180,11 @@ impl<const FIXED: usize, B: Body<FIXED>> VariableUnit<FIXED, B> {
         Ok(Self::from_frame(head, frame))
     }
 
-    /// As `read_payload`, into room that is kept from unit to unit, and without a value of its own:
-    /// answers the bytes of the unit, which lie in the room.
+    /// As `read_payload`, into a buffer that is reused from unit to unit, and without a value of
+    /// its own: it returns the bytes of the unit, which lie in the buffer.
     ///
-    /// The room grows where it is shorter than the unit, and no other memory is asked for. So
-    /// `Memory` comes with nothing read, or not at all.
+    /// The buffer grows if it is shorter than the unit, and nothing else is allocated. So `Memory`
+    /// comes with nothing read.
     #[inline(always)]
     pub fn read_into<'a, R: Source>(
         header: Header,
@@ -210,7 +211,7 @@ impl<const FIXED: usize, B: Body<FIXED>> VariableUnit<FIXED, B> {
         Ok(unit)
     }
 
-    /// The unit of a header and the frame that follows it.
+    /// The unit with a header and the frame that follows it.
     #[inline(always)]
     fn from_frame(head: &[u8], mut frame: Bytes) -> Self
         requires head { length head.now ≡ 8 }
@@ -243,7 +244,7 @@ impl<const FIXED: usize, B: Body<FIXED>> VariableUnit<FIXED, B> {
         (FIXED + self.body.as_slice().len()) as u32
     }
 
-    /// The flags, of which the lowest bit says whether the payload is announced.
+    /// The flags. If the lowest bit is set, the payload is announced.
     #[inline(always)]
     pub fn flags(&self) -> u8
         ensures { result ≡ slice_index self.now 2 }
@@ -270,7 +271,7 @@ impl<const FIXED: usize, B: Body<FIXED>> VariableUnit<FIXED, B> {
     }
 
     /// Another handle to the same unit. It shares the bytes of its body, so nothing is allocated;
-    /// `AllocError` comes if the count of handles is at its maximum.
+    /// it returns `AllocError` if the count of handles is at its maximum.
     pub fn clone(&self) -> Result<Self, AllocError>
         ensures { IfOk result (λ u. u ≡ self.now) }
     {
@@ -299,7 +300,7 @@ impl<const FIXED: usize, B: Body<FIXED>> VariableUnit<FIXED, B> {
     }
 }
 
-/// Writes two pieces, the second after the first.
+/// Writes two pieces, one after the other.
 #[inline(always)]
 pub fn put_parts<W: Sink>(writer: &mut W, front: &[u8], back: &[u8]) -> Result<(), Fault>
     ensures { WritesTo W.Sink result writer.old writer.new (front.now ++ back.now) }
@@ -308,7 +309,7 @@ pub fn put_parts<W: Sink>(writer: &mut W, front: &[u8], back: &[u8]) -> Result<(
     put(writer, back)
 }
 
-/// Writes a header and what follows it over the fixed part.
+/// Copies a header and what follows it to the fixed part.
 #[inline(always)]
 fn join(fixed: &mut [u8], head: &[u8], front: &[u8])
     requires head { length head.now ≡ 8 }
@@ -353,7 +354,7 @@ impl<const FIXED: usize, B: Body<FIXED>> Hash for VariableUnit<FIXED, B> {
     }
 }
 
-/// The header of a router key or an ASPA unit, which has flags where others have a session.
+/// The header of a router key or an ASPA unit, which has flags at the offset of the session field.
 #[inline(always)]
 pub fn flagged_header(version: u8, pdu: u8, flags: u8, size: u32) -> [u8; 8]
     ensures { result ≡ version ∷ pdu ∷ flags ∷ 0 ∷ be size 4 }
