@@ -1,4 +1,4 @@
-//! What breaks the protocol's rules, unit by unit.
+//! Checks units against the protocol's rules, one after the other.
 
 ghost use Rattle.std.specs.Prelude.{◌≡◌, ◌++◌, ◌&&◌, List, [], IfOk, OnOk, Some, None, true, false};
 ghost use Rattle.std.specs.Prelude.{MatchResult};
@@ -34,7 +34,7 @@ use unit_any::AnyUnit;
 
 /// The state of the sequence that is read.
 ///
-/// A sequence goes from a cache response, or from the beginning of the input, to an end of data
+/// A sequence extends from a cache response, or from the beginning of the input, to an end of data
 /// (RFC 8210 section 8).
 #[derive(Drop)]
 pub struct Checker {
@@ -57,10 +57,10 @@ impl Checker {
         }
     }
 
-    /// Puts what the next unit breaks in the place of what was found before, as
+    /// Replaces the former findings by those of the next unit, as
     /// `text_findings::SequenceState::check`.
     ///
-    /// If memory runs out the checker may have seen a part of the unit.
+    /// If memory runs out the checker may have processed a part of the unit.
     pub fn check(&mut self, unit: &AnyUnit, found: &mut Vec<Finding>) -> Result<(), AllocError>
         // As of each unit that is read: `Data` holds nothing else.
         requires { HasAnyFields (any_bytes unit.now) (any_fields unit.now) }
@@ -83,7 +83,7 @@ impl Checker {
         put(self.state.missing(), found)
     }
 
-    /// Keeps the payload that the unit announces, forgets the one that it withdraws, and all if a
+    /// Keeps the payload that the unit announces, and drops the one that it withdraws, or all if a
     /// sequence begins with it. Reports whether the payload that it names was present.
     fn keep(&mut self, unit: &AnyUnit) -> Result<bool, AllocError>
         requires { HasAnyFields (any_bytes unit.now) (any_fields unit.now) }
@@ -117,7 +117,7 @@ impl Checker {
         }
     }
 
-    /// Keeps a payload that is announced, and forgets one that is withdrawn. Reports whether a
+    /// Keeps a payload that is announced, and drops one that is withdrawn. Reports whether a
     /// payload of its name was present.
     fn count(&mut self, action: Action, payload: payload::Payload) -> Result<bool, AllocError>
         requires { action ≡ Announce → IsFit (payload_of payload) }
@@ -177,7 +177,7 @@ fn named(unit: &Payload) -> Result<Option<payload::Payload>, AllocError>
     }
 }
 
-/// The origin of the prefix, if the lengths of its unit make one.
+/// The origin of the prefix, if the lengths of its unit are valid.
 fn origin(made: Result<MaxLenPrefix, PrefixRule>, asn: Asn) -> Option<payload::Payload>
     ensures { MatchResult made
         (λ p. option_map payload_of result ≡ Some (origin_of (record { prefix = p; asn = asn })))
@@ -202,8 +202,8 @@ fn aspa_of(unit: &Aspa) -> Result<payload::Payload, AllocError>
     Ok(payload::Payload::aspa(unit.customer(), unit.providers().clone()?))
 }
 
-/// Announces a payload that a reader accepts, and reports whether one of its name was there: of an
-/// ASPA, one of its customer.
+/// Announces a payload that a reader accepts, and reports whether one of its name was present: for
+/// an ASPA, one of its customer.
 fn announce(announced: &mut Data, payload: payload::Payload) -> Result<bool, AllocError>
     requires { IsFit (payload_of payload) }
     ensures there { IfOk result (λ b. b ≡ has_name announced.old (payload_of payload)) }

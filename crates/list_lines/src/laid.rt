@@ -1,4 +1,4 @@
-//! Texts of units, as `text_lines` lays them over slices.
+//! Texts of units, as `text_lines` writes them into slices.
 
 ghost use Rattle.std.specs.Prelude.{ℕ, List, ◌++◌, decimal};
 ghost use Rattle.rtr_base.specs.PlainTexts.{address_text, prefix_text};
@@ -11,13 +11,13 @@ ghost use Rattle.text_lines.specs.TextLines.{payload_said, unit_text};
 use rtr_base::addr::Prefix;
 use text_lines::{Listed, ListedPayload, addresses, laying};
 
-/// A text that can be laid over a slice.
+/// A text that can be written into a slice.
 pub(crate) trait Laid {
     /// The text.
     ghost text: { Self → List ℕ };
 
-    /// Lays the text over the output from this place on, as far as there is room, and returns where
-    /// it ends.
+    /// Writes the text to the output from offset `at` on, as much of it as fits, and returns the
+    /// offset of its end.
     fn lay(&self, output: &mut [u8], at: usize) -> usize
         ensures { Lays (text self.now) at output.old result output.new };
 }
@@ -66,7 +66,7 @@ impl Laid for PrefixText {
     }
 }
 
-/// Lays the address of a prefix.
+/// Writes the address of a prefix.
 fn lay_address(output: &mut [u8], at: usize, prefix: Prefix) -> usize
     ensures { Lays (address_text prefix.family prefix.address) at output.old result output.new }
 {
@@ -107,7 +107,7 @@ impl<'a> Laid for UnitJson<'a> {
     }
 }
 
-/// What a payload unit announces or withdraws, in words.
+/// The payload that a unit announces or withdraws, in words.
 #[derive(Clone, Copy)]
 pub(crate) struct PayloadText<'a> {
     pub unit: ListedPayload<'a>,
@@ -121,7 +121,7 @@ impl<'a> Laid for PayloadText<'a> {
     }
 }
 
-/// What a payload unit announces or withdraws, as a JSON object.
+/// The payload that a unit announces or withdraws, as a JSON object.
 #[derive(Clone, Copy)]
 pub(crate) struct PayloadJson<'a> {
     pub unit: ListedPayload<'a>,

@@ -1,5 +1,5 @@
-//! What the program `rtr_list` prints unit by unit, over any reader and writers: a line of each, or
-//! what breaks the protocol's rules. For other programs it has the words of a payload.
+//! The output of the program `rtr_list` unit by unit, over any reader and writers: a line of each
+//! unit, or the rules that it breaks. Other programs use its text of a payload.
 #![tactic(auto)]
 
 mod check;

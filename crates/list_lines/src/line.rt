@@ -20,21 +20,21 @@ use std::fmt;
 use std::fmt::Display;
 use std::marker::Model;
 
-/// The lowest byte that a line has before its line feed.
+/// The lowest byte in a line before its line feed.
 const SPACE: u8 = b' ';
 
-/// How many bytes are looked at at once.
+/// The number of bytes that are checked at once.
 const BLOCK: usize = 32;
 
-/// The room that is made beyond what is needed.
+/// The number of bytes that are allocated beyond what is needed.
 const MORE_ROOM: usize = 512;
 
-/// Says that a call failed, and has kept its fault where it was asked to. A `Fault` is large: an
-/// answer without it isn't copied through memory.
+/// The error of a call that failed and stored its fault where the caller asked. A `Fault` is large:
+/// a result without it isn't copied through memory.
 #[derive(Clone, Copy)]
 pub(crate) struct Failed;
 
-/// Keeps the fault of a call that fails.
+/// Stores the fault of a call that fails.
 #[inline(always)]
 pub(crate) fn keep(fault: Fault, failure: &mut Fault) -> Failed
     ensures { failure.new ≡ fault }
@@ -43,10 +43,10 @@ pub(crate) fn keep(fault: Fault, failure: &mut Fault) -> Failed
     Failed
 }
 
-/// A line that is made of pieces, in memory that it uses again.
+/// A line made of pieces, in memory that is reused.
 #[derive(Drop)]
 pub struct Line {
-    /// The bytes of the line, and after them room for more.
+    /// The bytes of the line, and unused bytes after them.
     room: Vec<u8>,
     /// The length of the line.
     len: usize,
@@ -73,14 +73,14 @@ impl Line {
         }
     }
 
-    /// The bytes of the line, which are lent.
+    /// The bytes of the line, borrowed.
     pub fn as_bytes(&self) -> &[u8]
         ensures { result.now ≡ self.now }
     {
         &self.room[..self.len]
     }
 
-    /// Takes all pieces away.
+    /// Removes all pieces.
     pub fn clear(&mut self)
         ensures { self.new ≡ [] }
     {
@@ -125,8 +125,8 @@ impl Line {
         self.lay(&Bytes { bytes: &[byte] })
     }
 
-    /// Adds a text that is laid over a slice: over the room after the line, and again over more
-    /// where it takes that.
+    /// Adds a text that is written into the unused bytes after the line, or if it doesn't fit,
+    /// again after they have grown.
     #[inline(always)]
     pub(crate) fn lay<T: Laid>(&mut self, text: &T) -> Result<(), AllocError>
         ensures { OnOk result (self.new ≡ self.old ++ T.text text.now) }
@@ -139,7 +139,7 @@ impl Line {
         self.lay_over_more(text, end)
     }
 
-    /// Adds a text that ends at this place, over more room than there is.
+    /// Adds a text that ends at this offset, after growing the line.
     fn lay_over_more<T: Laid>(&mut self, text: &T, end: usize) -> Result<(), AllocError>
         requires { end ≡ text_end (length self.old) (T.text text.now) }
         ensures { OnOk result (self.new ≡ self.old ++ T.text text.now) }
@@ -162,7 +162,7 @@ impl Line {
         }
     }
 
-    /// Ends the line. Bytes below 32 in it, of which its texts have none, are made spaces, so that
+    /// Ends the line. Bytes below 32 in it, which its texts never contain, become spaces, so that
     /// it is one line.
     #[tactic(auto, unfolding(crate::specs::Lines::written_line))]
     fn end(&mut self) -> Result<(), AllocError>
@@ -172,8 +172,8 @@ impl Line {
         self.byte(b'\n')
     }
 
-    /// Ends the line and writes it, or keeps why it fails: `Memory` says that nothing was written,
-    /// `Writer` that a part was.
+    /// Ends the line and writes it, or stores why that fails: after `Memory` nothing was written,
+    /// after `Writer` a part was.
     pub(crate) fn put<W: Sink>(&mut self, writer: &mut W, failure: &mut Fault) -> Result<(), Failed>
         ensures bytes { PutsLine self.old (returned result failure.new)
             (W.state writer.old) (W.state writer.new) }
@@ -200,8 +200,8 @@ impl fmt::Write for Line {
     }
 }
 
-/// Makes bytes below 32 of the line that this room begins with spaces, and those after it up to the
-/// end of a block, since whole blocks take the fewest instructions.
+/// Replaces bytes below 32 of the line at the front by spaces, and those after it up to the end of
+/// a block, since whole blocks take the fewest instructions.
 fn clear_line(room: &mut [u8], len: usize)
     requires { len ≤ length room.old }
     ensures line { take len room.new ≡ map (λ byte. max byte 32) (take len room.old) }
@@ -215,7 +215,7 @@ fn clear_line(room: &mut [u8], len: usize)
     clear_controls(&mut room[..blocks]);
 }
 
-/// Makes bytes below 32 spaces.
+/// Replaces bytes below 32 by spaces.
 fn clear_controls(text: &mut [u8])
     ensures { text.new ≡ map (λ byte. max byte 32) text.old }
 {

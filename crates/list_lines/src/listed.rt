@@ -1,4 +1,4 @@
-//! Units as they are listed, lent by units that own their parts.
+//! Units as they are listed, borrowed from units that own their parts.
 
 ghost use Rattle.std.specs.Prelude.{◌≡◌, drop, slice_index};
 ghost use Rattle.rtr_units.specs.Header.{session_field, version_field};
@@ -18,7 +18,7 @@ use rtr_units::unit::Unit;
 use text_lines::{Listed, ListedAspa, ListedKey, ListedPayload, ListedReport};
 use unit_any::{AnyUnit, Report};
 
-/// The unit with its fields as they stand in it.
+/// The unit with its fields as they are in it.
 pub fn listed(unit: &AnyUnit) -> Listed<'_>
     ensures { fields_listed result ≡ any_fields unit.now }
 {
@@ -34,7 +34,7 @@ pub fn listed(unit: &AnyUnit) -> Listed<'_>
     }
 }
 
-/// The payload unit with its fields as they stand in it.
+/// The payload unit with its fields as they are in it.
 pub(crate) fn listed_payload(unit: &Payload) -> ListedPayload<'_>
     ensures { payload_listed result ≡ unit_fields unit.now }
 {
@@ -47,7 +47,7 @@ pub(crate) fn listed_payload(unit: &Payload) -> ListedPayload<'_>
     }
 }
 
-/// The key whose byte 3 is given.
+/// The key, with this byte 3.
 fn listed_key(key: &RouterKey, free: u8) -> ListedKey<'_>
     requires { free ≡ (key_at key.now).free }
     ensures { key_listed result ≡ key_unit (key_at key.now) }
@@ -62,7 +62,7 @@ fn listed_key(key: &RouterKey, free: u8) -> ListedKey<'_>
     }
 }
 
-/// The ASPA unit whose byte 3 is given.
+/// The ASPA unit, with this byte 3.
 fn listed_aspa(aspa: &Aspa, free: u8) -> ListedAspa<'_>
     requires { free ≡ (aspa_at aspa.now).free }
     ensures { aspa_listed result ≡ aspa_unit (aspa_at aspa.now) }
@@ -87,7 +87,7 @@ fn listed_report(report: &Report) -> ListedReport<'_>
     }
 }
 
-/// The byte at the place, or 0 where there is none.
+/// The byte at the offset, or 0 if there is none.
 fn byte_at(bytes: &[u8], place: usize) -> u8
     ensures { result ≡ slice_index bytes.now place }
 {

@@ -1,4 +1,4 @@
-//! What a payload unit announces or withdraws, as a line of its own in the words of the unit's
+//! The payload that a unit announces or withdraws, as a line of its own in the words of the unit's
 //! line.
 
 ghost use Rattle.std.specs.Prelude.{◌≡◌, ◌++◌, OnOk};
@@ -12,7 +12,7 @@ use crate::listed::listed_payload;
 use rtr_payload::pdu::Payload;
 use std::alloc::AllocError;
 
-/// Adds what the unit announces or withdraws: a space, its kind and its parts.
+/// Adds the payload that the unit announces or withdraws: a space, its kind and its parts.
 pub fn describe_payload(line: &mut Line, unit: &Payload) -> Result<(), AllocError>
     ensures { OnOk result (line.new ≡ line.old ++ payload_said (unit_fields unit.now)) }
 {
@@ -21,7 +21,7 @@ pub fn describe_payload(line: &mut Line, unit: &Payload) -> Result<(), AllocErro
     })
 }
 
-/// Adds the JSON object of what the unit announces or withdraws.
+/// Adds the JSON object of the payload that the unit announces or withdraws.
 pub fn describe_payload_json(line: &mut Line, unit: &Payload) -> Result<(), AllocError>
     ensures { OnOk result (line.new ≡ line.old ++ payload_json (unit_fields unit.now)) }
 {

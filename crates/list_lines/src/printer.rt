@@ -27,13 +27,13 @@ use std::alloc::{AllocError, Global};
 use text_findings::Finding;
 use unit_any::AnyUnit;
 
-/// Prints units one after the other, in memory that it uses again for each.
+/// Prints units one after the other, in memory that is reused for each.
 #[derive(Drop)]
 pub struct Printer {
-    /// The number of bytes of the units before, which stays at the greatest number.
+    /// The number of bytes of the units before; it saturates.
     offset: u64,
     checker: Checker,
-    /// What the newest unit breaks.
+    /// The rules that the newest unit breaks.
     findings: Vec<Finding>,
     line: Line,
 }
@@ -59,8 +59,8 @@ impl Printer {
         self.offset
     }
 
-    /// Prints the wanted lines of the next unit, and reports whether it breaks a rule, or keeps why
-    /// it fails: `Memory` and `Writer`.
+    /// Prints the requested lines of the next unit, and reports whether it breaks a rule, or stores
+    /// why it fails: `Memory` or `Writer`.
     pub fn print<W: Sink>(
         &mut self,
         wanted: Wanted,
@@ -88,7 +88,7 @@ impl Printer {
         answer
     }
 
-    /// Prints the wanted lines of the unit. Returns as `print`.
+    /// Prints the requested lines of the unit. Returns as `print`.
     fn print_lines<W: Sink>(
         &mut self,
         wanted: Wanted,
@@ -112,8 +112,8 @@ impl Printer {
         }
     }
 
-    /// Prints the wanted lines at the end of the input, and reports whether a rule is broken, or
-    /// keeps why it fails, as `print`.
+    /// Prints the requested lines at the end of the input, and reports whether a rule is broken, or
+    /// stores why it fails, as `print`.
     pub fn finish<W: Sink>(
         &mut self,
         wanted: Wanted,
@@ -216,7 +216,7 @@ impl Printer {
     }
 }
 
-/// A listed unit breaks no rule that is looked for.
+/// The result of listing a unit, for which no rules are checked.
 fn unbroken(line: Result<(), Failed>) -> Result<bool, Failed>
     ensures text { (failure : Fault) → (text : List ℕ) → (old new : WriterState) →
         PutsLine text (returned line failure) old new →
@@ -233,7 +233,7 @@ fn unbroken(line: Result<(), Failed>) -> Result<bool, Failed>
     }
 }
 
-/// Writes a line of each finding, and reports whether there is one, or keeps why it fails.
+/// Writes a line of each finding, and reports whether there is one, or stores why it fails.
 fn put_findings<W: Sink>(
     findings: &[Finding],
     offset: u64,

@@ -16,7 +16,7 @@ use std::io;
 use std::io::Write;
 use unit_any::AnyUnit;
 
-/// What a run is asked to print.
+/// What a run prints.
 #[derive(Clone, Copy)]
 pub enum Wanted {
     /// A line for people of each unit.
@@ -27,7 +27,7 @@ pub enum Wanted {
     Findings,
 }
 
-/// What the words after the program's name ask for.
+/// The form that the words after the program's name ask for.
 pub fn form_wanted(words: &[String]) -> Option<Wanted>
     ensures { result ≡ wanted_by_words words.now }
 {
@@ -42,16 +42,16 @@ pub fn form_wanted(words: &[String]) -> Option<Wanted>
     }
 }
 
-/// Reads units up to the end of the input and prints what is wanted of each, flushes the output
-/// once, and returns the exit status:
+/// Reads units up to the end of the input and prints the requested lines of each, flushes the
+/// output once, and returns the exit status:
 /// - 0 if all that succeeded and no broken rule was found;
 /// - 1 if one was found, or the input has a fault;
 /// - 3 if reading, writing, flushing or memory failed.
 ///
 /// A fault and status 3 come with a line on `faults`, which begins with the program's name, and has
-/// that of the file if reading it failed; a broken pipe is not reported. Where broken rules are
-/// wanted, a last line says how many units and answers were looked at. If a line can't be written,
-/// nothing else changes.
+/// that of the file if reading it failed; a broken pipe is not reported. If broken rules are
+/// requested, a last line states how many units and answers were checked. If a line can't be
+/// written, nothing else changes.
 pub fn print_units<R: Source, W: Sink, F: Write>(
     alloc: Global,
     subject: Subject<'_>,
@@ -81,12 +81,12 @@ pub fn print_units<R: Source, W: Sink, F: Write>(
     status
 }
 
-/// How many units were looked at.
+/// The numbers of units and answers that were checked.
 #[derive(Clone, Copy)]
 struct Counts {
-    /// The units.
+    /// The number of units.
     units: u64,
-    /// The ends of data among them, which are as many as the answers.
+    /// The number of ends of data among them, which is that of the answers.
     answers: u64,
 }
 
@@ -100,14 +100,14 @@ impl Counts {
     }
 }
 
-/// Says how many units were looked at.
+/// Reports how many units were checked.
 fn tell_counts<F: Write>(name: &str, counts: Counts, faults: &mut F) {
     let units = counts.units;
     let answers = counts.answers;
     let _ = writeln!(faults, "{name}: looked at units {units}, answers {answers}");
 }
 
-/// Says what failed, if something did, and returns the exit status.
+/// Reports what failed, if something did, and returns the exit status.
 fn tell<F: Write>(
     subject: Subject<'_>,
     answer: Result<bool, Fault>,
@@ -131,9 +131,9 @@ fn tell<F: Write>(
     }
 }
 
-/// Says what the fault is, with the place of its unit where it is the input's, and returns the exit
-/// status. Where the flush after it failed, that is said of the output alone: reading may have
-/// failed since it flushes first.
+/// Reports the fault, with the offset of its unit if it is the input's, and returns the exit
+/// status. If the flush after it failed, only the output is named: reading may have failed since it
+/// flushes first.
 fn tell_fault<F: Write>(
     subject: Subject<'_>,
     fault: &Fault,
@@ -173,7 +173,7 @@ fn fault_status(fault: &Fault) -> u8
     }
 }
 
-/// Prints what is wanted of each unit, counts it, and reports whether a rule was found broken.
+/// Prints the requested lines of each unit, counts it, and reports whether a broken rule was found.
 fn list<R: Source, W: Sink>(
     alloc: Global,
     wanted: Wanted,

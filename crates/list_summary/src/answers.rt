@@ -1,4 +1,4 @@
-//! The answers of a recording: what an end of data ends.
+//! The answers of a recording, each closed by an end of data.
 
 ghost use Rattle.std.specs.Prelude.{◌≡◌, ◌+◌, ◌-◌, ◌∷◌, ◌++◌, ◌^◌, [], IfOk, OnOk, min};
 ghost use Rattle.std.specs.Prelude.{true, false};
@@ -14,32 +14,32 @@ use rtr_units::end::EndOfData;
 use std::alloc::{AllocError, Global};
 use unit_any::AnyUnit;
 
-/// An answer that is ended.
+/// A closed answer.
 #[derive(Clone, Copy, Drop)]
 pub struct Answer {
     /// The session of its end of data.
     pub session: u16,
     /// The serial number of its end of data.
     pub serial: u32,
-    /// How many of its units announce.
+    /// The number of its units that announce.
     pub announced: u64,
-    /// How many withdraw.
+    /// The number of its units that withdraw.
     pub withdrawn: u64,
 }
 
-/// The answers so far, unless memory for one of them failed.
+/// The answers so far, unless an allocation for one of them failed.
 #[derive(Drop)]
 pub struct Answers {
     ended: Vec<Answer>,
     is_whole: bool,
-    /// How many units of the open answer announce.
+    /// The number of units of the open answer that announce.
     announced: u64,
-    /// How many of them withdraw.
+    /// The number of units of the open answer that withdraw.
     withdrawn: u64,
 }
 
 impl Answers {
-    /// No unit came.
+    /// The state before the first unit.
     pub fn new(alloc: Global) -> Answers
         ensures { HasAnswered result [] }
     {
@@ -51,8 +51,8 @@ impl Answers {
         }
     }
 
-    /// Takes the unit: an end of data ends an answer, and after it and after a cache response
-    /// another one is open, of which payload units count.
+    /// Takes the unit: an end of data closes an answer; after it, and after a cache response, a new
+    /// one is open, in which payload units are counted.
     pub fn add(&mut self, unit: &AnyUnit)
         ensures more { AnswersMore (any_fields unit.now) self.old self.new }
         ensures memory { FailsAtEnd (any_fields unit.now) self.old self.new }
@@ -69,7 +69,7 @@ impl Answers {
         }
     }
 
-    /// The answers that are ended. An error where memory failed.
+    /// The closed answers, or an error if an allocation failed.
     pub fn ended(&self) -> Result<&[Answer], AllocError>
         ensures whole { OnOk result (self.now.is_whole ≡ true) }
         ensures rows { IfOk result (λ rows. rows.now ≡ self.now.ended.items) }
@@ -81,7 +81,7 @@ impl Answers {
         }
     }
 
-    /// Ends the open answer, and opens another.
+    /// Closes the open answer, and opens another.
     fn end(&mut self, end: &EndOfData)
         ensures whole { self.new.is_whole ≡ true → self.old.is_whole ≡ true }
         ensures ended { self.new.is_whole ≡ true →

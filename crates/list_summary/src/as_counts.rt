@@ -9,10 +9,10 @@ use rtr_base::asn::Asn;
 use std::alloc::{AllocError, Global};
 use std::collections::BTreeMap;
 
-/// How many of the largest ASes there are at most.
+/// The greatest number of largest ASes that are listed.
 const MOST: usize = 10;
 
-/// How often each AS came, unless memory for one of them failed.
+/// How often each AS came, unless an allocation for one of them failed.
 #[derive(Drop)]
 pub struct AsCounts {
     counts: BTreeMap<Asn, u64>,
@@ -20,7 +20,7 @@ pub struct AsCounts {
 }
 
 impl AsCounts {
-    /// No AS came.
+    /// No counts.
     pub fn new(alloc: Global) -> AsCounts
         ensures { (k : ℕ) → as_count result.counts k ≡ 0 }
     {
@@ -40,8 +40,8 @@ impl AsCounts {
         }
     }
 
-    /// The numbers of the largest ASes with their counts, those with the greatest first. An error
-    /// where memory failed, for these or before.
+    /// The numbers of the largest ASes with their counts, the greatest first, or an error if an
+    /// allocation failed, now or before.
     pub fn largest(&self, alloc: Global) -> Result<Vec<(u32, u64)>, AllocError>
         ensures whole { OnOk result (self.now.is_whole ≡ true) }
         ensures rows { IfOk result (λ rows. rows.items ≡ largest (as_count self.now.counts)) }
@@ -54,7 +54,7 @@ impl AsCounts {
     }
 }
 
-/// Counts the AS once more, and reports whether there was memory for it.
+/// Increases the count of the AS, and reports whether memory sufficed.
 fn raise(counts: &mut BTreeMap<Asn, u64>, asn: Asn) -> bool
     ensures { result ≡ true → (k : ℕ) →
         as_count counts.new k ≡ one_more (Some asn) (as_count counts.old) k }
@@ -83,8 +83,8 @@ fn largest(alloc: Global, counts: &BTreeMap<Asn, u64>) -> Result<Vec<(u32, u64)>
     Ok(rows)
 }
 
-/// Inserts the row behind those with as high a count or a higher one, unless ten of them are there,
-/// and keeps the first ten.
+/// Inserts the row after those with an equal or higher count, unless ten of them are there, and
+/// keeps the first ten.
 fn rank(rows: &mut Vec<(u32, u64)>, row: (u32, u64)) -> Result<(), AllocError>
     ensures { OnOk result (rows.new.items ≡ take 10 (ranked row rows.old.items)) }
 {
@@ -96,7 +96,7 @@ fn rank(rows: &mut Vec<(u32, u64)>, row: (u32, u64)) -> Result<(), AllocError>
     Ok(())
 }
 
-/// The place behind the rows that count as much or more.
+/// The index after the rows with an equal or higher count.
 fn place_of(rows: &[(u32, u64)], count: u64) -> usize
     ensures { result ≡ position_or_len (λ row. nat_lt row.1 count) rows.now }
 {

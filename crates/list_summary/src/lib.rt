@@ -1,5 +1,5 @@
-//! What `rtr_list --summary` prints: how many units of each kind and prefix length there are, which
-//! answers, and which ASes announce most, over any reader and writers.
+//! The output of `rtr_list --summary`: how many units of each kind and prefix length there are,
+//! which answers, and which ASes announce most, over any reader and writers.
 #![tactic(auto)]
 
 mod answers;

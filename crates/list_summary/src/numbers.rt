@@ -1,4 +1,4 @@
-//! The numbers of a unit by which it is counted.
+//! The values by which a unit is counted.
 
 ghost use Rattle.std.specs.Prelude.{◌≡◌};
 ghost use Rattle.rtr_payload.specs.UnitBytes.{unit_fields};
@@ -43,7 +43,7 @@ fn payload_type(unit: &Payload) -> u8
     }
 }
 
-/// Whether the unit announces something.
+/// Whether the unit announces a payload.
 fn announces(unit: &AnyUnit) -> bool
     ensures { result ≡ announces (any_fields unit.now) }
 {
@@ -59,7 +59,7 @@ fn announces(unit: &AnyUnit) -> bool
     }
 }
 
-/// Whether a payload unit announces: otherwise it withdraws.
+/// Whether a payload unit announces; otherwise it withdraws.
 pub fn payload_announces(unit: &Payload) -> bool
     ensures { result ≡ announces (payload (unit_fields unit.now)) }
 {
@@ -69,14 +69,14 @@ pub fn payload_announces(unit: &Payload) -> bool
     }
 }
 
-/// The type of a unit that announces something.
+/// The type of a unit, if it announces a payload.
 pub fn announced_type(unit: &AnyUnit) -> Option<u8>
     ensures { result ≡ announced_type (any_fields unit.now) }
 {
     announces(unit).then_some(type_of(unit))
 }
 
-/// The type of a unit that doesn't.
+/// The type of a unit, if it doesn't announce a payload.
 pub fn other_type(unit: &AnyUnit) -> Option<u8>
     ensures { result ≡ other_type (any_fields unit.now) }
 {
@@ -110,7 +110,7 @@ fn payload_length(kind: u8, unit: &Payload) -> Option<u8>
     }
 }
 
-/// The AS whose prefix the unit announces.
+/// The AS of the prefix that the unit announces.
 pub fn announced_as(unit: &AnyUnit) -> Option<Asn>
     ensures { result ≡ announced_as (any_fields unit.now) }
 {

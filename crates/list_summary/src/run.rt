@@ -26,8 +26,8 @@ use unit_any::AnyUnit;
 ///
 /// A fault and status 3 come with a line on `faults`, which begins with the program's name, and has
 /// that of the file if reading it failed. A broken pipe is not reported. If a line can't be
-/// written, nothing else changes. Where memory for the text, an answer or the count of an AS can't
-/// be had nothing is printed.
+/// written, nothing else changes. If an allocation for the text, an answer or the count of an AS
+/// fails, nothing is printed.
 pub fn summarise<R: Source, W: Sink, F: Write>(
     alloc: Global,
     subject: Subject<'_>,
@@ -70,8 +70,8 @@ fn read_units<R: Source>(alloc: Global, summary: &mut Summary, input: &mut R) ->
     Err(Fault::TooMany)
 }
 
-/// Prints the text, flushes the output, and returns the status: by how reading ended, at this
-/// offset, where that succeeds.
+/// Prints the text, flushes the output, and returns the status: if that succeeds, that of how
+/// reading ended, at this offset.
 fn print<W: Sink, F: Write>(
     subject: Subject<'_>,
     text: &[u8],
@@ -96,7 +96,7 @@ fn print<W: Sink, F: Write>(
     }
 }
 
-/// Says why reading stopped before the end of the input, if it did, and returns the status for
+/// Reports why reading stopped before the end of the input, if it did, and returns the status for
 /// that.
 fn tell<F: Write>(
     subject: Subject<'_>,
@@ -113,8 +113,8 @@ fn tell<F: Write>(
     }
 }
 
-/// Says what the fault is, with the place of its unit where it is the input's, and returns the
-/// status for that.
+/// Reports the fault, with the offset of its unit if it is the input's, and returns the status for
+/// that.
 fn tell_fault<F: Write>(subject: Subject<'_>, fault: &Fault, offset: u64, faults: &mut F) -> u8
     ensures { result ≡ listing_status (Err (cause_of fault.now)) }
 {

@@ -14,12 +14,12 @@ use rtr_units::prefixes::{Ipv4Prefix, Ipv6Prefix};
 use std::alloc::Global;
 use unit_any::AnyUnit;
 
-/// What was counted of the units so far.
+/// The counts of the units so far.
 #[derive(Drop)]
 pub struct Summary {
-    /// Their bytes, which stay at 2^64 - 1.
+    /// The number of their bytes; it saturates at 2^64 - 1.
     pub bytes: u64,
-    /// The units.
+    /// The number of units.
     pub units: u64,
     /// The units that announce, by their type.
     pub announced: Tally,
@@ -27,7 +27,7 @@ pub struct Summary {
     pub others: Tally,
     /// The IPv4 prefixes that are announced, by their length.
     pub v4_lengths: Tally,
-    /// The same of IPv6.
+    /// The IPv6 prefixes that are announced, by their length.
     pub v6_lengths: Tally,
     /// The prefixes that are announced, by their AS.
     pub ases: AsCounts,
@@ -36,7 +36,7 @@ pub struct Summary {
 }
 
 impl Summary {
-    /// The summary of no unit.
+    /// The summary before the first unit.
     pub fn new(alloc: Global) -> Summary
         ensures { Sums result [] }
     {

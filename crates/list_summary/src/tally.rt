@@ -10,7 +10,7 @@ pub struct Tally {
 }
 
 impl Tally {
-    /// No byte came.
+    /// No counts.
     pub fn new() -> Tally
         ensures long { length result.counts ≡ 256 }
         ensures each { (k : ℕ) → k < 256 → slice_index result.counts k ≡ 0 }
@@ -28,7 +28,7 @@ impl Tally {
         }
     }
 
-    /// How often the byte came that is this number.
+    /// How often the byte with this number came.
     pub fn get(&self, number: usize) -> u64
         requires { number < 256 }
         ensures { result ≡ slice_index self.now.counts number }

@@ -16,7 +16,7 @@ use crate::tally::Tally;
 use list_lines::Line;
 use std::alloc::{AllocError, Global};
 
-/// Adds the lines of the summary of units, after which the input ended, or did not.
+/// Adds the lines of the summary of units, after which the input ended or not.
 #[tactic(auto, unfolding(crate::specs::Summaries::number_lines))]
 pub fn add_summary(
     alloc: Global,
@@ -43,7 +43,7 @@ fn add_count(line: &mut Line, name: &str, count: u64) -> Result<(), AllocError>
     line.text("\n")
 }
 
-/// Adds how much was read.
+/// Adds the numbers of bytes and units that were read.
 #[tactic(auto, unfolding(crate::specs::Summaries::size_lines))]
 fn add_sizes(line: &mut Line, is_complete: bool, bytes: u64, units: u64) -> Result<(), AllocError>
     ensures { OnOk result (line.new ≡ line.old ++ size_lines is_complete bytes units) }
@@ -117,8 +117,8 @@ fn add_others(line: &mut Line, others: &Tally) -> Result<(), AllocError>
     add_count(line, "error report:         ", others.get(10))
 }
 
-/// Adds a line of each answer, or that there is none. An error where memory failed, for these or
-/// before.
+/// Adds a line of each answer, or the line that there is none. Returns an error if an allocation
+/// failed, now or before.
 fn add_answers(line: &mut Line, answers: &Answers) -> Result<(), AllocError>
     ensures whole { OnOk result (answers.now.is_whole ≡ true) }
     ensures lines { OnOk result (line.new ≡ line.old
@@ -185,7 +185,7 @@ fn add_length(line: &mut Line, name: &str, len: u64, count: u64) -> Result<(), A
     add_number(line, name, len, count)
 }
 
-/// Adds the largest ASes. An error where memory failed, for these or before.
+/// Adds the largest ASes. Returns an error if an allocation failed, now or before.
 #[tactic(auto, unfolding(crate::specs::Summaries::as_lines))]
 fn add_ases(alloc: Global, line: &mut Line, ases: &AsCounts) -> Result<(), AllocError>
     ensures whole { OnOk result (ases.now.is_whole ≡ true) }

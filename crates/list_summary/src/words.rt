@@ -1,9 +1,9 @@
-//! Whether a summary is asked for.
+//! Whether the arguments ask for a summary.
 
 ghost use Rattle.std.specs.Prelude.{◌≡◌};
 ghost use Rattle.list_summary.specs.SummaryStatus.{summary_by_words};
 
-/// The word that asks for a summary.
+/// The option for a summary.
 const SUMMARY: &str = "--summary";
 
 /// Whether the words after the program's name ask for a summary.

@@ -11,10 +11,11 @@ use rtr_payload::payload::RouteOrigin;
 use std::alloc::AllocError;
 use std::collections::btree_set;
 
-/// The first row, which names the columns.
+/// The first row, with the names of the columns.
 const HEADER: &str = "ASN,IP Prefix,Max Length\n";
 
-/// Adds the table of the origins: a row that names the columns, and then one for each origin.
+/// Adds the table of the origins: a row with the names of the columns, and then one for each
+/// origin.
 pub fn add_csv(line: &mut Line, payloads: &Data) -> Result<(), AllocError>
     ensures { OnOk result (line.new ≡ line.old ++ csv_text payloads.now) }
 {
@@ -44,7 +45,7 @@ fn add_row(line: &mut Line, origin: RouteOrigin) -> Result<(), AllocError>
     line.text("\n")
 }
 
-/// How many payloads have no row.
+/// The numbers of payloads without a row.
 #[derive(Clone, Copy)]
 pub struct LeftOut {
     /// Router keys.
@@ -53,7 +54,7 @@ pub struct LeftOut {
     pub aspas: usize,
 }
 
-/// How many payloads the table of origins leaves out.
+/// The numbers of payloads that the table of origins leaves out.
 pub fn left_out(payloads: &Data) -> LeftOut
     ensures router_keys { result.router_keys ≡ length (filter is_key payloads.now) }
     ensures aspas { result.aspas ≡ length (filter is_aspa payloads.now) }

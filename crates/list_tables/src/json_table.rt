@@ -32,14 +32,14 @@ pub fn add_json(alloc: Global, line: &mut Line, payloads: &Data) -> Result<(), A
     line.text("\n]}\n")
 }
 
-/// What stands before an item of an array.
+/// The text before an item of an array.
 fn comma(first: bool) -> &'static str
     ensures { result.now ≡ comma_unless first }
 {
     if first { "" } else { "," }
 }
 
-/// What stands before an item that has a line of its own.
+/// The text before an item that has a line of its own.
 fn before_item(first: bool) -> &'static str
     ensures { result.now ≡ comma_unless first ++ codes "\n" }
 {

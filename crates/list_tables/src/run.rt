@@ -24,11 +24,11 @@ use std::io::Write;
 /// - 1 if the input is refused;
 /// - 3 if reading, writing, flushing or memory failed.
 ///
-/// Nothing is written unless the whole table is made, which takes memory for all of its text.
+/// Nothing is written until the whole table is made, which takes memory for all of its text.
 /// Statuses 1 and 3 come with a line on `faults`, which begins with the program's name, and has
-/// that of the file if reading it failed; status 0 comes with one where payloads are left out, and
-/// with one where an answer is. A broken pipe is not reported. If a line can't be written, nothing
-/// else changes.
+/// that of the file if reading it failed; status 0 comes with one if payloads are left out, and
+/// with one if an answer is dropped. A broken pipe is not reported. If a line can't be written,
+/// nothing else changes.
 pub fn print_table<R: Source, W: Sink, F: Write>(
     alloc: Global,
     subject: Subject<'_>,
@@ -100,7 +100,7 @@ fn add_table(
     }
 }
 
-/// Reports which payloads the table leaves out, if there are some.
+/// Reports which payloads the table leaves out, if any.
 fn report_left_out<F: Write>(name: &str, table: Table, payloads: &Data, faults: &mut F)
     ensures { HasEach table payloads.now → faults.new ≡ faults.old }
 {
@@ -110,7 +110,7 @@ fn report_left_out<F: Write>(name: &str, table: Table, payloads: &Data, faults: 
     }
 }
 
-/// Reports that an answer was left out, if one was.
+/// Reports that an answer was dropped, if one was.
 fn report_cut<F: Write>(name: &str, has_cut: bool, faults: &mut F)
     ensures { has_cut ≡ false → faults.new ≡ faults.old }
 {
@@ -132,7 +132,7 @@ fn report_counts<F: Write>(name: &str, left_out: LeftOut, faults: &mut F)
     }
 }
 
-/// Reports where reading stopped, and why: with the place of the unit where the input is at fault.
+/// Reports where reading stopped, and why, with the offset of the unit if the input is at fault.
 /// Returns the status.
 fn report_stop<F: Write>(subject: Subject<'_>, stop: &Stop, faults: &mut F) -> u8
     ensures { result ≡ refused_status stop.now.cause }
@@ -152,7 +152,7 @@ fn report_stop<F: Write>(subject: Subject<'_>, stop: &Stop, faults: &mut F) -> u
     status
 }
 
-/// The status where reading stopped.
+/// The status for the cause that stopped reading.
 fn refused_status(cause: &StopCause) -> u8
     ensures { result ≡ refused_status cause.now }
 {

@@ -1,9 +1,9 @@
-//! Which table is asked for.
+//! Which table the arguments ask for.
 
 ghost use Rattle.std.specs.Prelude.{◌≡◌};
 ghost use Rattle.list_tables.specs.TableStatus.{table_by_words};
 
-/// In which form a table is printed.
+/// The form of a table.
 #[derive(Clone, Copy)]
 pub enum Table {
     /// Comma-separated values of origins.
@@ -12,7 +12,7 @@ pub enum Table {
     Json,
 }
 
-/// The table that the words after the program's name ask for, if they ask for one.
+/// The table that the words after the program's name ask for, if any.
 pub fn table_wanted(words: &[String]) -> Option<Table>
     ensures { result ≡ table_by_words words.now }
 {

@@ -1,5 +1,5 @@
-//! What the program `rtr_list` does by its words: it lists units, prints tables of what they leave,
-//! or their summary, over any reader and writers.
+//! The program `rtr_list`: by its arguments it lists units, prints tables of the data that they
+//! leave, or their summary, over any reader and writers.
 #![tactic(auto)]
 
 ghost use Rattle.std.specs.Prelude.{◌≡◌, ◌||◌, drop, false, true, IfSome, IsNone, None};
@@ -19,11 +19,11 @@ use std::io::Write;
 
 /// Runs the program with the words that it was started with, its name first, over the input, which
 /// is `file` or standard input. The file isn't among the words. Returns the exit status: that of
-/// `list_tables::print_table` where they ask for a table, of `list_summary::summarise` where they
-/// ask for a summary, and of `list_lines::print_units` where they ask for units or broken rules.
-/// Where they ask for help or the version it is 0, or 3 where that can't be written. Otherwise a
-/// line on `faults` says which word is wrong, or how the program is called, as it does where there
-/// are no words, since they can't be had as texts, and the status is 2.
+/// `list_tables::print_table` if they ask for a table, of `list_summary::summarise` if they ask for
+/// a summary, and of `list_lines::print_units` if they ask for units or broken rules. If they ask
+/// for help or the version it is 0, or 3 if that can't be written. Otherwise a line on `faults`
+/// states which word is wrong, or the usage, and the status is 2; so it is if there are no words
+/// because they aren't text.
 pub fn program<R: Source, W: Sink, F: Write>(
     alloc: Global,
     manual: &Manual,
@@ -84,7 +84,7 @@ pub fn program<R: Source, W: Sink, F: Write>(
     about(manual, words, FAILED, output, faults)
 }
 
-/// Whether the words after the program's name ask for something that is read from its input.
+/// Whether the words after the program's name make the program read its input.
 pub fn reads_input(words: &[String]) -> bool
     ensures { result ≡ (is_some (table_by_words words.now) || summary_by_words words.now ||
         is_some (wanted_by_words words.now)) }

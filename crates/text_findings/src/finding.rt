@@ -1,12 +1,13 @@
-//! What can break the protocol's rules in a unit or a sequence.
+//! The rules of the protocol that a unit or a sequence can break.
 
 use session_times::TimeRule;
 use std::fmt;
 
-/// A rule that a unit breaks. Places count from 0 in the unit.
+/// A rule that a unit breaks. Offsets count from 0 in the unit.
 #[derive(Clone, Copy, Debug)]
 pub enum Finding {
-    /// A byte that the unit's type reserves must be zero (RFC 8210 section 5.1).
+    /// The byte at this offset, which the unit's type reserves, must be zero (RFC 8210 section
+    /// 5.1).
     Reserved(u8),
     /// All bits of the flags but the lowest must be zero (RFC 8210 section 5.1).
     Flags,
@@ -16,7 +17,7 @@ pub enum Finding {
     MaxLength,
     /// A max length is no less than the prefix length (RFC 8210 section 5.1).
     MaxBelow,
-    /// A prefix has no bits after its length (this program's own).
+    /// A prefix has no bits after its length: this program's own rule.
     HostBits,
     /// A sequence has one version (RFC 8210 section 7).
     Version(u8, u8),
@@ -35,23 +36,23 @@ pub enum Finding {
     Twice,
     /// The providers of an ASPA unit ascend: this program's own rule.
     ProviderOrder,
-    /// The two parts of an error report and their lengths make it up (RFC 8210 section 5.11).
+    /// The two parts of an error report and their lengths fill it exactly (RFC 8210 section 5.11).
     ReportParts,
     /// The text of an error report is UTF-8 (RFC 8210 section 5.11).
     ReportText,
     /// No error report is sent about an error report (RFC 8210 section 5.11).
     ReportOfReport,
-    /// The times of an end of data are within their bounds, and data stay for longer than a router
-    /// waits (RFC 8210 section 6): the first rule that isn't kept.
+    /// The times of an end of data are within their bounds, and the data expire later than a router
+    /// waits (RFC 8210 section 6): the first rule that is broken.
     Times(TimeRule),
 }
 
-/// How the bytes of an ASPA unit that is withdrawn with providers read.
+/// How the bytes of an ASPA unit that is withdrawn with providers can be read.
 #[derive(Clone, Copy, Debug)]
 pub enum Layout {
-    /// As those of the units that are read here.
+    /// In the layout that this program reads.
     AsRead,
-    /// As those of an older draft too, which has flags, a family and the number of providers before
+    /// Also in that of an older draft, which has flags, a family and the number of providers before
     /// the customer.
     LikeOlderDraft,
 }
@@ -99,7 +100,7 @@ impl fmt::Display for Finding {
     }
 }
 
-/// Writes what a finding adds on the layout.
+/// Writes the remark of a finding on the layout.
 impl fmt::Display for Layout {
     ghost use Rattle.std.specs.Prelude.{Some};
     ghost use Rattle.text_findings.specs.FindingTexts.{layout_text};

@@ -1,4 +1,4 @@
-//! Laws of what a caller keeps.
+//! Laws of the set that a caller keeps.
 
 ghost use Rattle.std.specs.Prelude.{◌≡◌, ◌∷◌, List, Some};
 ghost use Rattle.std.specs.Ordering.{is_eq};
@@ -10,8 +10,8 @@ ghost use Rattle.text_findings.specs.KeptNames.{AllFit, IsAnnouncedAs, has_kept}
 ghost use Rattle.text_findings.specs.PayloadNames.{IsNamed, payload_name, unit_name};
 ghost use Rattle.text_findings.specs.SequenceSoFar.{announced, named_by, sequence};
 
-/// Two payloads have one name exactly where they are one to the rules, and the payload that a unit
-/// names is one of which that can be said.
+/// Two payloads have the same name if and only if the rules treat them as one payload, and each
+/// payload that a unit names has such a name.
 pub fn names_are_of_payloads()
     ensures alike { (p q : Payload) → IsNamed p → IsNamed q →
         bytes_eq (payload_name p) (payload_name q) ≡ is_eq (payload_cmp p q) }
@@ -19,8 +19,8 @@ pub fn names_are_of_payloads()
         IsNamed p }
 {}
 
-/// The set of a caller that keeps and drops names as it is told has the names that are announced in
-/// the sequence, and so the findings on the next unit are right.
+/// If a caller adds and removes names as `check` requires, its set holds the names that are
+/// announced in the sequence, and so the findings on the next unit are right.
 pub fn names_are_those_announced()
     ensures kept { (history : List AnyFields) (p : Payload) → AllFit history → IsNamed p →
         has_kept history (payload_name p) ≡ announced (sequence history) p }

@@ -1,5 +1,5 @@
-//! What breaks the protocol's rules, unit by unit, as `rtr_list --check` says it. Nothing
-//! allocates: whoever calls keeps the names of the payloads that are announced.
+//! What breaks the protocol's rules, unit by unit, as `rtr_list --check` reports it. Nothing
+//! allocates: the caller keeps the names of the payloads that are announced.
 #![tactic(auto)]
 
 mod finding;

@@ -1,4 +1,4 @@
-//! The names of payloads, for the set that a caller keeps of what is announced.
+//! The names of payloads, for the caller's set of announced payloads.
 
 ghost use Rattle.std.specs.Prelude.{◌≡◌, ◌++◌, []};
 ghost use Rattle.rtr_base.specs.Addresses.{v4, v6};
@@ -21,7 +21,7 @@ use rtr_units::numbers::u128_bytes;
 use rtr_units::prefixes::{Ipv4Prefix, Ipv6Prefix};
 use text_lines::{Listed, ListedAspa, ListedKey, ListedPayload, laying};
 
-/// Whether a sequence begins with the unit, before which nothing is announced in it.
+/// Whether a sequence begins with the unit, so that nothing is announced before it.
 pub fn begins(unit: &Listed<'_>) -> bool
     ensures { result ≡ begins_sequence (fields_listed unit.now) }
 {
@@ -44,8 +44,8 @@ pub fn announces(unit: &Listed<'_>) -> bool
     }
 }
 
-/// Lays the name of the payload that the unit announces or withdraws over the front of the output,
-/// as far as there is room, and returns where it ends: 0 where the unit names none.
+/// Writes the name of the payload that the unit announces or withdraws to the front of the output,
+/// as much of it as fits, and returns the offset of its end: 0 if the unit names none.
 pub fn lay_name(output: &mut [u8], unit: &Listed<'_>) -> usize
     ensures { Lays (unit_name (fields_listed unit.now)) 0 output.old result output.new }
 {
@@ -95,8 +95,8 @@ fn ipv6_name(output: &mut [u8], unit: &Ipv6Prefix) -> usize
     }
 }
 
-/// Lays the name of an origin: the type of its unit and its lengths, its autonomous system, and its
-/// address.
+/// Writes the name of an origin: the type of its unit and its lengths, its autonomous system, and
+/// its address.
 fn origin_name(output: &mut [u8], front: [u8; 3], asn: u32, address: &[u8]) -> usize
     ensures { Lays (front ++ (be asn 4 ++ address.now)) 0 output.old result output.new }
 {

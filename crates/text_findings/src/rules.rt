@@ -1,4 +1,4 @@
-//! The rules on a unit, and on what is known of its sequence.
+//! The rules on a unit, given the state of its sequence.
 
 ghost use Rattle.std.specs.Prelude.{◌≡◌, ◌==◌, ◌++◌, ◌∷◌, ◌&&◌, [], not, length, MatchResult, Some};
 ghost use Rattle.std.specs.Str.{is_utf8};
@@ -36,7 +36,7 @@ use text_lines::{ListedAspa, ListedKey, ListedPayload, parts_of};
 /// The type of an error report (RFC 8210 section 5.11).
 const REPORT: u8 = 10;
 
-/// The finding, where the rule is broken.
+/// The finding, if the rule is broken.
 fn told(is_broken: bool, finding: Finding) -> Option<Finding>
     ensures { found_in result ≡ rules.told is_broken finding }
 {
@@ -65,7 +65,7 @@ pub(crate) fn sequence_session(begun: Option<u16>, session: u16) -> Option<Findi
     }
 }
 
-/// No answer is open where the next one begins.
+/// No answer is open when the next one begins.
 pub(crate) fn cut_answer(stage: Stage) -> Option<Finding>
     ensures { found_in result ≡ rules.cut_answer stage }
 {
@@ -98,7 +98,7 @@ fn reserved_byte(place: u8, byte: u8) -> Option<Finding>
     told(byte != 0, Finding::Reserved(place))
 }
 
-/// Bytes 2 and 3 are zero, in the place of a session.
+/// Bytes 2 and 3, at the offset of the session field, are zero.
 pub(crate) fn reserved_session(session: u16) -> [Option<Finding>; 2]
     ensures { found_list result ≡ rules.reserved_session session }
 {
@@ -138,7 +138,7 @@ pub(crate) fn announces(flags: u8) -> bool
     }
 }
 
-/// What an IPv4 prefix breaks in a sequence of this version.
+/// The rules that an IPv4 prefix breaks in a sequence of this version.
 pub(crate) fn ipv4(begun: Option<u8>, unit: &Ipv4Prefix, was_there: bool) -> Found
     ensures { found_list result.slots ≡
         rules.differing broken.Version begun (prefix_at v4 (fixed_bytes unit.now)).version
@@ -151,7 +151,7 @@ pub(crate) fn ipv4(begun: Option<u8>, unit: &Ipv4Prefix, was_there: bool) -> Fou
     prefix_found(sequence_version(begun, unit.version()), reserved, own)
 }
 
-/// What an IPv6 prefix breaks in a sequence of this version.
+/// The rules that an IPv6 prefix breaks in a sequence of this version.
 pub(crate) fn ipv6(begun: Option<u8>, unit: &Ipv6Prefix, was_there: bool) -> Found
     ensures { found_list result.slots ≡
         rules.differing broken.Version begun (prefix_at v6 (fixed_bytes unit.now)).version
@@ -164,7 +164,7 @@ pub(crate) fn ipv6(begun: Option<u8>, unit: &Ipv6Prefix, was_there: bool) -> Fou
     prefix_found(sequence_version(begun, unit.version()), reserved, own)
 }
 
-/// All that a prefix breaks, in order.
+/// The rules that a prefix breaks, in order.
 fn prefix_found(
     version: Option<Finding>,
     reserved: [Option<Finding>; 4],
@@ -200,8 +200,8 @@ fn prefix_reserved(session: u16, flags: u8, free: u8) -> [Option<Finding>; 4]
     ]
 }
 
-/// What the lengths and the address of a prefix break, by the prefix that was made of them, and
-/// whether it is announced again.
+/// The rules that the lengths and the address of a prefix break, given the prefix made of them, and
+/// the rule that it is announced once.
 fn prefix_rules(
     made: Result<MaxLenPrefix, PrefixRule>,
     address: u128,
@@ -231,7 +231,7 @@ fn broken_lengths(rule: PrefixRule) -> Finding
     }
 }
 
-/// What a router key breaks in a sequence of this version.
+/// The rules that a router key breaks in a sequence of this version.
 pub(crate) fn router_key(begun: Option<u8>, key: &ListedKey<'_>, was_there: bool) -> Found
     ensures { found_list result.slots ≡
         rules.differing broken.Version begun (payload_version (key_listed key.now))
@@ -253,7 +253,7 @@ pub(crate) fn router_key(begun: Option<u8>, key: &ListedKey<'_>, was_there: bool
     }
 }
 
-/// What an ASPA unit breaks in a sequence of this version.
+/// The rules that an ASPA unit breaks in a sequence of this version.
 pub(crate) fn aspa(begun: Option<u8>, aspa: &ListedAspa<'_>, was_there: bool) -> Found
     ensures { found_list result.slots ≡
         rules.differing broken.Version begun (payload_version (aspa_listed aspa.now))
@@ -317,7 +317,7 @@ fn is_above(last: Option<u32>, provider: u32) -> bool
     }
 }
 
-/// How the bytes of an ASPA unit read.
+/// How the bytes of an ASPA unit can be read.
 fn layout(flags: u8, free: u8, customer: u32, count: usize) -> Layout
     ensures { (u : AspaFields) → u.flags ≡ flags → u.free ≡ free → u.aspa.customer ≡ customer →
         length u.aspa.providers ≡ count → result ≡ rules.layout_of u }
@@ -336,7 +336,8 @@ fn layout(flags: u8, free: u8, customer: u32, count: usize) -> Layout
 
 // ---- error reports
 
-/// The two parts of an error report make it up, its text is UTF-8, and it is about no other report.
+/// The two parts of an error report fill it exactly, its text is UTF-8, and it isn't about another
+/// report.
 pub(crate) fn error_report(body: &[u8]) -> [Option<Finding>; 2]
     ensures { found_list result ≡ rules.report_rules (report_parts body.now) }
 {
@@ -355,7 +356,7 @@ fn report_texts(pdu: &[u8], text: &[u8]) -> [Option<Finding>; 2]
     ]
 }
 
-/// The type of the unit, or 0 where it is cut before that.
+/// The type of the unit, or 0 if it is cut off before that.
 fn type_of(unit: &[u8]) -> u8
     ensures { result ≡ type_field unit.now }
 {

@@ -16,25 +16,25 @@ use rtr_units::end::EndOfData;
 use rtr_units::unit::Unit;
 use text_lines::{Listed, ListedPayload};
 
-/// How many rules a unit can break at most.
+/// The greatest number of rules that a unit can break.
 pub const MOST: usize = 7;
 
-/// Where the units leave the answers.
+/// The position relative to the answers.
 #[derive(Clone, Copy, Debug)]
 pub enum Stage {
-    /// Before the first one, with no query.
+    /// Before the first answer, with no query.
     Before,
-    /// Before the first one, after a query, as in what a router sends.
+    /// Before the first answer, after a query, as in what a router sends.
     Asked,
-    /// Inside one.
+    /// Inside an answer.
     Open,
-    /// After the end of data of one.
+    /// After the end of data of an answer.
     Whole,
 }
 
 /// The state of the sequence that is read, without the payloads that are announced in it.
 ///
-/// A sequence goes from a cache response, or from the beginning of the input, to an end of data
+/// A sequence extends from a cache response, or from the beginning of the input, to an end of data
 /// (RFC 8210 section 8).
 #[derive(Clone, Copy, Debug)]
 pub struct SequenceState {
@@ -42,11 +42,12 @@ pub struct SequenceState {
     pub version: Option<u8>,
     /// The session of the cache response that began the sequence, or of the end of data before it.
     pub session: Option<u16>,
-    /// Where the units leave the answers.
+    /// The position relative to the answers.
     pub stage: Stage,
 }
 
-/// What a unit breaks: a place for each rule, in their order, which is empty where the rule holds.
+/// The rules that a unit breaks: one element for each rule, in their order, which is empty if the
+/// rule holds.
 #[derive(Clone, Copy, Debug)]
 pub struct Found {
     pub slots: [Option<Finding>; MOST],
@@ -64,9 +65,10 @@ impl SequenceState {
         }
     }
 
-    /// What the next unit breaks: first the version of the sequence, then bytes and flags that are
-    /// to be zero, then what its fields say, then the session or the payloads of the sequence. The
-    /// caller says whether the payload that the unit names is announced in the sequence.
+    /// Returns the rules that the next unit breaks: first the version of the sequence, then bytes
+    /// and flags that must be zero, then the values of its fields, then the session or the payloads
+    /// of the sequence. The caller passes whether the payload that the unit names is announced in
+    /// the sequence.
     pub fn check(&self, unit: &Listed<'_>, was_there: bool) -> Found
         ensures { (history : List AnyFields) → self.now ≡ known_after history →
             IsAnnouncedAs was_there (sequence history) (named_by (fields_listed unit.now)) →
@@ -91,7 +93,7 @@ impl SequenceState {
         missing(self.stage)
     }
 
-    /// What the unit breaks.
+    /// The rules that the unit breaks.
     fn found(&self, unit: &Listed<'_>, was_there: bool) -> Found
         ensures { found_list result.slots ≡ found_by self.now was_there (fields_listed unit.now) }
     {
@@ -159,7 +161,7 @@ impl SequenceState {
     }
 }
 
-/// The first two findings, and no more.
+/// The first two findings; the others are empty.
 fn first_of(found: [Option<Finding>; 2]) -> Found
     ensures { found_list result.slots ≡ found_list found }
 {

@@ -8,8 +8,8 @@ ghost use Rattle.text_findings.specs.declared.finding.Finding.TheVariants as bro
 use crate::finding::{Finding, Layout};
 use text_lines::laying;
 
-/// Lays the line of a finding at a unit at this offset over the output from this place on, as far
-/// as there is room, and returns where it ends.
+/// Writes the line of a finding at a unit at this offset to the output from offset `at` on, as much
+/// of it as fits, and returns the offset of its end.
 pub fn describe_finding(output: &mut [u8], at: usize, offset: u64, finding: &Finding) -> usize
     ensures { Lays (finding_of offset finding.now) at output.old result output.new }
 {
@@ -18,7 +18,7 @@ pub fn describe_finding(output: &mut [u8], at: usize, offset: u64, finding: &Fin
     said(output, at, *finding)
 }
 
-/// Lays the text of a finding.
+/// Writes the text of a finding.
 fn said(output: &mut [u8], at: usize, finding: Finding) -> usize
     ensures { Lays (finding_text finding) at output.old result output.new }
 {
@@ -58,7 +58,7 @@ fn said(output: &mut [u8], at: usize, finding: Finding) -> usize
     }
 }
 
-/// Lays a text, a number and a text.
+/// Writes a text, a number and a text.
 fn between(output: &mut [u8], at: usize, front: &str, number: u64, back: &str) -> usize
     ensures { Lays (front.now ++ decimal number ++ back.now) at output.old result output.new }
 {

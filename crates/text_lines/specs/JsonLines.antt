@@ -142,7 +142,7 @@ own_tokens (cache_reset version session) = numbers_field (codes "zero") (session
 own_tokens (error_report version code body) =
     number_field (codes "error_code") code ++ report_tokens (report_parts body)
 
--- the fields that all units have, of a unit that stands after so many bytes
+-- the fields that all units have, of a unit that stands after this many bytes
 abbrev pub common_tokens : ℕ → AnyFields → List Token
 common_tokens offset fields =
     number_field (codes "offset") offset

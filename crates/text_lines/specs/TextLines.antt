@@ -142,7 +142,7 @@ unit_words (cache_reset version session) = codes " cache reset"
 unit_words (error_report version code body) =
     codes " error report code " ++ error_code_text code ++ report_words (report_parts body)
 
--- the line of a unit that stands after so many bytes
+-- the line of a unit that stands after this many bytes
 abbrev pub unit_text : ℕ → AnyFields → List ℕ
 unit_text offset fields =
     decimal offset ++ codes " v" ++ decimal (fields_version fields) ++ unit_words fields

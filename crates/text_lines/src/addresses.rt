@@ -13,7 +13,7 @@ use crate::laying;
 use crate::pieces::digit_of;
 use std::net::{Ipv4Addr, Ipv6Addr};
 
-/// Lays the IPv4 address of this number: four numbers with dots between them.
+/// Writes the IPv4 address of this number: four numbers with dots between them.
 #[tactic(auto, using(crate::proofs::AddressTexts::shown_ipv4))]
 pub fn ipv4(output: &mut [u8], at: usize, bits: u32) -> usize
     ensures { Lays (address_text v4 bits) at output.old result output.new }
@@ -21,7 +21,7 @@ pub fn ipv4(output: &mut [u8], at: usize, bits: u32) -> usize
     dotted(output, at, Ipv4Addr::from_bits(bits).octets())
 }
 
-/// Lays four numbers with dots between them.
+/// Writes four numbers with dots between them.
 fn dotted(output: &mut [u8], at: usize, octets: [u8; 4]) -> usize
     ensures { Lays (Text.ipv4_text octets) at output.old result output.new }
 {
@@ -31,7 +31,7 @@ fn dotted(output: &mut [u8], at: usize, octets: [u8; 4]) -> usize
     laying::labelled(output, at, ".", octets[3] as u64)
 }
 
-/// Lays the IPv6 address of this number as RFC 5952 writes it.
+/// Writes the IPv6 address of this number as in RFC 5952.
 #[tactic(auto, using(crate::proofs::AddressTexts::shown_ipv6))]
 pub fn ipv6(output: &mut [u8], at: usize, bits: u128) -> usize
     ensures { Lays (address_text v6 bits) at output.old result output.new }
@@ -40,7 +40,7 @@ pub fn ipv6(output: &mut [u8], at: usize, bits: u128) -> usize
     shown(output, at, &address.segments())
 }
 
-/// Lays the IPv6 address of these eight segments.
+/// Writes the IPv6 address of these eight segments.
 fn shown(output: &mut [u8], at: usize, segments: &[u16]) -> usize
     requires { length segments.now ≡ 8 }
     ensures { Lays (Text.ipv6_text segments.now) at output.old result output.new }
@@ -72,7 +72,7 @@ fn octets(high: u16, low: u16) -> [u8; 4]
     ]
 }
 
-/// Lays segments, with `::` for the longest run of two zeros or more.
+/// Writes segments, with `::` for the longest run of two zeros or more.
 fn compressed(output: &mut [u8], at: usize, segments: &[u16]) -> usize
     ensures { Lays (Text.hex_groups_text segments.now) at output.old result output.new }
 {
@@ -85,7 +85,7 @@ fn compressed(output: &mut [u8], at: usize, segments: &[u16]) -> usize
     groups(output, at, &segments[start + size..])
 }
 
-/// Where the longest run of zeros begins, of two such the first, and how many zeros it has.
+/// The index of the longest run of zeros, the first of equal ones, and its number of zeros.
 fn longest_zero_run(segments: &[u16]) -> (usize, usize)
     ensures value { result ≡ Text.longest_zero_run segments.now }
     ensures within { result.0 + result.1 ≤ length segments.now }
@@ -103,7 +103,7 @@ fn longest_zero_run(segments: &[u16]) -> (usize, usize)
     (start, longest)
 }
 
-/// Lays segments with colons between them.
+/// Writes segments with colons between them.
 fn groups(output: &mut [u8], at: usize, segments: &[u16]) -> usize
     ensures { Lays (Text.groups_text segments.now) at output.old result output.new }
 {
@@ -114,7 +114,7 @@ fn groups(output: &mut [u8], at: usize, segments: &[u16]) -> usize
     more(output, at, rest)
 }
 
-/// Lays segments with a colon before each.
+/// Writes segments with a colon before each.
 fn more(output: &mut [u8], at: usize, segments: &[u16]) -> usize
     ensures { Lays (flat_map (λ t. codes ":" ++ Text.hex t) segments.now) at
         output.old result output.new }
@@ -129,7 +129,7 @@ fn more(output: &mut [u8], at: usize, segments: &[u16]) -> usize
     end
 }
 
-/// Lays a segment in hex, without leading zeros.
+/// Writes a segment in hex, without leading zeros.
 fn segment(output: &mut [u8], at: usize, segment: u16) -> usize
     ensures { Lays (Text.hex segment) at output.old result output.new }
 {
@@ -142,7 +142,7 @@ fn segment(output: &mut [u8], at: usize, segment: u16) -> usize
     laying::bytes(output, at, &digits[leading_zeros(segment)..])
 }
 
-/// How many of the four digits are leading zeros, the last one apart.
+/// How many of the four digits are leading zeros, not counting the last digit.
 fn leading_zeros(segment: u16) -> usize
     ensures value { result ≡ Text.leading_zero_digits segment }
     ensures within { result < 4 }

@@ -5,13 +5,13 @@ ghost use Rattle.unit_any.specs.AnyFields.{AnyFields, HasAnyFields};
 ghost use Rattle.text_lines.specs.Laying.{Lays};
 ghost use Rattle.text_lines.specs.ListedUnits.{fields_at};
 
-/// The fields of a unit are those that stand at their places.
+/// The fields of a unit are those at their offsets.
 pub fn fields_at_their_places()
     ensures { (b : List ℕ) (f : AnyFields) → HasAnyFields b f → fields_at b ≡ f }
 {}
 
-/// A text that was laid over a slice from its front ends at its length. If the slice is as long, it
-/// begins with the text, and what follows is as it was.
+/// A text that was written to the front of a slice ends at its length. If the slice is at least
+/// that long, it begins with the text, and what follows is unchanged.
 pub fn texts_where_there_is_room()
     ensures length { (text before after : List ℕ) (end : ℕ) → Lays text 0 before end after →
         length text ≤ 2 ^ 64 - 1 → end ≡ length text }

@@ -1,4 +1,4 @@
-//! Texts that are laid over a slice.
+//! Writing texts into a slice.
 
 ghost use Rattle.std.specs.Prelude.{◌≡◌, ◌≤◌, ◌<◌, ◌+◌, ◌++◌, length, codes, decimal};
 ghost use Rattle.rtr_base.specs.PlainTexts.{asn_text};
@@ -6,7 +6,7 @@ ghost use Rattle.text_lines.specs.Laying.{Lays};
 
 use itoa::Buffer;
 
-/// Lays bytes over the output from this place on, as far as there is room, and answers where they
+/// Writes bytes to the output from offset `at` on, as many as fit, and returns the offset of their
 /// end.
 #[inline(always)]
 pub fn bytes(output: &mut [u8], at: usize, bytes: &[u8]) -> usize
@@ -19,7 +19,7 @@ pub fn bytes(output: &mut [u8], at: usize, bytes: &[u8]) -> usize
     cut(output, at, bytes)
 }
 
-/// Lays bytes that reach the end of the output.
+/// Writes bytes that reach the end of the output.
 #[inline(never)]
 fn cut(output: &mut [u8], at: usize, bytes: &[u8]) -> usize
     requires { length output.old ≤ at + length bytes.now }
@@ -34,7 +34,7 @@ fn cut(output: &mut [u8], at: usize, bytes: &[u8]) -> usize
     end
 }
 
-/// Lays a text.
+/// Writes a text.
 #[inline(always)]
 pub fn text(output: &mut [u8], at: usize, text: &str) -> usize
     ensures { Lays text.now at output.old result output.new }
@@ -42,7 +42,7 @@ pub fn text(output: &mut [u8], at: usize, text: &str) -> usize
     bytes(output, at, text.as_bytes())
 }
 
-/// Lays a number. Most have at most three digits, which are laid at once.
+/// Writes a number. Most have at most three digits, which are written at once.
 pub fn number(output: &mut [u8], at: usize, number: u64) -> usize
     ensures { Lays (decimal number) at output.old result output.new }
 {
@@ -71,14 +71,14 @@ fn digit(number: u64) -> u8
     b'0' + number as u8
 }
 
-/// Lays a number of any size.
+/// Writes a number of any size.
 fn long_number(output: &mut [u8], at: usize, number: u64) -> usize
     ensures { Lays (decimal number) at output.old result output.new }
 {
     text(output, at, Buffer::new().format(number))
 }
 
-/// Lays a label and a number after it.
+/// Writes a label and a number after it.
 #[inline(always)]
 pub fn labelled(output: &mut [u8], at: usize, label: &str, value: u64) -> usize
     ensures { Lays (label.now ++ decimal value) at output.old result output.new }
@@ -87,14 +87,14 @@ pub fn labelled(output: &mut [u8], at: usize, label: &str, value: u64) -> usize
     number(output, at, value)
 }
 
-/// Lays the number of an autonomous system.
+/// Writes the number of an autonomous system.
 pub(crate) fn asn(output: &mut [u8], at: usize, number: u32) -> usize
     ensures { Lays (asn_text number) at output.old result output.new }
 {
     labelled(output, at, "AS", number as u64)
 }
 
-/// Lays a session after a label, and a serial number.
+/// Writes a session after a label, and a serial number.
 pub(crate) fn state(output: &mut [u8], at: usize, label: &str, session: u16, serial: u32) -> usize
     ensures { Lays (label.now ++ decimal session ++ codes " serial " ++ decimal serial) at
         output.old result output.new }
@@ -103,7 +103,7 @@ pub(crate) fn state(output: &mut [u8], at: usize, label: &str, session: u16, ser
     labelled(output, at, " serial ", serial as u64)
 }
 
-/// Lays the number of an autonomous system after a space.
+/// Writes the number of an autonomous system after a space.
 pub(crate) fn spaced(output: &mut [u8], at: usize, number: u32) -> usize
     ensures { Lays (codes " " ++ asn_text number) at output.old result output.new }
 {

@@ -1,4 +1,4 @@
-//! Lines and texts, written into slices: what the programs print. Nothing allocates.
+//! Lines and texts that the programs print, written into slices. Nothing allocates.
 #![tactic(auto, using(crate::proofs::Laid::lays_both))]
 
 pub mod addresses;

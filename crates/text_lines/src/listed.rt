@@ -1,4 +1,4 @@
-//! Units as they are listed: their fields, whatever the lengths of a prefix say.
+//! Units as they are listed: their fields, even if the lengths of a prefix break their rule.
 
 use rtr_units::end::EndOfData;
 use rtr_units::prefixes::{Ipv4Prefix, Ipv6Prefix};
@@ -60,13 +60,13 @@ pub struct ListedReport<'a> {
     pub body: &'a [u8],
 }
 
-/// A unit of any type, with its fields as they stand in it. Key info, providers and the parts of
-/// error reports are borrowed; the others are copies of at most 32 bytes.
+/// A unit of any type, with its fields as they are in the unit. Key info, providers and the parts
+/// of error reports are borrowed; the others are copies of at most 32 bytes.
 #[derive(Clone, Copy)]
 pub enum Listed<'a> {
-    /// The cache says that it has new data (RFC 8210 section 5.2).
+    /// The cache has new data (RFC 8210 section 5.2).
     SerialNotify(SerialNotify),
-    /// A router asks for what is new since a state (RFC 8210 section 5.3).
+    /// A router asks for the changes since a state (RFC 8210 section 5.3).
     SerialQuery(SerialQuery),
     /// A router asks for all data (RFC 8210 section 5.4).
     ResetQuery(ResetQuery),
@@ -76,7 +76,7 @@ pub enum Listed<'a> {
     Payload(ListedPayload<'a>),
     /// All data was sent (RFC 8210 section 5.8).
     EndOfData(EndOfData),
-    /// The cache has nothing for the router's state (RFC 8210 section 5.9).
+    /// The cache doesn't have the changes since the router's state (RFC 8210 section 5.9).
     CacheReset(CacheReset),
     /// An error report (RFC 8210 section 5.11).
     Error(ListedReport<'a>),

@@ -1,4 +1,4 @@
-//! What a payload unit means, as a unit that is listed.
+//! The meaning of a payload unit, as a unit that is listed.
 
 ghost use Rattle.std.specs.Prelude.{◌≡◌, ◌++◌, [], codes};
 ghost use Rattle.rtr_base.specs.Addresses.{cleared, v4, v6};
@@ -14,8 +14,8 @@ use rtr_base::addr::Prefix;
 use rtr_units::prefixes::{Ipv4Prefix, Ipv6Prefix};
 use rtr_units::unit::Unit;
 
-/// The written form of the unit: what is free in it and the bits of an address after the prefix
-/// length are 0, and a withdrawn ASPA has no providers.
+/// The written form of the unit: free bytes and the bits of an address after the prefix length are
+/// 0, and a withdrawn ASPA has no providers.
 pub(crate) fn meant<'a>(unit: &ListedPayload<'a>) -> ListedPayload<'a>
     ensures { payload_listed result ≡ meant_fields (payload_listed unit.now) }
 {

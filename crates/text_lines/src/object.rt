@@ -1,5 +1,5 @@
-//! What a payload unit announces or withdraws, as a JSON object (RFC 8259), with the fields by the
-//! names that RFC 8210 gives them.
+//! The payload that a unit announces or withdraws, as a JSON object (RFC 8259), with the field
+//! names of RFC 8210.
 
 ghost use Rattle.std.specs.Prelude.{◌≡◌, ◌≤◌, ◌++◌, ◌∷◌, [], codes, length, true, false};
 ghost use Rattle.base64.specs.Engines.{url_safe_no_pad};
@@ -29,8 +29,8 @@ use rtr_base::action::Action;
 use rtr_units::numbers::u32_at;
 use rtr_units::prefixes::{Ipv4Prefix, Ipv6Prefix};
 
-/// Lays the JSON object of the change that a unit makes, as `rtr_diff --json` prints it, with the
-/// text of `describe_change`; nothing for a unit without a payload.
+/// Writes the JSON object of the change of a unit, as `rtr_diff --json` prints it, with the text of
+/// `describe_change`; nothing for a unit without a payload.
 pub fn describe_change_json(output: &mut [u8], at: usize, unit: &Listed<'_>) -> usize
     ensures { Lays (change_json (fields_listed unit.now)) at output.old result output.new }
 {
@@ -40,7 +40,7 @@ pub fn describe_change_json(output: &mut [u8], at: usize, unit: &Listed<'_>) -> 
     }
 }
 
-/// Lays the JSON object of what a payload unit announces or withdraws.
+/// Writes the JSON object of the payload that a unit announces or withdraws.
 pub fn describe_payload_json(output: &mut [u8], at: usize, unit: &ListedPayload<'_>) -> usize
     ensures { Lays (payload_json (payload_listed unit.now)) at output.old result output.new }
 {
@@ -49,7 +49,7 @@ pub fn describe_payload_json(output: &mut [u8], at: usize, unit: &ListedPayload<
     last_fields(output, at, unit)
 }
 
-/// What the object begins with.
+/// The beginning of the object.
 fn kind_field(unit: &ListedPayload<'_>) -> &'static str
     ensures { result.now ≡
         codes "{\"kind\":\"" ++ payload_kind (payload_listed unit.now) ++ codes "\"" }
@@ -71,7 +71,7 @@ pub(crate) fn action_field(flags: u8) -> &'static str
     }
 }
 
-/// Lays the parts of what the unit announces or withdraws, and the end of the object.
+/// Writes the parts of the payload that the unit announces or withdraws, and the end of the object.
 pub(crate) fn last_fields(output: &mut [u8], at: usize, unit: &ListedPayload<'_>) -> usize
     ensures { Lays (print_from true (parts_tokens (payload_listed unit.now) ++ end_object ∷ []))
         at output.old result output.new }
@@ -104,7 +104,7 @@ fn ipv6_fields(output: &mut [u8], at: usize, unit: &Ipv6Prefix) -> usize
     origin_fields(output, at, unit.prefix_len(), unit.max_len(), asn)
 }
 
-/// Lays what follows the address.
+/// Writes what follows the address.
 fn origin_fields(output: &mut [u8], at: usize, prefix_len: u8, max_len: u8, asn: u32) -> usize
     ensures { Lays (codes "\"" ++ print_from true (number_field (codes "prefix_length") prefix_len
         ++ number_field (codes "max_length") max_len ++ number_field (codes "asn") asn
@@ -147,7 +147,7 @@ fn aspa_fields(output: &mut [u8], at: usize, aspa: &ListedAspa<'_>) -> usize
     providers(output, at, aspa.providers)
 }
 
-/// Lays the providers, of four bytes each, with commas between them, and the end of the object.
+/// Writes the providers, of four bytes each, with commas between them, and the end of the object.
 fn providers(output: &mut [u8], at: usize, providers: &[u8]) -> usize
     ensures { Lays (print_from false (number_tokens (words_of providers.now)
         ++ end_array ∷ end_object ∷ [])) at output.old result output.new }
@@ -160,7 +160,7 @@ fn providers(output: &mut [u8], at: usize, providers: &[u8]) -> usize
     more_providers(output, at, rest)
 }
 
-/// Lays providers with a comma before each, and the end of the object.
+/// Writes providers with a comma before each, and the end of the object.
 fn more_providers(output: &mut [u8], at: usize, providers: &[u8]) -> usize
     ensures { Lays (print_from true (number_tokens (words_of providers.now)
         ++ end_array ∷ end_object ∷ [])) at output.old result output.new }

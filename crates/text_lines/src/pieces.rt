@@ -18,13 +18,13 @@ use rtr_units::numbers::u32_at;
 /// The digits of hex.
 const DIGITS: &[u8; 16] = b"0123456789abcdef";
 
-/// How many bytes are made base64 at once: a multiple of three.
+/// The number of bytes that are encoded in base64 at once: a multiple of three.
 const CHUNK: usize = 768;
 
-/// The size in symbols of a piece.
+/// The number of symbols of that many bytes.
 const SYMBOLS: usize = 1024;
 
-/// Lays bytes in hex.
+/// Writes bytes in hex.
 pub(crate) fn hex(output: &mut [u8], at: usize, bytes: &[u8]) -> usize
     ensures { Lays (encode_lower bytes.now) at output.old result output.new }
 {
@@ -45,7 +45,8 @@ pub(crate) fn hex_of(byte: u8) -> [u8; 2]
     [DIGITS[(byte / 16) as usize], DIGITS[(byte % 16) as usize]]
 }
 
-/// Lays bytes in base64, unpadded and of the alphabet that is safe in URLs (RFC 4648 section 5).
+/// Writes bytes in base64, without padding and in the alphabet that is safe in URLs (RFC 4648
+/// section 5).
 pub(crate) fn base64(output: &mut [u8], at: usize, bytes: &[u8]) -> usize
     ensures { Lays (encode_of url_safe_no_pad bytes.now) at output.old result output.new }
 {
@@ -70,7 +71,7 @@ fn base64_chunk(output: &mut [u8], at: usize, chunk: &[u8]) -> usize
     laying::bytes(output, at, &symbols[..size])
 }
 
-/// Lays bytes, with an escape such as `\n` or `\x1b` for each that isn't ASCII that prints.
+/// Writes bytes, with an escape such as `\n` or `\x1b` for each that isn't printable ASCII.
 pub(crate) fn escaped(output: &mut [u8], at: usize, bytes: &[u8]) -> usize
     ensures { Lays (flat_map escape_ascii bytes.now) at output.old result output.new }
 {
@@ -119,7 +120,7 @@ pub(crate) fn digit_of(number: u16) -> u8
     }
 }
 
-/// Lays each provider after a space, of four bytes each.
+/// Writes each provider, of four bytes, after a space.
 pub(crate) fn providers(output: &mut [u8], at: usize, providers: &[u8]) -> usize
     ensures { Lays (each_text (words_of providers.now)) at output.old result output.new }
 {

@@ -1,4 +1,4 @@
-//! Units that lie in a slice, as they are listed.
+//! Units in a slice, as they are listed.
 
 ghost use Rattle.std.specs.Prelude.{◌≡◌, ◌≤◌, length};
 ghost use Rattle.rtr_units.specs.AnyEnd.{end_meaning};
@@ -18,12 +18,12 @@ use rtr_units::prefixes::{Ipv4Prefix, Ipv6Prefix};
 use rtr_units::queries::{CacheReset, CacheResponse, ResetQuery, SerialNotify, SerialQuery};
 use rtr_units::unit::Unit;
 
-/// Where the identifier, the autonomous system and the key info of a router key begin.
+/// The offsets of the identifier, the autonomous system and the key info in a router key.
 const IDENTIFIER: usize = 8;
 
 const KEY_ASN: usize = 28;
 
-/// The unit of these bytes, which have a length that units of its version and type have.
+/// The unit of these bytes, whose length is allowed for its version and type.
 pub fn listed_unit(unit: &[u8]) -> Listed<'_>
     requires { IsBounded (version_field unit.now) (type_field unit.now) (length unit.now) }
     ensures { fields_listed result ≡ fields_at unit.now }
@@ -47,7 +47,7 @@ pub fn listed_unit(unit: &[u8]) -> Listed<'_>
     }
 }
 
-/// The unit of a fixed size that these bytes are.
+/// The unit of a fixed size with these bytes.
 fn unit_of<U: Unit>(bytes: &[u8]) -> U
     requires { length bytes.now ≡ U.LENGTH }
     ensures { U.bytes result ≡ bytes.now }

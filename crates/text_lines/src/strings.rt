@@ -1,5 +1,5 @@
-//! Strings of JSON (RFC 8259 section 7), with escapes for the control characters that JSON lets
-//! stand as they are.
+//! Strings of JSON (RFC 8259 section 7), with escapes also for the control characters that JSON
+//! allows unescaped.
 
 ghost use Rattle.std.specs.Prelude.{◌≡◌, ◌≤◌, ◌∷◌, ◌/◌, ◌%◌, [], IsTrue, length, slice_index};
 ghost use Rattle.std.specs.Char.{digit_char};
@@ -10,7 +10,7 @@ ghost use Rattle.text_lines.specs.PrivateStrings.{LaysFront, string_form};
 
 use crate::{laying, pieces};
 
-/// The control character of ASCII that JSON doesn't want escaped.
+/// The control character of ASCII that JSON allows unescaped.
 const DELETE: u8 = 0x7f;
 
 /// The first byte of the characters U+0080 to U+00BF.
@@ -21,7 +21,7 @@ const FIRST_CONTROL: u8 = 0x80;
 
 const LAST_CONTROL: u8 = 0x9f;
 
-/// Lays what stands for the text between the quotes of a string.
+/// Writes the text as the content of a string, without quotes.
 pub(crate) fn string(output: &mut [u8], at: usize, text: &[u8]) -> usize
     ensures { Lays (escaped (escape text.now)) at output.old result output.new }
 {
@@ -35,7 +35,7 @@ pub(crate) fn string(output: &mut [u8], at: usize, text: &[u8]) -> usize
     end
 }
 
-/// Lays what stands for the first character, or for a byte of it, and returns the rest.
+/// Writes the first character, or a byte of it, and returns the rest.
 fn front<'a>(output: &mut [u8], at: usize, first: u8, others: &'a [u8]) -> (usize, &'a [u8])
     ensures laid { LaysFront (escaped (escape (first ∷ others.now)))
         (escaped (escape result.1.now)) at output.old result.0 output.new }
@@ -48,7 +48,7 @@ fn front<'a>(output: &mut [u8], at: usize, first: u8, others: &'a [u8]) -> (usiz
     (character(output, at, first), others)
 }
 
-/// Whether this byte and the next are one of U+0080 to U+009F.
+/// Whether this byte and the next encode one of U+0080 to U+009F.
 fn is_control(lead: u8, others: &[u8]) -> bool
     ensures pair { result ≡ is_control_pair lead (slice_index others.now 0) }
     ensures there { IsTrue result → 1 ≤ length others.now }
@@ -59,7 +59,7 @@ fn is_control(lead: u8, others: &[u8]) -> bool
     }
 }
 
-/// Lays the escape of the character with this number.
+/// Writes the escape of the character with this number.
 fn unicode(output: &mut [u8], at: usize, number: u8) -> usize
     ensures { Lays (unicode_escape number) at output.old result output.new }
 {
@@ -67,7 +67,7 @@ fn unicode(output: &mut [u8], at: usize, number: u8) -> usize
     laying::bytes(output, at, &pieces::hex_of(number))
 }
 
-/// Lays the text of a byte that is a character of its own, or part of one that stays.
+/// Writes a byte that is a character of its own, or part of a character that isn't escaped.
 fn character(output: &mut [u8], at: usize, byte: u8) -> usize
     ensures { Lays (string_form byte) at output.old result output.new }
 {
@@ -77,7 +77,7 @@ fn character(output: &mut [u8], at: usize, byte: u8) -> usize
     kept(output, at, byte)
 }
 
-/// Lays what stands for a byte by RFC 8259.
+/// Writes a byte as RFC 8259 requires.
 #[tactic(auto, unfolding(json::specs::Print::escape_byte))]
 fn kept(output: &mut [u8], at: usize, byte: u8) -> usize
     ensures { Lays (escape_byte byte) at output.old result output.new }
@@ -92,7 +92,7 @@ fn kept(output: &mut [u8], at: usize, byte: u8) -> usize
     laying::bytes(output, at, &[byte])
 }
 
-/// The letter of the byte's short escape, or 0 where it has none.
+/// The letter of the byte's short escape, or 0 if it has none.
 fn letter_of(byte: u8) -> u8
     ensures { result ≡ escape_letter byte }
 {
@@ -107,7 +107,7 @@ fn letter_of(byte: u8) -> u8
     }
 }
 
-/// Lays the escape of a control character that has no shorter one.
+/// Writes the escape of a control character that has no short one.
 fn control(output: &mut [u8], at: usize, byte: u8) -> usize
     ensures { Lays (92 ∷ 117 ∷ 48 ∷ 48 ∷ digit_char (byte / 16) ∷ digit_char (byte % 16) ∷ []) at
         output.old result output.new }

@@ -28,8 +28,8 @@ use rtr_units::numbers::u32_at;
 use rtr_units::prefixes::{Ipv4Prefix, Ipv6Prefix};
 use rtr_units::unit::Unit;
 
-/// Lays the line of a unit at this offset over the output from this place on, as far as there is
-/// room, and returns where it ends.
+/// Writes the line of a unit at this offset to the output from offset `at` on, as much of it as
+/// fits, and returns the offset of its end.
 pub fn describe(output: &mut [u8], at: usize, offset: u64, unit: &Listed<'_>) -> usize
     ensures { Lays (unit_text offset (fields_listed unit.now)) at output.old result output.new }
 {
@@ -38,7 +38,7 @@ pub fn describe(output: &mut [u8], at: usize, offset: u64, unit: &Listed<'_>) ->
     describe_fields(output, at, unit)
 }
 
-/// Lays what a payload unit announces or withdraws: a space, its kind and its parts.
+/// Writes the payload that a unit announces or withdraws: a space, its kind and its parts.
 pub fn describe_payload(output: &mut [u8], at: usize, unit: &ListedPayload<'_>) -> usize
     ensures { Lays (payload_said (payload_listed unit.now)) at output.old result output.new }
 {
@@ -46,9 +46,9 @@ pub fn describe_payload(output: &mut [u8], at: usize, unit: &ListedPayload<'_>) 
     parts(output, at, unit)
 }
 
-/// Lays the line of the change that a unit makes, as `rtr_diff` prints it: without the bits of an
-/// address after the prefix length, and without providers of a withdrawn ASPA. Of a unit without a
-/// payload nothing.
+/// Writes the line of the change of a unit, as `rtr_diff` prints it: without the bits of an address
+/// after the prefix length, and without the providers of a withdrawn ASPA; nothing for a unit
+/// without a payload.
 pub fn describe_change(output: &mut [u8], at: usize, unit: &Listed<'_>) -> usize
     ensures { Lays (change_text (fields_listed unit.now)) at output.old result output.new }
 {
@@ -101,7 +101,7 @@ fn version_of_payload(unit: &ListedPayload<'_>) -> u8
     }
 }
 
-/// Lays what follows the version.
+/// Writes what follows the version.
 fn describe_fields(output: &mut [u8], at: usize, unit: &Listed<'_>) -> usize
     ensures { Lays (unit_words (fields_listed unit.now)) at output.old result output.new }
 {
@@ -206,7 +206,7 @@ fn ipv6(output: &mut [u8], at: usize, unit: &Ipv6Prefix) -> usize
     origin(output, at, unit.prefix_len(), unit.max_len(), asn)
 }
 
-/// Lays what follows the address.
+/// Writes what follows the address.
 fn origin(output: &mut [u8], at: usize, prefix_len: u8, max_len: u8, asn: u32) -> usize
     ensures { Lays (codes "/" ++ decimal prefix_len ++ codes "-" ++ decimal max_len ++ codes " "
         ++ asn_text asn) at output.old result output.new }
@@ -287,7 +287,7 @@ fn bracketed(output: &mut [u8], at: usize, name: &str) -> usize
     laying::text(output, at, ")")
 }
 
-/// The unit that a report is about and its text, where they make up the report.
+/// The unit that a report is about and its text, if they fill the report exactly.
 pub fn parts_of(body: &[u8]) -> Option<(&[u8], &[u8])>
     ensures { option_map (λ r. (r.0.now, r.1.now)) result ≡ report_parts body.now }
 {

@@ -1,4 +1,4 @@
-//! A unit as a JSON object (RFC 8259), with the fields by the names that RFC 8210 gives them.
+//! A unit as a JSON object (RFC 8259), with the field names of RFC 8210.
 
 ghost use Rattle.std.specs.Prelude.{◌≡◌, ◌+◌, ◌++◌, ◌∷◌, [], Some, None, codes, length, option_map};
 ghost use Rattle.std.specs.Prelude.{true};
@@ -27,11 +27,11 @@ use rtr_units::queries::{CacheReset, CacheResponse, ResetQuery, SerialNotify, Se
 use rtr_units::unit::Unit;
 use std::str;
 
-/// The bytes of a provider.
+/// The number of bytes of a provider.
 const PROVIDER: usize = 4;
 
-/// Lays the JSON object of a unit at this offset, as `rtr_list --json` prints it, over the output
-/// from this place on, as far as there is room, and returns where it ends.
+/// Writes the JSON object of a unit at this offset, as `rtr_list --json` prints it, to the output
+/// from offset `at` on, as much of it as fits, and returns the offset of its end.
 pub fn describe_json(output: &mut [u8], at: usize, offset: u64, unit: &Listed<'_>) -> usize
     ensures { Lays (unit_json offset (fields_listed unit.now)) at output.old result output.new }
 {
@@ -99,7 +99,7 @@ fn kind_field(unit: &Listed<'_>) -> &'static str
     }
 }
 
-/// Lays the fields that not all units have, and the end of the object.
+/// Writes the fields that only some units have, and the end of the object.
 fn own_fields(output: &mut [u8], at: usize, unit: &Listed<'_>) -> usize
     ensures { Lays (escaped (print_from true (session_tokens (any_session (fields_listed unit.now))
         ++ own_tokens (fields_listed unit.now) ++ end_object ∷ []))) at
@@ -141,7 +141,7 @@ fn end(output: &mut [u8], at: usize, unit: &EndOfData) -> usize
     state(output, at, unit.session(), unit.serial().0, unit.timing())
 }
 
-/// Lays a session, a serial number and timings, where there are, and the end of the object.
+/// Writes a session, a serial number and timings, if there are any, and the end of the object.
 fn state(output: &mut [u8], at: usize, session: u16, serial: u32, timing: Option<Timing>) -> usize
     ensures { Lays (escaped (print_from true (session_tokens (Some session)
         ++ number_field (codes "serial_number") serial ++ timing_tokens timing
@@ -182,7 +182,7 @@ fn payload(output: &mut [u8], at: usize, unit: &ListedPayload<'_>) -> usize
     last_fields(output, at, unit)
 }
 
-/// Lays the reserved fields: bytes 2 and 3 and byte 11 of a prefix unit, byte 3 of the others.
+/// Writes the reserved fields: bytes 2 and 3 and byte 11 of a prefix unit, byte 3 of the others.
 fn zeros(output: &mut [u8], at: usize, unit: &ListedPayload<'_>) -> usize
     ensures { Lays (print_from true (numbers_field (codes "zero")
         (payload_zeros (payload_listed unit.now)))) at output.old result output.new }
@@ -232,7 +232,7 @@ fn report_fields(output: &mut [u8], at: usize, parts: Option<(&[u8], &[u8])>) ->
     }
 }
 
-/// Lays the unit that a report speaks of and its text.
+/// Writes the unit that a report is about and its text.
 fn both_parts(output: &mut [u8], at: usize, pdu: &[u8], text: &[u8]) -> usize
     ensures { Lays (escaped (print_from true (report_tokens (Some (pdu.now, text.now))
         ++ end_object ∷ []))) at output.old result output.new }
@@ -245,7 +245,7 @@ fn both_parts(output: &mut [u8], at: usize, pdu: &[u8], text: &[u8]) -> usize
     text_or_null(output, at, text)
 }
 
-/// Lays the same of a report whose lengths don't fit.
+/// Writes the parts of a report whose lengths don't fit.
 fn no_parts(output: &mut [u8], at: usize) -> usize
     ensures { Lays (escaped (print_from true (report_tokens None ++ end_object ∷ []))) at
         output.old result output.new }
@@ -258,7 +258,7 @@ fn no_parts(output: &mut [u8], at: usize) -> usize
     laying::text(output, at, ",\"error_text\":null}")
 }
 
-/// Lays a text as a string, or null where it isn't UTF-8, and the end of the object.
+/// Writes a text as a string, or null if it isn't UTF-8, and the end of the object.
 fn text_or_null(output: &mut [u8], at: usize, bytes: &[u8]) -> usize
     ensures { Lays (escaped (token_text (text_token bytes.now) ++ codes "}")) at
         output.old result output.new }
@@ -269,7 +269,7 @@ fn text_or_null(output: &mut [u8], at: usize, bytes: &[u8]) -> usize
     }
 }
 
-/// Lays a string and the end of the object.
+/// Writes a string and the end of the object.
 fn string(output: &mut [u8], at: usize, text: &[u8]) -> usize
     ensures { Lays (escaped (quoted text.now ++ codes "}")) at output.old result output.new }
 {
