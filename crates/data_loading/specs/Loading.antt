@@ -61,7 +61,7 @@ version_borne others = None
 
 -- ---- units that were taken
 
--- the input begins with so many bytes of units, which can be taken in turn
+-- the input begins with this many bytes of units, which can be taken in turn
 pub record Taken (input : List ℕ) (offset : ℕ) : Type 0 where
   pub units : List AnyFields
   pub left : List ℕ
@@ -122,7 +122,7 @@ IsAtStart units m =
     × (units ≡ front ++ cache_response v session ∷ []))
 
 -- An answer is open where these bytes are left. The units before it were taken, and its own, as far
--- as they came, are these: of them so many are payload units.
+-- as they came, are these: of them this many are payload units.
 pub record HasOpenAnswer (n : ℕ) (input left : List ℕ) : Type 0 where
   pub offset : ℕ
   pub before : Taken input offset
@@ -151,7 +151,7 @@ pub record Loads (loaded : Loaded) (input after : List ℕ) : Type 0 where
   pub canonical :
       HoldsData (take loaded.length after) taken.held.kept (end_meaning loaded.end)
 
--- why there are no data, for an index of so many places and buffers of so much room
+-- why there are no data, for an index of this many elements and buffers of so much room
 abbrev pub RefusesLoad : LoadFault → (input : List ℕ) → (places room : ℕ) → Type 0
 RefusesLoad (faults.Refused offset reason) input places room =
     (t : Taken input offset) × IsWrong reason t.units t.held t.left

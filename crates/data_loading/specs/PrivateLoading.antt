@@ -1,4 +1,4 @@
--- Where loading stands. Only contracts of private functions cite these.
+-- The state of loading. Only contracts of private functions cite these.
 use Rattle.std.specs.Prelude.{◌≡◌, ◌⊎◌, ⊤, ℕ, ◌<◌, ◌≤◌, Bool, true, false, List, [], ◌++◌}
 use Rattle.std.specs.Prelude.{length, take, Option, Some, None, Result, Ok, Err}
 use Rattle.std.specs.List.{AllByRecursion, flat_map}
@@ -35,7 +35,7 @@ use Rattle.data_loading.specs.declared.seen.Seen.TheVariants as seens
 
 -- ---- one unit
 
--- what is seen of a unit with these fields
+-- the effect of a unit with these fields
 abbrev pub IsSeen : Seen → List ℕ → AnyFields → Type 0
 IsSeen (seens.Payload v) b f =
     (g : Fields) × (f ≡ payload g) × ((meaning g).version ≡ v) × IsUnit b (meaning g)
@@ -47,7 +47,7 @@ IsSeen seens.AsksAll b f = (v : ℕ) × (s : ℕ) × (f ≡ reset_query v s)
 IsSeen seens.AsksChanges b f = (v : ℕ) × (s : ℕ) × (n : ℕ) × (f ≡ serial_query v s n)
 IsSeen seens.Notifies b f = (v : ℕ) × (s : ℕ) × (n : ℕ) × (f ≡ serial_notify v s n)
 
--- these bytes are a unit, of which this is seen
+-- these bytes are a unit with this effect
 abbrev pub Sees : Seen → List ℕ → Type 0
 Sees seen b =
     (f : AnyFields) × HasAnyFields b f × KeepsPrefixRule f × IsSeen seen b f
@@ -58,7 +58,7 @@ abbrev pub payloads_begun : (is_anew : Bool) → List Payload → List Payload
 payloads_begun true d = []
 payloads_begun false d = d
 
--- the open answer, before its changes are made, where these payloads are kept
+-- the open answer, before its changes are applied, with these payloads kept
 abbrev pub opened_answer : List Payload → Answer → OpenAnswer
 opened_answer d a = record {
   payloads = payloads_begun a.is_anew d;
@@ -67,7 +67,7 @@ opened_answer d a = record {
   has_all = a.has_all;
 }
 
--- what is held, but for the changes of the open answer
+-- the state that is held, except for the changes of the open answer
 abbrev pub so_much : Held → List Payload → SoMuch
 so_much h d = record {
   kept = d;
@@ -82,14 +82,14 @@ abbrev pub IsBased : Answer → (end : Option EndOfData) → Type 0
 IsBased a None = ⊤
 IsBased a (Some x) = a.is_anew ≡ false → a.version ≡ Some (end_meaning x).version
 
--- the answer is that of this session that begins next
+-- the answer of this session that begins next
 pub record IsBegun (a : Answer) (h : Held) (d : List Payload) (session : Option ℕ) : Type 0 where
   pub answer : opened_answer d a ≡ begun_in (so_much h d) session
   pub version : a.version ≡ begun_version (so_much h d) session
   pub count : a.count ≡ 0
   pub based : IsBased a h.end
 
--- a unit of the version may follow where this one is wanted, if any is
+-- a unit of the version may come where this version is required, if any is
 abbrev pub IsOfWanted : Option ℕ → ℕ → Type 0
 IsOfWanted None v = ⊤
 IsOfWanted (Some w) v = w ≡ v
@@ -119,11 +119,11 @@ pub record Idle (input : List ℕ) (at : ℕ) (m : SoMuch) : Type 0 where
 
 -- ---- where one is
 
--- with these payloads made of those of the open answer
+-- with these payloads as the result of the open answer's changes
 abbrev pub made_in : SoMuch → OpenAnswer → List Payload → SoMuch
 made_in m o made = record m { pending = Some (with_payloads o made) }
 
--- the change there, which does this, is refused, and the units before it can be taken
+-- the change of this action at that offset is refused, and the units before it are accepted
 abbrev pub RefusedThere : (input : List ℕ) → ℕ × Action → Type 0
 RefusedThere input r =
     (t : Taken input r.0)
@@ -138,10 +138,10 @@ pub record GathersAnswer (input : List ℕ) (at : ℕ) (m : SoMuch) (o : OpenAns
   pub are_recorded : AllByRecursion IsRecorded units
   -- the changes of the open answer, and their offsets
   pub xs : List (ℕ × Change)
-  -- what the units leave, if all are allowed
+  -- the result of the units, if all are allowed
   pub if_allowed : (made : List Payload) → after_all (made_by xs) (Ok o.payloads) ≡ Ok made →
       (held_after units (Ok nothing) ≡ Ok (made_in m o made)) × (version_taken units ≡ a.version)
-  -- and where they stop, if not
+  -- and where they stop, otherwise
   pub stops : (r : ℕ × Action) → StoppedAt xs o.payloads r → RefusedThere input r
   pub v : ℕ
   pub lies : LieAt input v xs
@@ -166,7 +166,7 @@ pub record StandsAt (h : Held) (at : ℕ) (input index output : List ℕ) : Type
 
 -- ---- the open answer's changes, all allowed
 
--- the units that were taken leave this
+-- the state after the units that were read
 abbrev pub IsStateOf : (pending : Option Answer) → SoMuch → List Payload →
     (units : List AnyFields) → (held : SoMuch) → Type 0
 IsStateOf None m d units held = held ≡ m
@@ -192,7 +192,7 @@ IsRightReason reason h input at =
 
 -- ---- an end of data
 
--- what the changes of an answer make was written over what was kept, or why it wasn't
+-- the result of an answer's changes was written over the kept data, or why it wasn't
 abbrev pub WritesBack : Result ℕ LoadFault → List (ℕ × Change) → List Payload → EndOfData →
     (room : ℕ) → (after : List ℕ) → Type 0
 WritesBack (Ok n) xs d end room after =
@@ -206,7 +206,7 @@ WritesBack (Err faults.NoRoom) xs d end room after =
     × (room < length (data_form made (end_meaning end)))
 WritesBack (Err (faults.NoIndex n)) xs d end room after = ⊥
 
--- the fault of a change at this offset, which does this
+-- the fault of a change of this action at this offset
 abbrev pub change_fault_of : ℕ → Action → LoadFault
 change_fault_of o a = faults.Refused o (reasons.Refused (refusals.Change (why a)))
 
@@ -218,12 +218,12 @@ WritesBackAll r base input os end room after =
     os ≡ offsets_of xs → LieAt input (end_meaning end).version xs →
     WritesBack r xs d end room after
 
--- how much of what is kept an answer changes
+-- how many bytes of the kept data an answer changes
 abbrev pub base_size : (is_anew : Bool) → (size : ℕ) → ℕ
 base_size true size = 0
 base_size false size = size
 
--- this is how a unit was taken, or why it wasn't
+-- the result of reading a unit, or why it was refused
 abbrev pub TookUnit : {T : Type 0} → Result T LoadFault → Held → (at : ℕ) →
     (input index output : List ℕ) → (room : ℕ) → Type 0
 TookUnit (Ok t) h at input index output room = StandsAt h at input index output

@@ -1,4 +1,4 @@
-//! The changes of an answer are looked at, or made.
+//! Closing an answer: its changes are checked, or applied.
 
 ghost use Rattle.std.specs.Prelude.{◌≡◌, ◌≤◌, ◌+◌, ℕ, List, length, take, drop, min};
 ghost use Rattle.rtr_units.specs.AnyEnd.{end_bytes, end_meaning};
@@ -21,7 +21,7 @@ use rtr_base::action::Action;
 use rtr_units::end::EndOfData;
 use unit_views::placing::place;
 
-/// Why the changes of the open answer aren't all allowed, if they aren't.
+/// Returns why the changes of the open answer aren't all allowed, if they aren't.
 pub(crate) fn settle(
     held: &Held,
     input: &[u8],
@@ -50,7 +50,7 @@ pub(crate) fn settle(
     }
 }
 
-/// Takes an end of data: the changes of its answer are made, and what they make is kept.
+/// Takes an end of data: applies the changes of its answer, and keeps the result.
 pub(crate) fn close(
     held: &mut Held,
     end: &EndOfData,
@@ -101,7 +101,7 @@ pub(crate) fn close(
     }
 }
 
-/// Makes the changes at the offsets, and writes what they make over what is kept.
+/// Applies the changes at the offsets, and replaces the kept data by the result.
 fn write_back(
     answer: &Answer,
     kept_size: usize,
@@ -134,7 +134,7 @@ fn write_back(
     }
 }
 
-/// What an answer changes of the data that are kept.
+/// The data that an answer changes.
 fn base_of(is_anew: bool, kept_size: usize, output: &[u8]) -> &[u8]
     requires { kept_size ≤ length output.now }
     ensures { result.now ≡ take (base_size is_anew kept_size) output.now }
@@ -146,7 +146,7 @@ fn base_of(is_anew: bool, kept_size: usize, output: &[u8]) -> &[u8]
     }
 }
 
-/// The fault of a change at this offset, which does this.
+/// The fault of a change of this action at this offset.
 fn change_fault(offset: usize, action: Action) -> LoadFault
     ensures { result ≡ change_fault_of offset action }
 {

@@ -3,17 +3,17 @@
 use data_recordings::Refusal;
 use unit_views::fault::ViewFault;
 
-/// What is wrong with a unit of a recording, or where one should be.
+/// What is wrong with a unit of a recording, or with the bytes where one should begin.
 #[derive(Debug, Drop, thiserror::Error)]
 pub enum LoadReason {
-    /// No unit begins there, or the input ends where an answer is open or none has come.
+    /// No unit begins there, or the input ends inside an answer or before the first one.
     #[error(transparent)]
     Read(ViewFault),
     /// The unit is refused.
     #[error("{0}")]
     Refused(Refusal),
-    /// The payload unit or the end of data is of this protocol version, and its answer, or the data
-    /// that it changes, of another.
+    /// The payload unit or the end of data is of this protocol version, but its answer, or the data
+    /// that it changes, is of another.
     #[error("version {0} is not that of the units before")]
     UnitVersion(u8),
 }
@@ -21,21 +21,22 @@ pub enum LoadReason {
 /// Why a recording isn't loaded.
 #[derive(Debug, Drop, thiserror::Error)]
 pub enum LoadFault {
-    /// The first unit at which the recording can't go on.
+    /// The first unit that the recording can't continue with.
     #[error("{reason} at byte {offset}")]
     Refused {
-        /// How many bytes come before it.
+        /// Its offset.
         offset: usize,
-        /// What is wrong there.
+        /// What is wrong with it.
         reason: LoadReason,
     },
     /// The index has fewer elements than the open answer has payload units so far.
     #[error("the index is too short")]
     NoIndex {
-        /// How many payload units of that answer were read, each of which wants an element.
+        /// The number of payload units of that answer that were read. The index needs an element
+        /// for each.
         wanted: usize,
     },
-    /// A buffer has no room for the data of an answer.
+    /// A buffer is too short for the data of an answer.
     #[error("no room for the data")]
     NoRoom,
 }

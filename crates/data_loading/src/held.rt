@@ -25,7 +25,8 @@ pub(crate) struct Held {
     pub(crate) end: Option<EndOfData>,
     /// The answer that is open, if one is.
     pub(crate) pending: Option<Answer>,
-    /// Whether all data were asked for, if anything was since the last answer began.
+    /// Whether all data were requested last, by a reset query or by a cache reset; none if nothing
+    /// was requested since the last answer began.
     pub(crate) asks_all: Option<bool>,
     /// Whether an answer was cut off.
     pub(crate) has_cut: bool,
@@ -34,22 +35,23 @@ pub(crate) struct Held {
 /// An answer whose end of data hasn't come.
 #[derive(Clone, Copy)]
 pub(crate) struct Answer {
-    /// How many payload units came of it.
+    /// The number of its payload units so far.
     pub(crate) count: usize,
-    /// The version of these, or of the data that they change.
+    /// Their version, or that of the data that they change.
     pub(crate) version: Option<u8>,
-    /// Its session, if its cache response or the whole answer before it says one.
+    /// Its session, if it is known from its cache response or the whole answer before it.
     pub(crate) session: Option<u16>,
-    /// The serial number of the data that it changes; none if it began anew, or was the first.
+    /// The serial number of the data that it changes; none if it began with no payloads, or was the
+    /// first.
     pub(crate) since: Option<u32>,
-    /// Whether it is to a request for all data.
+    /// Whether it answers a request for all data.
     pub(crate) has_all: bool,
-    /// Whether it began anew, with no payloads.
+    /// Whether it began with no payloads.
     pub(crate) is_anew: bool,
 }
 
 impl Held {
-    /// Nothing, as before the first unit.
+    /// The state before the first unit.
     pub(crate) fn new() -> Self
         ensures { result ≡ record {
           length = 0;
@@ -68,7 +70,7 @@ impl Held {
         }
     }
 
-    /// Opens an answer of this session, and drops an answer that is open.
+    /// Opens an answer of this session, and drops a pending one.
     pub(crate) fn respond(&mut self, session: u16)
         ensures { (a : Answer) × (self.new ≡ record self.old {
           pending = Some a;
@@ -82,7 +84,7 @@ impl Held {
         self.asks_all = None;
     }
 
-    /// The answer that the next payload unit or end of data is of.
+    /// The answer of the next payload unit or end of data.
     pub(crate) fn current(&self) -> Answer
         ensures answer { IsCurrent self.now.pending result self.now }
     {
@@ -92,7 +94,7 @@ impl Held {
         }
     }
 
-    /// What was asked since that answer began.
+    /// What was requested since that answer began.
     pub(crate) fn asked_since(&self) -> Option<bool>
         ensures { (d : List Payload) →
             result ≡ asked_since (so_much self.now d).pending self.now.asks_all }
@@ -178,7 +180,7 @@ impl Held {
 }
 
 impl Answer {
-    /// Why an end of data can't close it.
+    /// Why an end of data can't close the answer.
     pub(crate) fn refusal(&self, end: &EndOfData) -> Option<Refusal>
         ensures { (d : List Payload) →
             result ≡ refusal_in (opened_answer d self.now) (end_meaning end.now) }
@@ -191,7 +193,7 @@ impl Answer {
     }
 }
 
-/// Why changes of data of one serial number can't end with another.
+/// Why changes of data with one serial number can't end with another.
 fn refused_since(since: Option<u32>, serial: u32) -> Option<Refusal>
     ensures { result ≡ is_refused_since since serial }
 {
@@ -201,7 +203,7 @@ fn refused_since(since: Option<u32>, serial: u32) -> Option<Refusal>
     }
 }
 
-/// Whether a session is another than that before it.
+/// Whether a session differs from the one before it.
 fn is_other(last: Option<u16>, session: Option<u16>) -> bool
     ensures { result ≡ is_another last session }
 {

@@ -1,4 +1,4 @@
-//! Recordings and lists, loaded into a slice as data in canonical form, without memory of its own.
+//! Recordings and lists, loaded into a slice as data in canonical form, without allocating.
 #![tactic(auto)]
 
 mod closing;

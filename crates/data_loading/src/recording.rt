@@ -1,4 +1,4 @@
-//! A whole recording is loaded.
+//! Loading a whole recording.
 
 ghost use Rattle.std.specs.Prelude.{◌≡◌, ◌≢◌, ◌≤◌, ◌/◌, ℕ, Err, length, min};
 ghost use Rattle.data_loading.specs.Loading.{LoadsFrom};
@@ -17,23 +17,23 @@ use unit_views::fault::ViewFault;
 pub struct Loaded {
     /// The length of the data in bytes.
     pub length: usize,
-    /// Their end of data, which gives their version, session, serial number and times.
+    /// Their end of data, with their version, session, serial number and times.
     pub end: EndOfData,
-    /// Whether an answer was left out, since the next one began before its end of data.
+    /// Whether an incomplete answer was dropped because the next one began before its end of data.
     pub has_cut: bool,
 }
 
-/// Writes the data that a recording or a list leaves, in canonical form: its answers one after the
-/// other, each with or without a cache response, their payload units in any order. The result is
-/// that of `data_recordings::read_recording` for the same bytes. Nothing is allocated: `index` is
-/// work space, one element for each payload unit of an answer, and so is `work`, which is as long
-/// as the data of each answer, as `output` is. Their content is undefined after a fault, and behind
-/// the data. An index with an element for each 12 bytes of the input always suffices, and so do
-/// buffers that are as long as the input.
+/// Writes the data that a recording or a list leaves, in canonical form. Its answers come one after
+/// the other, each with or without a cache response, their payload units in any order. The result
+/// is that of `data_recordings::read_recording` for the same bytes. Nothing is allocated: `index`
+/// is work space, one element for each payload unit of an answer, and so is `work`, which is as
+/// long as the data of each answer, as `output` is. Their content is undefined after a fault, and
+/// beyond the data. An index with an element for each 12 bytes of the input always suffices, and so
+/// do buffers that are as long as the input.
 ///
-/// `Refused` names the first unit at which the recording can't go on, and its offset: `Read` with
-/// the faults of `SessionView::first`, and with `Short` at the end of the input inside an answer or
-/// if there was none; `Refused` for a unit that `data_recordings` refuses; `UnitVersion` for a
+/// `Refused` holds the first unit that the recording can't continue with, and its offset: `Read`
+/// with the faults of `SessionView::first`, and with `Short` if the input ends inside an answer or
+/// before the first one; `Refused` for a unit that `data_recordings` refuses; `UnitVersion` for a
 /// payload unit or an end of data of another version than those before it in its answer, or than
 /// the data that it changes. `NoIndex` and `NoRoom`: a buffer is too short for an answer.
 pub fn load(
@@ -83,7 +83,7 @@ fn load_units(
     }
 }
 
-/// What the whole input leaves.
+/// The result of the whole input.
 fn finish(
     held: &Held,
     input: &[u8],

@@ -1,4 +1,4 @@
-//! Units of a recording, by what they do.
+//! Units of a recording, by their effect.
 
 ghost use Rattle.std.specs.Prelude.{◌≤◌, ◌<◌, IfOk, IfErr, List, Option, ℕ, length, take};
 ghost use Rattle.unit_views.specs.Views.{IsViewOf};
@@ -11,7 +11,7 @@ use unit_any::SessionView;
 use unit_views::fault::ViewFault;
 use unit_views::view::UnitView;
 
-/// What a unit of a recording does.
+/// The effect of a unit of a recording.
 #[derive(Clone, Copy)]
 pub(crate) enum Seen {
     /// A payload unit of this version.
@@ -24,16 +24,16 @@ pub(crate) enum Seen {
     Reset,
     /// An error report.
     Report,
-    /// A reset query: all data are asked for.
+    /// A reset query, which requests all data.
     AsksAll,
-    /// A serial query: changes are asked for.
+    /// A serial query, which requests changes.
     AsksChanges,
     /// A serial notify, which is ignored.
     Notifies,
 }
 
-/// The unit that the input begins with, and its length. The faults are those of
-/// `SessionView::first`.
+/// Returns the effect of the unit at the front of the input, and its length. The faults are those
+/// of `SessionView::first`.
 #[inline(always)]
 pub(crate) fn first_seen(input: &[u8]) -> Result<(Seen, usize), ViewFault>
     ensures unit { IfOk result (λ p. Sees p.0 (take p.1 input.now)) }
@@ -47,7 +47,7 @@ pub(crate) fn first_seen(input: &[u8]) -> Result<(Seen, usize), ViewFault>
     }
 }
 
-/// What the unit does.
+/// The effect of the unit.
 #[inline(always)]
 fn see(view: &SessionView<'_>) -> Seen
     ensures { (b : List ℕ) → ShowsUnit view.now b → Sees result b }
@@ -63,7 +63,7 @@ fn see(view: &SessionView<'_>) -> Seen
     }
 }
 
-/// What a payload unit or an end of data does.
+/// The effect of a payload unit or an end of data.
 #[inline(always)]
 fn see_data(view: &UnitView<'_>) -> Seen
     ensures { (b : List ℕ) → IsViewOf view.now b → Sees result b }

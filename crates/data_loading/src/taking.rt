@@ -1,4 +1,4 @@
-//! What each unit of a recording does.
+//! Applying the effect of each unit of a recording.
 
 ghost use Rattle.std.specs.Prelude.{◌≡◌, ◌≤◌, ◌+◌, ◌++◌, ◌∷◌, [], ℕ, List, IsTrue, length};
 ghost use Rattle.std.specs.Prelude.{◌↔◌, take, drop, min, Err, Some};
@@ -51,7 +51,7 @@ pub(crate) fn take_unit(
     }
 }
 
-/// The fault of the bytes at the offset, unless the open answer has one before them.
+/// The fault of the bytes at the offset, unless the open answer has an earlier one.
 pub(crate) fn refuse(
     held: &Held,
     at: usize,
@@ -127,7 +127,7 @@ fn respond(
     }
 }
 
-/// Takes a cache reset, which may not stand inside an answer.
+/// Takes a cache reset, which is not allowed inside an answer.
 fn reset(
     held: &mut Held,
     size: usize,
@@ -155,7 +155,7 @@ fn reset(
     }
 }
 
-/// Takes an error report, which may not stand inside an answer.
+/// Takes an error report, which is not allowed inside an answer.
 fn report(
     held: &mut Held,
     size: usize,
@@ -180,7 +180,7 @@ fn report(
     }
 }
 
-/// Whether a unit of a version may follow where this one is wanted, if any is.
+/// Whether a unit of a version may come where this version is required, if any is.
 pub(crate) fn is_of(wanted: Option<u8>, version: u8) -> bool
     ensures { IsTrue result ↔ IsOfWanted wanted version }
 {

@@ -8,25 +8,25 @@ use crate::change_error::ChangeError;
 use rtr_base::error_code::ErrorCode;
 use rtr_units::fault::Fault;
 
-/// Why a sequence was not applied, and where. The data is as it was.
+/// Why a sequence was not applied, and at which unit. The data are unchanged.
 #[derive(Debug, Drop, thiserror::Error)]
 #[error("unit {units}: {cause}")]
 pub struct ApplyError {
-    /// How many payload units came before, whose changes are all allowed: the index, from 0, of the
-    /// unit at fault.
+    /// The number of payload units before it, whose changes are all allowed: the index, from 0, of
+    /// the unit at fault.
     pub units: u64,
-    /// What is wrong there.
+    /// What is wrong with that unit.
     pub cause: ApplyCause,
 }
 
-/// What stopped the reading of a sequence, or its changes.
+/// Why a sequence was not applied.
 #[derive(Debug, Drop, thiserror::Error)]
 pub enum ApplyCause {
-    /// No unit could be read: a fault of `pdu::Payload::read` or `pdu::Payload::into_payload`, or
+    /// A unit can't be read: a fault of `pdu::Payload::read` or `pdu::Payload::into_payload`, or
     /// `TooMany`.
     #[error("{0}")]
     Read(Fault),
-    /// The change that the unit is for is refused, or memory ran out in making it.
+    /// The change of the unit is refused, or an allocation for it failed.
     #[error("{0}")]
     Change(ChangeError),
 }

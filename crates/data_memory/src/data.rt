@@ -34,10 +34,10 @@ use std::alloc::Global;
 use std::collections::{BTreeMap, BTreeSet, btree_map, btree_set};
 use std::marker::Model;
 
-/// The most bytes of key info in a unit, of which the length counts at most 65535.
+/// The greatest number of bytes of key info in a unit, whose length is at most 65535.
 const MOST_KEY_INFO: usize = 65503;
 
-/// Payloads, each of them once, and of each customer one ASPA at most.
+/// A set of payloads, with at most one ASPA for each customer.
 #[derive(Drop)]
 pub struct Data {
     origins: BTreeSet<KeptOrigin>,
@@ -61,7 +61,7 @@ impl Model for Data {
 }
 
 impl Data {
-    /// No payloads.
+    /// The empty set.
     pub fn new(alloc: Global) -> Self
         ensures { result ≡ [] }
     {
@@ -72,7 +72,7 @@ impl Data {
         }
     }
 
-    /// How many payloads there are, or the greatest `usize` where there are more.
+    /// The number of payloads, or the greatest `usize` if there are more.
     pub fn len(&self) -> usize
         ensures { result ≡ min (length self.now) usize.MAX }
     {
@@ -89,7 +89,7 @@ impl Data {
         self.len() == 0
     }
 
-    /// The origins, the router keys and the ASPAs, which are the payloads in their order.
+    /// The origins, the router keys and the ASPAs: together they are the payloads in their order.
     pub fn parts(
         &self,
     ) -> (
@@ -108,7 +108,8 @@ impl Data {
         )
     }
 
-    /// Reports whether the payload is present: an ASPA with just these providers.
+    /// Reports whether the payload is present; an ASPA, whether it is present with exactly these
+    /// providers.
     pub fn contains(&self, payload: &PayloadRef<'_>) -> bool
         ensures { result ≡ has self.now (payload_of_ref payload.now) }
     {
@@ -126,7 +127,8 @@ impl Data {
         }
     }
 
-    /// Reports whether a payload of this name is present: any ASPA of the same customer.
+    /// Reports whether a payload of this name is present: for an ASPA, any ASPA of the same
+    /// customer.
     pub fn contains_name(&self, payload: &PayloadRef<'_>) -> bool
         ensures { result ≡ has_name self.now (payload_of_ref payload.now) }
     {
@@ -179,7 +181,7 @@ impl Data {
         }
     }
 
-    /// Withdraws a payload. Of an ASPA only the customer counts.
+    /// Withdraws a payload. For an ASPA only the customer counts.
     ///
     /// `Unknown` if it is absent; then the data are unchanged. Nothing is allocated.
     pub fn withdraw(&mut self, payload: &PayloadRef<'_>) -> Result<(), ChangeError>
@@ -208,9 +210,9 @@ impl Data {
         }
     }
 
-    /// Writes the payloads of an answer to a reset query (RFC 8210 section 8.1); the caller writes
-    /// the cache response before them and the end of data behind them: the units of this version
-    /// that announce the payloads, in their order. Version 0 has only origins, version 1 router
+    /// Writes the payloads of an answer to a reset query (RFC 8210 section 8.1): the units of this
+    /// version that announce the payloads, in their order. The caller writes the cache response
+    /// before them and the end of data after them. Version 0 has only origins, version 1 router
     /// keys too, and version 2 ASPAs too.
     ///
     /// A unit has 20 or 32 bytes for an origin, 32 and its key info for a router key, 12 and four
@@ -231,15 +233,15 @@ impl Data {
         write_all_aspas(version, &self.aspas, writer)
     }
 
-    /// Writes what answers a serial query (RFC 8210 section 8.2), between the cache response and
-    /// the end of data, which are the caller's to write: the units that lead a router of this
-    /// version from this data, the old, to new data, of what the version has as in `write_all`.
-    /// First come all announcements and then the withdrawals, each in the order of payloads. An
-    /// ASPA that takes the place of another is announced, and a withdrawn one is written without
+    /// Writes the payloads of an answer to a serial query (RFC 8210 section 8.2): the units that
+    /// lead a router of this version from this data, the old, to new data, as far as the version
+    /// has them, as in `write_all`. The caller writes the cache response before them and the end of
+    /// data after them. First come all announcements and then the withdrawals, each in the order of
+    /// payloads. An ASPA that replaces another is announced, and a withdrawn one is written without
     /// providers.
     ///
     /// `UnitVersion` comes first for a version above 2, with nothing written; else `Writer` is the
-    /// only fault: no memory is asked for.
+    /// only fault: nothing is allocated.
     pub fn write_delta<W: Sink>(&self, new: &Data, version: u8, writer: &mut W) -> Result<(), Fault>
         ensures known { version ≤ 2 → PutsForm result (W.state writer.old) (W.state writer.new)
             (change_forms version (changes_for version self.now new.now)) }
@@ -254,7 +256,7 @@ impl Data {
         self.write_withdrawals(new, version, writer)
     }
 
-    /// The announcements of a delta.
+    /// Writes the announcements of a delta.
     fn write_announcements<W: Sink>(
         &self,
         new: &Data,
@@ -271,7 +273,7 @@ impl Data {
         write_announced(version, &self.aspas, &new.aspas, writer)
     }
 
-    /// The withdrawals of a delta.
+    /// Writes the withdrawals of a delta.
     fn write_withdrawals<W: Sink>(
         &self,
         new: &Data,
@@ -289,7 +291,7 @@ impl Data {
     }
 }
 
-/// Why no reader accepts an announcement of the payload, if none does.
+/// Why no reader accepts an announcement of the payload; none if readers accept it.
 fn refusal(payload: &Payload) -> Option<ChangeError>
     ensures { result ≡ unfit (payload_of payload.now) }
 {

@@ -1,4 +1,4 @@
-//! A route origin in few bytes.
+//! A compact route origin.
 
 ghost use Rattle.std.specs.Prelude.{◌≡◌, refl};
 ghost use Rattle.std.specs.Ordering.{as_partial_cmp, eq_by_cmp, nat_cmp, on};
@@ -14,8 +14,8 @@ use rtr_payload::payload::RouteOrigin;
 use std::cmp::Ordering;
 use std::marker::Model;
 
-/// A route origin as `Data` keeps it. It takes 24 bytes where a `RouteOrigin` takes 64, which holds
-/// its address as a `u128`, at a multiple of 16 bytes: here the address is in two halves.
+/// A route origin as `Data` stores it. It takes 24 bytes; a `RouteOrigin` takes 64, since its
+/// address is a `u128`, aligned to 16 bytes. Here the address is in two halves.
 #[derive(Clone, Copy)]
 pub struct KeptOrigin {
     high: u64,
@@ -95,8 +95,8 @@ impl KeptOrigin {
         RouteOrigin::new(prefix, self.asn)
     }
 
-    /// Compares the prefixes as `Prefix` does, without making them: in most pairs the address
-    /// decides.
+    /// Compares the prefixes as `Prefix` does, without constructing them: for most pairs the
+    /// address decides.
     #[inline(always)]
     fn compare_prefixes(&self, other: &Self) -> Ordering
         ensures { result ≡ prefix_cmp self.now.prefix.prefix other.now.prefix.prefix }
@@ -131,7 +131,7 @@ impl KeptOrigin {
         ((self.high as u128) << 64) + self.low as u128
     }
 
-    /// The longest prefix length that is meant.
+    /// The longest prefix length that may be announced.
     #[inline(always)]
     fn resolved_max_len(&self) -> u8
         ensures { result ≡ resolved_len self.now.prefix }
@@ -182,7 +182,7 @@ impl PartialOrd for KeptOrigin {
     }
 }
 
-/// As the origins are ordered.
+/// Ordered as `RouteOrigin` is.
 impl Ord for KeptOrigin {
     ghost cmp = { on origin_of payload_cmp };
 

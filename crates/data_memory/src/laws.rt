@@ -22,8 +22,8 @@ ghost use Rattle.data_memory.specs.declared.apply_error.ApplyError.{ApplyError};
 
 use crate::data::Data;
 
-/// A change that is allowed makes data of data. After an announcement the payload is the only one
-/// of its name, after a withdrawal there is none, and other names have what they had.
+/// An allowed change makes data of data. After an announcement the payload is the only one of its
+/// name, after a withdrawal there is none of its name, and payloads of other names are unchanged.
 pub fn one_change()
     ensures ordered { (c : Change) (d e : List Payload) → IsData d → after c d ≡ Ok e → IsData e }
     ensures announced { (p q : Payload) (d e : List Payload) → IsData d →
@@ -34,10 +34,11 @@ pub fn one_change()
         has e q ≡ (if is_at (name_cmp p) q then false else has d q) }
 {}
 
-/// The changes from old data to new make new data of old, and there are none from data to itself.
+/// The changes from old data to new lead from the old data to the new, and there are none from data
+/// to itself.
 ///
-/// No two of them are of one name, so that no payload stands in them twice; and whatever changes
-/// lead from old data to new have one of each of these names, so that no fewer do.
+/// No two of them have the same name, so each payload occurs at most once; and any changes that
+/// lead from old data to new include one of each of these names, so no smaller number suffices.
 pub fn changes_lead_to_new()
     ensures leads { (old new : List Payload) → IsData old → IsData new →
         after_all (changes old new) (Ok old) ≡ Ok new }
@@ -51,7 +52,7 @@ pub fn changes_lead_to_new()
         after_all cs (Ok old) ≡ Ok new → length (changes old new) ≤ length cs }
 {}
 
-/// The changes from the one to the other of any two values lead there.
+/// The changes from any value to any other lead there.
 pub fn changes_of_data(old: &Data, new: &Data)
     ensures { after_all (changes old.now new.now) (Ok old.now) ≡ Ok new.now }
 {
@@ -59,8 +60,8 @@ pub fn changes_of_data(old: &Data, new: &Data)
     let _new = new.parts();
 }
 
-/// The changes that a delta sends for a version lead from the old data to the new ones, as that
-/// version has them; the announcements of all data lead there from no data.
+/// The changes that a delta sends for a version lead from the old data to the new ones, as far as
+/// that version has them; the announcements of all data lead there from no data.
 pub fn deltas_lead_to_new()
     ensures leads { (v : ℕ) (old new : List Payload) → IsData old → IsData new →
         after_all (changes_for v old new) (Ok (data_for v old)) ≡ Ok (data_for v new) }
@@ -68,8 +69,8 @@ pub fn deltas_lead_to_new()
         after_all (all_for v d) (Ok []) ≡ Ok (data_for v d) }
 {}
 
-/// What a delta writes for a version, followed by an end of data, is accepted as a sequence, and so
-/// is what announces all of the data.
+/// A delta written for a version, followed by an end of data, is accepted as a sequence, and so are
+/// the announcements of all data.
 pub fn deltas_are_accepted()
     ensures delta { (v : ℕ) (old new : List Payload) (e : EndMeaning) → v < 256 →
         AllByRecursion IsSendable old → AllByRecursion IsSendable new → IsEndMeaning e →
@@ -81,9 +82,9 @@ pub fn deltas_are_accepted()
         (map (unit_of v) (all_for v d)) e }
 {}
 
-/// A reader of a delta, followed by an end of data, that applies the changes one after the other,
-/// gets from the old data to the new ones, as the version has them, and reads that end of data;
-/// from the announcements of all data it gets there from no data.
+/// A reader that applies a delta, one change after the other, gets from the old data to the new
+/// ones, as far as the version has them, and reads the end of data after it; the announcements of
+/// all data lead it there from no data.
 pub fn deltas_read_back()
     ensures delta { (v : ℕ) (old new : List Payload) (b rest : List ℕ) (ms : List Meaning)
         (d e : EndMeaning) → v < 256 → IsData old → IsData new →
@@ -97,10 +98,10 @@ pub fn deltas_read_back()
         (after_all (map change_of ms) (Ok []) ≡ Ok (data_for v new)) × (d ≡ e) }
 {}
 
-/// What follows from the contract of `Data::apply` where the input is known, however it is cut: it
-/// succeeds exactly where a front of the input is fewer than `limit` units and an end of data and
-/// all changes are allowed, unless the reader or memory is to blame. Then the data is what the
-/// changes lead to, and just that front is taken.
+/// What follows from the contract of `Data::apply` if the input is known, however it is split: it
+/// succeeds if and only if the input begins with fewer than `limit` units and an end of data and
+/// all changes are allowed, unless the reader or memory fails. Then the data are the result of the
+/// changes, and exactly these bytes are consumed.
 pub fn sequences_are_applied()
     ensures leads { (limit : ℕ) (input b : List ℕ) (e : EndMeaning)
         (result : Result EndOfData ApplyError) (old new : ReaderState)
@@ -113,10 +114,10 @@ pub fn sequences_are_applied()
         IsApplicable limit input (p.units ++ p.last) (end_meaning d) before after }
 {}
 
-/// If a reader gives the delta from old to new data for a version, and then an end of data,
-/// `Data::apply` makes the new data of the old ones, as the version has them, and returns that end,
-/// unless the reader or memory fails; from the announcements of all data it makes them of no data.
-/// Nothing behind the end is read, however the input is split.
+/// If a reader returns the delta from old to new data for a version, and then an end of data,
+/// `Data::apply` turns the old data into the new ones, as far as the version has them, and returns
+/// that end, unless the reader or memory fails; the announcements of all data turn no data into
+/// them. Nothing after the end is read, however the input is split.
 pub fn deltas_are_applied(old: &Data, new: &Data)
     ensures delta { (v limit : ℕ) (e : EndMeaning) (rest : List ℕ)
         (result : Result EndOfData ApplyError) (r s : ReaderState) (after : List Payload) →

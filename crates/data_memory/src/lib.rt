@@ -1,4 +1,4 @@
-//! Data of the RPKI to Router protocol: the payloads that a cache has, or a router has of it, and
+//! Data of the RPKI to Router protocol: the payloads of a cache, or a router's copy of them, and
 //! how announcements and withdrawals change them.
 #![tactic(auto)]
 

@@ -1,4 +1,4 @@
-//! Units of the payloads that one part of data has, and one of other data lacks.
+//! Writes units for the payloads of one part of data that other data lack.
 
 ghost use Rattle.std.specs.Prelude.{◌≡◌, ◌+◌, ◌*◌, ◌∷◌, ◌++◌, [], map, filter};
 ghost use Rattle.std.specs.BTreeSet.{difference};
@@ -42,7 +42,7 @@ fn write_origin<W: Sink>(
     unit.write(writer)
 }
 
-/// What comes before the key info in the unit that announces or withdraws the key.
+/// The part before the key info of the unit that announces or withdraws the key.
 fn key_front(version: u8, action: Action, key: &RouterKey) -> [u8; 32]
     ensures { result ++ key.now.key_info ≡ form version (flags_of action) (key_of key.now) }
 {
@@ -69,8 +69,8 @@ fn write_key<W: Sink>(
     put_parts(writer, &front, key.key_info.as_slice())
 }
 
-/// What comes before the providers in the unit that announces or withdraws an ASPA, which has as
-/// many providers as `count` says.
+/// The part before the providers of the unit that announces or withdraws an ASPA with `count`
+/// providers.
 fn aspa_front(version: u8, action: Action, customer: Asn, count: u16) -> [u8; 12]
     ensures { result ≡ version ∷ 11 ∷ flags_of action ∷ 0 ∷ be (12 + 4 * count) 4 ++
         be customer 4 }
@@ -106,7 +106,7 @@ fn withdraw_aspa<W: Sink>(version: u8, customer: Asn, writer: &mut W) -> Result<
     put(writer, &front)
 }
 
-/// Writes units for those of these origins that aren't among those.
+/// Writes units for the origins of the first set that the second lacks.
 pub(crate) fn write_origins<W: Sink>(
     version: u8,
     action: Action,
@@ -124,7 +124,7 @@ pub(crate) fn write_origins<W: Sink>(
     Ok(())
 }
 
-/// Writes units for those of these keys that aren't among those, where the version has keys.
+/// Writes units for the keys of the first set that the second lacks, if the version has keys.
 pub(crate) fn write_keys<W: Sink>(
     version: u8,
     action: Action,
@@ -145,7 +145,7 @@ pub(crate) fn write_keys<W: Sink>(
     Ok(())
 }
 
-/// Whether the map has just these providers for the customer.
+/// Whether the map has exactly these providers for the customer.
 pub(crate) fn is_there(
     aspas: &BTreeMap<Asn, ProviderAsns>,
     customer: Asn,
@@ -161,7 +161,7 @@ pub(crate) fn is_there(
     }
 }
 
-/// Announces the ASPAs of new data that old data lacks, where the version has ASPAs.
+/// Announces the ASPAs of new data that old data lacks, if the version has ASPAs.
 pub(crate) fn write_announced<W: Sink>(
     version: u8,
     old: &BTreeMap<Asn, ProviderAsns>,
@@ -184,7 +184,7 @@ pub(crate) fn write_announced<W: Sink>(
     Ok(())
 }
 
-/// Withdraws the ASPAs of old data whose customers new data lacks, where the version has ASPAs.
+/// Withdraws the ASPAs of old data whose customers new data lacks, if the version has ASPAs.
 pub(crate) fn write_withdrawn<W: Sink>(
     version: u8,
     old: &BTreeMap<Asn, ProviderAsns>,
@@ -222,7 +222,7 @@ pub(crate) fn write_all_origins<W: Sink>(
     Ok(())
 }
 
-/// Announces these keys, where the version has keys.
+/// Announces these keys, if the version has keys.
 pub(crate) fn write_all_keys<W: Sink>(
     version: u8,
     keys: &BTreeSet<RouterKey>,
@@ -240,7 +240,7 @@ pub(crate) fn write_all_keys<W: Sink>(
     Ok(())
 }
 
-/// Announces these ASPAs, where the version has ASPAs.
+/// Announces these ASPAs, if the version has ASPAs.
 pub(crate) fn write_all_aspas<W: Sink>(
     version: u8,
     aspas: &BTreeMap<Asn, ProviderAsns>,

@@ -1,5 +1,5 @@
-//! What a recorded session leaves: the payloads that its whole answers make of none. The programs
-//! that read recordings read them here, so that all read one file alike.
+//! The payloads that a recorded session leaves: the result of its whole answers, applied to no
+//! payloads. The programs that read recordings use this crate, so that all read a file alike.
 #![tactic(auto)]
 
 pub mod laws;

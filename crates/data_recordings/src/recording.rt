@@ -43,34 +43,33 @@ use unit_any::AnyUnit;
 /// What a recording leaves.
 #[derive(Drop)]
 pub struct Recording {
-    /// The payloads that its whole answers make of none.
+    /// The result of its whole answers, applied to no payloads.
     pub payloads: Data,
-    /// The end of data of the last of them.
+    /// The end of data of the last whole answer.
     pub end: EndOfData,
-    /// Whether an answer was left out, since the next one began before its end of data.
+    /// Whether an incomplete answer was dropped because the next one began before its end of data.
     pub has_cut: bool,
 }
 
-/// Reads a recording up to the end of the input, and returns what its whole answers leave, one
-/// after the other: the payloads that their units make of none by the rules of `Data::announce` and
+/// Reads a recording up to the end of the input, and returns the payloads that result from applying
+/// its whole answers one after the other to no payloads, by the rules of `Data::announce` and
 /// `Data::withdraw` (RFC 8210 sections 5.6, 5.7 and 5.10).
 ///
 /// A cache response opens an answer, and an end of data closes it (section 8.1). Until then the
-/// data before it stay, as they do in a router: an answer that a cache response cuts off changes
+/// data before it remain, as they do in a router: an answer that a cache response cuts off changes
 /// nothing. Units without a cache response before them open one, too, in the session of the last
-/// whole answer. An answer begins anew, with no payloads, in another session than the last whole
-/// one (section 5.1), after a cache reset (sections 5.9 and 8.3), and after a reset query, unless a
-/// serial query comes in between (sections 5.3 and 5.4). Serial notifies are ignored, and versions
-/// don't count.
+/// whole answer. An answer begins with no payloads in another session than the last whole one
+/// (section 5.1), after a cache reset (sections 5.9 and 8.3), and after a reset query, unless a
+/// serial query comes in between (sections 5.3 and 5.4). Serial notifies and versions are ignored.
 ///
-/// The first unit at which that can't go on decides, and its offset is told: `Read` with the faults
-/// of `AnyUnit::read` and `pdu::Payload::into_payload`; `Refused` with those of `Data::announce`
-/// and `Data::withdraw`, with `Memory` where an answer goes on with the payloads of those before
-/// and there is none for a copy, with `Session` at an end of data of another session than its
-/// answer (section 5.8), with `Serial` at one of changes whose serial number comes before that of
-/// the data that they change, and with `CacheReset` and `ErrorReport` at such a unit inside an
-/// answer. `Read(Short)` also comes where the input ends before an end of data, or
-/// inside an answer; `Read(TooMany)` after 2^64 - 1 units.
+/// The first unit that can't follow decides, and its offset is returned: `Read` with the faults of
+/// `AnyUnit::read` and `pdu::Payload::into_payload`; `Refused` with those of `Data::announce` and
+/// `Data::withdraw`, with `Memory` if an answer changes the payloads before it and they can't be
+/// copied, with `Session` at an end of data of another session than its answer (section 5.8), with
+/// `Serial` at an end of changes whose serial number comes before that of the data that they
+/// change, and with `CacheReset` and `ErrorReport` at such a unit inside an answer. `Read(Short)`
+/// also comes if the input ends before an end of data, or inside an answer; `Read(TooMany)` after
+/// 2^64 - 1 units.
 pub fn read_recording<R: Source>(alloc: Global, reader: &mut R) -> Result<Recording, Stop>
     ensures bytes { ReadsRecording result (R.state reader.old) (R.state reader.new) }
     ensures error { IfErr result (HoldsStopError (R.fails reader.new)) }
@@ -106,7 +105,8 @@ struct Held {
     end: Option<EndOfData>,
     /// The answer that is open, if one is.
     pending: Option<OpenAnswer>,
-    /// Whether all data were asked for, if anything was since the last answer began.
+    /// Whether all data were requested last, by a reset query or by a cache reset; none if nothing
+    /// was requested since the last answer began.
     asks_all: Option<bool>,
     /// Whether an answer was cut off.
     has_cut: bool,
@@ -129,7 +129,7 @@ impl Model for Held {
 }
 
 impl Held {
-    /// Nothing, as before the first unit.
+    /// The state before the first unit.
     fn new(alloc: Global) -> Self
         ensures { result ≡ nothing }
     {
@@ -175,8 +175,7 @@ impl Held {
         }
     }
 
-    /// Opens an answer of this session, and drops an answer that is open. The only error is
-    /// `Memory`.
+    /// Opens an answer of this session, and drops a pending one. The only error is `Memory`.
     fn open(&mut self, alloc: Global, session: u16) -> Result<(), ChangeError>
         ensures { MatchResult result (λ _. self.new ≡ opens_answer self.old session)
             (λ e. e ≡ Memory) }
@@ -270,7 +269,7 @@ impl Held {
         }
     }
 
-    /// Takes out an answer that begins without a cache response, and without a copy.
+    /// Begins an answer without a cache response. It takes the kept payloads, without a copy.
     fn take_begun(&mut self, alloc: Global) -> OpenAnswer
         ensures { TakesBegun result self.old self.new }
     {
@@ -295,7 +294,7 @@ impl Held {
         }
     }
 
-    /// Keeps what an answer leaves that is whole.
+    /// Keeps the result of a whole answer.
     fn keep(&mut self, payloads: Data, end: EndOfData)
         ensures { self.new ≡ whole self.old payloads (end_meaning end) }
     {
@@ -327,7 +326,7 @@ impl Held {
         }
     }
 
-    /// Takes out the answer that the next payload unit is of. The only error is `Memory`.
+    /// Takes the answer of the next payload unit. The only error is `Memory`.
     fn take_current(&mut self, alloc: Global) -> Result<OpenAnswer, ChangeError>
         ensures { TakesCurrent result self.old self.new }
     {
@@ -362,13 +361,14 @@ impl Held {
 /// An answer whose end of data hasn't come.
 #[derive(Drop)]
 struct OpenAnswer {
-    /// The payloads that its units have made so far.
+    /// The result of its units so far.
     payloads: Data,
-    /// Its session, if its cache response or the whole answer before it says one.
+    /// Its session, if it is known from its cache response or the whole answer before it.
     session: Option<u16>,
-    /// The serial number of the data that it changes; none if it began anew, or was the first.
+    /// The serial number of the data that it changes; none if it began with no payloads, or was the
+    /// first.
     since: Option<u32>,
-    /// Whether it is to a request for all data.
+    /// Whether it answers a request for all data.
     has_all: bool,
 }
 
@@ -386,7 +386,7 @@ impl Model for OpenAnswer {
 }
 
 impl OpenAnswer {
-    /// Why an end of data can't close it.
+    /// Why an end of data can't close the answer.
     fn refusal(&self, end: &EndOfData) -> Option<Refusal>
         ensures { result ≡ refusal_in self.now (end_meaning end.now) }
     {
@@ -398,7 +398,7 @@ impl OpenAnswer {
     }
 }
 
-/// Why changes of data of one serial number can't end with another.
+/// Why changes of data with one serial number can't end with another.
 fn refused_since(since: Option<u32>, serial: u32) -> Option<Refusal>
     ensures { result ≡ refused_since since serial }
 {
@@ -408,7 +408,7 @@ fn refused_since(since: Option<u32>, serial: u32) -> Option<Refusal>
     }
 }
 
-/// Whether a session is another than that before it.
+/// Whether a session differs from the one before it.
 fn is_other(last: Option<u16>, session: Option<u16>) -> bool
     ensures { result ≡ is_other last session }
 {
@@ -428,7 +428,7 @@ fn is_before(serial: u32, last: u32) -> bool
     }
 }
 
-/// The data with the change of a unit, which announces what a reader accepts.
+/// The data after the change of a unit, whose announcement a reader accepts.
 fn changed_by(
     mut payloads: Data,
     action: Action,

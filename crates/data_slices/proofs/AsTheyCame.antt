@@ -1,14 +1,10 @@
 -- What changes as they came are answered with, of one data and one sequence.
-use Rattle.rtr_units.proofs.Ends.{end_made}
-use Rattle.data_memory.specs.Deltas.{change_forms}
-use Rattle.data_memory.proofs.Fewest.{after_all_data}
-use Rattle.data_slices.proofs.Sent.{AreSent, all_sent, announced_sent}
 use Rattle.std.proofs.Common.{◌≡◌, ◌≤◌, ℕ, List, [], ◌∷◌, ◌++◌, Option, Some, None, Result, Ok, Err}
-use Rattle.std.proofs.Common.{refl, sym, ap, subst, ◌∙◌, length, map, drop, arith, ◌<◌}
-use Rattle.rtr_units.specs.End.{EndMeaning, end_list}
+use Rattle.std.proofs.Common.{refl, sym, ap, subst, ◌∙◌, length, drop, arith, ◌<◌}
+use Rattle.rtr_units.specs.End.{EndMeaning}
 use Rattle.rtr_payload.specs.Payloads.{Payload}
 use Rattle.data_memory.specs.Changes.{after_all}
-use Rattle.data_memory.specs.Data.{Change, after, announcement}
+use Rattle.data_memory.specs.Data.{Change, after}
 use Rattle.data_memory.specs.declared.change_error.ChangeError.{ChangeError}
 use Rattle.data_memory.proofs.Merge.{refused_all}
 use Rattle.data_slices.specs.Apply.{RefusedAt, data_form}
@@ -21,8 +17,7 @@ use Rattle.data_slices.specs.declared.in_order_fault.InOrderFault.TheVariants as
 use Rattle.data_slices.proofs.NoStray.{no_stray}
 use Rattle.data_slices.specs.Order.{Sends}
 use Rattle.data_slices.specs.PrivateInOrder.{MadeOf}
-use Rattle.data_slices.proofs.MadeData.{after_more, are_kept}
-use Rattle.data_slices.proofs.Reapplied.{same_made}
+use Rattle.data_slices.proofs.MadeData.{holds_made}
 use Rattle.data_slices.proofs.OneData.{one_data}
 use Rattle.data_slices.proofs.Ordering.{one_sequence}
 
@@ -58,33 +53,13 @@ refused_whole o why input d cs v r = (
 )
 
 -- the units and the end of data of what changes make, as they came
-pub holds_made : (base input rest : List ℕ) (d d' : List Payload) (cs : List Change)
+pub holds_sent : (base input rest : List ℕ) (d d' : List Payload) (cs : List Change)
     (e e' : EndMeaning) → HoldsData base d e → Sends input cs e' →
     e.version ≡ e'.version → after_all cs (Ok d) ≡ Ok d' →
     HoldsData (data_form d' e' ++ rest) d' e'
-holds_made base input rest d d' cs e e' h j version made =
-    let v = e'.version in
-    let q = h.accepts.sequence in
-    let old : AreSent v announcement d =
-    subst (λ w. AreSent w announcement d) version (announced_sent e.version q.front d q.units) in
-    let kept = are_kept v j.accepts.sequence.front cs j.accepts.sequence.units in
-    let new = after_more v cs (Ok d) d' kept
-    (λ x is. subst (AreSent v announcement) (same_made d x is) old) made in
-    record {
-      bytes = data_form d' e';
-      accepts = record {
-        rest = rest;
-        parts = refl;
-        sequence = record {
-          front = change_forms v (map announcement d');
-          last = end_list e';
-          parts = refl;
-          units = all_sent v announcement d' new;
-          end = end_made e' j.accepts.sequence.end.fits;
-        };
-      };
-      in_order = after_all_data cs d d' h.in_order made;
-    }
+holds_sent base input rest d d' cs e e' h j =
+    let q = j.accepts.sequence in
+    holds_made base q.front rest d d' cs e e' h q.units q.end.fits
 
 -- what is written is data
 pub writes_data : (n : ℕ) (old input before after : List ℕ) (d d' : List Payload)
@@ -95,7 +70,7 @@ writes_data n old input before after d d' cs end end' h s version made (x, is, (
     let same : x ≡ d' = ok_is x d' (sym is ∙ made) in
     subst (λ l. HoldsData l d' end')
     (sym (out ∙ ap (λ y. data_form y end' ++ drop n before) same))
-    (holds_made old input (drop n before) d d' cs end end' h s version made)
+    (holds_sent old input (drop n before) d d' cs end end' h s version made)
   where
     ok_is : (x y : List Payload) → ◌≡◌ {A = Result (List Payload) ChangeError} (Ok x) (Ok y) →
         x ≡ y

@@ -4,12 +4,13 @@ use Rattle.std.proofs.Common.{Option, Some, None, refl, sym, ap, subst, ◌∙�
 use Rattle.std.proofs.Common.{append-nil, arith}
 use Rattle.std.proofs.lemmas.List.{length-append, length-drop, drop-drop}
 use borrow.Rule.Slice.PartMut.{put_mid}
+use Rattle.rtr_base.specs.declared.action.Action.{Action}
 use Rattle.rtr_base.specs.declared.action.Action.TheVariants.{Announce, Withdraw}
 use Rattle.rtr_units.specs.End.{EndMeaning, end_list}
 use Rattle.rtr_payload.specs.Payloads.{Payload}
 use Rattle.rtr_payload.specs.Units.{form_of}
 use Rattle.unit_views.specs.Placing.{Places}
-use Rattle.data_memory.specs.Changes.{announcements, withdrawals}
+use Rattle.data_memory.specs.Changes.{announcements, changes, withdrawals}
 use Rattle.data_memory.specs.Data.{Change}
 use Rattle.data_memory.specs.Deltas.{change_forms, unit_of}
 use Rattle.data_slices.specs.Canonical.{HoldsData, PlacesFront}
@@ -25,12 +26,12 @@ forms_append v (c ∷ cs) ds =
     ap (λ l. form_of (unit_of v c) ++ l) (forms_append v cs ds)
     ∙ sym (append_assoc (form_of (unit_of v c)) (change_forms v cs) (change_forms v ds))
 
-delta_parts : (o n : List Payload) (e : EndMeaning) → delta_form o n e ≡
-    parts_forms Announce e.version n o ++ (parts_forms Withdraw e.version o n ++ end_list e)
-delta_parts o n e =
-    ap (λ l. l ++ end_list e) (forms_append e.version (announcements o n) (withdrawals o n))
-    ∙ append_assoc (change_forms e.version (announcements o n))
-    (change_forms e.version (withdrawals o n)) (end_list e)
+changes_parts : (v : ℕ) (o n : List Payload) (last : List ℕ) →
+    change_forms v (changes o n) ++ last ≡
+    parts_forms Announce v n o ++ (parts_forms Withdraw v o n ++ last)
+changes_parts v o n last =
+    ap (λ l. l ++ last) (forms_append v (announcements o n) (withdrawals o n))
+    ∙ append_assoc (change_forms v (announcements o n)) (change_forms v (withdrawals o n)) last
 
 -- ---- pieces
 
@@ -87,80 +88,75 @@ joined x y before now part n k (is, le, out) placed =
 -- ---- a delta
 
 -- the data of two calls are the same
-parts_same : (result : Option ℕ) (these those before after : List ℕ) (d e : EndMeaning)
-    (ps qs : List Payload) → HoldsData these ps d → HoldsData those qs e →
-    (m : PlacesMissing Announce result these those before after) →
-    PlacesFront result (parts_forms Announce d.version ps qs) before after
-parts_same result these those before after d e ps qs h j m =
+parts_same : (v : ℕ) (a : Action) (result : Option ℕ) (these those before after : List ℕ)
+    (d e : EndMeaning) (ps qs : List Payload) → HoldsData these ps d → HoldsData those qs e →
+    PlacesMissing v a result these those before after →
+    PlacesFront result (parts_forms a v ps qs) before after
+parts_same v a result these those before after d e ps qs h j m =
     let s = one_data these m.ps ps m.d d m.held h in
     let t = one_data those m.qs qs m.e e m.others j in
-    subst (λ l. PlacesFront result l before after)
-    (λ i. parts_forms Announce (s.1 i).version (s.0 i) (t.0 i)) m.places
+    subst (λ l. PlacesFront result l before after) (λ i. parts_forms a v (s.0 i) (t.0 i)) m.places
 
-gone_same : (result : Option ℕ) (these those before after : List ℕ) (d e : EndMeaning)
-    (ps qs : List Payload) → HoldsData these ps d → HoldsData those qs e → d.version ≡ e.version →
-    (m : PlacesMissing Withdraw result these those before after) →
-    PlacesFront result (parts_forms Withdraw e.version ps qs) before after
-gone_same result these those before after d e ps qs h j v m =
-    let s = one_data these m.ps ps m.d d m.held h in
-    let t = one_data those m.qs qs m.e e m.others j in
-    subst (λ l. PlacesFront result l before after)
-    ((λ i. parts_forms Withdraw (s.1 i).version (s.0 i) (t.0 i))
-    ∙ ap (λ n. parts_forms Withdraw n ps qs) v) m.places
+module _ (old new : List ℕ) (v : ℕ) (last before now : List ℕ) where
+  -- ---- withdrawals and what comes last
 
-module _ (old new : List ℕ) (e : EndMeaning)
-    (same : (d : List Payload) (end : EndMeaning) → HoldsData old d end → end.version ≡ e.version)
-    (before now : List ℕ) where
-  -- ---- withdrawals and the end of data
+  pub none_withdrawn : PlacesMissing v Withdraw None old new before now →
+      PlacesTail None old new v last before now
+  none_withdrawn m d e d' e' h j =
+      longer (parts_forms Withdraw v d d') last before now
+      (parts_same v Withdraw None old new before now e e' d d' h j m)
 
-  pub none_withdrawn : PlacesMissing Withdraw None old new before now →
-      PlacesTail None old new e before now
-  none_withdrawn m d end d' h j =
-      longer (parts_forms Withdraw e.version d d') (end_list e) before now
-      (gone_same None old new before now end e d d' h j (same d end h) m)
+  module _ (n : ℕ) (m : PlacesMissing v Withdraw (Some n) old new before now) (part : List ℕ)
+    where
+      pub last_placed : (k : ℕ) → Places (Some k) (last ++ []) (rest_of n now) part →
+          PlacesTail (Some (n + k)) old new v last before (put_mid n (length now - n) now part)
+      last_placed k placed d e d' e' h j =
+          joined (parts_forms Withdraw v d d') last before now part n k
+          (parts_same v Withdraw (Some n) old new before now e e' d d' h j m)
+          (subst (λ l. PlacesFront (Some k) l (rest_of n now) part) (append-nil last) placed)
 
-  module _ (n : ℕ) (m : PlacesMissing Withdraw (Some n) old new before now) (form part : List ℕ)
-      (eq : form ≡ end_list e) where
-    pub end_placed : (k : ℕ) → Places (Some k) (form ++ []) (rest_of n now) part →
-        PlacesTail (Some (n + k)) old new e before (put_mid n (length now - n) now part)
-    end_placed k placed d end d' h j =
-        joined (parts_forms Withdraw e.version d d') (end_list e) before now part n k
-        (gone_same (Some n) old new before now end e d d' h j (same d end h) m)
-        (subst (λ l. PlacesFront (Some k) l (rest_of n now) part) (append-nil form ∙ eq) placed)
-
-    pub no_end : Places None (form ++ []) (rest_of n now) part →
-        PlacesTail None old new e before (put_mid n (length now - n) now part)
-    no_end (less, kept) d end d' h j =
-        joined_none (parts_forms Withdraw e.version d d') (end_list e) before now part n
-        (gone_same (Some n) old new before now end e d d' h j (same d end h) m)
-        (subst (λ l. PlacesFront None l (rest_of n now) part) (append-nil form ∙ eq)
-        (less, ([], form ++ [], refl, kept)))
+      pub no_last : Places None (last ++ []) (rest_of n now) part →
+          PlacesTail None old new v last before (put_mid n (length now - n) now part)
+      no_last (less, kept) d e d' e' h j =
+          joined_none (parts_forms Withdraw v d d') last before now part n
+          (parts_same v Withdraw (Some n) old new before now e e' d d' h j m)
+          (subst (λ l. PlacesFront None l (rest_of n now) part) (append-nil last)
+          (less, ([], last ++ [], refl, kept)))
 
   -- ---- all of it
 
-  pub none_announced : PlacesMissing Announce None new old before now →
-      PlacesDelta None old new e before now
-  none_announced m d end d' h j =
-      subst (λ l. PlacesFront None l before now) (sym (delta_parts d d' e))
-      (longer (parts_forms Announce e.version d' d)
-      (parts_forms Withdraw e.version d d' ++ end_list e) before now
-      (parts_same None new old before now e end d' d j h m))
+  pub none_announced : PlacesMissing v Announce None new old before now →
+      PlacesDelta None old new v last before now
+  none_announced m d e d' e' h j =
+      subst (λ l. PlacesFront None l before now) (sym (changes_parts v d d' last))
+      (longer (parts_forms Announce v d' d) (parts_forms Withdraw v d d' ++ last) before now
+      (parts_same v Announce None new old before now e' e d' d j h m))
 
-  module _ (n : ℕ) (m : PlacesMissing Announce (Some n) new old before now) (part : List ℕ) where
-    pub all_placed : (k : ℕ) → PlacesTail (Some k) old new e (rest_of n now) part →
-        PlacesDelta (Some (n + k)) old new e before (put_mid n (length now - n) now part)
-    all_placed k tail d end d' h j =
-        subst (λ l. PlacesFront (Some (n + k)) l before (put_mid n (length now - n) now part))
-        (sym (delta_parts d d' e))
-        (joined (parts_forms Announce e.version d' d)
-        (parts_forms Withdraw e.version d d' ++ end_list e) before now part n k
-        (parts_same (Some n) new old before now e end d' d j h m) (tail d end d' h j))
+  module _ (n : ℕ) (m : PlacesMissing v Announce (Some n) new old before now) (part : List ℕ)
+    where
+      pub all_placed : (k : ℕ) → PlacesTail (Some k) old new v last (rest_of n now) part →
+          PlacesDelta (Some (n + k)) old new v last before (put_mid n (length now - n) now part)
+      all_placed k tail d e d' e' h j =
+          subst (λ l. PlacesFront (Some (n + k)) l before (put_mid n (length now - n) now part))
+          (sym (changes_parts v d d' last))
+          (joined (parts_forms Announce v d' d) (parts_forms Withdraw v d d' ++ last) before now
+          part n k (parts_same v Announce (Some n) new old before now e' e d' d j h m)
+          (tail d e d' e' h j))
 
-    pub no_tail : PlacesTail None old new e (rest_of n now) part →
-        PlacesDelta None old new e before (put_mid n (length now - n) now part)
-    no_tail tail d end d' h j =
-        subst (λ l. PlacesFront None l before (put_mid n (length now - n) now part))
-        (sym (delta_parts d d' e))
-        (joined_none (parts_forms Announce e.version d' d)
-        (parts_forms Withdraw e.version d d' ++ end_list e) before now part n
-        (parts_same (Some n) new old before now e end d' d j h m) (tail d end d' h j))
+      pub no_tail : PlacesTail None old new v last (rest_of n now) part →
+          PlacesDelta None old new v last before (put_mid n (length now - n) now part)
+      no_tail tail d e d' e' h j =
+          subst (λ l. PlacesFront None l before (put_mid n (length now - n) now part))
+          (sym (changes_parts v d d' last))
+          (joined_none (parts_forms Announce v d' d) (parts_forms Withdraw v d d' ++ last) before
+          now part n (parts_same v Announce (Some n) new old before now e' e d' d j h m)
+          (tail d e d' e' h j))
+
+-- the delta to data, where it ends with their end of data
+pub delta_at : (n : Option ℕ) (old new before after : List ℕ) (d d' : List Payload)
+    (e e' to : EndMeaning) (v : ℕ) (last : List ℕ) → v ≡ to.version → last ≡ end_list to →
+    HoldsData old d e → HoldsData new d' e' → PlacesDelta n old new v last before after →
+    PlacesFront n (delta_form d d' to) before after
+delta_at n old new before after d d' e e' to v last is ends h j placed =
+    subst (λ l. PlacesFront n l before after)
+    (λ i. change_forms (is i) (changes d d') ++ ends i) (placed d e d' e' h j)

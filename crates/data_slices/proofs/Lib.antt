@@ -9,6 +9,7 @@ pub mod OneFlaw
 pub mod Merging
 pub mod OneData
 pub mod Deltas
+pub mod AnyVersions
 pub mod Answered
 pub mod Units
 pub mod Seeking

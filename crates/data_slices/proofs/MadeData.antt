@@ -5,7 +5,7 @@ use Rattle.std.specs.BTreeMap.{is_at}
 use Rattle.std.specs.List.{AllByRecursion}
 use Rattle.rtr_base.specs.declared.action.Action.{Action}
 use Rattle.rtr_base.specs.declared.action.Action.TheVariants.{Announce, Withdraw}
-use Rattle.rtr_units.specs.End.{EndMeaning, end_list}
+use Rattle.rtr_units.specs.End.{EndMeaning, IsEndMeaning, end_list}
 use Rattle.rtr_units.proofs.Ends.{end_made}
 use Rattle.rtr_payload.specs.Payloads.{Payload}
 use Rattle.rtr_payload.specs.Units.{IsUnit}
@@ -63,17 +63,18 @@ after_more v (c ∷ cs) (Ok d) made (k, kept) sent is =
     after_more v cs (after c d) made kept
     (λ x one. after_one v c.action c.payload d x k (sent d refl) one) is
 
--- the units and the end of data that `apply_into` writes
-pub holds_made : (base input rest : List ℕ) (d d' : List Payload) (cs : List Change)
-    (e e' : EndMeaning) → HoldsData base d e → HoldsChanges input cs e' →
+-- the units and the end of data that these changes make
+pub holds_made : (base front rest : List ℕ) (d d' : List Payload) (cs : List Change)
+    (e e' : EndMeaning) → HoldsData base d e →
+    AreUnits front (map (unit_of e'.version) cs) → IsEndMeaning e' →
     e.version ≡ e'.version → after_all cs (Ok d) ≡ Ok d' →
     HoldsData (data_form d' e' ++ rest) d' e'
-holds_made base input rest d d' cs e e' h j version made =
+holds_made base front rest d d' cs e e' h units fits version made =
     let v = e'.version in
     let q = h.accepts.sequence in
     let old : AreSent v announcement d =
     subst (λ w. AreSent w announcement d) version (announced_sent e.version q.front d q.units) in
-    let kept = are_kept v j.accepts.sequence.front cs j.accepts.sequence.units in
+    let kept = are_kept v front cs units in
     let new = after_more v cs (Ok d) d' kept
     (λ x is. subst (AreSent v announcement) (same_made d x is) old) made in
     record {
@@ -86,7 +87,7 @@ holds_made base input rest d d' cs e e' h j version made =
           last = end_list e';
           parts = refl;
           units = all_sent v announcement d' new;
-          end = end_made e' j.accepts.sequence.end.fits;
+          end = end_made e' fits;
         };
       };
       in_order = after_all_data cs d d' h.in_order made;
@@ -104,4 +105,5 @@ makes_data n base input before after d d' cs e e' h j made w =
     ∙ ap (λ (m : EndMeaning). m.version) (one_changes input ds cs c' e' l j).1 in
     let wrote = same_form base input before after d d' cs e e' h j made (Some n) w in
     subst (λ l. HoldsData l d' e') (sym wrote.2)
-    (holds_made base input (drop n before) d d' cs e e' h j same made)
+    (holds_made base j.accepts.sequence.front (drop n before) d d' cs e e' h
+    j.accepts.sequence.units j.accepts.sequence.end.fits same made)

@@ -15,10 +15,9 @@ use Rattle.rtr_units.specs.End.{EndMeaning}
 use Rattle.rtr_units.specs.declared.end.EndOfData.{EndOfData}
 use Rattle.rtr_payload.specs.FirstFault.{first_fault}
 use Rattle.rtr_payload.specs.Payloads.{Payload}
-use Rattle.rtr_payload.specs.Units.{form_of}
 use Rattle.unit_views.specs.Placing.{Places}
 use Rattle.data_memory.specs.Data.{name_cmp, IsData}
-use Rattle.data_memory.specs.Deltas.{change_forms, unit_of}
+use Rattle.data_memory.specs.Deltas.{change_forms}
 use Rattle.data_memory.proofs.Names.{below_all}
 use Rattle.data_slices.specs.Canonical.{HasData, HoldsData, PlacesFront, change, data_units}
 use Rattle.data_slices.specs.Canonical.{missing}
@@ -131,7 +130,7 @@ abbrev pub parts_forms : Action → ℕ → (these those : List Payload) → Lis
 parts_forms a v ps qs = change_forms v (map (change a) (missing a ps qs))
 
 -- how far both were gone over
-pub record Merging (a : Action) (these those these_rest those_rest before now : List ℕ)
+pub record Merging (v : ℕ) (a : Action) (these those these_rest those_rest before now : List ℕ)
     (written : ℕ) : Type 0 where
   pub ps : List Payload
   pub qs : List Payload
@@ -147,11 +146,11 @@ pub record Merging (a : Action) (these those these_rest those_rest before now : 
   pub so_far : Written piece before now written
   pub fits : written ≤ length before
   pub room : length now ≡ length before
-  pub whole : parts_forms a d.version ps qs ≡ piece ++ parts_forms a d.version xs ys
+  pub whole : parts_forms a v ps qs ≡ piece ++ parts_forms a v xs ys
 
-pub begins : (a : Action) (these those before : List ℕ) → HasData these → HasData those →
-    Merging a these those these those before before 0
-begins a these those before (ps, d, h) (qs, e, j) = record {
+pub begins : (v : ℕ) (a : Action) (these those before : List ℕ) → HasData these → HasData those →
+    Merging v a these those these those before before 0
+begins v a these those before (ps, d, h) (qs, e, j) = record {
   ps = ps;
   qs = qs;
   d = d;
@@ -190,15 +189,15 @@ ended d b r left ps e is parts h =
     no_units e.version ps (splits (items.End d) b r left h.bytes (data_units e.version ps) e is
     parts h.accepts).0
 
-module _ (a : Action) (these those these_rest those_rest before now : List ℕ) (written : ℕ)
-    (m : Merging a these those these_rest those_rest before now written) where
+module _ (version : ℕ) (a : Action) (these those these_rest those_rest before now : List ℕ)
+    (written : ℕ) (m : Merging version a these those these_rest those_rest before now written) where
   -- at the end of these
   pub finished : (d : EndOfData) (b left : List ℕ) → IsItem (items.End d) b →
-      these_rest ≡ b ++ left → PlacesMissing a (Some written) these those before now
+      these_rest ≡ b ++ left → PlacesMissing version a (Some written) these those before now
   finished d b left is parts =
       let none : m.xs ≡ [] = ended d b these_rest left m.xs m.d is parts m.these_left in
-      let all : parts_forms a m.d.version m.ps m.qs ≡ m.piece =
-      m.whole ∙ ap (λ l. m.piece ++ parts_forms a m.d.version l m.ys) none
+      let all : parts_forms a version m.ps m.qs ≡ m.piece =
+      m.whole ∙ ap (λ l. m.piece ++ parts_forms a version l m.ys) none
       ∙ append-nil m.piece in
       record {
         ps = m.ps;
@@ -221,15 +220,12 @@ module _ (a : Action) (these those these_rest those_rest before now : List ℕ) 
     p = (meant v).payload
 
     abbrev form : Bool → List ℕ
-    form = lacking_form a v
+    form = lacking_form version a v
 
-    -- what is lacking, by the version of the data
     form_is : (lack : Bool) (zs : List Payload) →
-        change_forms m.d.version (map (change a) (cond lack (p ∷ zs) zs)) ≡
-        form lack ++ change_forms m.d.version (map (change a) zs)
-    form_is true zs =
-        ap (λ n. form_of (unit_of n (change a p)) ++ change_forms m.d.version (map (change a) zs))
-        (sym f.version)
+        change_forms version (map (change a) (cond lack (p ∷ zs) zs)) ≡
+        form lack ++ change_forms version (map (change a) zs)
+    form_is true zs = refl
     form_is false zs = refl
 
     module _ (x : Item) (b' left' : List ℕ) (is' : IsItem x b') (parts' : those_rest ≡ b' ++ left')
@@ -249,10 +245,10 @@ module _ (a : Action) (these those these_rest those_rest before now : List ℕ) 
         data_first = (f.above, f.held.in_order)
 
         step_forms : (lack : Bool) (zs ws : List Payload) → zs ≡ cond lack (p ∷ ws) ws →
-            change_forms m.d.version (map (change a) zs) ≡
-            form lack ++ change_forms m.d.version (map (change a) ws)
+            change_forms version (map (change a) zs) ≡
+            form lack ++ change_forms version (map (change a) ws)
         step_forms lack zs ws e =
-            ap (λ l. change_forms m.d.version (map (change a) l)) e ∙ form_is lack ws
+            ap (λ l. change_forms version (map (change a) l)) e ∙ form_is lack ws
 
         -- what is left to be written, by the order
         record Step (lack : Bool) (rest rest' : List ℕ) : Type 0 where
@@ -260,8 +256,8 @@ module _ (a : Action) (these those these_rest those_rest before now : List ℕ) 
           ys : List Payload
           these_left : HoldsData rest xs m.d
           those_left : HoldsData rest' ys m.e
-          forms : parts_forms a m.d.version m.xs m.ys ≡
-              form lack ++ parts_forms a m.d.version xs ys
+          forms : parts_forms a version m.xs m.ys ≡
+              form lack ++ parts_forms a version xs ys
 
         step_less : Less ≡ item_order v x → Step true left those_rest
         step_less o = record {
@@ -304,7 +300,7 @@ module _ (a : Action) (these those these_rest those_rest before now : List ℕ) 
               these_left = m.these_left;
               those_left = g.held;
               forms =
-                  ap (λ l. change_forms m.d.version (map (change a) l))
+                  ap (λ l. change_forms version (map (change a) l))
                   ((λ i. missing a (f.first i) (g.first i))
                   ∙ at_greater a p (meant w).payload f.others g.others data_first (sym o)
                   ∙ ap (λ l. missing a l g.others) (sym f.first));
@@ -313,7 +309,7 @@ module _ (a : Action) (these those these_rest those_rest before now : List ℕ) 
 
         go : (lack : Bool) (rest rest' part : List ℕ) (n : ℕ) → Step lack rest rest' →
             Places (Some n) (form lack) (rest_of written now) part →
-            Merging a these those rest rest' before
+            Merging version a these those rest rest' before
             (put_mid written (length now - written) now part) (written + n)
         go lack rest rest' part n s placed =
             let now_so_far = more m.piece before now written m.so_far (form lack) part n placed in
@@ -335,12 +331,12 @@ module _ (a : Action) (these those these_rest those_rest before now : List ℕ) 
                   (put_mid written (length now - written) now part) (written + n) now_so_far;
               whole =
                   m.whole ∙ ap (λ l. m.piece ++ l) s.forms
-                  ∙ sym (append_assoc m.piece (form lack) (parts_forms a m.d.version s.xs s.ys));
+                  ∙ sym (append_assoc m.piece (form lack) (parts_forms a version s.xs s.ys));
             }
 
         stop : (lack : Bool) (rest rest' part : List ℕ) → Step lack rest rest' →
             Places None (form lack) (rest_of written now) part →
-            PlacesMissing a None these those before
+            PlacesMissing version a None these those before
             (put_mid written (length now - written) now part)
         stop lack rest rest' part s placed = record {
           ps = m.ps;
@@ -354,7 +350,7 @@ module _ (a : Action) (these those these_rest those_rest before now : List ℕ) 
               (λ l. PlacesFront None l before (put_mid written (length now - written) now part))
               (sym (m.whole ∙ ap (λ l. m.piece ++ l) s.forms))
               (full m.piece before now written m.so_far (form lack) part
-              (parts_forms a m.d.version s.xs s.ys) placed);
+              (parts_forms a version s.xs s.ys) placed);
         }
 
         module _ (part : List ℕ) where
@@ -363,7 +359,7 @@ module _ (a : Action) (these those these_rest those_rest before now : List ℕ) 
 
           pub goes_less : (n : ℕ) (o : Ordering) → o ≡ item_order v x → o ≡ Less →
               Places (Some n) (form_at o) (rest_of written now) part →
-              Merging a these those left those_rest before
+              Merging version a these those left those_rest before
               (put_mid written (length now - written) now part) (written + n)
           goes_less n Less h e placed = go true left those_rest part n (step_less h) placed
           goes_less n Equal h e placed = absurd cc
@@ -371,7 +367,7 @@ module _ (a : Action) (these those these_rest those_rest before now : List ℕ) 
 
           pub goes_equal : (n : ℕ) (o : Ordering) → o ≡ item_order v x → o ≡ Equal →
               Places (Some n) (form_at o) (rest_of written now) part →
-              Merging a these those left left' before
+              Merging version a these those left left' before
               (put_mid written (length now - written) now part) (written + n)
           goes_equal n Less h e placed = absurd cc
           goes_equal n Equal h e placed =
@@ -380,7 +376,7 @@ module _ (a : Action) (these those these_rest those_rest before now : List ℕ) 
 
           pub goes_greater : (n : ℕ) (o : Ordering) → o ≡ item_order v x → o ≡ Greater →
               Places (Some n) (form_at o) (rest_of written now) part →
-              Merging a these those these_rest left' before
+              Merging version a these those these_rest left' before
               (put_mid written (length now - written) now part) (written + n)
           goes_greater n Less h e placed = absurd cc
           goes_greater n Equal h e placed = absurd cc
@@ -389,7 +385,7 @@ module _ (a : Action) (these those these_rest those_rest before now : List ℕ) 
 
           pub stops : (o : Ordering) → o ≡ item_order v x →
               Places None (form_at o) (rest_of written now) part →
-              PlacesMissing a None these those before
+              PlacesMissing version a None these those before
               (put_mid written (length now - written) now part)
           stops Less h placed = stop true left those_rest part (step_less h) placed
           stops Equal h placed =

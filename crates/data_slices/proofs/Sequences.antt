@@ -28,7 +28,7 @@ use Rattle.unit_views.specs.declared.fault.ViewFault.TheVariants.{Prefix, TooMan
 use Rattle.unit_views.specs.declared.view.UnitView.{UnitView}
 use Rattle.unit_views.specs.declared.view.UnitView.TheVariants as units
 use Rattle.unit_views.proofs.Agreement.{view_means}
-use Rattle.rtr_wire.specs.Sequences.{Accepts}
+use Rattle.rtr_wire.specs.Sequences.{Accepts, in_version}
 use Rattle.rtr_wire.proofs.OneAnswer.{begins_end}
 use Rattle.rtr_wire.proofs.Runs.{after}
 use Rattle.data_memory.specs.Data.{announcement, name_cmp}
@@ -247,3 +247,7 @@ announced m v action version =
 pub announced_form : (v : PayloadView) → (meant v).action ≡ Announce →
     form_of (meant v) ≡ form_of (unit_of (meant v).version (announcement (meant v).payload))
 announced_form v h = ap form_of (announced (meant v) (meant v).version h refl)
+
+pub announced_in : (w : ℕ) (v : PayloadView) → (meant v).action ≡ Announce →
+    form_of (in_version w (meant v)) ≡ form_of (unit_of w (announcement (meant v).payload))
+announced_in w v h = ap form_of (announced (in_version w (meant v)) w h refl)

@@ -100,11 +100,11 @@ in_order : (m : Meaning) (left : List ℕ) (ps : List Payload) (e : EndMeaning)
 unfolding IsStrictlySortedBy
 in_order m left ps e f = (f.above, f.held.in_order)
 
-pub shares : (a : Action) (these those these_rest those_rest before now : List ℕ) (written : ℕ) →
-    Merging a these those these_rest those_rest before now written → (left left' : List ℕ) →
-    SharesUnit left left' these_rest those_rest →
-    Merging a these those left left' before now written
-shares a these those these_rest those_rest before now written m left left'
+pub shares : (v : ℕ) (a : Action) (these those these_rest those_rest before now : List ℕ)
+    (written : ℕ) → Merging v a these those these_rest those_rest before now written →
+    (left left' : List ℕ) → SharesUnit left left' these_rest those_rest →
+    Merging v a these those left left' before now written
+shares v a these those these_rest those_rest before now written m left left'
     (family, kind, (b, size, parts, parts')) =
     let (means, unit) = unit_there family b these_rest left m.xs m.d m.these_left kind size parts in
     let f = first_meant means b these_rest left m.xs m.d unit parts m.these_left in
@@ -126,7 +126,7 @@ shares a these those these_rest those_rest before now written m left left'
       room = m.room;
       whole =
           m.whole
-          ∙ ap (λ l. m.piece ++ change_forms m.d.version (map (change a) l))
+          ∙ ap (λ l. m.piece ++ change_forms v (map (change a) l))
           ((λ i. missing a (f.first i) (g.first i))
           ∙ both_have a means.payload f.others g.others (in_order means left m.xs m.d f)
           (in_order means left' m.ys m.e g));

@@ -44,9 +44,9 @@ abbrev pub RefusesChange : ChangeError → (offset : ℕ) → (base changes : Li
 RefusesChange why offset base changes places = InOneSession base changes (λ d cs e.
     (length cs ≤ places) × RefusedAt offset why changes d cs e.version)
 
--- What is wrong with the inputs, the first of these, for an index of so many places. A change is
--- refused that announces what is there then (error code 7), or that withdraws what isn't there then
--- (error code 6).
+-- What is wrong with the inputs, the first of these, for an index of this many elements. A change
+-- is refused that announces what is there then (error code 7), or that withdraws what isn't there
+-- then (error code 6).
 abbrev pub RefusesInOrder : InOrderFault → (base changes : List ℕ) → (places : ℕ) → Type 0
 RefusesInOrder (faults.Data f) base changes places = IsFlawOfData base f
 RefusesInOrder (faults.Changes f) base changes places = HasData base × IsStrayAt changes f

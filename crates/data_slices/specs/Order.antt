@@ -101,7 +101,7 @@ pub record RefusesAt (input : List ℕ) (places offset : ℕ)
   pub refused : Is before c later
   pub below : (q : Payload) → name_cmp q c.payload ≡ Less → IsRight (before ++ c ∷ later) q
 
--- Why the changes are refused, the first of these, for an index of so many places.
+-- Why the changes are refused, the first of these, for an index of this many elements.
 abbrev pub RefusesOrder : OrderFault → (input : List ℕ) → (places : ℕ) → Type 0
 RefusesOrder (faults.Flaw f) input places = IsStrayAt input f
 RefusesOrder faults.NoIndex input places =
@@ -126,9 +126,9 @@ pub record WritesOrder (n : Option ℕ) (input : List ℕ) (places : ℕ)
   pub nets : Nets cs ns
   pub written_form : PlacesFront n (change_forms e.version ns ++ end_list e) before after
 
--- The whole promise of a call, for an index of so many places: what the changes come to was written
--- in canonical form, and its length answered; or there is no room for all of it, and a front of it
--- was written; or the input is refused, with nothing written.
+-- The whole promise of a call, for an index of this many elements: what the changes come to was
+-- written in canonical form, and its length answered; or there is no room for all of it, and a
+-- front of it was written; or the input is refused, with nothing written.
 abbrev pub Orders : Result ℕ OrderFault → (input : List ℕ) → (places : ℕ) →
     (before after : List ℕ) → Type 0
 Orders (Ok n) input places before after = WritesOrder (Some n) input places before after

@@ -105,7 +105,7 @@ pub record IsRun (action : Action) (before : Option ℕ) (input : List ℕ) (siz
       NoUnitOf action r →
       (map (change action) qs ≡ map (change action) ps) × (r ≡ x) × InVersion version v
 
--- The input begins with changes, of which these parts end after so many bytes.
+-- The input begins with changes, of which these parts end after this many bytes.
 pub record HoldsParts (input : List ℕ) (middle stop : ℕ) (e : EndMeaning) : Type 0 where
   pub announcing : List ℕ
   pub withdrawing : List ℕ

@@ -95,7 +95,7 @@ FindsRefusal r base input os =
     SendsAt input os cs e → IsData d → FirstRefused r input d cs e.version
 
 -- both inputs were read, of one version and of one session, and the offsets of all units of the
--- second; or they are refused, for an index of so many offsets
+-- second; or they are refused, for an index of this many elements
 abbrev pub ReadsBoth : Result (EndOfData × ℕ) InOrderFault → (base changes : List ℕ) →
     (places : ℕ) → (index : List ℕ) → Type 0
 ReadsBoth (Ok (end, count)) base changes places index =

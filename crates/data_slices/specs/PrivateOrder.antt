@@ -7,16 +7,16 @@ use Rattle.std.specs.declared.cmp.Ordering.TheVariants.{Less, Equal, Greater}
 use Rattle.rtr_base.specs.declared.action.Action.{Action}
 use Rattle.rtr_base.specs.declared.action.Action.TheVariants.{Announce, Withdraw}
 use Rattle.rtr_base.specs.Addresses.{Family}
-use Rattle.rtr_units.specs.End.{EndMeaning, end_list}
+use Rattle.rtr_units.specs.End.{EndMeaning}
 use Rattle.rtr_units.specs.Header.{type_field}
 use Rattle.rtr_units.specs.PrefixUnits.{prefix_size, prefix_type}
 use Rattle.rtr_payload.specs.Orders.{payload_cmp}
 use Rattle.rtr_payload.specs.Payloads.{Payload}
 use Rattle.rtr_payload.specs.Units.{form_of}
+use Rattle.data_memory.specs.Changes.{changes, withdrawals}
 use Rattle.data_memory.specs.Data.{name_cmp}
 use Rattle.data_memory.specs.Deltas.{change_forms, unit_of}
 use Rattle.data_slices.specs.Canonical.{HoldsData, PlacesFront, change, missing}
-use Rattle.data_slices.specs.Delta.{delta_form}
 use Rattle.data_slices.specs.Items.{IsShort, IsComplete, meant}
 use Rattle.data_slices.specs.declared.item.Item.{Item}
 use Rattle.data_slices.specs.declared.item.Item.TheVariants as items
@@ -44,18 +44,18 @@ lacks Less same = true
 lacks Equal same = not same
 lacks Greater same = false
 
--- what is written for the unit, where it is lacking
-abbrev pub lacking_form : Action → PayloadView → Bool → List ℕ
-lacking_form action v true =
-    form_of (unit_of (meant v).version (change action (meant v).payload))
-lacking_form action v false = []
+-- what is written for the unit in this version, where it is lacking
+abbrev pub lacking_form : (version : ℕ) → Action → PayloadView → Bool → List ℕ
+lacking_form version action v true =
+    form_of (unit_of version (change action (meant v).payload))
+lacking_form version action v false = []
 
 -- how an item of data is
 abbrev pub IsDataItem : Item → Type 0
 IsDataItem (items.Unit v) = ((meant v).action ≡ Announce) × IsComplete v × IsShort v
 IsDataItem (items.End e) = ⊤
 
--- both begin with the same bytes, so many
+-- both begin with the same n bytes
 abbrev pub SharesFront : ℕ → (left left' these those : List ℕ) → Type 0
 SharesFront n left left' these those =
     (b : List ℕ) × (length b ≡ n) × (these ≡ b ++ left) × (those ≡ b ++ left')
@@ -66,9 +66,9 @@ SharesUnit left left' these those =
     (f : Family) × (type_field these ≡ prefix_type f)
     × SharesFront (prefix_size f) left left' these those
 
--- What these data have and those lack was written, as units of the version of these, which
--- announce or withdraw it.
-pub record PlacesMissing (action : Action) (result : Option ℕ)
+-- What these data have and those lack was written, as units of this version, which announce or
+-- withdraw it.
+pub record PlacesMissing (version : ℕ) (action : Action) (result : Option ℕ)
     (these those before after : List ℕ) : Type 0 where
   pub ps : List Payload
   pub qs : List Payload
@@ -77,20 +77,21 @@ pub record PlacesMissing (action : Action) (result : Option ℕ)
   pub held : HoldsData these ps d
   pub others : HoldsData those qs e
   pub places : PlacesFront result
-      (change_forms d.version (map (change action) (missing action ps qs))) before after
+      (change_forms version (map (change action) (missing action ps qs))) before after
 
--- the delta from the old data to the new, which end with e, was written
-abbrev pub PlacesDelta : Option ℕ → (old new : List ℕ) → EndMeaning → (before after : List ℕ) →
-    Type 0
-PlacesDelta result old new e before after =
-    (d : List Payload) (end : EndMeaning) (d' : List Payload) → HoldsData old d end →
-    HoldsData new d' e → PlacesFront result (delta_form d d' e) before after
+-- the units of the changes from the old data to the new, in this version, and these last bytes
+-- were written
+abbrev pub PlacesDelta : Option ℕ → (old new : List ℕ) → (version : ℕ) →
+    (last before after : List ℕ) → Type 0
+PlacesDelta result old new version last before after =
+    (d : List Payload) (e : EndMeaning) (d' : List Payload) (e' : EndMeaning) →
+    HoldsData old d e → HoldsData new d' e' →
+    PlacesFront result (change_forms version (changes d d') ++ last) before after
 
--- the withdrawals of that delta, and its end of data
-abbrev pub PlacesTail : Option ℕ → (old new : List ℕ) → EndMeaning → (before after : List ℕ) →
-    Type 0
-PlacesTail result old new e before after =
-    (d : List Payload) (end : EndMeaning) (d' : List Payload) → HoldsData old d end →
-    HoldsData new d' e → PlacesFront result
-    (change_forms e.version (map (change Withdraw) (missing Withdraw d d')) ++ end_list e)
-    before after
+-- their withdrawals, and these last bytes
+abbrev pub PlacesTail : Option ℕ → (old new : List ℕ) → (version : ℕ) →
+    (last before after : List ℕ) → Type 0
+PlacesTail result old new version last before after =
+    (d : List Payload) (e : EndMeaning) (d' : List Payload) (e' : EndMeaning) →
+    HoldsData old d e → HoldsData new d' e' → PlacesFront result
+    (change_forms version (withdrawals d d') ++ last) before after

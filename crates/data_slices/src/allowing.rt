@@ -1,4 +1,4 @@
-//! Which of the changes of a sequence is the first that data don't allow.
+//! Finds the first change of a sequence that data don't allow.
 
 ghost use Rattle.std.specs.Prelude.{◌≡◌};
 ghost use Rattle.data_slices.specs.Items.{meant};
@@ -38,7 +38,7 @@ pub(crate) fn first_disallowed(
 }
 
 /// Reports whether the name of the unit is present when its change comes, and returns the rest of
-/// the data from that name on: the change before it of the same name decides, or the data.
+/// the data from that name on. The previous change of the same name decides, or else the data.
 #[inline(always)]
 fn there_before<'a>(
     last: &Option<PayloadView<'_>>,
@@ -81,7 +81,7 @@ fn fits(is_there: bool, view: &PayloadView<'_>) -> bool
     }
 }
 
-/// The earlier of two.
+/// The earlier of two disallowed changes.
 #[inline(always)]
 fn earlier(
     first: Option<(usize, Action)>,

@@ -1,4 +1,4 @@
-//! What changes make of data, written into a slice.
+//! The result of applying changes to data, written into a slice.
 
 ghost use Rattle.std.specs.Prelude.{◌≡◌, ◌≤◌, ◌<◌, ◌+◌, ◌↔◌, IfSome, IsTrue, None, length};
 ghost use Rattle.std.specs.Prelude.{true, false};
@@ -12,23 +12,23 @@ use crate::item::{PayloadView, PrefixKind, next_prefix, next_unit};
 use crate::placing::place_unit;
 use std::cmp::Ordering;
 
-/// The first of data and of announcements.
+/// The first unit of data and of announcements.
 #[derive(Clone, Copy)]
 struct Least<'a> {
-    /// The unit: an announcement, if both are of one name.
+    /// The unit: an announcement, if both have the same name.
     view: PayloadView<'a>,
-    /// Whether it is of the data.
+    /// Whether it comes from the data.
     is_old: bool,
-    /// What follows of the data: it is after the unit.
+    /// The rest of the data after the unit.
     old: &'a [u8],
-    /// What follows of the announcements.
+    /// The rest of the announcements.
     new: &'a [u8],
 }
 
-/// Writes the units that announce what announcements and withdrawals make of data, in order, and
-/// answers their length in bytes, or none where there is no room for all of them. Most units come
-/// before the next change: these are checked first. Each kind of prefix has a block of its own,
-/// where it is known how many bytes are copied.
+/// Writes the units that announce the result of applying announcements and withdrawals to data, in
+/// order, and returns their length in bytes, or none if the output is too short. Most units come
+/// before the next change: these are checked first. Each kind of prefix has a block of its own, in
+/// which the number of bytes to copy is constant.
 pub(crate) fn place_applied(
     old: &[u8],
     announced: &[u8],
@@ -75,7 +75,7 @@ pub(crate) fn place_applied(
     }
 }
 
-/// The first of announcements and withdrawals by name, if anything is left of them.
+/// The first of announcements and withdrawals by name, if any are left.
 fn next_change<'a>(new: &'a [u8], withdrawn: &'a [u8]) -> Option<PayloadView<'a>>
     ensures { IsBound result new.now withdrawn.now }
 {
@@ -95,8 +95,8 @@ fn next_change<'a>(new: &'a [u8], withdrawn: &'a [u8]) -> Option<PayloadView<'a>
     }
 }
 
-/// The prefix unit at the front of the data, and what follows it, if it comes before the change: it
-/// stays as it is. Most are of IPv4.
+/// The prefix unit at the front of the data, and what follows it, if it comes before the change, so
+/// that it stays. IPv4 is checked first, as most are of IPv4.
 #[inline(always)]
 pub(crate) fn next_prefix_under<'a>(
     old: &'a [u8],
@@ -146,8 +146,8 @@ pub(crate) fn is_under(view: &PayloadView<'_>, bound: &Option<PayloadView<'_>>) 
     }
 }
 
-/// The first of data and announcements by name, if anything is left of them. There is a literal for
-/// each case, since the borrow checker covers no function that takes a view and answers it.
+/// The first of data and announcements by name, if any are left. Each case has a literal of its
+/// own, since the borrow checker doesn't cover functions that take a view and return it.
 #[inline(always)]
 fn least_of<'a>(old: &'a [u8], new: &'a [u8]) -> Option<Least<'a>>
     ensures least { IfSome result
@@ -197,7 +197,7 @@ fn least_of<'a>(old: &'a [u8], new: &'a [u8]) -> Option<Least<'a>>
     }
 }
 
-/// What follows the first withdrawal, if it names the unit and this is of the data.
+/// What follows the first withdrawal, if it has the name of the unit and this comes from the data.
 #[inline(always)]
 fn after_withdrawal<'a>(
     view: &PayloadView<'_>,

@@ -1,4 +1,4 @@
-//! Changes applied to data in a slice.
+//! Applying changes to data in a slice.
 
 ghost use Rattle.std.specs.Prelude.{◌≡◌, ◌≤◌, length};
 ghost use Rattle.rtr_units.specs.AnyEnd.{end_bytes, end_meaning};
@@ -13,20 +13,20 @@ use crate::fault::ApplyFault;
 use crate::refused::{Rule, first_breaking};
 use unit_views::placing::place;
 
-/// Writes what the changes make of the data: the units that announce it, in order, and the end of
-/// data of the changes. It answers their length in bytes. All changes are made, or none. An ASPA
-/// that is announced takes the place of the one of its customer. No memory is asked for.
+/// Writes the result of applying the changes to the data: the units that announce it, in order, and
+/// the end of data of the changes. Returns their length in bytes. All changes are applied, or none.
+/// An announced ASPA replaces the ASPA of its customer. Nothing is allocated.
 ///
-/// The first slice begins with data in canonical form, as `check_data` says, the second with
-/// changes in canonical form, as `check_changes` says. What follows them doesn't count.
+/// The first slice begins with data in canonical form, as defined by `check_data`, the second with
+/// changes in canonical form, as defined by `check_changes`. What follows them is ignored.
 ///
 /// Faults, in this order: `Data` for a slice that doesn't begin with data, then `Changes` for one
-/// that doesn't begin with changes, each with the flaw that `check_data` or `check_changes` finds
-/// first, its offset counted in that slice; then `UnitVersion` and `Session` for data and changes
-/// of two versions or of two sessions, and `Duplicate` or `Unknown` for the first of the changes
-/// that the rules refuse (RFC 8210 section 12), with the offset of its unit in the changes, all
-/// with nothing written; then `NoRoom`, with a front of the data written. An output as long as both
-/// slices together always suffices.
+/// that doesn't begin with changes, each with the first flaw that `check_data` or `check_changes`
+/// finds, with its offset in that slice; then `UnitVersion` and `Session` if the versions or the
+/// sessions of data and changes differ, and `Duplicate` or `Unknown` for the first change that the
+/// rules refuse (RFC 8210 section 12), with the offset of its unit in the changes, all with nothing
+/// written; then `NoRoom`, with the beginning of the data written. An output as long as both slices
+/// together always suffices.
 pub fn apply_into(data: &[u8], changes: &[u8], output: &mut [u8]) -> Result<usize, ApplyFault>
     ensures { AppliesChanges result «data».now changes.now output.old output.new }
 {
@@ -58,7 +58,7 @@ pub fn apply_into(data: &[u8], changes: &[u8], output: &mut [u8]) -> Result<usiz
     }
 }
 
-/// Writes what the changes make of the data, and their end of data.
+/// Writes the result of applying the changes to the data, and their end of data.
 fn place_all(data: &[u8], changes: &[u8], parts: &Parts, output: &mut [u8]) -> Option<usize>
     requires order { parts.now.middle ≤ parts.now.stop }
     requires within { parts.now.stop ≤ length changes.now }

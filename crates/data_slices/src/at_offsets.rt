@@ -1,4 +1,4 @@
-//! Changes whose units begin at given offsets of a slice, made onto data.
+//! Applying changes, whose units are at given offsets of a slice, to data.
 
 ghost use Rattle.std.specs.Prelude.{ℕ};
 ghost use Rattle.rtr_units.specs.AnyEnd.{end_bytes, end_meaning};
@@ -11,17 +11,17 @@ use crate::offsets::sort_offsets;
 use rtr_base::action::Action;
 use rtr_units::end::EndOfData;
 
-/// Why changes aren't made onto data, or the output has no room for what they make of it.
+/// Why changes aren't applied to data, or the result doesn't fit.
 #[derive(Drop)]
 pub enum AtFault {
-    /// The change at this offset, which does this, is the first that the data don't allow.
+    /// The change at this offset, of this action, is the first that the data don't allow.
     Refused {
-        /// Where its unit begins in the input.
+        /// The offset of its unit in the input.
         offset: usize,
-        /// What it does.
+        /// Its action.
         action: Action,
     },
-    /// The output has no room for all of the data.
+    /// The output is too short for the result.
     NoRoom,
 }
 
@@ -36,11 +36,11 @@ pub fn check_at(data: &[u8], input: &[u8], offsets: &mut [usize]) -> Option<(usi
     first_disallowed(data, input, offsets)
 }
 
-/// Writes what the changes make of the data, in canonical form, with this end of data, whose
-/// version is that of the data and of the units. It answers the length in bytes. The data are in
-/// canonical form, or an empty slice. What the offsets are afterwards is open.
+/// Writes the result of applying the changes to the data, in canonical form, with this end of data,
+/// whose version is that of the data and of the units. Returns the length in bytes. The data are in
+/// canonical form, or an empty slice. The offsets are undefined afterwards.
 ///
-/// `Refused` comes with nothing written, `NoRoom` with a front of the data written.
+/// `Refused` comes with nothing written, `NoRoom` with the beginning of the data written.
 pub fn make_at(
     data: &[u8],
     input: &[u8],

@@ -19,8 +19,8 @@ use rtr_units::end::EndOfData;
 /// Nothing is allocated, and what follows the end of data is ignored.
 ///
 /// Changes are in canonical form: units that announce payloads, and then units that withdraw
-/// payloads, each in their order, no name twice (of ASPAs the customer), all of one version, and an
-/// end of data of that version. Data are changes that withdraw nothing.
+/// payloads, each in their order, no name twice (the name of an ASPA is its customer), all of one
+/// version, and an end of data of that version. Data are changes that withdraw nothing.
 ///
 /// A flaw is the first in the input: the bytes before its offset are units with which changes may
 /// begin. `Refused` has the fault of bytes that aren't a unit or an end of data (`Short` if the
@@ -43,15 +43,15 @@ pub fn check_changes(input: &[u8]) -> Result<EndOfData, Flaw>
 /// The parts of changes.
 #[derive(Clone, Copy)]
 pub(crate) struct Parts {
-    /// How many bytes announce: the withdrawals begin there.
+    /// The length of the announcements: the withdrawals begin there.
     pub(crate) middle: usize,
-    /// How many bytes announce or withdraw: the end of data begins there.
+    /// The length of all units: the end of data begins there.
     pub(crate) stop: usize,
     /// The end of data.
     pub(crate) end: EndOfData,
 }
 
-/// The parts of the changes that the input begins with.
+/// The parts of the changes at the front of the input.
 pub(crate) fn check_parts(input: &[u8]) -> Result<Parts, Flaw>
     ensures parts { IfOk result (λ p. HoldsParts input.now p.middle p.stop (end_meaning p.end)) }
     ensures order { IfOk result (λ p. p.middle ≤ p.stop) }
@@ -80,7 +80,7 @@ pub(crate) fn check_parts(input: &[u8]) -> Result<Parts, Flaw>
     }
 }
 
-/// That this is wrong there.
+/// The flaw with this offset and reason.
 fn flaw_at(offset: usize, reason: Reason) -> Flaw
     ensures offset { result.offset ≡ offset }
     ensures reason { result.reason ≡ reason }
@@ -91,13 +91,13 @@ fn flaw_at(offset: usize, reason: Reason) -> Flaw
 /// Units of one action at the front of a slice, in order and of one version.
 #[derive(Clone, Copy)]
 struct Run {
-    /// How many bytes they are.
+    /// Their length in bytes.
     size: usize,
-    /// Their version, or that of units before them, if there are any.
+    /// Their version, or if there are none that of the units before them, if any.
     version: Option<u8>,
 }
 
-/// The longest run of units of this action, which are of the version of units before them.
+/// The longest run of units of this action whose version is that of the units before them, if any.
 fn run_of(input: &[u8], action: Action, before: Option<u8>) -> Run
     ensures run { IsRun action before input.now result.size result.version }
     ensures within { result.size ≤ length input.now }
@@ -118,7 +118,7 @@ fn run_of(input: &[u8], action: Action, before: Option<u8>) -> Run
     }
 }
 
-/// Whether the unit goes on with a run after its last unit.
+/// Whether the unit continues a run after its last unit.
 #[inline(always)]
 fn goes_on(
     action: Action,
@@ -131,7 +131,7 @@ fn goes_on(
     view.action() == action && is_version(version, view.version()) && is_above(last, view)
 }
 
-/// Whether it is the version of units before, if there are any.
+/// Whether this is the version of the units before, if there are any.
 #[inline(always)]
 fn is_version(before: Option<u8>, version: u8) -> bool
     ensures { IsTrue result ↔ InVersion before version }

@@ -18,18 +18,18 @@ use crate::item::{Item, PayloadView, PrefixKind, next, next_prefix};
 use rtr_units::end::EndOfData;
 use unit_views::origin::OriginView;
 
-/// The end of the data that the input begins with, or why there is no data there. No memory is
-/// asked for, and what follows the end of data doesn't count.
+/// Returns the end of the data at the front of the input, or why there are no data. Nothing is
+/// allocated, and what follows the end of data is ignored.
 ///
-/// Data is in canonical form: units that announce payloads in their order (origins, IPv4 before
-/// IPv6, then router keys, then ASPAs), each once and of each customer one ASPA, all of one
+/// Data are in canonical form: units that announce payloads in their order (origins, IPv4 before
+/// IPv6, then router keys, then ASPAs), each once and at most one ASPA of each customer, all of one
 /// version, and an end of data of that version.
 ///
 /// A flaw is the first in the input: the bytes before its offset are units with which data may
-/// begin. `Refused` names the fault of what isn't a unit or an end of data there (`Short` where the
-/// input ends before its end of data), and `NotCanonical` a unit, or the end of data, that may not
-/// follow: a unit that withdraws, or isn't above the last one, or is of another version. The offset
-/// is where that begins, in bytes from the front of the input.
+/// begin. `Refused` has the fault of bytes that aren't a unit or an end of data (`Short` if the
+/// input ends before its end of data), and `NotCanonical` is for a unit, or the end of data, that
+/// may not follow: a unit that withdraws, or isn't above the last one, or is of another version.
+/// The offset is that of the unit, in bytes from the front of the input.
 pub fn check_data(input: &[u8]) -> Result<EndOfData, Flaw>
     ensures data { IfOk result
         (λ end. (d : List Payload) × HoldsData input.now d (end_meaning end)) }
@@ -66,7 +66,7 @@ pub fn check_data(input: &[u8]) -> Result<EndOfData, Flaw>
     }
 }
 
-/// That what follows may not stand there.
+/// The flaw of a unit or an end of data that may not follow.
 fn not_canonical(offset: usize) -> Flaw
     ensures offset { result.offset ≡ offset }
     ensures reason { result.reason ≡ Reason.NotCanonical }
@@ -77,7 +77,7 @@ fn not_canonical(offset: usize) -> Flaw
     }
 }
 
-/// Whether the unit goes on with data after the last unit.
+/// Whether the unit may follow the last unit in data.
 #[inline(always)]
 fn goes_on(last: &Option<PayloadView<'_>>, view: &PayloadView<'_>) -> bool
     ensures { IsTrue result ↔ RunsOn Announce (last_version last.now) last.now (meant view.now) }
@@ -88,7 +88,7 @@ fn goes_on(last: &Option<PayloadView<'_>>, view: &PayloadView<'_>) -> bool
     }
 }
 
-/// Whether the unit goes on with data after this one.
+/// Whether the unit may follow this one in data.
 #[inline(always)]
 fn is_after(last: &PayloadView<'_>, view: &PayloadView<'_>) -> bool
     ensures { IsTrue result ↔ RunsAfter last.now view.now }
@@ -98,8 +98,9 @@ fn is_after(last: &PayloadView<'_>, view: &PayloadView<'_>) -> bool
         && last.compare_names(view).is_lt()
 }
 
-/// The last of the prefix units that go on with data after a prefix unit, and what follows it;
-/// after another unit, that one. Most units are of prefixes, first those of IPv4.
+/// Skips prefix units as long as they follow one another as in data, and returns the last one and
+/// what follows it. If the unit isn't a prefix unit, returns that unit. Most units are prefixes,
+/// and IPv4 comes first.
 #[inline(never)]
 fn pass_prefixes<'a>(view: &PayloadView<'a>, left: &'a [u8]) -> (PayloadView<'a>, &'a [u8])
     ensures passed { (views : List PayloadView) ×
@@ -117,8 +118,8 @@ fn pass_prefixes<'a>(view: &PayloadView<'a>, left: &'a [u8]) -> (PayloadView<'a>
     }
 }
 
-/// The last of the prefix units of this kind that go on with data after this one, and what follows
-/// it.
+/// Skips prefix units of this kind as long as they follow one another as in data, and returns the
+/// last one and what follows it.
 #[inline(always)]
 fn pass_following<'a>(view: &OriginView, left: &'a [u8], kind: PrefixKind) -> (OriginView, &'a [u8])
     ensures passed { (views : List PayloadView) × RunsTo views (PayloadView.Origin view.now)
@@ -137,8 +138,8 @@ fn pass_following<'a>(view: &OriginView, left: &'a [u8], kind: PrefixKind) -> (O
     }
 }
 
-/// The prefix unit of this kind at the front of the input, and what follows it, if it goes on with
-/// data after this one.
+/// The prefix unit of this kind at the front of the input, and what follows it, if it may follow
+/// this one in data.
 #[inline(always)]
 fn next_after<'a>(
     last: &OriginView,
@@ -165,7 +166,7 @@ fn next_after<'a>(
     }
 }
 
-/// Whether the end of data is of the version of the last unit.
+/// Whether the end of data has the version of the last unit.
 #[inline(always)]
 fn ends_after(last: &Option<PayloadView<'_>>, end: &EndOfData) -> bool
     ensures { IsTrue result ↔ InVersion (last_version last.now) (end_meaning end.now).version }

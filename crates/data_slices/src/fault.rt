@@ -8,8 +8,8 @@ pub enum Reason {
     /// What follows is refused: a fault of `UnitView::first`.
     #[error(transparent)]
     Refused(ViewFault),
-    /// A payload unit or an end of data that may not stand here: it isn't of the version of the
-    /// units before it, or it breaks the order, or is a withdrawal in data.
+    /// A payload unit or an end of data may not come here: its version isn't that of the units
+    /// before it, it breaks the order, or it is a withdrawal in data.
     #[error("not in canonical form")]
     NotCanonical,
 }
@@ -17,13 +17,13 @@ pub enum Reason {
 /// The first fault of a slice.
 #[derive(Debug, Drop)]
 pub struct Flaw {
-    /// How many bytes of whole payload units come before it.
+    /// Its offset: the length of the whole payload units before it.
     pub offset: usize,
-    /// What is wrong there.
+    /// What is wrong at that offset.
     pub reason: Reason,
 }
 
-/// Why there is no delta between two slices, or why it doesn't fit.
+/// Why the delta between two slices can't be written.
 #[derive(Debug, Drop, thiserror::Error)]
 pub enum DeltaFault {
     /// The old slice isn't data.
@@ -38,12 +38,12 @@ pub enum DeltaFault {
     /// The new data are of this session, and the old ones of another.
     #[error("session {0} is not that of the old data")]
     Session(u16),
-    /// The output has no room for the whole delta.
+    /// The output is too short for the delta.
     #[error("no room in the output")]
     NoRoom,
 }
 
-/// Why changes aren't applied to data, or the output has no room for what they make of it.
+/// Why changes can't be applied to data.
 #[derive(Debug, Drop, thiserror::Error)]
 pub enum ApplyFault {
     /// The first slice isn't data.
@@ -61,16 +61,16 @@ pub enum ApplyFault {
     /// The unit at this offset of the changes announces a payload that is present.
     #[error("duplicate announcement at byte {offset} of the changes")]
     Duplicate {
-        /// How many bytes of the changes come before the unit.
+        /// The offset of the unit.
         offset: usize,
     },
-    /// The unit at this offset of the changes withdraws what isn't there.
+    /// The unit at this offset of the changes withdraws a payload that is absent.
     #[error("withdrawal of an unknown record at byte {offset} of the changes")]
     Unknown {
-        /// How many bytes of the changes come before the unit.
+        /// The offset of the unit.
         offset: usize,
     },
-    /// The output has no room for all of the data.
+    /// The output is too short for the result.
     #[error("no room in the output")]
     NoRoom,
 }

@@ -1,4 +1,4 @@
-//! Changes made onto data in the order in which they came.
+//! Applying changes to data in the order in which they came.
 
 ghost use Rattle.std.specs.Prelude.{◌≡◌, List, length};
 ghost use Rattle.rtr_units.specs.AnyEnd.{end_bytes, end_meaning};
@@ -24,15 +24,15 @@ use rtr_units::end::EndOfData;
 /// customer. Nothing is allocated: the index is work space, one element for each payload unit, and
 /// its content is undefined afterwards.
 ///
-/// The first slice begins with data in canonical form, as `check_data` says, the second with
+/// The first slice begins with data in canonical form, as defined by `check_data`, the second with
 /// payload units in any order and an end of data, all of one version. What follows them is ignored.
 ///
 /// Faults, in this order: `Data` for a slice that doesn't begin with data, `Changes` for one that
-/// doesn't begin with units and an end of data, `UnitVersion` and `Session` for data and changes of
-/// two versions or of two sessions, `NoIndex`; then `Duplicate` or `Unknown` for the first change
-/// that announces a payload that is then present, and isn't an ASPA, or that withdraws a payload
-/// that is then absent (RFC 8210 section 12), with the offset of its unit in the changes, all with
-/// nothing written; then `NoRoom`, with a front of the data written.
+/// doesn't begin with units and an end of data, `UnitVersion` and `Session` if the versions or the
+/// sessions of data and changes differ, `NoIndex`; then `Duplicate` or `Unknown` for the first
+/// change that announces a payload that is then present, and isn't an ASPA, or that withdraws a
+/// payload that is then absent (RFC 8210 section 12), with the offset of its unit in the changes,
+/// all with nothing written; then `NoRoom`, with the beginning of the data written.
 pub fn apply_in_order(
     data: &[u8],
     changes: &[u8],
@@ -49,9 +49,8 @@ pub fn apply_in_order(
     make_in_order(data, changes, &mut index[..count], &end, output)
 }
 
-/// The end of data of changes that the data allow, made one after the other in the order in which
-/// they came; or the first thing that is wrong: the faults are those of `apply_in_order`. Nothing
-/// is written but the index.
+/// Returns the end of data of changes that the data allow, applied in the order in which they came,
+/// or the first fault: the faults are those of `apply_in_order`. It writes only to the index.
 pub fn check_in_order(
     data: &[u8],
     changes: &[u8],
@@ -69,8 +68,8 @@ pub fn check_in_order(
     }
 }
 
-/// The end of data of the changes, and how many units come before it, where both are of one version
-/// and one session. The index gets their offsets.
+/// Returns the end of data of the changes, and the number of units before it, if both slices are of
+/// one version and one session. Writes the offsets of the units to the index.
 fn read_both(
     data: &[u8],
     changes: &[u8],
@@ -99,7 +98,7 @@ fn read_both(
     Ok((end, count))
 }
 
-/// Why a change is refused that does this.
+/// The fault of a refused change of this action.
 fn refused_with(offset: usize, action: Action) -> InOrderFault
     ensures { result ≡ is_refused_with offset action }
 {
@@ -109,7 +108,7 @@ fn refused_with(offset: usize, action: Action) -> InOrderFault
     }
 }
 
-/// The first change that the data don't allow, where the offsets are those of all units.
+/// The first change that the data don't allow, given the offsets of all units.
 fn refused_in_order(data: &[u8], changes: &[u8], offsets: &mut [usize]) -> Option<(usize, Action)>
     requires { (cs : List Change) × (e : EndMeaning) × SendsAt changes.now offsets.old cs e }
     ensures { FindsRefusal result «data».now changes.now offsets.old }
@@ -118,7 +117,7 @@ fn refused_in_order(data: &[u8], changes: &[u8], offsets: &mut [usize]) -> Optio
     first_disallowed(data, changes, offsets)
 }
 
-/// Writes what the changes make of the data, where the offsets are those of all units.
+/// Writes the result of applying the changes to the data, given the offsets of all units.
 fn make_in_order(
     data: &[u8],
     changes: &[u8],

@@ -1,4 +1,4 @@
-//! Laws of changes made onto data in the order in which they came.
+//! Laws of changes applied to data in the order in which they came.
 
 ghost use Rattle.std.specs.Prelude.{◌<◌, ◌≡◌, ◌≢◌, ◌≤◌, ◌+◌, ℕ, List, Some, None, Result, Ok, Err};
 ghost use Rattle.std.specs.Prelude.{Option, length};
@@ -18,13 +18,12 @@ ghost use Rattle.data_slices.specs.declared.in_order_fault.InOrderFault.TheVaria
 ghost use Rattle.data_slices.specs.declared.in_order_fault.InOrderFault.TheVariants.{NoRoom};
 ghost use Rattle.data_slices.specs.declared.in_order_fault.InOrderFault.TheVariants.{Unknown};
 
-/// What `apply_in_order` answers is what making the changes one after the other gives, and so what
-/// `Data::apply` gives: where it writes, all of them are allowed and lead to the data that it
-/// writes, of which an output as long has room; where it refuses a change, that is the one that
-/// they are refused for. Of data and changes of one version and one session, all of them allowed,
-/// it refuses nothing, and it never lacks room where the output is as long as both slices together.
-/// What it writes, where it writes all, is data in canonical form, whatever
-/// follows it.
+/// The result of `apply_in_order` is that of applying the changes one after the other, and so that
+/// of `Data::apply`. If it writes data, all changes are allowed and lead to these data, and an
+/// output of that length suffices; if it refuses a change, that is the first refused one. Given
+/// data and changes of one version and one session, all of them allowed, it refuses nothing, and an
+/// output as long as both slices together suffices. If it writes everything, the output is data in
+/// canonical form, whatever follows it.
 pub fn changes_as_they_came()
     ensures writes { (n places : ℕ) (old input before after : List ℕ) (d : List Payload)
         (cs : List Change) (end end' : EndMeaning) → HoldsData old d end → Sends input cs end' →
@@ -67,9 +66,9 @@ pub fn changes_as_they_came()
         length old + length input ≤ length before → r ≢ Err NoRoom }
 {}
 
-/// `apply_in_order` and `Data::apply` make the same of the same data and changes of one version:
-/// what `Data::apply` applies, with any limit, is written; and what is written it applies, with a
-/// limit above the number of changes.
+/// `apply_in_order` and `Data::apply` agree on the same data and changes of one version: what
+/// `Data::apply` applies, with any limit, is written; and what is written, `Data::apply` applies
+/// with a limit above the number of changes.
 pub fn changes_as_data_applies_them()
     ensures written { (r : Result ℕ InOrderFault) (limit places : ℕ)
         (old input b before after : List ℕ) (d d' : List Payload) (cs : List Change)

@@ -33,7 +33,7 @@ pub(crate) enum PayloadView<'a> {
     Aspa(AspaView<'a>),
 }
 
-/// What a sequence has at one place.
+/// A payload unit or an end of data of a sequence.
 #[derive(Clone, Copy)]
 pub(crate) enum Item<'a> {
     /// A payload unit.
@@ -60,7 +60,7 @@ pub(crate) fn next<'a>(input: &'a [u8]) -> Result<(Item<'a>, &'a [u8]), ViewFaul
     }
 }
 
-/// The payload unit at the front of the input, and what follows it, if a unit begins there.
+/// The payload unit at the front of the input, and what follows it, if there is one.
 #[inline(always)]
 pub(crate) fn next_unit<'a>(input: &'a [u8]) -> Option<(PayloadView<'a>, &'a [u8])>
     ensures unit { IfSome result (λ p. IsNext p.0 p.1.now input.now) }
@@ -76,7 +76,7 @@ pub(crate) fn next_unit<'a>(input: &'a [u8]) -> Option<(PayloadView<'a>, &'a [u8
     }
 }
 
-/// A kind of prefix unit. Where a loop goes over one kind, a view takes few steps.
+/// A kind of prefix unit. A loop over one kind views each unit in few steps.
 #[derive(Clone, Copy)]
 pub(crate) enum PrefixKind {
     /// A prefix of IPv4.
@@ -85,8 +85,8 @@ pub(crate) enum PrefixKind {
     Ipv6,
 }
 
-/// The prefix unit of this kind at the front of the input, and what follows it. Without an answer
-/// another unit may be there.
+/// The prefix unit of this kind at the front of the input, and what follows it. None if another
+/// unit may be there.
 #[inline(always)]
 pub(crate) fn next_prefix<'a>(
     input: &'a [u8],
@@ -101,7 +101,7 @@ pub(crate) fn next_prefix<'a>(
     }
 }
 
-/// The unit at the front of the input, and what follows it, if its type and its length are these.
+/// The unit at the front of the input, and what follows it, if it has this type and this length.
 #[inline(always)]
 fn next_of_type<'a>(input: &'a [u8], kind: u8, size: usize) -> Option<(PayloadView<'a>, &'a [u8])>
     ensures unit { IfSome result (λ p. IsNext p.0 p.1.now input.now) }
@@ -171,7 +171,7 @@ impl<'a> PayloadView<'a> {
         }
     }
 
-    /// Whether the payload takes the place of the one of its name: an ASPA does.
+    /// Whether the payload replaces the one of its name: an ASPA does.
     #[inline(always)]
     pub(crate) fn takes_place(&self) -> bool
         ensures { result ≡ takes_place (meant self.now).payload }
@@ -183,7 +183,7 @@ impl<'a> PayloadView<'a> {
         }
     }
 
-    /// The order of the names of two payloads: of ASPAs only the customers count.
+    /// The order of the names of two payloads: the name of an ASPA is its customer.
     #[inline(always)]
     pub(crate) fn compare_names(&self, other: &PayloadView<'_>) -> Ordering
         ensures { result ≡ name_cmp (meant self.now).payload (meant other.now).payload }

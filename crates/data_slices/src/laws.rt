@@ -1,15 +1,16 @@
-//! Laws of data that lies in slices.
+//! Laws of data in slices.
 
-ghost use Rattle.std.specs.Prelude.{◌≡◌, ◌≢◌, ◌≤◌, ◌+◌, ◌++◌, ℕ, List, Result, Ok, Err, IsOk};
-ghost use Rattle.std.specs.Prelude.{length};
+ghost use Rattle.std.specs.Prelude.{◌≡◌, ◌≢◌, ◌≤◌, ◌+◌, ◌++◌, ℕ, List, [], Result, Ok, Err};
+ghost use Rattle.std.specs.Prelude.{IsOk, length, max};
 ghost use Rattle.rtr_payload.specs.Payloads.{Payload};
 ghost use Rattle.rtr_units.specs.End.{EndMeaning};
+ghost use Rattle.rtr_wire.specs.Sequences.{end_for};
 ghost use Rattle.data_memory.specs.Changes.{after_all, changes};
 ghost use Rattle.data_memory.specs.Data.{Change};
 ghost use Rattle.data_slices.specs.Apply.{AppliesChanges, IsApplied, data_form};
 ghost use Rattle.data_slices.specs.Canonical.{HoldsData};
 ghost use Rattle.data_slices.specs.CanonicalChanges.{HoldsChanges};
-ghost use Rattle.data_slices.specs.Delta.{Deltas, IsPlaced, delta_form};
+ghost use Rattle.data_slices.specs.Delta.{ChangesBetween, Deltas, IsPlaced, delta_form};
 ghost use Rattle.data_slices.specs.Flaws.{IsFlawOfChanges, IsFlawOfData};
 ghost use Rattle.data_slices.specs.declared.fault.ApplyFault.{ApplyFault};
 ghost use Rattle.data_slices.specs.declared.fault.ApplyFault.TheVariants as apply_faults;
@@ -17,8 +18,8 @@ ghost use Rattle.data_slices.specs.declared.fault.DeltaFault.{DeltaFault};
 ghost use Rattle.data_slices.specs.declared.fault.DeltaFault.TheVariants as delta_faults;
 ghost use Rattle.data_slices.specs.declared.fault.Flaw.{Flaw};
 
-/// A slice holds one data at most, and the changes of which `delta_into` writes the units make new
-/// data of old.
+/// A slice holds at most one data, and the changes whose units `delta_into` writes lead from old
+/// data to new.
 pub fn data_in_slices()
     ensures one { (input : List ℕ) (d d' : List Payload) (end end' : EndMeaning) →
         HoldsData input d end → HoldsData input d' end' → (d ≡ d') × (end ≡ end') }
@@ -27,9 +28,9 @@ pub fn data_in_slices()
         after_all (changes d d') (Ok d) ≡ Ok d' }
 {}
 
-/// Two slices of data of one version and one session are never refused by `delta_into`: the delta
-/// is written, or a front of it, and all of it where the output is as long. It never lacks room
-/// where the output is as long as both slices together.
+/// `delta_into` never refuses two slices of data of one version and one session: it writes the
+/// delta, or the beginning of it if the output is shorter. An output as long as both slices
+/// together always suffices.
 pub fn deltas_of_data()
     ensures written { (r : Result ℕ DeltaFault) (old new before after : List ℕ)
         (d d' : List Payload) (end end' : EndMeaning) →
@@ -43,11 +44,32 @@ pub fn deltas_of_data()
         IsPlaced r form before after → length form ≤ length before → IsOk r }
 {}
 
-/// A slice holds one list of changes at most. Where they are of the version and the session of the
-/// data, and all of them are allowed, one after the other, `apply_into` refuses nothing: what they
-/// make of the data is written, or a front of it, and all of it where the output is as long. It
-/// never lacks room where the output is as long as both slices together; and what it writes, where
-/// it writes all, is data in canonical form, whatever follows it.
+/// `changes_between` never refuses two slices of data, whatever their versions and sessions: it
+/// writes the changes in the higher of both versions, or the beginning of them if the output is
+/// shorter. If one of the slices is empty, it announces or withdraws all of the other. An output as
+/// long as both slices together always suffices.
+pub fn changes_of_data()
+    ensures written { (r : Result ℕ DeltaFault) (old new before after : List ℕ)
+        (d d' : List Payload) (end end' : EndMeaning) →
+        HoldsData old d end → HoldsData new d' end' →
+        ChangesBetween r old new before after →
+        IsPlaced r (delta_form d d' (end_for (max end.version end'.version) end')) before after }
+    ensures announced { (r : Result ℕ DeltaFault) (new before after : List ℕ)
+        (d : List Payload) (end : EndMeaning) → HoldsData new d end →
+        ChangesBetween r [] new before after → IsPlaced r (delta_form [] d end) before after }
+    ensures withdrawn { (r : Result ℕ DeltaFault) (old before after : List ℕ)
+        (d : List Payload) (end : EndMeaning) → HoldsData old d end →
+        ChangesBetween r old [] before after → IsPlaced r (delta_form d [] end) before after }
+    ensures fits { (r : Result ℕ DeltaFault) (old new before after : List ℕ) →
+        ChangesBetween r old new before after → length old + length new ≤ length before →
+        r ≢ Err delta_faults.NoRoom }
+{}
+
+/// A slice holds at most one list of changes. If they have the version and the session of the data,
+/// and all of them are allowed, one after the other, `apply_into` refuses nothing: it writes the
+/// result of applying them, or the beginning of it if the output is shorter. An output as long as
+/// both slices together always suffices; and if everything is written, the output is data in
+/// canonical form, whatever follows it.
 pub fn changes_in_slices()
     ensures one { (input : List ℕ) (cs ds : List Change) (end end' : EndMeaning) →
         HoldsChanges input cs end → HoldsChanges input ds end' → (cs ≡ ds) × (end ≡ end') }
@@ -68,9 +90,9 @@ pub fn changes_in_slices()
         IsApplied r form before after → length form ≤ length before → IsOk r }
 {}
 
-/// What `delta_into` writes for two slices of data of one version and one session is changes in
-/// canonical form, whatever follows it, and `apply_into` makes of old data by them new data: the
-/// units that announce it, and its end of data.
+/// For two slices of data of one version and one session `delta_into` writes changes in canonical
+/// form, whatever follows it, and `apply_into` turns the old data into the new by them: the units
+/// that announce the new data, and their end of data.
 pub fn deltas_in_slices()
     ensures canonical { (old new rest : List ℕ) (d d' : List Payload) (end end' : EndMeaning) →
         HoldsData old d end → HoldsData new d' end' → end.version ≡ end'.version →
@@ -83,7 +105,7 @@ pub fn deltas_in_slices()
         IsApplied r (data_form d' end') before after }
 {}
 
-/// A slice has one first flaw: whatever refuses it names the same offset.
+/// A slice has one first flaw: whichever call refuses it, the offset is the same.
 pub fn flaws_in_slices()
     ensures one_of_data { (input : List ℕ) (f g : Flaw) →
         IsFlawOfData input f → IsFlawOfData input g → f.offset ≡ g.offset }

@@ -1,11 +1,12 @@
-//! Data that lie in slices, as units in canonical form: the delta between two, changes put in order
-//! and made onto them, without memory. A `Data` of `data_memory` has the same in memory of its own.
+//! Data in slices, as units in canonical form: computing deltas, ordering changes and applying
+//! them, without allocating. `Data` of `data_memory` does the same in memory of its own.
 #![tactic(auto)]
 
 mod allowing;
 mod applied;
 mod apply;
 mod at_offsets;
+mod between;
 mod changes;
 mod check;
 mod delta;
@@ -29,6 +30,7 @@ mod shared;
 
 pub use apply::apply_into;
 pub use at_offsets::{AtFault, check_at, make_at};
+pub use between::changes_between;
 pub use changes::check_changes;
 pub use check::check_data;
 pub use delta::delta_into;

@@ -1,5 +1,5 @@
-//! What changes make of data, written into a slice, where the offsets of the changes are in the
-//! order of names.
+//! The result of applying changes to data, written into a slice, given the offsets of the changes
+//! sorted by name.
 
 ghost use Rattle.std.specs.Prelude.{◌≡◌, ◌<◌, ◌≤◌, IfSome, None, length};
 ghost use Rattle.rtr_units.specs.AnyEnd.{end_bytes, end_meaning};
@@ -20,7 +20,8 @@ use rtr_base::action::Action;
 use rtr_units::end::EndOfData;
 use unit_views::placing::place;
 
-/// Writes what the changes make of the data, all of which are allowed, and the end of data.
+/// Writes the result of applying the changes, all of which are allowed, to the data, and the end of
+/// data.
 pub(crate) fn place_all_made(
     data: &[u8],
     input: &[u8],
@@ -38,8 +39,8 @@ pub(crate) fn place_all_made(
     Some(size + end_size)
 }
 
-/// Writes the units that announce what the changes make of the data: of each name its last change
-/// decides.
+/// Writes the units that announce the result of applying the changes to the data: for each name its
+/// last change decides.
 fn place_made(data: &[u8], input: &[u8], offsets: &[usize], output: &mut [u8]) -> Option<usize>
     requires { HaveSome input.now offsets.now }
     ensures bytes { PlacesMade result «data».now input.now offsets.now output.old output.new }
@@ -64,7 +65,7 @@ fn place_made(data: &[u8], input: &[u8], offsets: &[usize], output: &mut [u8]) -
     Some(written + last_size)
 }
 
-/// Whether the first of the units at the offsets is of the name of this one.
+/// Whether the first of the units at the offsets has the name of this one.
 #[inline(always)]
 fn is_followed(view: &PayloadView<'_>, input: &[u8], offsets: &[usize]) -> bool
     requires { HaveSome input.now offsets.now }
@@ -76,8 +77,8 @@ fn is_followed(view: &PayloadView<'_>, input: &[u8], offsets: &[usize]) -> bool
     }
 }
 
-/// Writes the data below the unit's name, and the unit, if it announces; or all of the data, if
-/// there is no unit. It answers the length, and what follows of the data.
+/// Writes the data below the unit's name, and the unit if it announces; or all of the data, if
+/// there is no unit. Returns the length, and the rest of the data.
 fn place_name<'a>(
     bound: &Option<PayloadView<'_>>,
     data: &'a [u8],
@@ -95,7 +96,7 @@ fn place_name<'a>(
     Some((size + more, after_name(view, from)))
 }
 
-/// Writes the data below the bound, or all. It answers the length, and what follows of the data.
+/// Writes the data below the bound, or all data. Returns the length, and the rest of the data.
 fn place_below<'a>(
     bound: &Option<PayloadView<'_>>,
     data: &'a [u8],
@@ -115,8 +116,8 @@ fn place_below<'a>(
     }
 }
 
-/// The unit at the front of the data, and what follows it, if it is below the bound. Most units
-/// are of prefixes.
+/// The unit at the front of the data, and what follows it, if it is below the bound. Most units are
+/// prefixes.
 #[inline(always)]
 fn next_below<'a>(
     data: &'a [u8],
@@ -153,7 +154,7 @@ fn place_announced(view: &PayloadView<'_>, output: &mut [u8]) -> Option<usize>
     }
 }
 
-/// What follows the first unit of the data, if it is of the unit's name, or else the data.
+/// What follows the first unit of the data, if it has the unit's name, or else the data.
 #[inline(always)]
 fn after_name<'a>(view: &PayloadView<'_>, data: &'a [u8]) -> &'a [u8]
     ensures { IsAfterName view.now result.now «data».now }

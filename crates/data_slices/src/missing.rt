@@ -1,4 +1,4 @@
-//! What one slice of data has and another lacks.
+//! The payloads of one slice of data that another lacks.
 
 ghost use Rattle.std.specs.Prelude.{◌≡◌, ◌++◌, ◌<◌, ◌≤◌, ◌↔◌, IsTrue, List, ℕ, None};
 ghost use Rattle.std.specs.Prelude.{IfSome, length};
@@ -22,18 +22,20 @@ use rtr_base::action::Action;
 use std::cmp::Ordering;
 use unit_views::aspa::AspaView;
 
-/// Writes the units that announce or withdraw what these data have and those lack, in order, and
-/// answers their length in bytes, or none where there is no room for all of them. Most units are
-/// the same in both, so these are checked first.
+/// Writes the units of this version that announce or withdraw the payloads that the first data have
+/// and the second lack, in order, and returns their length in bytes, or none if the output is too
+/// short. Most units are equal in both, so that is checked first.
 pub(crate) fn place_missing(
     these: &[u8],
     those: &[u8],
+    version: u8,
     action: Action,
     output: &mut [u8],
 ) -> Option<usize>
     requires these { HasData these.now }
     requires those { HasData those.now }
-    ensures bytes { PlacesMissing action result these.now those.now output.old output.new }
+    ensures bytes { PlacesMissing version action result these.now those.now
+        output.old output.new }
     ensures within { IfSome result (λ n. n ≤ length output.old) }
 {
     let (mut these_rest, mut those_rest, mut written) = (these, those, 0);
@@ -50,7 +52,8 @@ pub(crate) fn place_missing(
         };
         let (second, after_second) = next_of_data(those_rest);
         let order = compare_item(&first, &second);
-        written += place_lacking(&first, &second, order, action, &mut output[written..])?;
+        let room = &mut output[written..];
+        written += place_lacking(&first, &second, order, version, action, room)?;
         match order {
             Ordering::Less => these_rest = after_first,
             Ordering::Equal => {
@@ -75,7 +78,8 @@ fn next_of_data<'a>(input: &'a [u8]) -> (Item<'a>, &'a [u8])
     }
 }
 
-/// The order of the names of a unit and an item of other data, whose end comes after all units.
+/// The order of the names of a unit and of an item of other data; an end of data comes after all
+/// units.
 #[inline(always)]
 fn compare_item(first: &PayloadView<'_>, second: &Item<'_>) -> Ordering
     ensures { result ≡ item_order first.now second.now }
@@ -86,12 +90,14 @@ fn compare_item(first: &PayloadView<'_>, second: &Item<'_>) -> Ordering
     }
 }
 
-/// Writes the unit where the other data lack it, of which the item in this order is the next.
+/// Writes the unit, in this version, if the other data lack it; the next item of these compares
+/// with it in this order.
 #[inline(always)]
 fn place_lacking(
     first: &PayloadView<'_>,
     second: &Item<'_>,
     order: Ordering,
+    version: u8,
     action: Action,
     output: &mut [u8],
 ) -> Option<usize>
@@ -99,7 +105,7 @@ fn place_lacking(
         IsShort first.now }
     requires second { IsDataItem second.now }
     requires order { order ≡ item_order first.now second.now }
-    ensures { Places result (lacking_form action first.now
+    ensures { Places result (lacking_form version action first.now
         (is_lacking order (is_same_item action first.now second.now))) output.old output.new }
 {
     let is_there = match order {
@@ -110,10 +116,11 @@ fn place_lacking(
     if is_there {
         return Some(0);
     }
-    place_change(first, action, output)
+    place_change(first, version, action, output)
 }
 
-/// Whether an item of the same name is the payload, or for a withdrawal at least of its name.
+/// Whether an item of the same name is the same payload; for a withdrawal, whether it has the same
+/// name.
 #[inline(always)]
 fn is_same_as(first: &PayloadView<'_>, second: &Item<'_>, action: Action) -> bool
     requires first { ((meant first.now).action ≡ Announce) × IsComplete first.now ×
@@ -131,7 +138,7 @@ fn is_same_as(first: &PayloadView<'_>, second: &Item<'_>, action: Action) -> boo
     }
 }
 
-/// Whether two payloads of one name are the same: of ASPAs the providers decide.
+/// Whether two payloads of one name are the same: for ASPAs the providers decide.
 #[inline(always)]
 fn is_same_payload(first: &PayloadView<'_>, second: &PayloadView<'_>) -> bool
     requires first { ((meant first.now).action ≡ Announce) × IsComplete first.now ×
@@ -153,7 +160,7 @@ fn is_same_payload(first: &PayloadView<'_>, second: &PayloadView<'_>) -> bool
     }
 }
 
-/// Whether two ASPA units name the same providers.
+/// Whether two ASPA units have the same providers.
 #[inline(always)]
 fn same_providers(left: &AspaView<'_>, right: &AspaView<'_>) -> bool
     requires left { HasFields left.now.unit.now (aspa_unit (aspa_at left.now.unit.now)) }

@@ -1,4 +1,4 @@
-//! The offsets of units in a slice, in the order of names.
+//! The offsets of units in a slice, sorted by name.
 
 ghost use Rattle.std.specs.Prelude.{◌≡◌, length};
 ghost use Rattle.std.specs.List.Sorted.{IsPermutation};
@@ -10,7 +10,7 @@ ghost use Rattle.data_slices.specs.PrivateOffsets.{meaning_cmp};
 use crate::item::{Item, PayloadView, PrefixKind, next, next_prefix};
 use std::cmp::Ordering;
 
-/// The payload unit at the offset, if one begins there. Most are of prefixes.
+/// The payload unit at the offset, if one begins there. Most are prefixes.
 #[inline(always)]
 pub(crate) fn unit_at<'a>(input: &'a [u8], offset: usize) -> Option<PayloadView<'a>>
     ensures { ViewsAt input.now offset result }
@@ -32,7 +32,7 @@ pub(crate) fn unit_at<'a>(input: &'a [u8], offset: usize) -> Option<PayloadView<
     }
 }
 
-/// By name. Where there is no view comes first.
+/// By name. A missing view comes first.
 #[inline(always)]
 fn compare_views(left: &Option<PayloadView<'_>>, right: &Option<PayloadView<'_>>) -> Ordering
     ensures { result ≡ option_cmp meaning_cmp (option_map meant left.now)
@@ -55,7 +55,7 @@ fn compare_offsets(input: &[u8], left: usize, right: usize) -> Ordering
     names.then(left.cmp(&right))
 }
 
-/// Sorts the offsets by name, and those of one name as they lie.
+/// Sorts the offsets by name, and those of one name by offset.
 pub(crate) fn sort_offsets(input: &[u8], offsets: &mut [usize])
     ensures permutation { IsPermutation offsets.old offsets.new }
     ensures sorted { SortsOffsets input.now offsets.new }

@@ -1,4 +1,4 @@
-//! Changes put in canonical form.
+//! Putting changes in canonical form.
 
 ghost use Rattle.std.specs.Prelude.{◌≡◌, ◌≤◌, IfSome, List, length};
 ghost use Rattle.rtr_units.specs.AnyEnd.{end_bytes, end_meaning};
@@ -23,13 +23,13 @@ use unit_views::placing::place;
 /// The input begins with payload units and an end of data, all of one version, and what follows it
 /// is ignored. An output as long as the input always suffices.
 ///
-/// No data are read. If data don't allow the changes, `apply_into` refuses what is written, or that
-/// is hidden by changes without a net effect: see `changes_that_come_to_nothing`. `apply_in_order`
+/// No data are read. If data don't allow the changes, `apply_into` refuses the output, unless
+/// changes without a net effect hide that: see `changes_that_come_to_nothing`. `apply_in_order`
 /// checks each change.
 ///
 /// Faults, in this order: `Flaw` for an input that doesn't begin so; `NoIndex`; `Duplicate`,
-/// `Unknown` or `Undecided` for the first name, in their order, whose changes are refused. Then
-/// nothing is written. Last `NoRoom`, with a front written.
+/// `Unknown` or `Undecided` for the first name, in their order, whose changes are refused, all with
+/// nothing written; then `NoRoom`, with the beginning written.
 pub fn order_into(input: &[u8], index: &mut [usize], output: &mut [u8]) -> Result<usize, OrderFault>
     ensures { Orders result input.now (length index.old) output.old output.new }
 {
@@ -43,7 +43,7 @@ pub fn order_into(input: &[u8], index: &mut [usize], output: &mut [u8]) -> Resul
     order_offsets(input, &mut index[..count], &end, output)
 }
 
-/// The same, where the offsets are those of all units.
+/// Does the same, given the offsets of all units.
 fn order_offsets(
     input: &[u8],
     offsets: &mut [usize],
@@ -65,7 +65,7 @@ fn order_offsets(
     }
 }
 
-/// Writes what the changes come to, and the end of data.
+/// Writes the net effect of the changes, and the end of data.
 fn place_ordered(
     input: &[u8],
     offsets: &[usize],

@@ -1,4 +1,4 @@
-//! Laws of what changes come to.
+//! Laws of the net effect of changes.
 
 ghost use Rattle.std.specs.Prelude.{◌≡◌, ◌≢◌, ◌≤◌, ◌∷◌, [], ℕ, List, Option, Result, Ok, Err};
 ghost use Rattle.std.specs.Prelude.{false, true, length};
@@ -15,9 +15,8 @@ ghost use Rattle.data_slices.specs.declared.order_fault.OrderFault.{OrderFault};
 ghost use Rattle.data_slices.specs.declared.order_fault.OrderFault.TheVariants.{Duplicate, Unknown};
 ghost use Rattle.data_slices.specs.declared.order_fault.OrderFault.TheVariants.{NoRoom};
 
-/// Where changes are all allowed over some data, one after the other, each may follow the one
-/// before it of its name; and unless it depends on the data what they come to, the changes that
-/// they come to make of it the same.
+/// If changes are all allowed over some data, one after the other, each may follow the previous one
+/// of its name; and unless their net effect depends on the data, it leads to the same data.
 pub fn what_changes_come_to()
     ensures linked { (cs : List Change) (d made : List Payload) → IsData d →
         after_all cs (Ok d) ≡ Ok made → (p : Payload) → AreLinked (of_name p cs) }
@@ -26,9 +25,9 @@ pub fn what_changes_come_to()
         after_all ns (Ok d) ≡ Ok made }
 {}
 
-/// Where the changes of an input are all allowed over some data, one after the other, what
-/// `order_into` writes makes of it the same; and it never refuses one of them as announced or
-/// withdrawn twice. It never lacks room where the output is as long as the input.
+/// If the changes of an input are all allowed over some data, one after the other, the output of
+/// `order_into` leads to the same data; and it never refuses one of them as announced or withdrawn
+/// twice. An output as long as the input always suffices.
 pub fn changes_in_order()
     ensures leads { (n : Option ℕ) (input : List ℕ) (places : ℕ) (cs : List Change)
         (e : EndMeaning) (d made : List Payload) (before after : List ℕ) →
@@ -45,10 +44,10 @@ pub fn changes_in_order()
         length input ≤ length before → r ≢ Err NoRoom }
 {}
 
-/// `order_into` looks at no data, so that it hides some of what data don't allow. A withdrawal and
-/// then an announcement of a payload, or the other way round, come to nothing, which all data
-/// allow: just the end of data is written. But of these changes the first is refused by data
-/// without the payload, or by data that have it. Those of ASPAs are written, or refused as
+/// `order_into` reads no data, so that it hides some changes that data don't allow. A withdrawal
+/// and then an announcement of a payload, or the other way round, have no net effect, which all
+/// data allow: just the end of data is written. But the first of these changes is refused by data
+/// without the payload, or by data with it. Such changes of ASPAs are written, or refused as
 /// undecided. `apply_in_order` refuses what the data at hand don't allow.
 pub fn changes_that_come_to_nothing()
     ensures withdrawn { (n : Option ℕ) (input : List ℕ) (places : ℕ) (p : Payload)

@@ -9,6 +9,7 @@ ghost use Rattle.rtr_payload.specs.KeyUnits.{key_at};
 ghost use Rattle.rtr_payload.specs.Meanings.{origin_of};
 ghost use Rattle.rtr_payload.specs.Payloads.{aspa, key};
 ghost use Rattle.rtr_payload.specs.Units.{form, form_of};
+ghost use Rattle.rtr_wire.specs.Sequences.{in_version};
 ghost use Rattle.data_memory.specs.Data.{withdrawal};
 ghost use Rattle.data_memory.specs.Deltas.{unit_of};
 ghost use Rattle.unit_views.specs.Placing.{Places};
@@ -26,38 +27,32 @@ use unit_views::placing::place;
 use unit_views::router_key::RouterKeyView;
 use unit_views::view::UnitView;
 
-/// Writes the unit that withdraws the origin.
+/// Writes the unit of this version that withdraws the origin.
 #[inline(always)]
-fn withdraw_origin(view: &OriginView, output: &mut [u8]) -> Option<usize>
-    ensures { Places result (form view.now.version (flags_of Withdraw) (origin_of view.now.origin))
+fn withdraw_origin(view: &OriginView, version: u8, output: &mut [u8]) -> Option<usize>
+    ensures { Places result (form version (flags_of Withdraw) (origin_of view.now.origin))
         output.old output.new }
 {
     let flags = Action::Withdraw.into_flags();
     let origin = view.origin();
     if origin.prefix.prefix().is_v4() {
-        let unit = Ipv4Prefix::from_origin(view.version(), flags, origin);
+        let unit = Ipv4Prefix::from_origin(version, flags, origin);
         place(unit.as_ref(), &[], output)
     } else {
-        let unit = Ipv6Prefix::from_origin(view.version(), flags, origin);
+        let unit = Ipv6Prefix::from_origin(version, flags, origin);
         place(unit.as_ref(), &[], output)
     }
 }
 
-/// The bytes before the key info in the unit that withdraws the key.
+/// The bytes before the key info in the unit of this version that withdraws the key.
 #[inline(always)]
-fn key_front(view: &RouterKeyView<'_>) -> [u8; 32]
+fn key_front(view: &RouterKeyView<'_>, version: u8) -> [u8; 32]
     requires { length (key_at view.now.unit.now).key.info ≤ 65503 }
     ensures { result ++ (key_at view.now.unit.now).key.info ≡
-        form (key_at view.now.unit.now).version (flags_of Withdraw)
-        (key (key_at view.now.unit.now).key) }
+        form version (flags_of Withdraw) (key (key_at view.now.unit.now).key) }
 {
     let size = (RouterKey::FIXED + view.key_info().len()) as u32;
-    let header = flagged_header(
-        view.version(),
-        RouterKey::PDU,
-        Action::Withdraw.into_flags(),
-        size,
-    );
+    let header = flagged_header(version, RouterKey::PDU, Action::Withdraw.into_flags(), size);
     let mut front = [0; 32];
     front[..8].copy_from_slice(&header);
     front[8..28].copy_from_slice(&view.key_identifier());
@@ -65,29 +60,28 @@ fn key_front(view: &RouterKeyView<'_>) -> [u8; 32]
     front
 }
 
-/// Writes the unit that withdraws the ASPA of the customer: without providers.
+/// Writes the unit of this version that withdraws the ASPA of the customer: without providers.
 #[inline(always)]
-fn withdraw_aspa(view: &AspaView<'_>, output: &mut [u8]) -> Option<usize>
-    ensures { Places result (form (aspa_at view.now.unit.now).version (flags_of Withdraw)
+fn withdraw_aspa(view: &AspaView<'_>, version: u8, output: &mut [u8]) -> Option<usize>
+    ensures { Places result (form version (flags_of Withdraw)
         (aspa (record { customer = (aspa_at view.now.unit.now).aspa.customer; providers = [] })))
         output.old output.new }
 {
-    let header = flagged_header(view.version(), Aspa::PDU, Action::Withdraw.into_flags(), 12);
+    let header = flagged_header(version, Aspa::PDU, Action::Withdraw.into_flags(), 12);
     place(&header, &view.customer().into_u32().to_be_bytes(), output)
 }
 
-/// Writes the unit that withdraws what the viewed unit announces.
+/// Writes the unit of this version that withdraws what the viewed unit announces.
 #[inline(always)]
-fn place_withdrawal(view: &PayloadView<'_>, output: &mut [u8]) -> Option<usize>
+fn place_withdrawal(view: &PayloadView<'_>, version: u8, output: &mut [u8]) -> Option<usize>
     requires { IsShort view.now }
-    ensures { Places result
-        (form_of (unit_of (meant view.now).version (withdrawal (meant view.now).payload)))
+    ensures { Places result (form_of (unit_of version (withdrawal (meant view.now).payload)))
         output.old output.new }
 {
     match view {
-        PayloadView::Origin(view) => withdraw_origin(view, output),
-        PayloadView::RouterKey(view) => place(&key_front(view), view.key_info(), output),
-        PayloadView::Aspa(view) => withdraw_aspa(view, output),
+        PayloadView::Origin(view) => withdraw_origin(view, version, output),
+        PayloadView::RouterKey(view) => place(&key_front(view, version), view.key_info(), output),
+        PayloadView::Aspa(view) => withdraw_aspa(view, version, output),
     }
 }
 
@@ -103,22 +97,35 @@ pub(crate) fn place_unit(view: &PayloadView<'_>, output: &mut [u8]) -> Option<us
     }
 }
 
-/// Writes the unit with the viewed unit's payload that announces or withdraws it. The viewed unit
-/// announces it.
+/// Writes the viewed unit, in canonical form and in this version.
+#[inline(always)]
+fn place_unit_in(view: &PayloadView<'_>, version: u8, output: &mut [u8]) -> Option<usize>
+    ensures { Places result (form_of (in_version version (meant view.now)))
+        output.old output.new }
+{
+    match view {
+        PayloadView::Origin(view) => UnitView::Origin(*view).place_form_in(version, output),
+        PayloadView::RouterKey(view) => UnitView::RouterKey(*view).place_form_in(version, output),
+        PayloadView::Aspa(view) => UnitView::Aspa(*view).place_form_in(version, output),
+    }
+}
+
+/// Writes the unit of this version with the viewed unit's payload that announces or withdraws it.
+/// The viewed unit announces it.
 #[inline(always)]
 pub(crate) fn place_change(
     view: &PayloadView<'_>,
+    version: u8,
     action: Action,
     output: &mut [u8],
 ) -> Option<usize>
     requires announces { (meant view.now).action ≡ Announce }
     requires short { IsShort view.now }
-    ensures { Places result
-        (form_of (unit_of (meant view.now).version (change action (meant view.now).payload)))
+    ensures { Places result (form_of (unit_of version (change action (meant view.now).payload)))
         output.old output.new }
 {
     match action {
-        Action::Announce => place_unit(view, output),
-        Action::Withdraw => place_withdrawal(view, output),
+        Action::Announce => place_unit_in(view, version, output),
+        Action::Withdraw => place_withdrawal(view, version, output),
     }
 }

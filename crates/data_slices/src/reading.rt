@@ -1,4 +1,4 @@
-//! The offsets of the units that a slice begins with.
+//! The offsets of the units at the front of a slice.
 
 ghost use Rattle.std.specs.Prelude.{◌≡◌, ◌≤◌, ◌+◌, ◌++◌, ◌∷◌, ◌↔◌, [], ℕ, List, length, take};
 ghost use Rattle.std.specs.Prelude.{IfOk, IfErr, IsTrue};
@@ -9,8 +9,8 @@ use crate::fault::{Flaw, Reason};
 use crate::item::{Item, next};
 use rtr_units::end::EndOfData;
 
-/// The end of data, and how many units come before it. The index gets their offsets, or as many as
-/// it has room for.
+/// Returns the end of data, and the number of units before it. Writes their offsets to the index,
+/// as many as fit.
 pub(crate) fn read_offsets(input: &[u8], index: &mut [usize]) -> Result<(EndOfData, usize), Flaw>
     ensures read { IfOk result (λ p. OffsetsRead p.0 p.1 input.now index.new) }
     ensures stray { IfErr result (λ f. IsStrayAt input.now f) }
@@ -50,7 +50,7 @@ fn flaw(offset: usize, reason: Reason) -> Flaw
     Flaw { offset, reason }
 }
 
-/// Whether units of the version, if any, and this one are of one version.
+/// Whether this version is that of the units before, if there are any.
 #[inline(always)]
 fn is_of(version: Option<u8>, other: u8) -> bool
     ensures { IsTrue result ↔ IsOf version other }

@@ -1,4 +1,4 @@
-//! The first of some units that breaks a rule.
+//! Finds the first unit that breaks a rule.
 
 ghost use Rattle.std.specs.Prelude.{◌≡◌, ◌<◌, ◌≤◌, IfSome, length};
 ghost use Rattle.data_slices.specs.Items.{meant};
@@ -8,18 +8,18 @@ ghost use Rattle.data_slices.specs.PrivateChanges.{is_against};
 use crate::item::{PayloadView, PrefixKind, next_prefix, next_unit};
 use std::cmp::Ordering;
 
-/// What units may not be, by the names of other units.
+/// A rule on units, given the names of other units.
 #[derive(Clone, Copy)]
 pub(crate) enum Rule {
-    /// Withdrawals of what is announced.
+    /// No unit withdraws a payload that is announced.
     Apart,
-    /// Announcements of what is there, unless they take its place.
+    /// No unit announces a payload that is present, unless it replaces that.
     Duplicate,
-    /// Withdrawals of what isn't there.
+    /// No unit withdraws a payload that is absent.
     Unknown,
 }
 
-/// How many bytes come before the first of these units that breaks the rule, if one does.
+/// The offset of the first of these units that breaks the rule, if one does.
 pub(crate) fn first_breaking(these: &[u8], those: &[u8], rule: Rule) -> Option<usize>
     ensures found { FindsRefused result rule these.now those.now }
     ensures within { IfSome result (λ n. n ≤ length these.now) }
@@ -39,8 +39,8 @@ pub(crate) fn first_breaking(these: &[u8], those: &[u8], rule: Rule) -> Option<u
     }
 }
 
-/// Reports whether a unit's name is among others, and returns their rest from that name on. Most of
-/// them are prefixes, first those of IPv4.
+/// Reports whether a unit's name is among others, and returns the rest of these from that name on.
+/// Most of them are prefixes, and IPv4 comes first.
 #[inline(never)]
 pub(crate) fn sought<'a>(first: &PayloadView<'_>, those: &'a [u8]) -> (bool, &'a [u8])
     ensures { Seeks result.0 first.now result.1.now those.now }
@@ -50,7 +50,7 @@ pub(crate) fn sought<'a>(first: &PayloadView<'_>, those: &'a [u8]) -> (bool, &'a
     sought_in_rest(first, those, after_v6)
 }
 
-/// The same, where those before the rest are below the unit.
+/// Does the same, given that the others before the rest are below the unit.
 #[inline(always)]
 fn sought_in_rest<'a>(first: &PayloadView<'_>, those: &'a [u8], from: &'a [u8]) -> (bool, &'a [u8])
     requires { GoesPast (meant first.now).payload from.now those.now }
@@ -67,7 +67,7 @@ fn sought_in_rest<'a>(first: &PayloadView<'_>, those: &'a [u8], from: &'a [u8]) 
     }
 }
 
-/// What is left of others after the prefix units of this kind that are below the unit.
+/// The rest of others after the prefix units of this kind that are below the unit.
 #[inline(always)]
 fn pass_below<'a>(first: &PayloadView<'_>, those: &'a [u8], kind: PrefixKind) -> &'a [u8]
     ensures { GoesPast (meant first.now).payload result.now those.now }
@@ -102,8 +102,8 @@ fn after_prefix_below<'a>(
     }
 }
 
-/// The order of the names of a unit and the first of others, whose end comes after all units, and
-/// what follows that one.
+/// The order of the names of a unit and of the first of others (an end of data comes after all
+/// units), and what follows that one.
 #[inline(always)]
 fn compare_front<'a>(first: &PayloadView<'_>, those: &'a [u8]) -> (Ordering, &'a [u8])
     ensures order { IsOrderOf result.0 first.now result.1.now those.now }

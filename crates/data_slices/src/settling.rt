@@ -1,4 +1,4 @@
-//! What the changes of each name come to, where the offsets of the units are in the order of names.
+//! The net effect of the changes of each name, given the offsets of the units sorted by name.
 
 ghost use Rattle.std.specs.Prelude.{◌≡◌, ◌≤◌, IfSome, length};
 ghost use Rattle.std.specs.Ordering.{is_eq};
@@ -19,7 +19,7 @@ use crate::order_fault::OrderFault;
 use crate::placing::place_unit;
 use rtr_base::action::Action;
 
-/// The first refusal, of the names in order.
+/// The first refusal, in the order of names.
 pub(crate) fn first_refusal(input: &[u8], offsets: &[usize]) -> Option<OrderFault>
     requires { HaveSome input.now offsets.now }
     ensures { FindsWrong result input.now offsets.now }
@@ -47,7 +47,7 @@ pub(crate) fn first_refusal(input: &[u8], offsets: &[usize]) -> Option<OrderFaul
     }
 }
 
-/// Writes what the changes of each name come to, where that has the action.
+/// Writes the net effect of the changes of each name, if it has this action.
 pub(crate) fn place_settled(
     input: &[u8],
     offsets: &[usize],
@@ -95,7 +95,7 @@ pub(crate) fn first_unit<'a, 'b>(
     }
 }
 
-/// Whether two units are of one name.
+/// Whether two units have the same name.
 #[inline(always)]
 pub(crate) fn same_name(left: &PayloadView<'_>, right: &PayloadView<'_>) -> bool
     ensures { result ≡ have_name (change_of (meant left.now)) (change_of (meant right.now)) }
@@ -111,7 +111,7 @@ fn first_action(same: bool, first: Action, view: &PayloadView<'_>) -> Action
     if same { first } else { view.action() }
 }
 
-/// The refusal of the unit, and of the next.
+/// The refusal of two successive units.
 #[inline(always)]
 fn between(
     same: bool,
@@ -131,7 +131,7 @@ fn between(
     }
 }
 
-/// Why a unit is refused that may not follow one of its name with this action.
+/// Why a unit may not follow one of its name with this action.
 #[inline(always)]
 fn unlinked(before: Action, offset: usize, view: &PayloadView<'_>) -> Option<OrderFault>
     ensures { result ≡ unlinked_at before offset (change_of (meant view.now)) }
@@ -150,7 +150,7 @@ fn unlinked(before: Action, offset: usize, view: &PayloadView<'_>) -> Option<Ord
     }
 }
 
-/// The refusal of a last unit of a name whose net effect is undecided, if it is.
+/// The refusal of the last unit of a name, if the net effect is undecided.
 #[inline(always)]
 fn open_end(first: Action, offset: usize, view: &PayloadView<'_>) -> Option<OrderFault>
     ensures { result ≡ open_at first offset (change_of (meant view.now)) }
@@ -169,7 +169,7 @@ fn open_end(first: Action, offset: usize, view: &PayloadView<'_>) -> Option<Orde
     }
 }
 
-/// Whether the changes of a name come to the last of them.
+/// Whether the net effect of the changes of a name is the last of them.
 #[inline(always)]
 fn settles(first: Action, view: &PayloadView<'_>) -> bool
     ensures { result ≡ is_settling first (meant view.now).action (meant view.now).payload }
@@ -182,7 +182,7 @@ fn settles(first: Action, view: &PayloadView<'_>) -> bool
     }
 }
 
-/// Whether they are the same.
+/// Whether the actions are the same.
 #[inline(always)]
 pub(crate) fn is_action(left: Action, right: Action) -> bool
     ensures { result ≡ has_action left right }
@@ -190,7 +190,7 @@ pub(crate) fn is_action(left: Action, right: Action) -> bool
     left == right
 }
 
-/// Writes the unit, if it is the last of its name, has a net effect, and is of this action.
+/// Writes the unit, if it is the last of its name, is the net effect, and has this action.
 #[inline(always)]
 fn place_last(
     ends: bool,

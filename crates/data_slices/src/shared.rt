@@ -1,4 +1,4 @@
-//! Units with which two slices both begin.
+//! Units at the front of two slices.
 
 ghost use Rattle.std.specs.Prelude.{◌<◌, ◌+◌, IfSome, length};
 ghost use Rattle.data_slices.specs.PrivateOrder.{SharesFront, SharesUnit};
@@ -7,8 +7,8 @@ use crate::item::begins_with_type;
 use rtr_units::prefixes::{Ipv4Prefix, Ipv6Prefix};
 use rtr_units::unit::Unit;
 
-/// What follows in both slices the prefix unit with which they begin, if that is the same in both,
-/// byte for byte. It isn't viewed: the slices hold data.
+/// What follows in both slices the prefix unit at the front, if that is the same in both, byte for
+/// byte. It isn't viewed: the slices hold data.
 #[inline(always)]
 pub(crate) fn after_shared_unit<'a, 'b>(
     these: &'a [u8],
@@ -27,7 +27,7 @@ pub(crate) fn after_shared_unit<'a, 'b>(
     None
 }
 
-/// The rest of both slices behind the first `size` bytes, if these are the same in both.
+/// The rest of both slices after the first `size` bytes, if these are the same in both.
 #[inline(always)]
 fn after_shared<'a, 'b>(
     these: &'a [u8],

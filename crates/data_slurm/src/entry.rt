@@ -20,7 +20,7 @@ pub enum PrefixFilter {
     Prefix(Prefix),
     /// Matches each origin of this autonomous system.
     Asn(Asn),
-    /// Matches each origin that both would match.
+    /// Matches each origin that both of the above match.
     Both(Prefix, Asn),
 }
 
@@ -31,18 +31,18 @@ pub enum KeyFilter {
     Asn(Asn),
     /// Matches each key with this subject key identifier.
     KeyIdentifier(KeyIdentifier),
-    /// Matches each key that both would match.
+    /// Matches each key that both of the above match.
     Both(Asn, KeyIdentifier),
 }
 
 /// An entry of one of the four arrays of a SLURM file (RFC 8416 sections 3.3 and 3.4).
 #[derive(Debug, Drop)]
 pub enum Entry {
-    /// Of `prefixFilters`.
+    /// An entry of `prefixFilters`.
     PrefixFilter(PrefixFilter),
-    /// Of `bgpsecFilters`.
+    /// An entry of `bgpsecFilters`.
     KeyFilter(KeyFilter),
-    /// Of `prefixAssertions` or `bgpsecAssertions`: a payload that is added.
+    /// An entry of `prefixAssertions` or `bgpsecAssertions`: a payload that is added.
     Assertion(Payload),
 }
 
@@ -58,7 +58,7 @@ impl PrefixFilter {
         }
     }
 
-    /// Its prefix, if it has one.
+    /// The prefix of the filter, if it has one.
     fn prefix(&self) -> Option<Prefix>
         ensures { result ≡ filter_prefix self.now }
     {
@@ -83,7 +83,7 @@ impl KeyFilter {
         }
     }
 
-    /// Its autonomous system, if it has one.
+    /// The AS of the filter, if it has one.
     fn asn(&self) -> Option<Asn>
         ensures { result ≡ filter_asn self.now }
     {
@@ -95,7 +95,7 @@ impl KeyFilter {
 }
 
 impl Entry {
-    /// Reports whether the entry is a filter that matches the payload. None matches an ASPA.
+    /// Reports whether the entry is a filter that matches the payload. No filter matches an ASPA.
     pub fn matches(&self, payload: &Payload) -> bool
         ensures { result ≡ matches_payload self.now (payload_of payload.now) }
     {
@@ -110,16 +110,16 @@ impl Entry {
         }
     }
 
-    /// Reports whether the entries, of two files, overlap: some address is in the prefixes of both,
-    /// as entries of `prefixFilters` or `prefixAssertions`, or both name the same AS, as entries of
-    /// `bgpsecFilters` or `bgpsecAssertions` (RFC 8416 section 4.2).
+    /// Reports whether the entries, of two files, overlap: both are entries of `prefixFilters` or
+    /// `prefixAssertions` and their prefixes share an address, or both are entries of
+    /// `bgpsecFilters` or `bgpsecAssertions` and have the same AS (RFC 8416 section 4.2).
     pub fn overlaps(&self, other: &Entry) -> bool
         ensures { result ≡ entries_overlap self.now other.now }
     {
         share_address(self.prefix(), other.prefix()) || share_asn(self.asn(), other.asn())
     }
 
-    /// The prefix that it uses.
+    /// The prefix of an entry about origins, if it has one.
     fn prefix(&self) -> Option<Prefix>
         ensures { result ≡ prefix_used self.now }
     {
@@ -130,7 +130,7 @@ impl Entry {
         }
     }
 
-    /// The autonomous system for whose keys it is.
+    /// The AS of an entry about router keys, if it has one.
     fn asn(&self) -> Option<Asn>
         ensures { result ≡ asn_used self.now }
     {

@@ -21,9 +21,9 @@ use crate::slurm::Slurm;
 use json::{Error, Scratch, Value};
 use std::alloc::Global;
 
-/// Reads a SLURM file (RFC 8416 section 3). The first of these that holds decides: memory runs out,
-/// the file isn't UTF-8, isn't JSON, or has a name twice in an object; then what stands first in
-/// the order in which RFC 8416 lists members. `scratch` keeps the texts with escapes.
+/// Reads a SLURM file (RFC 8416 section 3). The first of these faults is returned: memory runs out,
+/// the file isn't UTF-8, isn't JSON, or has a name twice in an object; then the first fault in the
+/// order in which RFC 8416 lists members. `scratch` keeps the texts with escapes.
 pub fn read_slurm<'a>(
     alloc: Global,
     text: &'a [u8],
@@ -49,7 +49,7 @@ fn refusal(place: SlurmPlace<'_>, reason: SlurmReason) -> SlurmRefusal<'_>
     SlurmRefusal { place, reason }
 }
 
-/// The entries that the value of a file says.
+/// The entries in the value of a file.
 fn slurm_of<'a>(alloc: Global, value: &Value<'a>) -> Result<Slurm, SlurmRefusal<'a>>
     ensures { MatchResult result (λ s. IsSlurm (value_view value.now) s.entries.items)
         (λ r. SlurmWrong (value_view value.now) r.reason) }
@@ -81,7 +81,7 @@ fn has_version_one(value: &Value<'_>) -> bool
     }
 }
 
-/// Refuses a value that isn't an object of this form: at its first unknown member.
+/// Refuses a value that isn't an object of this form, at its first unknown member.
 fn check_form<'a>(form: Form, value: &Value<'a>) -> Result<(), SlurmRefusal<'a>>
     ensures { MatchResult result (λ _. IsForm form (value_view value.now))
         (λ r. FormWrong form (value_view value.now) r.reason) }
@@ -128,7 +128,7 @@ fn add_group<'a>(
     }
 }
 
-/// The place in a value that stands under this name.
+/// The place of the value with this name in a value at a place.
 fn within<'a>(place: SlurmPlace<'a>, name: &'a str) -> SlurmPlace<'a> {
     match place {
         SlurmPlace::File => SlurmPlace::Member(name),
@@ -191,7 +191,7 @@ fn add_found<'a>(
     }
 }
 
-/// Adds the entry that each item is.
+/// Adds the entry of each item.
 fn add_items<'a>(
     alloc: Global,
     kind: Kind,
@@ -217,7 +217,7 @@ fn add_items<'a>(
     Ok(())
 }
 
-/// The entry that the item at this index is.
+/// The entry of the item at this index.
 fn entry_at<'a>(
     alloc: Global,
     kind: Kind,
@@ -240,7 +240,7 @@ fn entry_at<'a>(
     }
 }
 
-/// The place in an item.
+/// The place of the item, or of a member of it.
 fn item_place<'a>(kind: Kind, index: u64, place: SlurmPlace<'a>) -> SlurmPlace<'a> {
     match place {
         SlurmPlace::Member(name) => SlurmPlace::ItemMember(kind, index, name),

@@ -26,7 +26,7 @@ use rtr_payload::payload::Payload;
 use rtr_payload::pdu::RouterKeyInfo;
 use std::alloc::Global;
 
-/// The entry that an item of this kind is.
+/// The entry of an item of this kind.
 pub(crate) fn entry_of(alloc: Global, kind: Kind, item: &Value<'_>) -> Result<Entry, SlurmReason>
     ensures { MatchResult result (IsEntryBy kind (value_view item.now))
         (EntryWrongBy kind (value_view item.now)) }
@@ -51,7 +51,7 @@ pub(crate) fn entry_of(alloc: Global, kind: Kind, item: &Value<'_>) -> Result<En
     }
 }
 
-/// Reports whether the item has a comment only if that is a text.
+/// Reports whether the item has no comment, or one that is a text.
 pub(crate) fn has_fine_comment(item: &Value<'_>) -> bool
     ensures { result ≡ is_comment (get (codes "comment") (value_view item.now)) }
 {

@@ -1,5 +1,5 @@
-//! SLURM (RFC 8416): what the entries of an operator's files remove of payloads and add to them,
-//! and which files overlap.
+//! SLURM (RFC 8416): which payloads the entries of an operator's files remove and add, and which
+//! files overlap.
 #![tactic(auto)]
 
 mod entry;

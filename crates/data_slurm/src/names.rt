@@ -4,7 +4,7 @@ ghost use Rattle.std.specs.Prelude.{◌≡◌, bytes_eq};
 ghost use Rattle.data_slurm.specs.SlurmNames.{array_name, first_kind, group_name, may_have};
 ghost use Rattle.data_slurm.specs.SlurmNames.{second_kind};
 
-/// The members of the object at the top that have arrays.
+/// The members of the top object that contain arrays.
 #[derive(Clone, Copy, Debug)]
 pub enum Group {
     /// `validationOutputFilters`
@@ -31,14 +31,14 @@ pub enum Kind {
 pub enum Form {
     /// The object at the top.
     File,
-    /// One that has two arrays.
+    /// An object with two arrays.
     Group(Group),
     /// An item of an array.
     Item(Kind),
 }
 
 impl Group {
-    /// The name under which it stands.
+    /// The name of the group's member.
     pub fn name(self) -> &'static str
         ensures { result.now ≡ group_name self }
     {
@@ -48,7 +48,7 @@ impl Group {
         }
     }
 
-    /// Its array about route origins.
+    /// The array of the group about route origins.
     pub fn first(self) -> Kind
         ensures { result ≡ first_kind self }
     {
@@ -58,7 +58,7 @@ impl Group {
         }
     }
 
-    /// Its array about router keys.
+    /// The array of the group about router keys.
     pub fn second(self) -> Kind
         ensures { result ≡ second_kind self }
     {

@@ -5,16 +5,16 @@ use rtr_base::addr::MaxLenError;
 use rtr_base::parse::ParsePrefixError;
 use std::fmt;
 
-/// Where something stands in a SLURM file.
+/// A place in a SLURM file.
 #[derive(Clone, Copy, Debug)]
 pub enum SlurmPlace<'a> {
-    /// In the file as a whole.
+    /// The file as a whole.
     File,
-    /// In what an object has under this name.
+    /// The value of the member with this name.
     Member(&'a str),
-    /// In the item at this index of this array.
+    /// The item at this index of this array.
     Item(Kind, u64),
-    /// In what that item has under this name.
+    /// The value of the member with this name of that item.
     ItemMember(Kind, u64, &'a str),
 }
 
@@ -35,12 +35,12 @@ impl fmt::Display for SlurmPlace<'_> {
     }
 }
 
-/// What is wrong in a SLURM file, and where.
+/// What is wrong in a SLURM file, and at which place.
 #[derive(Debug, Drop)]
 pub struct SlurmRefusal<'a> {
-    /// Where.
+    /// The place.
     pub place: SlurmPlace<'a>,
-    /// What.
+    /// What is wrong there.
     pub reason: SlurmReason,
 }
 
@@ -53,7 +53,7 @@ pub enum SlurmReason {
     /// The file isn't JSON.
     #[error("no JSON")]
     NotJson,
-    /// An object has two members of one name.
+    /// An object has two members with the same name.
     #[error("an object has two members of the same name")]
     Twice,
     /// An object was expected.
@@ -62,7 +62,7 @@ pub enum SlurmReason {
     /// An array was expected.
     #[error("no array")]
     NotArray,
-    /// RFC 8416 has no such member here.
+    /// RFC 8416 doesn't define this member here.
     #[error("unknown member (RFC 8416)")]
     UnknownMember,
     /// A member is missing.
@@ -74,7 +74,7 @@ pub enum SlurmReason {
     /// `comment` isn't a text.
     #[error("comment is no text")]
     Comment,
-    /// A filter has neither of the two members by which it could match.
+    /// A filter has neither of its two criteria.
     #[error("a filter without prefix, asn or SKI matches nothing")]
     NoCriterion,
     /// `asn` isn't a number of 32 bits.
@@ -86,7 +86,7 @@ pub enum SlurmReason {
     /// `prefix` isn't a text.
     #[error("prefix is no text")]
     PrefixText,
-    /// A plus stands in `prefix`.
+    /// `prefix` contains a plus sign.
     #[error("prefix has a plus")]
     PrefixSign,
     /// `prefix` isn't a prefix.
@@ -98,10 +98,10 @@ pub enum SlurmReason {
     /// `maxPrefixLength` isn't a number of at most 255.
     #[error("maxPrefixLength is no length")]
     MaxLength,
-    /// `maxPrefixLength` doesn't go with the prefix.
+    /// `maxPrefixLength` is out of range for the prefix.
     #[error("maxPrefixLength: {0}")]
     MaxLengthRule(MaxLenError),
-    /// `SKI` isn't 20 bytes in base64 for URLs without padding.
+    /// `SKI` isn't the base64 text, for URLs and without padding, of 20 bytes.
     #[error("SKI is not 20 bytes in base64url without padding")]
     Ski,
     /// `SKI` is missing.
@@ -110,13 +110,13 @@ pub enum SlurmReason {
     /// `routerPublicKey` isn't base64 for URLs without padding.
     #[error("routerPublicKey is no base64url without padding")]
     Key,
-    /// `routerPublicKey` has more bytes than a PDU.
+    /// `routerPublicKey` is too long for a PDU.
     #[error("routerPublicKey is too long")]
     KeyTooLong,
     /// `routerPublicKey` is missing.
     #[error("routerPublicKey is missing")]
     KeyMissing,
-    /// Memory ran out.
+    /// An allocation failed.
     #[error("out of memory")]
     Memory,
 }

@@ -1,4 +1,4 @@
-//! The entries of SLURM files, which are one set.
+//! The entries of SLURM files, which are used as one set.
 
 ghost use Rattle.std.specs.Prelude.{◌≡◌, ◌++◌, [], true, false, MatchResult};
 ghost use Rattle.rtr_payload.specs.Meanings.{payload_of};
@@ -23,7 +23,7 @@ pub enum JoinError {
     /// It overlaps another one (RFC 8416 section 4.2).
     #[error("overlaps another SLURM file (RFC 8416 section 4.2)")]
     Overlap,
-    /// Memory ran out.
+    /// An allocation failed.
     #[error("out of memory")]
     Memory,
 }
@@ -52,8 +52,8 @@ impl Slurm {
         files_overlap(self.entries.as_slice(), other.entries.as_slice())
     }
 
-    /// Adds the entries of a further file. Fails with `Overlap` if it overlaps one of those before,
-    /// and then nothing is to be used of any.
+    /// Adds the entries of a further file. Fails with `Overlap` if it overlaps one of the files
+    /// before; then none of the files may be used (RFC 8416 section 4.2).
     pub fn join(&mut self, other: Slurm) -> Result<(), JoinError>
         ensures { MatchResult result
             (λ _. (files_overlap self.old.entries.items other.entries.items ≡ false)

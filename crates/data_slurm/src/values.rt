@@ -20,7 +20,7 @@ use rtr_base::keys::KeyIdentifier;
 use rtr_payload::pdu::{KeyInfoVecError, RouterKeyInfo};
 use std::alloc::Global;
 
-/// Reports whether a plus stands in the text.
+/// Reports whether the text contains a plus sign.
 fn has_sign(text: &str) -> bool
     ensures { result ≡ has_sign text.now }
 {
@@ -32,7 +32,7 @@ fn has_sign(text: &str) -> bool
     false
 }
 
-/// The number of 32 bits that the text is.
+/// The ASN in the text.
 fn asn_of_text(text: &str) -> Result<Asn, SlurmReason>
     ensures { MatchResult result (IsAsnNumeral (Some text.now)) (AsnNumeralWrong (Some text.now)) }
 {
@@ -42,7 +42,7 @@ fn asn_of_text(text: &str) -> Result<Asn, SlurmReason>
     }
 }
 
-/// The ASN that a value is.
+/// The ASN in a value.
 pub(crate) fn asn_of(value: &Value<'_>) -> Result<Asn, SlurmReason>
     ensures { MatchResult result (IsSlurmAsn (value_view value.now))
         (SlurmAsnWrong (value_view value.now)) }
@@ -53,7 +53,7 @@ pub(crate) fn asn_of(value: &Value<'_>) -> Result<Asn, SlurmReason>
     }
 }
 
-/// The length that the text is.
+/// The length in the text.
 fn length_of_text(text: &str) -> Result<u8, SlurmReason>
     ensures { MatchResult result (IsLengthNumeral (Some text.now))
         (LengthNumeralWrong (Some text.now)) }
@@ -64,7 +64,7 @@ fn length_of_text(text: &str) -> Result<u8, SlurmReason>
     }
 }
 
-/// The length that a value is.
+/// The length in a value.
 pub(crate) fn length_of(value: &Value<'_>) -> Result<u8, SlurmReason>
     ensures { MatchResult result (IsSlurmLength (value_view value.now))
         (SlurmLengthWrong (value_view value.now)) }
@@ -75,7 +75,7 @@ pub(crate) fn length_of(value: &Value<'_>) -> Result<u8, SlurmReason>
     }
 }
 
-/// The prefix that the text is.
+/// The prefix in the text.
 fn prefix_of_text(text: &str) -> Result<Prefix, SlurmReason>
     ensures { MatchResult result (IsPrefixWord (Some text.now)) (PrefixWordWrong (Some text.now)) }
 {
@@ -88,7 +88,7 @@ fn prefix_of_text(text: &str) -> Result<Prefix, SlurmReason>
     }
 }
 
-/// The prefix that a value is.
+/// The prefix in a value.
 pub(crate) fn prefix_of(value: &Value<'_>) -> Result<Prefix, SlurmReason>
     ensures { MatchResult result (IsSlurmPrefix (value_view value.now))
         (SlurmPrefixWrong (value_view value.now)) }
@@ -99,7 +99,7 @@ pub(crate) fn prefix_of(value: &Value<'_>) -> Result<Prefix, SlurmReason>
     }
 }
 
-/// The bytes of base64 for URLs without padding, or none if the value isn't such. Fails if memory
+/// The bytes of base64 for URLs without padding, or none if the value isn't base64. Fails if memory
 /// runs out.
 fn bytes_of(alloc: Global, value: &Value<'_>) -> Result<Option<Vec<u8>>, SlurmReason>
     ensures { MatchResult result (λ found. BytesFound (as_str (value_view value.now))
@@ -116,7 +116,7 @@ fn bytes_of(alloc: Global, value: &Value<'_>) -> Result<Option<Vec<u8>>, SlurmRe
     }
 }
 
-/// The subject key identifier that a value is.
+/// The subject key identifier in a value.
 pub(crate) fn ski_of(alloc: Global, value: &Value<'_>) -> Result<KeyIdentifier, SlurmReason>
     ensures { MatchResult result (IsSlurmSki (value_view value.now))
         (SlurmSkiWrong (value_view value.now)) }
@@ -131,7 +131,7 @@ pub(crate) fn ski_of(alloc: Global, value: &Value<'_>) -> Result<KeyIdentifier, 
     }
 }
 
-/// The key that a value is.
+/// The key in a value.
 pub(crate) fn key_of(alloc: Global, value: &Value<'_>) -> Result<RouterKeyInfo, SlurmReason>
     ensures { MatchResult result (IsSlurmKey (value_view value.now))
         (SlurmKeyWrong (value_view value.now)) }
@@ -143,7 +143,7 @@ pub(crate) fn key_of(alloc: Global, value: &Value<'_>) -> Result<RouterKeyInfo, 
     }
 }
 
-/// The key info that the bytes are.
+/// The key info with these bytes.
 fn key_info(alloc: Global, bytes: Vec<u8>) -> Result<RouterKeyInfo, SlurmReason>
     ensures { MatchResult result
         (λ k. (k ≡ bytes.items) × (length bytes.items ≤ 4294967263))

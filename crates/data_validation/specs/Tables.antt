@@ -16,8 +16,8 @@ vrp_of f b = meant_origin (prefix_at f b).origin
 abbrev pub vrp_at : Family → List ℕ → ℕ → OriginParts
 vrp_at f b i = vrp_of f (take (prefix_size f) (drop (i * prefix_size f) b))
 
--- so many times there are the size and the type of a unit of this family, one after the other, and
--- then no more
+-- n times there are the size and the type of a unit of this family, one after the other, and then
+-- no more
 pub record IsUnitRun (f : Family) (b : List ℕ) (n : ℕ) : Type 0 where
   pub room : n * prefix_size f ≤ length b
   pub each : (i : ℕ) → i < n → type_field (drop (i * prefix_size f) b) ≡ prefix_type f

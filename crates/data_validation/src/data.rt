@@ -21,8 +21,8 @@ pub trait ValidateRoutes {
     /// The payloads.
     ghost payloads: { Self → List Payload };
 
-    /// The validity of a route (RFC 6811 section 2) by the origins among them. It goes through all
-    /// origins: for many routes write the payloads in canonical form once, and call `validate`.
+    /// Returns the validity of a route (RFC 6811 section 2) by the origins of the set. It reads all
+    /// origins: for many routes, write the payloads in canonical form once, and call `validate`.
     fn validate(&self, route: &Route) -> Validity
         ensures { IsValidity (payloads self.now) route.now.prefix route.now.asn result };
 }
@@ -36,7 +36,7 @@ impl ValidateRoutes for Data {
     }
 }
 
-/// The validity of a route by these origins and whatever else, found by going through them.
+/// The validity of a route by these origins and the validity so far, found by reading all of them.
 fn look_through(origins: btree_set::Iter<'_, KeptOrigin>, route: &Route) -> Validity
     ensures { (keys : List RouterKey) → (aspas : List (ℕ × List ℕ)) →
         IsValidity (joined origins.entry keys aspas) route.now.prefix route.now.asn result }

@@ -24,14 +24,14 @@ use rtr_payload::payload::RouteOrigin;
 /// A VRP that covers a prefix.
 #[derive(Clone, Copy, Debug)]
 pub struct CoveringVrp {
-    /// Which payload of the data it is, from 0.
+    /// The index of its payload in the data, from 0.
     pub place: usize,
     /// The VRP, which has a max length.
     pub origin: RouteOrigin,
 }
 
 impl CoveringVrp {
-    /// Why the VRP doesn't match the route, if it doesn't and covers it.
+    /// Why the VRP doesn't match the route, or none if it matches or doesn't cover it.
     pub fn mismatch(&self, route: &Route) -> Option<Mismatch>
         ensures { IsMismatch result (vrp self.now.origin) route.now.prefix route.now.asn }
     {
@@ -49,9 +49,9 @@ impl CoveringVrp {
     }
 }
 
-/// The VRPs that cover a prefix, in the order of payloads: exactly these, each once. The data are
-/// in canonical form, and the tables are those of the data; over other bytes or with other tables
-/// some VRPs come.
+/// The VRPs that cover a prefix, in the order of payloads, each once. The data are in canonical
+/// form, and the tables are those of the data; over other bytes or with other tables the result is
+/// unspecified.
 pub fn covering<'a>(data: &'a [u8], tables: &'a Tables, prefix: Prefix) -> CoveringIter<'a>
     ensures bytes { result.bytes.now ≡ «data».now }
     ensures tables { result.tables.now ≡ tables.now }
@@ -95,9 +95,9 @@ impl<'a> Iterator for CoveringIter<'a> {
     }
 }
 
-/// The first VRP that covers a prefix among the payloads of data from the place `from` on. The data
-/// are in canonical form, and the tables are those of the data. Over other bytes or with other
-/// tables, some unit from there on, or none.
+/// The first VRP that covers a prefix among the payloads of data from index `from` on. The data are
+/// in canonical form, and the tables are those of the data. Over other bytes or with other tables,
+/// the result is some unit from there on, or none.
 pub fn first_covering(
     data: &[u8],
     tables: &Tables,
@@ -135,7 +135,7 @@ pub fn first_covering(
     unit_from(units, false, ipv6, ipv4, from, shortest, address, len)
 }
 
-/// The lesser of two numbers.
+/// The smaller of two numbers.
 #[inline(always)]
 fn lesser(left: usize, right: usize) -> usize
     ensures left { result ≤ left }
@@ -145,8 +145,8 @@ fn lesser(left: usize, right: usize) -> usize
     if left < right { left } else { right }
 }
 
-/// The first of `count` units that covers, of those from the place `from` of the data on. The first
-/// unit is at the place `base`.
+/// The first unit that covers, among `count` units, from index `from` of the data on. The first
+/// unit has index `base`.
 #[inline(always)]
 #[tactic(auto, using(crate::proofs::Bits::room_at))]
 fn unit_from(

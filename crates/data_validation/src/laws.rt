@@ -17,22 +17,22 @@ ghost use Rattle.data_validation.specs.Validity.{Covers, IsValidity, Matches};
 ghost use Rattle.data_validation.specs.declared.mismatch.Mismatch.{Mismatch};
 ghost use Rattle.data_validation.specs.declared.validity.Validity.{Validity};
 
-/// A route has one validity over given payloads: so `validate`, `validate_by_walk` and that of a
-/// set of the same payloads agree.
+/// A route has one validity over given payloads: so `validate`, `validate_by_walk` and `validate`
+/// of a set of the same payloads agree.
 pub fn one_validity()
     ensures { (d : List Payload) → (p : PrefixParts) → (asn : ℕ) → (x y : Validity) →
         IsValidity d p asn x → IsValidity d p asn y → x ≡ y }
 {}
 
-/// A VRP that covers a route matches it exactly where `mismatch` has no reason.
+/// A VRP that covers a route matches it if and only if `mismatch` returns no reason.
 pub fn reasons()
     ensures { (v : OriginParts) → (p : PrefixParts) → (asn : ℕ) → (m : Option Mismatch) →
         Covers v p → IsMismatch m v p asn → (m ≡ None) ↔ Matches v p asn }
 {}
 
-/// Where `apply_into` or `apply_in_order` writes whole what changes make of data, what `validate`
-/// answers by it, with its tables, is what a set answers that holds what the same changes make of
-/// the same data, one after the other, as `Data::apply` makes them.
+/// If `apply_into` or `apply_in_order` writes the whole result of changes, `validate` returns over
+/// it, with its tables, what a set returns after `Data::apply` has applied the same changes to the
+/// same data, one after the other.
 pub fn validity_of_changes()
     ensures canonical { (n : ℕ) → (old input before after : List ℕ) → (d d' : List Payload) →
         (cs : List Change) → (end end' : EndMeaning) → (p : PrefixParts) → (asn : ℕ) →

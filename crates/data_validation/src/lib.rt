@@ -1,8 +1,8 @@
 //! Route origin validation (RFC 6811): whether a route is valid, by the origins that a cache sent.
 //!
 //! `validate` and `covering` work on data in slices, in canonical form, as `check_data` of
-//! `data_slices` accepts them and `apply_into` writes them. They ask for no memory beyond `Tables`,
-//! which are made of the data in one pass. `ValidateRoutes` has the same for a `Data`.
+//! `data_slices` accepts them and `apply_into` writes them. They allocate nothing; `Tables` are
+//! computed from the data in one pass. `ValidateRoutes` does the same for a `Data`.
 #![tactic(auto)]
 
 mod data;

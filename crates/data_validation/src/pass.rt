@@ -1,4 +1,4 @@
-//! Origin validation of many routes over data.
+//! Origin validation of many routes in one pass over data.
 
 ghost use Rattle.std.specs.Prelude.{◌≡◌, ℕ, ◌*◌, List, drop};
 ghost use Rattle.rtr_base.specs.Addresses.{v4, v6};
@@ -14,9 +14,9 @@ use crate::trail::Trail;
 use crate::validation::{Route, has_room};
 use crate::validity::Validity;
 
-/// Validates routes over data, one after the other: the fastest way where they come in the order of
-/// their addresses, as tables of routes have them. It keeps which VRPs cover the address of the last
-/// route, up to 64 of each family, and asks for no memory beyond itself.
+/// Validates routes over data, one after the other. This is the fastest way if they come in the
+/// order of their addresses, as in routing tables. It keeps the VRPs that cover the address of the
+/// last route, up to 64 of each family, and allocates nothing.
 #[derive(Drop)]
 pub struct Pass<'a> {
     bytes: &'a [u8],
@@ -29,7 +29,7 @@ pub struct Pass<'a> {
 }
 
 impl<'a> Pass<'a> {
-    /// Over data in canonical form, with their tables.
+    /// A pass over data in canonical form, with their tables.
     pub fn new(data: &'a [u8], tables: &'a Tables) -> Self
         ensures bytes { result.bytes.now ≡ «data».now }
         ensures tables { result.tables.now ≡ tables.now }
@@ -42,8 +42,8 @@ impl<'a> Pass<'a> {
         }
     }
 
-    /// The validity of a route, as `validate` returns it, in whatever order routes come. It is
-    /// fastest where the address isn't before that of the last route of its family, and at most 64
+    /// Returns the validity of a route, as `validate` does, in whatever order routes come. It is
+    /// fastest if the address isn't before that of the last route of its family, and at most 64
     /// VRPs lie between both.
     pub fn validity(&mut self, route: &Route) -> Validity
         ensures bytes { self.new.bytes.now ≡ self.old.bytes.now }

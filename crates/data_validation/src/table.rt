@@ -1,4 +1,4 @@
-//! Units of one family that lie one after the other.
+//! Searching units of one family that are stored one after the other.
 
 ghost use Rattle.std.specs.Prelude.{◌≡◌, ℕ, ◌+◌, ◌-◌, ◌*◌, ◌%◌, ◌^◌, ◌<◌, ◌≤◌, ◌↔◌, IsTrue};
 ghost use Rattle.std.specs.Prelude.{length};
@@ -45,8 +45,8 @@ pub(crate) fn is_at_most(units: &[u8], is_v4: bool, index: usize, address: u128,
     is_up_to(is_v4, vrp.address, vrp.len, address, len)
 }
 
-/// Where the first of the units from `low` to `top` is that is after a prefix, if they are in
-/// order. By halving.
+/// The index of the first unit from `low` to `top` that is after a prefix, if they are in order, by
+/// binary search.
 #[inline(always)]
 #[tactic(auto, using(crate::proofs::Bits::room_at))]
 pub(crate) fn bound_between(
@@ -74,8 +74,8 @@ pub(crate) fn bound_between(
     left
 }
 
-/// The same from the first unit to `top`, where it isn't far below `top`. By steps that double, and
-/// then by halving.
+/// The same from the first unit to `top`, for an index that isn't far below `top`, by doubling
+/// steps and then a binary search.
 #[inline(always)]
 #[tactic(auto, using(crate::proofs::Bits::room_at))]
 fn bound_before(units: &[u8], is_v4: bool, top: usize, address: u128, len: u8) -> usize
@@ -96,7 +96,7 @@ fn bound_before(units: &[u8], is_v4: bool, top: usize, address: u128, len: u8) -
     bound_between(units, is_v4, 0, right, address, len)
 }
 
-/// The same from `low` to `top`, where it isn't far above `low`.
+/// The same from `low` to `top`, for an index that isn't far above `low`.
 #[inline(always)]
 #[tactic(auto, using(crate::proofs::Bits::room_at))]
 pub(crate) fn bound_after(
@@ -125,7 +125,7 @@ pub(crate) fn bound_after(
     bound_between(units, is_v4, left, top, address, len)
 }
 
-/// Whether the AS and the length of a route are as a VRP wants that covers it.
+/// Whether the AS and the length of a route match those of a VRP that covers it.
 #[inline(always)]
 fn fits(vrp: Vrp, len: u8, asn: u32) -> bool
     ensures { IsTrue result ↔ ((len ≤ vrp.max_len) × (vrp.asn ≡ asn) × (0 < asn)) }
@@ -150,7 +150,7 @@ pub(crate) fn one_says(is_v4: bool, vrp: Vrp, address: u128, len: u8, asn: u32) 
     Validity::Invalid
 }
 
-/// The validity of a route by the unit of this index.
+/// The validity of a route by the unit at this index.
 #[inline(always)]
 pub(crate) fn unit_says(
     units: &[u8],
@@ -172,7 +172,7 @@ pub(crate) fn unit_says(
     (one_says(is_v4, vrp, address, len, asn), vrp)
 }
 
-/// The validity where none matches.
+/// The validity if no unit matches.
 #[inline(always)]
 pub(crate) fn unmatched(covered: bool) -> Validity
     ensures { result ≡ answer_of covered }
@@ -184,7 +184,7 @@ pub(crate) fn unmatched(covered: bool) -> Validity
     }
 }
 
-/// What the first `count` units say of a route, found by going through all of them.
+/// The validity of a route by the first `count` units, found by reading all of them.
 #[tactic(auto, using(crate::proofs::Bits::room_at))]
 pub(crate) fn look_through(
     units: &[u8],
@@ -210,9 +210,9 @@ pub(crate) fn look_through(
     unmatched(covered)
 }
 
-/// What the first `count` units say of a route, if they are in order and as is known around it. By
-/// halving: of the units that aren't after the route the last either covers it, or shares some
-/// first bits with it, and then no other covers it that is after these bits.
+/// The validity of a route by the first `count` units, if they are in order and `around` is right,
+/// by binary search: among the units that aren't after the route, the last either covers it, or
+/// shares its first bits with it up to a length, and then no other unit after these bits covers it.
 #[inline(always)]
 #[tactic(auto, using(crate::proofs::Bits::room_at))]
 pub(crate) fn seek(
@@ -262,7 +262,7 @@ pub(crate) fn seek(
 }
 
 /// How many of the first `last` units aren't after the bits that a route shares with an address;
-/// none where no unit is as short as these.
+/// none if no unit is that short.
 #[inline(always)]
 fn below(
     units: &[u8],
@@ -286,7 +286,7 @@ fn below(
     bound_before(units, is_v4, last, first, count)
 }
 
-/// Whether the unit of this index covers a route, and its VRP.
+/// Whether the unit at this index covers a route, and its VRP.
 #[inline(always)]
 pub(crate) fn unit_covers(
     units: &[u8],
@@ -308,8 +308,8 @@ pub(crate) fn unit_covers(
     (covers(is_v4, vrp, address, len), vrp)
 }
 
-/// The first unit from `from` on that covers a route, if they are in order and none that covers it
-/// is shorter than `shortest`.
+/// The first unit from `from` on that covers a route, if they are in order and no unit that covers
+/// it is shorter than `shortest`.
 #[inline(always)]
 #[tactic(auto, using(crate::proofs::Bits::room_at))]
 pub(crate) fn first_unit(
@@ -345,8 +345,8 @@ pub(crate) fn first_unit(
     None
 }
 
-/// Where the units begin that may cover a route, of those from `from` on, if none that does is
-/// shorter than `shortest`.
+/// The index at which the units that may cover a route begin, from `from` on, if no unit that
+/// covers it is shorter than `shortest`.
 #[inline(always)]
 fn past_shorter(
     units: &[u8],
@@ -368,8 +368,8 @@ fn past_shorter(
     bound_after(units, is_v4, from, count, first, shortest - 1)
 }
 
-/// Where to look next after a unit of this address, which doesn't cover a route and isn't after it:
-/// what covers the route and comes later is longer than the bits that both share.
+/// The index to look at next after a unit of this address, which doesn't cover a route and isn't
+/// after it: later units that cover the route are longer than the bits that both share.
 #[inline(always)]
 fn next_after(
     units: &[u8],

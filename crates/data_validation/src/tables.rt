@@ -1,4 +1,4 @@
-//! Where the prefix units of data lie.
+//! Indexes into the prefix units of data.
 
 ghost use Rattle.std.specs.Prelude.{◌≡◌, ℕ, ◌+◌, ◌-◌, ◌*◌, ◌%◌, ◌^◌, ◌<◌, ◌≤◌, ◌↔◌, IsTrue};
 ghost use Rattle.std.specs.Prelude.{◌⊎◌, List, drop, length, slice_index};
@@ -13,20 +13,20 @@ use crate::table::bound_between;
 use crate::vrp::{first_byte, front_at, unit_size};
 use rtr_units::prefixes::{Ipv4Prefix, Ipv6Prefix};
 
-/// Where the prefix units of data lie: first those of IPv4, then those of IPv6. They take 2,328
+/// Indexes into the prefix units of data: first those of IPv4, then those of IPv6. They take 2,328
 /// bytes.
 #[repr(C)]
 #[derive(Clone, Copy, Debug)]
 pub struct Tables {
     ipv4: usize,
     ipv6: usize,
-    /// For each first byte the IPv4 unit at which its addresses begin.
+    /// For each first byte, the index of the first IPv4 unit with such an address.
     starts: [usize; 256],
-    /// The length of the shortest IPv4 prefix; 255 where there is none.
+    /// The length of the shortest IPv4 prefix; 255 if there is none.
     shortest_ipv4: u8,
-    /// That of the shortest IPv6 prefix.
+    /// The length of the shortest IPv6 prefix; 255 if there is none.
     shortest_ipv6: u8,
-    /// The same of IPv4 prefixes of eight bits or more, for each first byte.
+    /// For each first byte, the length of the shortest IPv4 prefix of at least eight bits.
     shortest: [u8; 256],
 }
 
@@ -34,7 +34,7 @@ pub struct Tables {
 const _: () = prove!(size_of::<Tables>() == 2328);
 
 /// Bounds on the units that may cover a route, before any is read: none is shorter than `shortest`,
-/// and those that aren't after the route end between `low` and `top`.
+/// and the index after the last unit that isn't after the route is between `low` and `top`.
 #[derive(Clone, Copy)]
 pub(crate) struct Around {
     pub(crate) shortest: u8,
@@ -43,7 +43,7 @@ pub(crate) struct Around {
 }
 
 impl Tables {
-    /// Where they lie in this data. One pass over the prefix units, and some 5,000 looks.
+    /// The tables of this data, computed in one pass over the prefix units and some 5,000 lookups.
     pub fn of(data: &[u8]) -> Self
         ensures { AreTables «data».now result }
     {
@@ -61,7 +61,7 @@ impl Tables {
         }
     }
 
-    /// How many IPv4 units there are.
+    /// The number of IPv4 units.
     #[inline(always)]
     pub(crate) fn ipv4(&self) -> usize
         ensures { result ≡ self.now.ipv4 }
@@ -69,7 +69,7 @@ impl Tables {
         self.ipv4
     }
 
-    /// How many IPv6 units there are.
+    /// The number of IPv6 units.
     #[inline(always)]
     pub(crate) fn ipv6(&self) -> usize
         ensures { result ≡ self.now.ipv6 }
@@ -77,7 +77,7 @@ impl Tables {
         self.ipv6
     }
 
-    /// No IPv4 prefix is shorter.
+    /// The length of the shortest IPv4 prefix, or less.
     #[inline(always)]
     pub(crate) fn shortest_ipv4(&self) -> u8
         ensures { result ≡ self.now.shortest_ipv4 }
@@ -85,7 +85,7 @@ impl Tables {
         self.shortest_ipv4
     }
 
-    /// No IPv6 prefix is shorter.
+    /// The length of the shortest IPv6 prefix, or less.
     #[inline(always)]
     pub(crate) fn shortest_ipv6(&self) -> u8
         ensures { result ≡ self.now.shortest_ipv6 }
@@ -116,8 +116,8 @@ impl Tables {
         }
     }
 
-    /// No IPv4 prefix that covers an address with this first byte is shorter. One of less than
-    /// eight bits may begin with another byte.
+    /// The length that no IPv4 prefix that covers an address with this first byte is shorter than.
+    /// A prefix of less than eight bits may begin with another byte.
     #[inline(always)]
     fn shortest_from(&self, byte: u8) -> u8
         ensures { (result ≡ self.now.shortest_ipv4)
@@ -130,7 +130,7 @@ impl Tables {
         }
     }
 
-    /// Where the IPv4 units with this first byte begin.
+    /// The index of the first IPv4 unit with this first byte.
     #[inline(always)]
     fn start_at(&self, byte: u8) -> usize
         ensures { result ≡ slice_index self.now.starts byte }
@@ -138,7 +138,7 @@ impl Tables {
         self.starts[usize::from(byte)]
     }
 
-    /// Where the IPv4 units begin whose first byte is greater.
+    /// The index of the first IPv4 unit with a greater first byte.
     #[inline(always)]
     fn start_after(&self, byte: u8) -> usize
         ensures { ((byte ≡ 255) × (result ≡ self.now.ipv4))
@@ -177,7 +177,7 @@ fn type_of(is_v4: bool) -> u8
     }
 }
 
-/// Whether the size and the type of a unit of the family are at the front.
+/// Whether a header of the size and the type of the family is at the front.
 #[inline(always)]
 fn begins_with(rest: &[u8], is_v4: bool) -> bool
     ensures { IsTrue result ↔ ((prefix_size (family_of is_v4) ≤ length rest.now)
@@ -186,7 +186,7 @@ fn begins_with(rest: &[u8], is_v4: bool) -> bool
     rest.len() >= unit_size(is_v4) && rest[1] == type_of(is_v4)
 }
 
-/// The rest behind `count` IPv4 units.
+/// The rest after `count` IPv4 units.
 #[inline(always)]
 pub(crate) fn after_ipv4(input: &[u8], ipv4: usize) -> &[u8]
     requires { ipv4 * 20 ≤ length input.now }
@@ -198,15 +198,15 @@ pub(crate) fn after_ipv4(input: &[u8], ipv4: usize) -> &[u8]
 /// Units of one family, and the bounds on their prefixes.
 #[derive(Clone, Copy)]
 struct Run {
-    /// How many units there are.
+    /// The number of units.
     count: usize,
-    /// The length of the shortest prefix; 255 where there is none.
+    /// The length of the shortest prefix; 255 if there is none.
     shortest: u8,
-    /// The same of those of eight bits or more, for each first byte.
+    /// For each first byte, the length of the shortest prefix of at least eight bits.
     lengths: [u8; 256],
 }
 
-/// The units of the family that lie at the front.
+/// The units of the family at the front.
 #[tactic(auto, using(crate::proofs::Bits::room_next))]
 fn run_of(units: &[u8], is_v4: bool) -> Run
     ensures run { IsUnitRun (family_of is_v4) units.now result.count }
@@ -232,7 +232,7 @@ fn run_of(units: &[u8], is_v4: bool) -> Run
     }
 }
 
-/// The lesser of two lengths.
+/// The smaller of two lengths.
 #[inline(always)]
 fn at_most(left: u8, right: u8) -> u8
     ensures left { result ≤ left }
@@ -241,7 +241,7 @@ fn at_most(left: u8, right: u8) -> u8
     if left < right { left } else { right }
 }
 
-/// Lowers the length for a byte to this one, if it is less.
+/// Lowers the length for a byte to this length, if that is less.
 #[inline(always)]
 fn lower(lengths: &mut [u8; 256], byte: u8, len: u8)
     ensures here { slice_index lengths.new byte ≤ len }

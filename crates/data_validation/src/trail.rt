@@ -1,4 +1,5 @@
-//! Routes in order: the units of one family that cover the last address, kept for the next route.
+//! Validating routes in order: keeps the units of one family that cover the last address for the
+//! next route.
 
 ghost use Rattle.std.specs.Prelude.{◌≡◌, ℕ, ◌+◌, ◌-◌, ◌*◌, ◌%◌, ◌^◌, ◌<◌, ◌≤◌, ◌↔◌, IsTrue};
 ghost use Rattle.std.specs.Prelude.{length, slice_index, List};
@@ -15,32 +16,34 @@ use crate::tables::Around;
 use crate::validity::Validity;
 use crate::vrp::width_of;
 
-/// How many units are kept at most. Where more cover an address, its routes are looked up singly.
+/// The greatest number of units that are kept. If more cover an address, its routes are looked up
+/// one by one.
 const MOST: usize = 64;
 
 /// A route is near if at most this many units lie between it and the last one.
 const NEAR: usize = 64;
 
-/// So many routes in a row that aren't near are looked up singly before the trail goes to one.
+/// After this many routes in a row that aren't near, the trail moves to the next one; until then
+/// they are looked up one by one.
 const MISSES: u8 = 32;
 
-/// Which units of one family cover the address of the last route.
+/// The units of one family that cover the address of the last route.
 #[derive(Clone, Copy)]
 pub(crate) struct Trail {
     /// The address of the last route.
     address: u128,
-    /// How many units aren't after it.
+    /// The number of units that aren't after it.
     passed: usize,
-    /// How many of these are kept.
+    /// The number of these that are kept.
     count: usize,
-    /// Their indexes: all that cover the address.
+    /// Their indexes: all units that cover the address.
     kept: [usize; MOST],
-    /// How many routes in a row were looked up singly since they weren't near.
+    /// The number of routes in a row that were looked up because they weren't near.
     missed: u8,
 }
 
 impl Trail {
-    /// That before the first route.
+    /// The trail before the first route.
     pub(crate) fn new() -> Self
         ensures { (f : Family) → (b : List ℕ) → (n s : ℕ) → IsTrail f b n s result }
     {
@@ -53,9 +56,9 @@ impl Trail {
         }
     }
 
-    /// The validity of a route by `total` units. Where they are in order and `around` is right, it
-    /// is what `seek` returns. If the route is near the last one, the trail goes on to it; most of
-    /// the others are looked up singly, and leave the trail where it is.
+    /// The validity of a route by `total` units. If they are in order and `around` is right, it is
+    /// that of `seek`. If the route is near the last one, the trail moves to it; most of the others
+    /// are looked up, and leave the trail where it is.
     #[inline(always)]
     pub(crate) fn validity(
         &mut self,
@@ -89,7 +92,7 @@ impl Trail {
         seek(units, is_v4, total, around, address, len, asn)
     }
 
-    /// Goes on to an address, and reports whether it did.
+    /// Moves to an address if it has its turn, and reports whether the trail is there.
     #[inline(always)]
     fn goes_on(&mut self, units: &[u8], is_v4: bool, total: usize, least: u8, address: u128) -> bool
         requires room { total * prefix_size (family_of is_v4) ≤ length units.now }
@@ -105,7 +108,7 @@ impl Trail {
         self.follow(units, is_v4, total, least, address)
     }
 
-    /// Reports whether to go on to an address: it is near, or it is the turn of one that isn't.
+    /// Reports whether to move to an address: it is near, or the limit of misses is reached.
     #[inline(always)]
     fn has_turn(&mut self, units: &[u8], is_v4: bool, total: usize, address: u128) -> bool
         requires room { total * prefix_size (family_of is_v4) ≤ length units.now }
@@ -139,7 +142,7 @@ impl Trail {
         !is_at_most(units, is_v4, far, address, width_of(is_v4))
     }
 
-    /// Goes on to an address, and reports whether all units that cover it could be kept.
+    /// Moves to an address, and reports whether all units that cover it could be kept.
     fn follow(&mut self, units: &[u8], is_v4: bool, total: usize, least: u8, address: u128) -> bool
         requires room { total * prefix_size (family_of is_v4) ≤ length units.now }
         requires address { address < 2 ^ width (family_of is_v4) }
@@ -176,7 +179,7 @@ impl Trail {
         }
     }
 
-    /// Begins again if an address is before the last one.
+    /// Restarts if an address is before the last one.
     fn turn_back(&mut self, address: u128)
         ensures trail { (f : Family) → (b : List ℕ) → (n s : ℕ) → IsTrail f b n s self.old
             → IsTrail f b n s self.new }
@@ -198,7 +201,7 @@ impl Trail {
     }
 }
 
-/// How many kept units are left without the last ones that don't cover an address.
+/// The number of kept units without the last ones that don't cover an address.
 #[inline(always)]
 fn left_of(units: &[u8], is_v4: bool, kept: &[usize; MOST], count: usize, address: u128) -> usize
     requires most { count ≤ 64 }
@@ -222,8 +225,8 @@ fn left_of(units: &[u8], is_v4: bool, kept: &[usize; MOST], count: usize, addres
     0
 }
 
-/// Keeps the units that cover an address, of those from `from` to `end`, behind the first `count`
-/// kept ones. Returns how many are kept then; nothing where there are too many.
+/// Keeps the units from `from` to `end` that cover an address, after the first `count` kept ones.
+/// Returns how many are kept then, or none if there are too many.
 #[inline(always)]
 fn gather(
     units: &[u8],

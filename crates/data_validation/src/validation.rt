@@ -21,15 +21,16 @@ use rtr_base::asn::Asn;
 pub struct Route {
     /// Its prefix.
     pub prefix: Prefix,
-    /// The AS that it is from: AS 0 where that is no single one, as after an AS_SET at the end of
-    /// its path (RFC 6811 section 2), so that no VRP matches it.
+    /// The AS that originates it, or AS 0 if that isn't a single AS, as after an AS_SET at the end
+    /// of its path (RFC 6811 section 2), so that no VRP matches it.
     pub asn: Asn,
 }
 
 /// The validity of a route (RFC 6811 section 2) by the origins of data. The data are in canonical
-/// form, and the tables are those of the data. Over other bytes or with other tables, some answer.
+/// form, and the tables are those of the data. Over other bytes or with other tables the result is
+/// unspecified.
 ///
-/// It takes a few halvings for each VRP that covers the route, and asks for no memory.
+/// It takes a few binary searches for each VRP that covers the route, and allocates nothing.
 pub fn validate(data: &[u8], tables: &Tables, route: &Route) -> Validity
     ensures { AreTables «data».now tables.now → (d : List Payload) → (e : EndMeaning)
         → HoldsData «data».now d e → IsValidity d route.now.prefix route.now.asn result }
@@ -55,7 +56,7 @@ pub fn validate(data: &[u8], tables: &Tables, route: &Route) -> Validity
     seek(units, false, ipv6, tables.around_ipv6(), address, len, asn)
 }
 
-/// The same, found by going through all units of the family.
+/// The same, found by reading all units of the family.
 pub fn validate_by_walk(data: &[u8], tables: &Tables, route: &Route) -> Validity
     ensures { AreTables «data».now tables.now → (d : List Payload) → (e : EndMeaning)
         → HoldsData «data».now d e → IsValidity d route.now.prefix route.now.asn result }

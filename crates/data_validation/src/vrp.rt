@@ -1,4 +1,4 @@
-//! What a prefix unit says, as numbers.
+//! The fields of a prefix unit, as numbers.
 
 ghost use Rattle.std.specs.Prelude.{◌≡◌, ℕ, ◌+◌, ◌-◌, ◌*◌, ◌%◌, ◌^◌, ◌<◌, ◌≤◌, ◌↔◌, IsTrue};
 ghost use Rattle.std.specs.Prelude.{length};
@@ -21,13 +21,13 @@ pub(crate) struct Vrp {
     pub(crate) address: u128,
     /// The length of its prefix.
     pub(crate) len: u8,
-    /// The longest prefix length that is meant.
+    /// The longest prefix length that may be announced.
     pub(crate) max_len: u8,
     /// The number of the AS.
     pub(crate) asn: u32,
 }
 
-/// How many bits an address has.
+/// The number of bits of an address.
 #[inline(always)]
 pub(crate) fn width_of(is_v4: bool) -> u8
     ensures { result ≡ width (family_of is_v4) }
@@ -35,7 +35,7 @@ pub(crate) fn width_of(is_v4: bool) -> u8
     if is_v4 { 32 } else { 128 }
 }
 
-/// How many bytes a unit has.
+/// The number of bytes of a unit.
 #[inline(always)]
 pub(crate) fn unit_size(is_v4: bool) -> usize
     ensures { result ≡ prefix_size (family_of is_v4) }
@@ -65,7 +65,7 @@ pub(crate) fn clear_after(is_v4: bool, len: u8, address: u128) -> u128
     address - address % (1 << (width - len))
 }
 
-/// What the unit of this index says.
+/// The VRP of the unit at this index.
 #[inline(always)]
 pub(crate) fn vrp_at(units: &[u8], is_v4: bool, index: usize) -> Vrp
     requires { (index + 1) * prefix_size (family_of is_v4) ≤ length units.now }
@@ -80,7 +80,7 @@ pub(crate) fn vrp_at(units: &[u8], is_v4: bool, index: usize) -> Vrp
     }
 }
 
-/// What an IPv4 unit says.
+/// The VRP of an IPv4 unit.
 #[inline(always)]
 #[tactic(auto, unfolding(crate::specs::Tables::vrp_of))]
 fn vrp_of_v4(unit: &[u8]) -> Vrp
@@ -98,7 +98,7 @@ fn vrp_of_v4(unit: &[u8]) -> Vrp
     }
 }
 
-/// What an IPv6 unit says.
+/// The VRP of an IPv6 unit.
 #[inline(always)]
 #[tactic(auto, unfolding(crate::specs::Tables::vrp_of))]
 fn vrp_of_v6(unit: &[u8]) -> Vrp
@@ -116,17 +116,17 @@ fn vrp_of_v6(unit: &[u8]) -> Vrp
     }
 }
 
-/// How the prefix of a unit begins.
+/// The beginning of a unit's prefix.
 #[derive(Clone, Copy)]
 pub(crate) struct Front {
-    /// The first byte of its address.
+    /// The first byte of the address.
     pub(crate) byte: u8,
-    /// Its length.
+    /// The length.
     pub(crate) len: u8,
 }
 
-/// How the prefix of the unit of this index begins. Host bits in the first byte are left as they
-/// are: where the length is at least eight there are none.
+/// The beginning of the prefix of the unit at this index. Host bits in the first byte aren't
+/// cleared: with a length of at least eight there are none.
 #[inline(always)]
 pub(crate) fn front_at(units: &[u8], is_v4: bool, index: usize) -> Front
     requires { (index + 1) * prefix_size (family_of is_v4) ≤ length units.now }
@@ -141,7 +141,7 @@ pub(crate) fn front_at(units: &[u8], is_v4: bool, index: usize) -> Front
     }
 }
 
-/// How the prefix of this length and address begins.
+/// The beginning of the prefix with this length and address.
 #[inline(always)]
 fn beginning(is_v4: bool, len: u8, address: u128) -> Front
     requires { address < 2 ^ width (family_of is_v4) }
@@ -153,7 +153,7 @@ fn beginning(is_v4: bool, len: u8, address: u128) -> Front
     Front { byte, len }
 }
 
-/// How the prefix of an IPv4 unit begins.
+/// The beginning of the prefix of an IPv4 unit.
 #[inline(always)]
 #[tactic(auto, unfolding(crate::specs::Tables::vrp_of))]
 fn front_of_v4(unit: &[u8]) -> Front
@@ -165,7 +165,7 @@ fn front_of_v4(unit: &[u8]) -> Front
     beginning(true, unit[9], u128::from(u32_at(unit, 12)))
 }
 
-/// How the prefix of an IPv6 unit begins.
+/// The beginning of the prefix of an IPv6 unit.
 #[inline(always)]
 #[tactic(auto, unfolding(crate::specs::Tables::vrp_of))]
 fn front_of_v6(unit: &[u8]) -> Front
@@ -188,7 +188,7 @@ pub(crate) fn covers(is_v4: bool, vrp: Vrp, address: u128, len: u8) -> bool
     vrp.len <= len && clear_after(is_v4, vrp.len, address) == vrp.address
 }
 
-/// The VRP as an origin, unless its lengths are out of order.
+/// The VRP as an origin, unless its lengths are invalid.
 #[inline(always)]
 pub(crate) fn origin_of(is_v4: bool, vrp: Vrp) -> Option<RouteOrigin>
     requires clear { IsClear (parts_of (family_of is_v4) vrp) }
@@ -217,8 +217,8 @@ pub(crate) fn first_byte(is_v4: bool, address: u128) -> u8
     }
 }
 
-/// How many first bits two addresses share. Who calls this tests the number, so that nothing rests
-/// on how it was come by.
+/// The number of first bits that two addresses share. The caller checks the number, so that no
+/// proof depends on how it was computed.
 #[inline(always)]
 fn equal_bits(is_v4: bool, left: u128, right: u128) -> u8
     ensures { result ≤ width (family_of is_v4) }
@@ -228,7 +228,7 @@ fn equal_bits(is_v4: bool, left: u128, right: u128) -> u8
     if zeros < width { zeros } else { width }
 }
 
-/// A number of bits, which no number of first bits that two addresses share is above.
+/// A number of bits that is at least the number of first bits that two addresses share.
 #[inline(always)]
 pub(crate) fn shared(is_v4: bool, left: u128, right: u128) -> u8
     ensures { (l : ℕ) → l ≤ width (family_of is_v4)

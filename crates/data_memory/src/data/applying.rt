@@ -1,4 +1,4 @@
-//! A sequence of units applied to data: all of its changes are made, or none.
+//! Applying a sequence of units to data: all of its changes, or none.
 
 ghost use Rattle.std.specs.Prelude.{◌≡◌, Err, IfErr, IfOk};
 ghost use Rattle.rtr_base.specs.declared.action.Action.TheVariants.{Announce};
@@ -22,17 +22,17 @@ use rtr_wire::laws::plain_way;
 use std::alloc::Global;
 
 impl Data {
-    /// Reads payload units up to an end of data, and makes the change of each, one after the other:
-    /// all of them, or none. Answers the end of data; what follows it is not read.
+    /// Reads payload units up to an end of data, and applies the changes one after the other: all
+    /// of them, or none. Returns the end of data; what follows it is not read.
     ///
     /// At most `limit` units are read, the end of data included: `TooMany` comes before the next
-    /// header is read. Of the units the first that can't be read or whose change is refused
-    /// decides. The faults are those of `pdu::Payload::read` and `pdu::Payload::into_payload`, and
-    /// then those of `announce` and `withdraw`; `units` says how many units came before. The data
-    /// is then as it was.
+    /// header is read. The first unit that can't be read or whose change is refused decides. The
+    /// faults are those of `pdu::Payload::read` and `pdu::Payload::into_payload`, and then those of
+    /// `announce` and `withdraw`; `units` is the number of units before it. The data are then
+    /// unchanged.
     ///
-    /// The changes are made in a copy of the data, for which memory is asked first: `Memory` of a
-    /// change, with nothing read, where there is none.
+    /// The changes are applied to a copy of the data, which is allocated first: if that fails,
+    /// `Memory` of a change comes with nothing read.
     pub fn apply<R: Source>(
         &mut self,
         alloc: Global,
@@ -75,7 +75,7 @@ impl Data {
         })
     }
 
-    /// Makes the change of a unit, which announces what a reader accepts.
+    /// Applies the change of a unit, whose announcement a reader accepts.
     fn change(&mut self, action: Action, payload: Payload) -> Result<(), ChangeError>
         requires { action ≡ Announce → IsFit (payload_of payload) }
         ensures { Leaves result (changed action (payload_of payload) self.old) self.old self.new }
@@ -87,7 +87,7 @@ impl Data {
     }
 }
 
-/// Reads a unit, and answers its change, or the end of data.
+/// Reads a unit, and returns its change, or the end of data.
 fn read_change<R: Source>(
     alloc: Global,
     reader: &mut R,

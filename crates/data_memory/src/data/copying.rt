@@ -1,4 +1,4 @@
-//! The same data once more.
+//! Copies of data.
 
 ghost use Rattle.std.specs.Prelude.{◌≡◌, Ok, IfOk, map};
 ghost use Rattle.rtr_payload.specs.Meanings.{key_of, origin_of};
@@ -15,8 +15,7 @@ use std::alloc::{AllocError, Global};
 use std::collections::{BTreeMap, BTreeSet};
 
 impl Data {
-    /// The same payloads once more, in memory of their own. The bytes of keys and of providers are
-    /// shared.
+    /// A copy of the payloads, in memory of its own. The bytes of keys and of providers are shared.
     pub fn clone(&self, alloc: Global) -> Result<Self, AllocError>
         ensures { IfOk result (λ copy. copy ≡ self.now) }
     {

@@ -1,4 +1,4 @@
-//! The payloads of data are in their ranges, as the types of their parts keep them.
+//! The payloads of data are in the ranges that the types of their parts ensure.
 
 ghost use Rattle.std.specs.Prelude.{◌≡◌, map};
 ghost use Rattle.std.specs.List.{AllByRecursion};
@@ -15,7 +15,7 @@ use rtr_payload::pdu::ProviderAsns;
 use std::collections::{BTreeMap, BTreeSet};
 
 impl Data {
-    /// Each payload is one that a unit announces. Only laws call this: it has no effect.
+    /// Each payload is one that a unit can announce. Only laws call this: it has no effect.
     pub(crate) fn members_are_sendable(&self)
         ensures { AllByRecursion IsSendable self.now }
     {

@@ -1,7 +1,6 @@
-use Rattle.std.proofs.Common.{refl, sym, ap, ◌∙◌}
+use Rattle.std.proofs.Common.{refl, sym, ◌∙◌, Some, None}
 use Rattle.rtr_units.specs.AnyEnd.{end_meaning}
-use Rattle.rtr_units.specs.End.{EndMeaning}
-use Rattle.data_slices.proofs.OneData.{one_data}
+use Rattle.data_slices.proofs.Deltas.{delta_at}
 use Rattle.data_slices.proofs.delta.delta_into.Goals as goal
 
 pub returns-in-Err : goal.returns-in-Err
@@ -56,17 +55,8 @@ place_delta-requires-clause-old c =
     let (d, h) = c.in-Ok.ensures.data in (d, end_meaning c.in-Ok.end, h)
 
 pub place_delta-requires-clause-new : goal.place_delta-requires-clause-new
-place_delta-requires-clause-new c = c.in-Ok-check_data.ensures.data
-
-pub place_delta-requires-clause-version : goal.place_delta-requires-clause-version
-place_delta-requires-clause-version c = λ x e k.
-    let (d, h) = c.in-Ok.ensures.data in
-    let same = one_data c.args.old.now x d e (end_meaning c.in-Ok.end) k h in
-    ap (λ (m : EndMeaning). m.version) same.1
-    ∙ sym c.version.ensures ∙ c.if-version.false ∙ c.version-2.ensures
-
-pub place_delta-requires-clause-end : goal.place_delta-requires-clause-end
-place_delta-requires-clause-end c = c.in-Ok-check_data.ensures.end.bytes
+place_delta-requires-clause-new c =
+    let (d, h) = c.in-Ok-check_data.ensures.data in (d, end_meaning c.in-Ok-check_data.end, h)
 
 pub returns-in-Some : goal.returns-in-Some
 returns-in-Some c =
@@ -81,7 +71,11 @@ returns-in-Some c =
       (
         sym c.version.ensures ∙ c.if-version.false ∙ c.version-2.ensures,
         sym c.session.ensures ∙ c.if-session.false ∙ c.session-2.ensures,
-        c.in-Some.ensures d (end_meaning c.in-Ok.end) d' h j,
+        delta_at (Some c.in-Some.size) c.args.old.now c.args.new.now c.args.output.now
+            c.place_delta.new.output d d' (end_meaning c.in-Ok.end)
+            (end_meaning c.in-Ok-check_data.end) (end_meaning c.in-Ok-check_data.end)
+            c.version-3.result c.as_ref.result.now c.version-3.ensures
+            (c.as_ref.ensures.bytes ∙ c.in-Ok-check_data.ensures.end.bytes) h j c.in-Some.ensures,
       ),
     )
 
@@ -98,6 +92,10 @@ returns-in-None c =
       (
         sym c.version.ensures ∙ c.if-version.false ∙ c.version-2.ensures,
         sym c.session.ensures ∙ c.if-session.false ∙ c.session-2.ensures,
-        c.in-None.ensures d (end_meaning c.in-Ok.end) d' h j,
+        delta_at None c.args.old.now c.args.new.now c.args.output.now
+            c.place_delta.new.output d d' (end_meaning c.in-Ok.end)
+            (end_meaning c.in-Ok-check_data.end) (end_meaning c.in-Ok-check_data.end)
+            c.version-3.result c.as_ref.result.now c.version-3.ensures
+            (c.as_ref.ensures.bytes ∙ c.in-Ok-check_data.ensures.end.bytes) h j c.in-None.ensures,
       ),
     )

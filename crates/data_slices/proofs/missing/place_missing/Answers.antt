@@ -6,13 +6,15 @@ use Rattle.data_slices.proofs.missing.place_missing.Goals as goal
 
 pub units-init : goal.units-init
 units-init c =
-    begins c.args.action c.args.these.now c.args.those.now c.args.output.now c.requires.these
+    begins c.args.version c.args.action c.args.these.now c.args.those.now c.args.output.now
+    c.requires.these
     c.requires.those
 
 pub units-preserved-in-Some : goal.units-preserved-in-Some
 units-preserved-in-Some c =
     let u = c.units in
-    shares c.args.action c.args.these.now c.args.those.now u.these_rest.now u.those_rest.now
+    shares c.args.version c.args.action c.args.these.now c.args.those.now u.these_rest.now
+    u.those_rest.now
     c.args.output.now u.output u.written u.invariant c.in-Some.these_left.now
     c.in-Some.those_left.now c.in-Some.ensures.shared
 
@@ -28,7 +30,8 @@ pub returns-in-End-clause-bytes : goal.returns-in-End-clause-bytes
 returns-in-End-clause-bytes c =
     let u = c.units in
     let (b, is, parts) = rw c.in-End.is at c.next_of_data-item.ensures.item in
-    finished c.args.action c.args.these.now c.args.those.now u.these_rest.now u.those_rest.now
+    finished c.args.version c.args.action c.args.these.now c.args.those.now u.these_rest.now
+    u.those_rest.now
     c.args.output.now u.output u.written u.invariant c.in-End.field-0 b
     c.next_of_data-item.result.1.now is parts
 
@@ -52,7 +55,8 @@ returns-in_err-written-clause-bytes c =
     let (b, is, parts) = rw c.in-Unit.is at c.next_of_data-item.ensures.item in
     let (b', is', parts') = c.next_of_data-second.ensures.item in
     rw c.from_residual.ensures
-    (stops c.args.action c.args.these.now c.args.those.now u.these_rest.now u.those_rest.now
+    (stops c.args.version c.args.action c.args.these.now c.args.those.now u.these_rest.now
+    u.those_rest.now
     c.args.output.now u.output u.written u.invariant c.in-Unit.view b
     c.next_of_data-item.result.1.now is parts c.next_of_data-second.result.0 b'
     c.next_of_data-second.result.1.now is' parts' c.place_lacking.new.output
@@ -63,7 +67,8 @@ units-preserved-in-Less c =
     let u = c.units in
     let (b, is, parts) = rw c.in-Unit.is at c.next_of_data-item.ensures.item in
     let (b', is', parts') = c.next_of_data-second.ensures.item in
-    goes_less c.args.action c.args.these.now c.args.those.now u.these_rest.now u.those_rest.now
+    goes_less c.args.version c.args.action c.args.these.now c.args.those.now u.these_rest.now
+    u.those_rest.now
     c.args.output.now u.output u.written u.invariant c.in-Unit.view b
     c.next_of_data-item.result.1.now is parts c.next_of_data-second.result.0 b'
     c.next_of_data-second.result.1.now is' parts' c.place_lacking.new.output
@@ -75,7 +80,8 @@ units-preserved-in-Equal c =
     let u = c.units in
     let (b, is, parts) = rw c.in-Unit.is at c.next_of_data-item.ensures.item in
     let (b', is', parts') = c.next_of_data-second.ensures.item in
-    goes_equal c.args.action c.args.these.now c.args.those.now u.these_rest.now u.those_rest.now
+    goes_equal c.args.version c.args.action c.args.these.now c.args.those.now u.these_rest.now
+    u.those_rest.now
     c.args.output.now u.output u.written u.invariant c.in-Unit.view b
     c.next_of_data-item.result.1.now is parts c.next_of_data-second.result.0 b'
     c.next_of_data-second.result.1.now is' parts' c.place_lacking.new.output
@@ -87,7 +93,8 @@ units-preserved c =
     let u = c.units in
     let (b, is, parts) = rw c.in-Unit.is at c.next_of_data-item.ensures.item in
     let (b', is', parts') = c.next_of_data-second.ensures.item in
-    goes_greater c.args.action c.args.these.now c.args.those.now u.these_rest.now u.those_rest.now
+    goes_greater c.args.version c.args.action c.args.these.now c.args.those.now u.these_rest.now
+    u.those_rest.now
     c.args.output.now u.output u.written u.invariant c.in-Unit.view b
     c.next_of_data-item.result.1.now is parts c.next_of_data-second.result.0 b'
     c.next_of_data-second.result.1.now is' parts' c.place_lacking.new.output
