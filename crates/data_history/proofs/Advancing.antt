@@ -1,6 +1,7 @@
 use Rattle.std.proofs.Common.{◌-◌, inl, inr}
 use Rattle.std.proofs.lemmas.List.{length-take-le}
-use Rattle.data_history.specs.Next.{IsLongest, MayBeKept}
+use Rattle.data_history.specs.Next.{ChecksFirst, IsFlawIn, IsLongest, MayBeKept}
+use Rattle.std.specs.Prelude.{IfErr, IfOk}
 -- Newer data.
 use Rattle.std.proofs.Common.{◌≡◌, ◌≤◌, ◌<◌, ◌+◌, ◌^◌, ℕ, List, [], ◌∷◌, ◌++◌, length}
 use Rattle.std.proofs.Common.{take, drop, Some, Result, Ok, Err, refl, sym, ap, subst, ◌∙◌}
@@ -157,23 +158,27 @@ pub why : (since most : ℕ) (r : Refused) (last end : EndOfData) (size : ℕ) (
     (size ≤ length (end_list x.end) → z.payloads ≡ x.payloads) →
     (z.payloads ≡ x.payloads → size ≡ length (end_list x.end)) →
     (serial_cmp x.end.serial z.end.serial ≡ Some Less → ⊥) →
+    z.end.version ≡ x.end.version → z.end.session ≡ x.end.session →
     Advances since most (Err r) z x ys before before
-why since most refusals.Same last end size z x ys before w a b at to less more ne =
+why since most refusals.Same last end size z x ys before w a b at to less more ne v' s' =
     let same : end_list x.end ++ [] ≡ end_list z.end ++ [] =
     ap (λ l. l ++ []) (sym a.bytes ∙ w.1 ∙ b.bytes) in
     let is = (end_one (end_list x.end) (end_list z.end) [] [] x.end z.end
     (record { fits = a.fits; bytes = refl }) (record { fits = b.fits; bytes = refl }) same).1 in
     (same_snapshot x z (less (omega (arith, w.0, ap length a.bytes))) (sym is), refl)
-why since most refusals.Times last end size z x ys before w a b at to less more ne = (
+why since most refusals.Times last end size z x ys before w a b at to less more ne v' s' = (
   record {
     payloads = less (omega (arith, w.0, ap length a.bytes));
+    version = v';
+    session = s';
     serial = sym (ap (λ (e : EndMeaning). e.serial) to) ∙ sym w.1
         ∙ ap (λ (e : EndMeaning). e.serial) at;
     other = λ e. w.2 (a.bytes ∙ ap (λ (e : EndMeaning). end_list e) (sym e) ∙ sym b.bytes);
   },
   refl,
 )
-why since most refusals.Serial last end size z x ys before w a b at to less more ne = (
+why since most refusals.Serial last end size z x ys before w a b at to less more ne v' s' = (
+  record { version = v'; session = s' },
   ne,
   (λ same payloads.
       let longer = w (ap (λ (e : EndMeaning). e.serial) at ∙ same
@@ -181,11 +186,14 @@ why since most refusals.Serial last end size z x ys before w a b at to less more
       absurd (omega (arith, longer, more payloads, ap length a.bytes))),
   refl,
 )
-why since most (refusals.NoRoom r m) last end size z x ys before w a b at to less more ne = absurd w
-why since most (refusals.Flaw f) last end size z x ys before w a b at to less more ne = absurd w
-why since most (refusals.UnitVersion v) last end size z x ys before w a b at to less more ne =
+why since most (refusals.NoRoom r m) last end size z x ys before w a b at to less more ne v' s' =
     absurd w
-why since most refusals.Malformed last end size z x ys before w a b at to less more ne = absurd w
+why since most (refusals.Flaw f) last end size z x ys before w a b at to less more ne v' s' =
+    absurd w
+why since most (refusals.UnitVersion v) last end size z x ys before w a b at to less more ne v' s' =
+    absurd w
+why since most refusals.Malformed last end size z x ys before w a b at to less more ne v' s' =
+    absurd w
 
 -- a delta leads back from new data to the old
 pub steps_back : (new old before after : List ℕ) (n : ℕ) (z x : Snapshot) →
@@ -265,31 +273,48 @@ goes_on since most t n kept new old step steps before after z x ys now since' fi
 
 -- ---- that no more may be kept
 
-pub too_long : (since most : ℕ) (r : Result ℕ Refused) (z x : Snapshot) (old after : List ℕ) →
+pub too_long : (t since most : ℕ) (r : Result ℕ Refused) (z x : Snapshot) (new old after : List ℕ) →
     most < 16 + length (delta_form z.payloads x.payloads x.end) →
-    IsLongest since most r z x old after
-too_long since most (Ok n) z x old after h = inl h
-too_long since most (Err r) z x old after h = tt
+    IfOk r (λ n. take n after ≡ part_form t new) →
+    IfOk r (λ n. IsLongest t since most z x new old (take n after))
+too_long t since most (Ok n) z x new old after h form = inl (h, form)
+too_long t since most (Err r) z x new old after h form = tt
 
 pub longest_at : (since most t n kept : ℕ) (new step steps old before after : List ℕ)
-    (z x : Snapshot) → t < 2 ^ 64 → length new < 2 ^ 64 → length step < 2 ^ 64 →
-    kept ≤ length steps → steps ≡ part_rest old →
+    (z x : Snapshot) → kept ≤ length steps → steps ≡ part_rest old →
+    step ≡ delta_form z.payloads x.payloads x.end → 16 + (length step + kept) ≤ most →
     PlacesFront (Some n) (part_form t new ++ (part_form t step ++ take kept steps)) before after →
     (MayBeKept (drop kept steps) since (most - (16 + (length step + kept))) z.end.serial → ⊥) →
-    IsLongest since most (Ok n) z x old after
-longest_at since most t n kept new step steps old before after z x now lt lt' le is placed none =
-    let p = formed t new (part_form t step ++ take kept steps) now lt in
-    let q = formed t step (take kept steps) now lt' in
-    let form = part_form t new ++ (part_form t step ++ take kept steps) in
-    let rest : part_rest (take n after) ≡ part_form t step ++ take kept steps =
-    ap part_rest (written_front n form before after placed) ∙ p.rest in
-    let size : length (part_rest (part_rest (take n after))) ≡ kept =
-    ap length (ap part_rest rest ∙ q.rest) ∙ length-take-le kept steps le in
-    let all : length (part_rest (take n after)) ≡ 16 + (length step + kept) =
-    ap length rest ∙ formed_length t step (take kept steps)
+    IsLongest t since most z x new old (take n after)
+longest_at since most t n kept new step steps old before after z x le is is' fits placed none =
+    let rest = part_form t step ++ take kept steps in
+    let size : length rest ≡ 16 + (length step + kept) =
+    formed_length t step (take kept steps)
     ∙ ap (λ m. 16 + (length step + m)) (length-take-le kept steps le) in
-    inr (λ m. none
-    (subst (λ l. MayBeKept l since (most - (16 + (length step + kept))) z.end.serial)
-    ((λ i. drop (size i) (sym is i)))
-    (subst (λ k. MayBeKept (drop (length (part_rest (part_rest (take n after)))) (part_rest old))
-    since (most - k) z.end.serial) all m)))
+    inr (
+      kept,
+      rest,
+      written_front n (part_form t new ++ rest) before after placed,
+      record {
+        form = (λ i. part_form t (is' i) ++ take kept (is i));
+        within = subst (λ l. kept ≤ length l) is le;
+        short = omega (arith, size, fits);
+        longest = λ m. none
+            (subst (λ k. MayBeKept (drop kept steps) since (most - k) z.end.serial) size
+            (subst (λ l. MayBeKept (drop kept l) since (most - length rest) z.end.serial) (sym is)
+            m));
+      },
+    )
+
+-- ---- bytes that are data
+
+pub checks_first : (r : Result ℕ Refused) (new : List ℕ) → IfErr r (IsFlawIn new) →
+    ((z : Snapshot) × HoldsData new z.payloads z.end) → ChecksFirst r new
+checks_first (Ok n) new flaw h = h
+checks_first (Err (refusals.Flaw f)) new flaw h = flaw
+checks_first (Err (refusals.UnitVersion v)) new flaw h = h
+checks_first (Err refusals.Same) new flaw h = h
+checks_first (Err refusals.Times) new flaw h = h
+checks_first (Err refusals.Serial) new flaw h = h
+checks_first (Err refusals.Malformed) new flaw h = h
+checks_first (Err (refusals.NoRoom room wanted)) new flaw h = h

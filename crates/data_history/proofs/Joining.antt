@@ -299,7 +299,7 @@ not_there steps rest buffer after wanted size x ys j absent back other =
     let t = j x ys back other in
     t.same ∙ unknown rest wanted t.y t.zs t.other absent t.more
 
--- a part that is there is changes
+-- a present part consists of changes
 pub not_flawed : (steps rest s buffer : List ℕ) (wanted size : ℕ) (f : Flaw) (x : Snapshot)
     (ys : List Snapshot) → JoinedSoFar steps rest buffer wanted size → HasPart rest →
     s ≡ part_bytes rest → IsFlawOfChanges s f → GoesBack steps x ys → x.end.serial ≢ wanted → ⊥

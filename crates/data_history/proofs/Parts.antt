@@ -137,3 +137,7 @@ pub bytes_at : (b s : List ℕ) → HasPart b → s ≡ part_bytes b →
 unfolding HasPart part_bytes
 bytes_at b s h e =
     ap (λ n. take n (drop 16 b)) (ap length e ∙ length-take-le (part_size b) (drop 16 b) h.1)
+
+pub size_at : (b s : List ℕ) → HasPart b → s ≡ part_bytes b → length s ≡ part_size b
+unfolding HasPart part_bytes
+size_at b s h e = ap length e ∙ length-take-le (part_size b) (drop 16 b) h.1

@@ -79,8 +79,10 @@ pub held_after : (b s : List ℕ) (x y : Snapshot) → HoldsData b x.payloads x.
     Held (length b + length s) y
 held_after b s x y h step = record {
   bytes = data_form y.payloads y.end ++ [];
-  holds = holds_made b s [] x.payloads y.payloads step.changes x.end y.end h step.holds step.version
-      step.leads;
+  holds =
+      let q = step.holds.accepts.sequence in
+      holds_made b q.front [] x.payloads y.payloads step.changes x.end y.end h q.units q.end.fits
+      step.version step.leads;
   short = omega (
     arith,
     ap length (append-nil (data_form y.payloads y.end)),

@@ -1,7 +1,7 @@
 -- How the calls on the two stores go on in the life of a cache.
 use Rattle.std.proofs.Common.{◌≡◌, ◌≤◌, ◌+◌, ◌*◌, ℕ, Bool, true, false, not, List, [], ◌∷◌, Option}
 use Rattle.std.proofs.Common.{Some, None, refl, sym, ap, subst, ◌∙◌, take, arith}
-use Rattle.std.specs.Prelude.{Result, Ok, Err, IfOk, IsOk}
+use Rattle.std.specs.Prelude.{Result, Ok, Err, IfErr, IfOk, IsOk}
 use Rattle.rtr_units.specs.AnyEnd.{end_meaning}
 use Rattle.rtr_units.specs.End.{EndMeaning}
 use Rattle.rtr_units.specs.declared.end.EndOfData.{EndOfData}
@@ -13,11 +13,12 @@ use Rattle.data_history.specs.Life.{IsLife, IsUnsavedLife, MayTake}
 use Rattle.data_history.specs.Life.{saved, served_first, served_next, took, took_first}
 use Rattle.data_history.specs.Next.{Advances, IsShortForNewer, StartsHistory}
 use Rattle.data_history.specs.Parts.{HasPart, part_rest}
-use Rattle.data_history.specs.PrivateNewer.{ComesLate, taken_fault}
+use Rattle.data_history.specs.PrivateNewer.{ComesLate, IsFlawOfNew, taken_fault}
 use Rattle.data_history.specs.Snapshots.{Snapshot}
 use Rattle.data_history.specs.Store.{BeginsStore, HoldsStore, IsAmong, WantsOutput, WritesStore}
 use Rattle.data_history.specs.Store.{left_sessions}
-use Rattle.data_history.specs.Stores.{ChecksStore, IsShortForTaking, MayBeOf, TakesAfter, TakesData}
+use Rattle.data_history.specs.Stores.{ChecksNewFirst, ChecksStore, IsShortForTaking, MayBeOf}
+use Rattle.data_history.specs.Stores.{TakesAfter, TakesData}
 use Rattle.data_history.specs.Stores.{TakesFirst, TakesLater, after_call, after_saving}
 use Rattle.data_history.specs.Stores.{after_taking_in, front_of, held_of, other_of, served_store}
 use Rattle.data_history.specs.Stores.{taken_store}
@@ -31,6 +32,7 @@ use Rattle.data_history.specs.declared.room.Room.TheVariants as rooms
 use Rattle.data_history.specs.declared.store.TakeFault.{TakeFault}
 use Rattle.data_history.specs.declared.store.TakeFault.TheVariants as untakes
 use Rattle.data_history.specs.declared.stores.Stores.{Stores}
+use Rattle.data_history.proofs.Advancing.{checks_first}
 use Rattle.data_history.proofs.Living.{lives, lives_unsaved}
 
 -- ---- sessions
@@ -51,10 +53,10 @@ pub refused : (since most : ℕ) (r : Refused) (z x : Snapshot) (ys : List Snaps
     (before after : List ℕ) → Advances since most (Err r) z x ys before after →
     Advances since most (Err r) z x ys [] []
 refused since most (refusals.Flaw f) z x ys before after h = h
-refused since most (refusals.UnitVersion v) z x ys before after h = (h.0, h.1, refl)
+refused since most (refusals.UnitVersion v) z x ys before after h = (h.0, h.1, h.2, refl)
 refused since most refusals.Same z x ys before after h = (h.0, refl)
 refused since most refusals.Times z x ys before after h = (h.0, refl)
-refused since most refusals.Serial z x ys before after h = (h.0, h.1, refl)
+refused since most refusals.Serial z x ys before after h = (h.0, h.1, h.2, refl)
 refused since most refusals.Malformed z x ys before after h = h
 refused since most (refusals.NoRoom room wanted) z x ys before after h = h
 
@@ -232,6 +234,23 @@ looked_at since most (Err untaken.SessionLeft) m o z after late free may t = (fr
 looked_at since most (Err (untaken.Refused r)) m o z after late free may t = (free, may, t)
 looked_at since most (Err untaken.Malformed) m o z after late free may t = (free, may, t)
 looked_at since most (Err (untaken.NoRoom wanted)) m o z after late free may t = (free, may, t)
+
+pub checks_new_first : (t : Option ℕ) (r : Result ℕ Untaken) (new : List ℕ) →
+    IfErr r (IsFlawOfNew new) → ComesLate r → ((z : Snapshot) × HoldsData new z.payloads z.end) →
+    ChecksNewFirst t r new
+checks_new_first t (Ok n) new flaw late h = h
+checks_new_first t (Err untaken.Waits) new flaw late h = absurd late
+checks_new_first t (Err untaken.OtherSession) new flaw late h = h
+checks_new_first t (Err untaken.SessionLeft) new flaw late h = h
+checks_new_first t (Err (untaken.Refused r)) new flaw late h = checks_first (Err r) new flaw h
+checks_new_first t (Err untaken.Malformed) new flaw late h = h
+checks_new_first t (Err (untaken.NoRoom wanted)) new flaw late h = h
+
+-- what holds of a length, where there is one
+pub of_length : (r : Result ℕ Untaken) (P Q : ℕ → Type 0) → ((n : ℕ) → P n → Q n) → IfOk r P →
+    IfOk r Q
+of_length (Ok n) P Q f p = f n p
+of_length (Err why) P Q f p = tt
 
 -- the data that a call took are there, whatever it returned
 pub if_ok : (r : Result ℕ Untaken) (P : Type 0) → P → IfOk r (λ n. P)

@@ -32,6 +32,7 @@ two_bytes s b lt = ap (λ n. n ∷ sessions_of b) (omega arith)
 -- ---- the store
 
 pub record IsStoreOf (b sessions history : List ℕ) : Type 0 where
+  pub form : b ≡ part_form 0 sessions ++ history
   pub first : HasPart b
   pub left : left_sessions b ≡ sessions_of sessions
   pub rest : part_rest b ≡ history
@@ -53,6 +54,7 @@ placed n last left history before after lt (size, within, out) =
     let p = formed 0 (last ++ left) history (omega arith) (omega (arith, lt, sizes)) in
     let is = front ∙ joined in
     record {
+      form = is;
       first = subst HasPart (sym is) p.has;
       left = ap (λ b. sessions_of (part_bytes b)) is ∙ ap sessions_of p.bytes;
       rest = ap part_rest is ∙ p.rest;
@@ -71,6 +73,7 @@ placed_none n history before after (size, within, out) =
     let p = formed 0 [] history (omega arith) (omega arith) in
     let is = front ∙ joined in
     record {
+      form = is;
       first = subst HasPart (sym is) p.has;
       left = ap (λ b. sessions_of (part_bytes b)) is ∙ ap sessions_of p.bytes;
       rest = ap part_rest is ∙ p.rest;

@@ -54,7 +54,7 @@ IsShortForSteps (Err (NoRoom Buffer w)) s h = (w ≡ s) × (h < s)
 IsShortForSteps (Err (NoRoom Spare w)) s h = ⊥
 IsShortForSteps (Err (NoRoom Output w)) s h = ⊥
 
--- the index is too short for changes of so many bytes
+-- the index is too short for changes of this many bytes
 abbrev pub LacksIndex : Result Unit CheckFault → (changes places : ℕ) → Type 0
 LacksIndex (Ok t) c p = ⊤
 LacksIndex (Err Malformed) c p = ⊤

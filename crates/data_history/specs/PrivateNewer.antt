@@ -1,5 +1,6 @@
 -- Faults of stores as faults of newer data. Only contracts of private functions cite these.
-use Rattle.std.specs.Prelude.{⊤, ℕ, Result, Ok, Err}
+use Rattle.std.specs.Prelude.{⊤, ℕ, List, Result, Ok, Err}
+use Rattle.data_history.specs.Next.{IsFlawIn}
 use Rattle.data_history.specs.declared.newer.Untaken.{Untaken}
 use Rattle.data_history.specs.declared.newer.Untaken.TheVariants as untaken
 use Rattle.data_history.specs.declared.store.TakeFault.{TakeFault}
@@ -19,3 +20,8 @@ ComesLate (Err untaken.SessionLeft) = ⊤
 ComesLate (Err (untaken.Refused r)) = ⊤
 ComesLate (Err untaken.Malformed) = ⊤
 ComesLate (Err (untaken.NoRoom wanted)) = ⊤
+
+-- a flaw is one of the new data
+abbrev pub IsFlawOfNew : List ℕ → Untaken → Type 0
+IsFlawOfNew b (untaken.Refused r) = IsFlawIn b r
+IsFlawOfNew b why = ⊤

@@ -1,13 +1,15 @@
 -- What a cache serves and what it took, in two buffers (this library's own; what a cache has to be
 -- able to tell: RFC 8210 sections 5.1, 5.3 and 8.2).
-use Rattle.std.specs.Prelude.{◌≡◌, ◌≢◌, ◌<◌, ◌≤◌, ◌+◌, ◌*◌, ⊤, ℕ, Bool, not, List, [], Option}
+use Rattle.std.specs.Prelude.{◌≡◌, ◌≢◌, ◌<◌, ◌≤◌, ◌+◌, ◌*◌, ◌++◌, ⊤, ℕ, Bool, not, List, [], Option}
 use Rattle.std.specs.Prelude.{Some, None, IsSome, Result, Ok, Err, take, length, false}
 use Rattle.std.specs.Prelude.{if◌then◌else◌, ◌&&◌, ◌||◌, is_some}
 use Rattle.rtr_units.specs.AnyEnd.{end_meaning}
 use Rattle.rtr_units.specs.declared.end.EndOfData.{EndOfData}
-use Rattle.data_history.specs.Next.{Advances, ContinuesHistory, IsFlawIn, IsShortForNewer}
-use Rattle.data_history.specs.Next.{StartsHistory}
-use Rattle.data_history.specs.Parts.{part_rest}
+use Rattle.rtr_base.specs.Bytes.{be}
+use Rattle.data_slices.specs.Canonical.{HoldsData}
+use Rattle.data_history.specs.Next.{Advances, ChecksFirst, ContinuesHistory, IsLongest}
+use Rattle.data_history.specs.Next.{IsShortForNewer, StartsHistory}
+use Rattle.data_history.specs.Parts.{part_bytes, part_form, part_rest}
 use Rattle.data_history.specs.Snapshots.{Snapshot}
 use Rattle.data_history.specs.Store.{HoldsStore, IsAmong, IsTaken, left_sessions}
 use Rattle.data_history.specs.declared.check.CheckFault.{CheckFault}
@@ -19,7 +21,7 @@ use Rattle.data_history.specs.declared.stores.Stores.{Stores}
 
 -- ---- the two stores
 
--- so many bytes at the front of a buffer
+-- this many bytes at the front of a buffer
 abbrev pub front_of : Option ℕ → List ℕ → Option (List ℕ)
 front_of None b = None
 front_of (Some n) b = Some (take n b)
@@ -161,10 +163,30 @@ IsShortForTaking (Err (untaken.Refused r)) n b s o =
 IsShortForTaking (Err (untaken.NoRoom wanted)) n b s o = (o < wanted) × (wanted ≤ 18 + n + s)
 IsShortForTaking r n b s o = ⊤
 
--- a flaw is one of the new data
-abbrev pub IsFlawOfNew : List ℕ → Untaken → Type 0
-IsFlawOfNew b (untaken.Refused r) = IsFlawIn b r
-IsFlawOfNew b why = ⊤
+-- A store that waits is told first, and then bytes that aren't data, whatever else is wrong.
+abbrev pub ChecksNewFirst : (taken : Option ℕ) → Result ℕ Untaken → (new : List ℕ) → Type 0
+ChecksNewFirst t (Err untaken.Waits) b = IsSome t
+ChecksNewFirst t (Err (untaken.Refused r)) b = ChecksFirst (Err r) b
+ChecksNewFirst t r b = (z : Snapshot) × HoldsData b z.payloads z.end
+
+-- ---- the bytes of a store that is written
+
+-- The bytes are the store of the data z, of these bytes, that follow the data x of the store s, to
+-- the last byte: the sessions that were left, and the history.
+pub record IsStoreAfter (now since most : ℕ) (s : List ℕ) (z x : Snapshot) (new b : List ℕ)
+    : Type 0 where
+  pub history : List ℕ
+  pub stays : z.end.session ≡ x.end.session → (b ≡ part_form 0 (part_bytes s) ++ history)
+      × IsLongest now since most z x new (part_rest s) history
+  pub leaves : z.end.session ≢ x.end.session →
+      b ≡ part_form 0 (be x.end.session 2 ++ part_bytes s) ++ part_form now new
+
+-- The same where this store is served, if there is one.
+abbrev pub IsStoreFrom : (now since most : ℕ) → Option (List ℕ) → (z : Snapshot) →
+    (new b : List ℕ) → Type 0
+IsStoreFrom now since most None z new b = b ≡ part_form 0 [] ++ part_form now new
+IsStoreFrom now since most (Some s) z new b = (x : Snapshot) (ys : List Snapshot) →
+    HoldsStore s x ys → IsStoreAfter now since most s z x new b
 
 -- ---- a start
 

@@ -17,12 +17,12 @@ use crate::room::Room;
 use data_slices::{check_changes, check_data, check_in_order};
 use rtr_units::end::EndOfData;
 
-/// Why a check returns no end of data.
+/// Why a check fails.
 #[derive(Clone, Copy, Debug, PartialEq, Eq)]
 pub enum CheckFault {
-    /// The bytes are no history.
+    /// The bytes are not a history.
     Malformed,
-    /// This slice is too short. With `wanted` bytes it suffices for these bytes.
+    /// This slice is too short. `wanted` elements or bytes suffice for these bytes.
     NoRoom { room: Room, wanted: usize },
 }
 
@@ -30,8 +30,8 @@ pub enum CheckFault {
 const HALF: u32 = 0x8000_0000;
 
 /// Checks whether any bytes are a history, as after a file was read, and returns the end of the
-/// present data. It works in an index and a buffer, whose content is open afterwards. However many
-/// steps there are, it goes over the data once.
+/// present data. It uses an index and a buffer as work space, whose content is undefined
+/// afterwards. However many steps there are, it makes one pass over the data.
 ///
 /// An index of one element for each 12 bytes and a buffer as long as the bytes always suffice.
 pub fn check_history(
@@ -65,8 +65,8 @@ pub fn check_history(
 }
 
 /// Writes the units of all steps back, one step after the other, and the end of data of the last,
-/// and returns their length. The steps lead back from data with this end, each to data further
-/// behind than the last.
+/// and returns their length. The steps lead back from data with this end, each to earlier data than
+/// the one before.
 fn join_all(newest: &EndOfData, steps: &[u8], buffer: &mut [u8]) -> Result<usize, CheckFault>
     ensures joins { (x : Snapshot) → end_meaning newest.now ≡ x.end → length steps.now ≢ 0 →
         JoinsAll result steps.now x buffer.new }
@@ -137,7 +137,7 @@ fn distance(serial: u32, newest: u32) -> u32
     newest.wrapping_sub(serial)
 }
 
-/// Checks whether data allow changes, made one after the other.
+/// Checks whether data allow changes, applied one after the other.
 fn check_allowed(present: &[u8], changes: &[u8], index: &mut [usize]) -> Result<(), CheckFault>
     ensures allows { (x : Snapshot) (cs : List Change) (e : EndMeaning) →
         HoldsData present.now x.payloads x.end → Sends changes.now cs e →

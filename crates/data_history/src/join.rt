@@ -16,7 +16,7 @@ use crate::since::SinceFault;
 use data_slices::check_changes;
 use rtr_wire::normalise_into;
 
-/// How many bytes the shortest payload unit has: a withdrawal of an ASPA.
+/// The size in bytes of the shortest payload unit, a withdrawal of an ASPA.
 pub const SHORTEST: usize = 12;
 
 /// Writes the units of the steps back, step after step up to the one that leads to the wanted

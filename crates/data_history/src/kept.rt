@@ -1,4 +1,4 @@
-//! Which of the steps back are kept where newer data come.
+//! Which of the steps back are kept when newer data come.
 
 ghost use Rattle.std.specs.Prelude.{◌≡◌, ◌↔◌, ◌≤◌, IsTrue, List, Some, drop, length, ◌-◌};
 ghost use Rattle.std.specs.declared.cmp.Ordering.TheVariants.{Less};
@@ -21,9 +21,9 @@ pub fn is_earlier(serial: Serial, than: Serial) -> bool
     }
 }
 
-/// Returns how many bytes of the steps are kept: the longest front of whole steps that has at most
-/// `most` bytes, whose steps were each made at `since` or later, and lead to serial numbers earlier
-/// than the new one.
+/// Returns how many bytes of the steps are kept: the longest prefix of whole steps with at most
+/// `most` bytes, each made at `since` or later and leading to a serial number earlier than the new
+/// one.
 pub fn kept_front(steps: &[u8], serial: Serial, since: u64, most: usize) -> usize
     ensures front { (x : Snapshot) (ys : List Snapshot) → GoesBack steps.now x ys →
         KeepsFront result steps.now x ys serial.0 since }

@@ -23,7 +23,7 @@ pub fn knows(history: &[u8], serial: Serial) -> bool
     }
 }
 
-/// Whether the steps lead back from data of the one serial number to data of the other.
+/// Whether the steps lead back from data of the first serial number to data of the second.
 fn leads_back(present: u32, steps: &[u8], wanted: u32) -> bool
     ensures { (x : Snapshot) (ys : List Snapshot) → x.end.serial ≡ present →
         GoesBack steps.now x ys → IsTrue result ↔ IsSome (snapshot_at wanted x ys) }

@@ -14,9 +14,9 @@ ghost use Rattle.data_history.specs.Since.{WritesChangesSince};
 
 use data_slices::in_order_laws::changes_as_they_came;
 
-/// What `since_into` writes leads a router to the present data: applied by `apply_in_order` to what
-/// the router's version has of the data that the cache had at that serial number, it gives just
-/// what the version has of the present data, with their end of data. None of the changes is
+/// The output of `since_into` leads a router to the present data: applied with `apply_in_order` to
+/// the part of the data of that serial number that the router's version has, it gives exactly the
+/// part of the present data that the version has, with their end of data. None of the changes is
 /// refused.
 pub fn changes_since_lead_to_the_present()
     ensures leads { (history old changed unwritten before after : List ℕ)
@@ -39,26 +39,26 @@ pub fn changes_since_lead_to_the_present()
     changes_as_they_came();
 }
 
-/// A cache has one data at a serial number: each snapshot of a history is the one of its number, so
-/// that no two have the same.
+/// A cache has one data at a serial number: each snapshot of a history is the only one of its
+/// number.
 pub fn one_data_for_a_serial_number()
     ensures { (b : List ℕ) (x y : Snapshot) (ys front others : List Snapshot) →
         HoldsHistory b x ys → x ∷ ys ≡ front ++ y ∷ others →
         snapshot_at y.end.serial x ys ≡ Some y }
 {}
 
-/// Whatever was stored, one after the other, what came of it is a history, of the newest of the
-/// snapshots that were stored, each as it was, without a gap.
+/// Whatever data are stored one after the other, the result is a history of the newest of their
+/// snapshots, each unchanged, without a gap.
 pub fn what_is_stored_is_a_history()
     ensures { (stored : List Snapshot) (b : List ℕ) → IsStored stored b →
         (x : Snapshot) × (ys : List Snapshot) × (others : List Snapshot) × HoldsHistory b x ys
         × (stored ≡ (x ∷ ys) ++ others) }
 {}
 
-/// Over any sequence of new data, savings that succeed or fail, starts and cuts of power, a cache
-/// never served two data under one session and serial number, as long as the numbers didn't go
-/// round the circle. What it served was saved before, and it starts from its file: `Stores` serves
-/// nothing else.
+/// Over any sequence of new data, saves that succeed or fail, starts and power cuts, a cache never
+/// serves two different data under one session and serial number, as long as the numbers don't wrap
+/// around. It serves only what was saved before, and starts from its file: `Stores` serves nothing
+/// else.
 pub fn one_data_under_each_name()
     ensures { (served front between others : List Snapshot)
         (file present taken : Option (List ℕ)) (x y : Snapshot) →
@@ -67,8 +67,8 @@ pub fn one_data_under_each_name()
         x.end.serial ≡ y.end.serial → StaysOnCircle x between y → x ≡ y }
 {}
 
-/// The same of a cache that doesn't save, over any sequence of new data and starts, each in a
-/// session of which it never served data.
+/// The same for a cache that doesn't save, over any sequence of new data and starts, each in a
+/// session under which it never served data.
 pub fn one_data_under_each_name_unsaved()
     ensures { (served front between others : List Snapshot) (session : ℕ)
         (present : Option (List ℕ)) (x y : Snapshot) → IsUnsavedLife served session present →

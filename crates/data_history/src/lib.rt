@@ -1,11 +1,12 @@
 //! The history of a cache: its present data and the steps back to earlier data of its session, as
 //! bytes in slices, without memory, clock or sockets (RFC 8210 sections 5.1, 5.3 and 8.2).
 //!
-//! `Stores` has what a cache serves and what it took: new data become a history by `next_into` and
-//! a store by `take_into`, the bytes to save behind the head that `seal_head` makes, and are served
-//! only once the caller says that they are saved. Then a cache never serves two data under one
-//! session and serial number (`laws::one_data_under_each_name`). `since_into` writes the answer to
-//! a serial query. At a start `open_saved` and `Stores::start` say whether a file is whole.
+//! `Stores` keeps track of the data that a cache serves and of those that it has taken: `next_into`
+//! makes a history of new data, and `take_into` a store, the bytes to save after the head that
+//! `seal_head` returns. They are served only once the caller reports that they are saved. So a
+//! cache never serves two different data under one session and serial number
+//! (`laws::one_data_under_each_name`). `since_into` writes the answer to a serial query. At a start
+//! `open_saved` and `Stores::start` check whether a file is whole.
 #![tactic(auto)]
 
 mod check;

@@ -1,14 +1,16 @@
-//! The store that newer data make.
+//! Makes the store of newer data.
 
-ghost use Rattle.std.specs.Prelude.{◌≡◌, ◌+◌, ◌-◌, ℕ, Err, IfErr, List, length};
+ghost use Rattle.std.specs.Prelude.{◌≡◌, ◌+◌, ◌-◌, ◌++◌, ℕ, [], Err, IfErr, IfOk, List, length};
+ghost use Rattle.std.specs.Prelude.{take};
 ghost use Rattle.rtr_units.specs.AnyEnd.{end_bytes, end_meaning};
 ghost use Rattle.rtr_units.specs.End.{IsEnd};
 ghost use Rattle.rtr_payload.specs.Payloads.{Payload};
 ghost use Rattle.data_slices.specs.Canonical.{HoldsData};
 ghost use Rattle.data_history.specs.Snapshots.{Snapshot};
 ghost use Rattle.data_history.specs.Store.{HoldsStore};
-ghost use Rattle.data_history.specs.Stores.{IsFlawOfNew, IsShortForTaking, TakesFirst, TakesLater};
-ghost use Rattle.data_history.specs.PrivateNewer.{ComesLate, taken_fault};
+ghost use Rattle.data_history.specs.Parts.{part_form};
+ghost use Rattle.data_history.specs.Stores.{IsShortForTaking, IsStoreAfter, TakesFirst, TakesLater};
+ghost use Rattle.data_history.specs.PrivateNewer.{ComesLate, IsFlawOfNew, taken_fault};
 
 use crate::next::{Limits, Refused, advance, begin, present_end};
 use crate::part::first_part;
@@ -18,15 +20,15 @@ use rtr_units::end::EndOfData;
 /// Why newer data weren't taken.
 #[derive(Debug, Drop)]
 pub enum Untaken {
-    /// A store was taken before, and is neither saved nor given up.
+    /// A store that was taken before is pending: it is neither saved nor dropped.
     Waits,
     /// The cache doesn't save, and the data are of another session than that of its start.
     OtherSession,
-    /// The cache left the session of the data before.
+    /// The cache has already left the session of these data.
     SessionLeft,
-    /// The data make no history after the present one.
+    /// The data can't follow the present ones in a history.
     Refused(Refused),
-    /// The bytes that are served are no store.
+    /// The bytes that are served are not a store.
     Malformed,
     /// The buffer of the store is too short. `wanted` bytes suffice.
     NoRoom { wanted: usize },
@@ -41,6 +43,7 @@ pub fn first_store(
 ) -> Result<usize, Untaken>
     ensures takes { (z : Snapshot) → HoldsData new.now z.payloads z.end →
         TakesFirst result z output.new }
+    ensures form { IfOk result (λ n. take n output.new ≡ part_form 0 [] ++ part_form now new.now) }
     ensures flaw { IfErr result (IsFlawOfNew new.now) }
     ensures late { ComesLate result }
     ensures rooms { (buffer : ℕ) → IsShortForTaking result (length new.now) buffer
@@ -56,8 +59,8 @@ pub fn first_store(
     }
 }
 
-/// Writes the store that data make after those of a store, and returns its length. The data were
-/// checked, and this is their end. The spare buffer gets their history.
+/// Writes the store that follows a store once these data are taken, and returns its length. The
+/// data were checked, and this is their end. Their history is written to the spare buffer.
 pub fn next_store(
     store: &[u8],
     new: &[u8],
@@ -73,6 +76,9 @@ pub fn next_store(
     ensures takes { (z x : Snapshot) (ys : List Snapshot) → HoldsData new.now z.payloads z.end →
         HoldsStore store.now x ys → TakesLater (now - limits.now.time) limits.now.bytes result
         store.now z x ys output.new }
+    ensures form { IfOk result (λ n. (z x : Snapshot) (ys : List Snapshot) →
+        HoldsData new.now z.payloads z.end → HoldsStore store.now x ys → IsStoreAfter now
+        (now - limits.now.time) limits.now.bytes store.now z x new.now (take n output.new)) }
     ensures flaw { IfErr result (IsFlawOfNew new.now) }
     ensures late { ComesLate result }
     ensures rooms { IsShortForTaking result (length store.now + length new.now) (length buffer.old)
@@ -102,7 +108,7 @@ pub fn next_store(
     }
 }
 
-/// The same fault of newer data.
+/// Converts the fault.
 fn fault_of(fault: TakeFault) -> Untaken
     ensures is { result ≡ taken_fault fault }
     ensures late { ComesLate (Err result) }

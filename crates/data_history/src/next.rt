@@ -8,7 +8,7 @@ ghost use Rattle.rtr_units.specs.End.{IsEnd};
 ghost use Rattle.rtr_payload.specs.Payloads.{Payload};
 ghost use Rattle.data_slices.specs.Canonical.{HoldsData, PlacesFront};
 ghost use Rattle.data_history.specs.Snapshots.{Snapshot, HoldsHistory};
-ghost use Rattle.data_history.specs.Next.{Advances, AdvancesOf, IsFlawIn, IsLongest};
+ghost use Rattle.data_history.specs.Next.{Advances, AdvancesOf, AloneOf, ChecksFirst, IsFlawIn};
 ghost use Rattle.data_history.specs.Next.{IsShortForNewer, LaterOf, LongestOf, StartsOf};
 ghost use Rattle.data_history.specs.PrivateRefusals.{NamesWhy};
 ghost use Rattle.data_history.specs.Parts.{HasPart, part_bytes, part_form};
@@ -20,12 +20,12 @@ use data_slices::{Flaw, check_data, delta_into};
 use rtr_units::end::EndOfData;
 use unit_views::placing::place;
 
-/// Limits of the steps back that a history keeps.
+/// Limits on the steps back that a history keeps.
 #[derive(Clone, Copy, Debug, PartialEq, Eq)]
 pub struct Limits {
-    /// A step is kept for this many milliseconds after it was made.
+    /// How long a step is kept after it was made, in milliseconds.
     pub time: u64,
-    /// The steps have at most this many bytes, with the 16 bytes before each.
+    /// The greatest number of bytes of the steps, with the 16 bytes before each.
     pub bytes: usize,
 }
 
@@ -36,22 +36,23 @@ pub enum Refused {
     Flaw(Flaw),
     /// The new data are of this protocol version, and the history is of another.
     UnitVersion(u8),
-    /// The new data are the present ones.
+    /// The new data equal the present ones.
     Same,
-    /// The new data are the present ones under the same serial number, with other times.
+    /// The new data equal the present ones, with the same serial number, but have other times.
     Times,
     /// The serial number of the new data isn't later than the present one.
     Serial,
-    /// The old bytes are no history.
+    /// The old bytes are not a history.
     Malformed,
-    /// This slice is too short. With `wanted` bytes it suffices for these data.
+    /// This slice is too short. `wanted` elements or bytes suffice for these data.
     NoRoom { room: Room, wanted: usize },
 }
 
-/// Writes the history that has only these data, and returns its length.
+/// Writes a history of only these data, and returns its length.
 pub fn first_into(new: &[u8], now: u64, output: &mut [u8]) -> Result<usize, Refused>
     ensures data { StartsOf result new.now output.old output.new }
-    ensures flaw { IfErr result (IsFlawIn new.now) }
+    ensures form { IfOk result (λ n. take n output.new ≡ part_form now new.now) }
+    ensures flaw { ChecksFirst result new.now }
     ensures within { IfOk result (λ n. n ≤ length output.old) }
     ensures rooms { IsShortForNewer result 0 (16 + length new.now) 0 (length output.old) }
 {
@@ -61,9 +62,10 @@ pub fn first_into(new: &[u8], now: u64, output: &mut [u8]) -> Result<usize, Refu
     }
 }
 
-/// As `first_into`, where the data were checked.
+/// As `first_into`, for data that were checked.
 pub fn begin(new: &[u8], now: u64, output: &mut [u8]) -> Result<usize, Refused>
     ensures data { StartsOf result new.now output.old output.new }
+    ensures form { IfOk result (λ n. take n output.new ≡ part_form now new.now) }
     ensures flaw { IfErr result (IsFlawIn new.now) }
     ensures within { IfOk result (λ n. n ≤ length output.old) }
     ensures rooms { IsShortForNewer result 0 (16 + length new.now) 0 (length output.old) }
@@ -81,7 +83,8 @@ fn no_room(room: Room, wanted: usize) -> Refused
     Refused::NoRoom { room, wanted }
 }
 
-/// That the output is too short for new data, a step and the steps that are kept, of these lengths.
+/// The refusal of an output that is too short for new data, a step and the kept steps, of these
+/// lengths.
 fn no_output(output: &[u8], new: usize, step: usize, kept: usize) -> Refused
     ensures rooms { (buffer most have : ℕ) → length output.now < 32 + new + step + kept →
         32 + new + step + kept ≤ most →
@@ -95,11 +98,11 @@ fn no_output(output: &[u8], new: usize, step: usize, kept: usize) -> Refused
 }
 
 /// Writes the history after newer data, and returns its length: these data, a step back to the
-/// present ones, and of the steps behind it as many as the limits leave. Data of another session
-/// begin a history.
+/// present ones, and as many of the earlier steps as the limits allow. Data of another session
+/// begin a new history.
 ///
-/// A buffer as long as the old bytes and the new together, and an output twice as long and 32 bytes
-/// more, always suffice.
+/// A buffer as long as the old bytes and the new together always suffices, and so does an output of
+/// twice that length and 32 bytes.
 pub fn next_into(
     old: &[u8],
     new: &[u8],
@@ -110,10 +113,11 @@ pub fn next_into(
 ) -> Result<usize, Refused>
     ensures data { AdvancesOf (now - limits.now.time) limits.now.bytes result old.now new.now
         output.old output.new }
-    ensures flaw { IfErr result (IsFlawIn new.now) }
+    ensures flaw { ChecksFirst result new.now }
     ensures within { IfOk result (λ n. n ≤ length output.old) }
-    ensures longest { LongestOf (now - limits.now.time) limits.now.bytes result old.now new.now
-        output.new }
+    ensures longest { LongestOf now (now - limits.now.time) limits.now.bytes result old.now
+        new.now output.new }
+    ensures alone { AloneOf now result old.now new.now output.new }
     ensures newer { LaterOf result old.now new.now }
     ensures rooms { IsShortForNewer result (length old.now + length new.now)
         (32 + 2 * (length old.now + length new.now)) (length buffer.old) (length output.old) }
@@ -146,7 +150,7 @@ pub fn present_end(history: &[u8]) -> Option<EndOfData>
     }
 }
 
-/// As `next_into`, where the present data and the new were checked, and these are their ends.
+/// As `next_into`, for present and new data that were checked, whose ends these are.
 pub fn advance(
     old: &[u8],
     new: &[u8],
@@ -166,8 +170,9 @@ pub fn advance(
         output.old output.new }
     ensures flaw { IfErr result (IsFlawIn new.now) }
     ensures within { IfOk result (λ n. n ≤ length output.old) }
-    ensures longest { LongestOf (now - limits.now.time) limits.now.bytes result old.now new.now
-        output.new }
+    ensures longest { LongestOf now (now - limits.now.time) limits.now.bytes result old.now
+        new.now output.new }
+    ensures alone { AloneOf now result old.now new.now output.new }
     ensures newer { LaterOf result old.now new.now }
     ensures rooms { IsShortForNewer result (length old.now + length new.now)
         (32 + 2 * (length old.now + length new.now)) (length buffer.old) (length output.old) }
@@ -204,14 +209,12 @@ pub fn advance(
     }
 }
 
-/// Why data whose serial number isn't later are refused, by the ends of both data and the length of
-/// the delta between them.
+/// Why data are refused whose serial number isn't later, given the ends of both data and the length
+/// of the delta between them.
 fn not_later(before: &EndOfData, end: &EndOfData, size: usize) -> Refused
     ensures why { NamesWhy result before.now end.now size }
     ensures no_flaw { (b : List ℕ) → IsFlawIn b result }
     ensures rooms { (b o have out : ℕ) → IsShortForNewer (Err result) b o have out }
-    ensures longest { (since most : ℕ) (z x : Snapshot) (old after : List ℕ) →
-        IsLongest since most (Err result) z x old after }
 {
     if before.serial().0 != end.serial().0 {
         return Refused::Serial;

@@ -1,25 +1,25 @@
-//! `Stores` as plain numbers, for a caller that keeps them between calls.
+//! `Stores` as plain numbers, for a caller that stores them between calls.
 
 ghost use Rattle.std.specs.Prelude.{◌≡◌};
 ghost use Rattle.data_history.specs.Stores.{are_of_stores};
 
-/// The numbers of a `Stores`: `Stores::numbers` returns them, and `Stores::of_numbers` makes the
-/// same `Stores` of them.
+/// The numbers of a `Stores`: `Stores::numbers` returns them, and `Stores::of_numbers` restores the
+/// `Stores` from them.
 #[derive(Clone, Copy, Debug, PartialEq, Eq)]
 pub struct Numbers {
     /// The length of the store that is served, if there is one.
     pub served: Option<usize>,
-    /// The length of the store that waits to be saved, if there is one.
+    /// The length of the store that is pending, if there is one.
     pub taken: Option<usize>,
-    /// Whether the store that is served is in the second buffer.
+    /// Whether the served store is in the second buffer.
     pub second: bool,
     /// The session of this start, if the cache doesn't save.
     pub unsaved: Option<u16>,
 }
 
 impl Numbers {
-    /// Reports whether a `Stores` has these numbers: only a store that is served is in the second
-    /// buffer, and none waits where the cache doesn't save.
+    /// Reports whether these are numbers of a `Stores`: only a served store is in the second
+    /// buffer, and none is pending if the cache doesn't save.
     pub fn are_of_stores(&self) -> bool
         ensures { result ≡ are_of_stores self.now }
     {

@@ -5,9 +5,10 @@ ghost use Rattle.std.specs.Prelude.{drop};
 ghost use Rattle.rtr_base.specs.Bytes.{value};
 ghost use Rattle.data_slices.specs.Canonical.{HoldsData};
 ghost use Rattle.data_history.specs.Snapshots.{HoldsHistory, Snapshot};
-ghost use Rattle.data_history.specs.Parts.{HasPart, head_bytes, part_bytes, part_rest, part_time};
+ghost use Rattle.data_history.specs.Parts.{HasPart, head_bytes, part_bytes, part_rest, part_size};
+ghost use Rattle.data_history.specs.Parts.{part_time};
 
-/// How many bytes stand before the bytes of a part.
+/// The number of bytes before the bytes of a part.
 pub const HEAD: usize = 16;
 
 /// The number of eight bytes at an offset.
@@ -28,7 +29,7 @@ pub fn length_of(bytes: &[u8]) -> u64
     bytes.len() as u64
 }
 
-/// What stands before the bytes of a part.
+/// The 16 bytes before the bytes of a part.
 #[tactic(auto, unfolding(crate::specs::Parts::head_bytes))]
 pub fn head(time: u64, size: u64) -> [u8; 16]
     ensures { result ≡ head_bytes time size }
@@ -61,13 +62,14 @@ pub fn first_part(input: &[u8]) -> Option<(u64, &[u8], &[u8])>
     Some((time, bytes, rest))
 }
 
-/// Where the present data of a history stand in it: their offset, and their length.
+/// Returns the offset and the length of the present data in a history: of the first part's bytes.
 pub fn data_at(history: &[u8]) -> Option<(usize, usize)>
     ensures holds { IfSome result (λ p. (x : Snapshot) (ys : List Snapshot) →
         HoldsHistory history.now x ys →
         HoldsData (take p.1 (drop p.0 history.now)) x.payloads x.end) }
-    ensures finds { (x : Snapshot) (ys : List Snapshot) → HoldsHistory history.now x ys →
-        IsSome result }
+    ensures at { IfSome result (λ p. HasPart history.now × (p.0 ≡ 16)
+        × (p.1 ≡ part_size history.now)) }
+    ensures finds { HasPart history.now → IsSome result }
 {
     match first_part(history) {
         Some(part) => Some((HEAD, part.1.len())),

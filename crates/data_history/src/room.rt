@@ -2,7 +2,7 @@
 
 ghost use Rattle.std.specs.Prelude.{◌<◌, ◌≤◌, ◌+◌, length};
 
-/// One of the slices that a call works in or writes to.
+/// One of the slices that a call uses as work space or output.
 #[derive(Clone, Copy, Debug, PartialEq, Eq)]
 pub enum Room {
     /// The index, in elements.
@@ -15,8 +15,8 @@ pub enum Room {
     Output,
 }
 
-/// Returns how long an output has to be that is too short for so many bytes, or the greatest
-/// number.
+/// Returns the length that an output needs for this many bytes, or the greatest number if that is
+/// less. An output that is too short is shorter than the result.
 pub fn wanted_of(output: &[u8], head: usize, first: usize, second: usize, third: usize) -> usize
     ensures more { length output.now < head + first + second + third → length output.now < result }
     ensures most { result ≤ head + first + second + third }

@@ -1,4 +1,4 @@
-//! The head of a saved file: its form, and the length and the checksum of what follows.
+//! The head of a saved file: its format, and the length and the checksum of what follows.
 
 ghost use Rattle.std.specs.Prelude.{◌≡◌, ◌++◌, IfSome, IsSome, List, ℕ};
 ghost use Rattle.data_history.specs.Seal.{fnv, old_head, seal};
@@ -9,12 +9,12 @@ const BASIS: u64 = 14_695_981_039_346_656_037;
 /// The factor of the FNV-1a hash.
 const PRIME: u64 = 1_099_511_628_211;
 
-/// How long the head of a file is, and that of a file of the form before.
+/// The length of the head of a file, and of a file of the earlier format.
 const HEAD: usize = 24;
 
 const OLD_HEAD: usize = 16;
 
-/// Returns the head of a file that has these bytes behind it.
+/// Returns the head of a file with these bytes after it.
 #[tactic(auto, unfolding(crate::specs::Seal::seal))]
 pub fn seal_head(saved: &[u8]) -> [u8; 24]
     ensures { result ≡ seal saved.now }
@@ -26,7 +26,7 @@ pub fn seal_head(saved: &[u8]) -> [u8; 24]
     head
 }
 
-/// Returns what follows the head of a file, if the head is that of these bytes.
+/// Returns what follows the head of a file, if the head matches it.
 pub fn open_saved(file: &[u8]) -> Option<&[u8]>
     ensures opens { IfSome result (λ s. file.now ≡ seal s.now ++ s.now) }
     ensures finds { (s : List ℕ) → file.now ≡ seal s ++ s → IsSome result }
@@ -41,7 +41,7 @@ pub fn open_saved(file: &[u8]) -> Option<&[u8]>
     None
 }
 
-/// Returns the history in a file of the form `rtrkept1`, if its head is that of these bytes.
+/// Returns the history in a file of the format `rtrkept1`, if its head matches it.
 pub fn open_old(file: &[u8]) -> Option<&[u8]>
     ensures opens { IfSome result (λ s. file.now ≡ old_head s.now ++ s.now) }
     ensures finds { (s : List ℕ) → file.now ≡ old_head s ++ s → IsSome result }
@@ -56,7 +56,7 @@ pub fn open_old(file: &[u8]) -> Option<&[u8]>
     None
 }
 
-/// The head of a file of the form `rtrkept1`.
+/// The head of a file of the format `rtrkept1`.
 #[tactic(auto, unfolding(crate::specs::Seal::old_head))]
 fn head_before(saved: &[u8]) -> [u8; 16]
     ensures { result ≡ old_head saved.now }

@@ -10,7 +10,7 @@ use crate::room::Room;
 use data_slices::check_changes;
 
 /// Writes the serial numbers of the earlier data of a history, the latest first, and returns how
-/// many there are. If the output has no room for all, it writes none.
+/// many there are. If the output is too short for all of them, it writes none.
 ///
 /// An output of one element for each 16 bytes always suffices.
 pub fn serials_into(history: &[u8], output: &mut [u32]) -> Result<usize, CheckFault>
@@ -35,7 +35,7 @@ pub fn serials_into(history: &[u8], output: &mut [u32]) -> Result<usize, CheckFa
     Ok(count)
 }
 
-/// How many steps there are.
+/// The number of steps.
 fn steps_in(steps: &[u8]) -> usize
     ensures number { (x : Snapshot) (ys : List Snapshot) → GoesBack steps.now x ys →
         result ≡ length ys }
@@ -52,8 +52,8 @@ fn steps_in(steps: &[u8]) -> usize
     }
 }
 
-/// Writes the serial number of the data that each of the first steps leads to, and reports whether
-/// there are as many steps.
+/// Writes the serial number of the data to which each of the first steps leads, and reports whether
+/// there are that many steps.
 fn write_serials(steps: &[u8], output: &mut [u32]) -> bool
     ensures { (x : Snapshot) (ys : List Snapshot) → GoesBack steps.now x ys →
         length output.old ≡ length ys → IsTrue result × (output.new ≡ serials_of ys) }
@@ -75,7 +75,7 @@ fn write_serials(steps: &[u8], output: &mut [u32]) -> bool
     true
 }
 
-/// Puts a serial number behind the `count` first ones, if there is room for it.
+/// Writes a serial number after the first `count` ones, if there is room for it.
 fn put_serial(output: &mut [u32], count: usize, serial: u32)
     ensures same_length { length output.new ≡ length output.old }
     ensures held { count + 1 ≤ length output.old →

@@ -15,32 +15,33 @@ use rtr_base::state::Serial;
 use rtr_units::header::LAST_VERSION;
 use rtr_wire::normalise_for_into;
 
-/// How many bytes longer an end of data is in versions 1 and 2 than in version 0.
+/// The number of bytes by which an end of data is longer in versions 1 and 2 than in version 0.
 const LONGER: usize = 12;
 
-/// Why there are no changes for a router.
+/// Why the changes for a router can't be written.
 #[derive(Clone, Copy, Debug, PartialEq, Eq)]
 pub enum SinceFault {
     /// The history has no data of this serial number.
     Unknown,
     /// The protocol version is above 2.
     UnitVersion,
-    /// The bytes are no history.
+    /// The bytes are not a history.
     Malformed,
-    /// This slice is too short. With `wanted` bytes it suffices for this history.
+    /// This slice is too short. `wanted` elements or bytes suffice for this history.
     NoRoom { room: Room, wanted: usize },
 }
 
 /// Writes the changes that lead a router of a version from the data of a serial number to the
 /// present ones, in canonical form, with the end of the present data (RFC 8210 section 8.2), and
-/// returns their length. It allocates nothing: it works in an index and two buffers, whose content
-/// is open afterwards. However many steps lead back to the data, it goes over the data once.
+/// returns their length. It allocates nothing: it uses an index and two buffers as work space,
+/// whose content is undefined afterwards. However many steps lead back to the data, it makes one
+/// pass over the data.
 ///
 /// An index of one element for each 12 bytes of the history, a buffer twice as long as the history,
 /// a spare one as long as it, and an output 12 bytes longer than the buffer always suffice.
 ///
-/// `UnitVersion` comes first for a version above 2, and `Unknown` where the history has no data of
-/// the serial number, both with nothing written.
+/// `UnitVersion` comes first, for a version above 2, and then `Unknown`, if the history has no data
+/// of the serial number, both with nothing written.
 pub fn since_into(
     history: &[u8],
     serial: Serial,
@@ -81,7 +82,8 @@ pub fn since_into(
     }
 }
 
-/// The fault of steps that could not be joined, where a buffer is wanted that is this long.
+/// The fault of steps that couldn't be joined, with `wanted` as the length of the buffer that
+/// suffices.
 fn enlarged(fault: SinceFault, wanted: usize) -> SinceFault
     ensures { result ≡ grown fault wanted }
 {
@@ -93,7 +95,7 @@ fn enlarged(fault: SinceFault, wanted: usize) -> SinceFault
     }
 }
 
-/// Writes the data that the joined changes of steps back make of the present ones, and returns
+/// Writes the data that result from applying the joined steps back to the present data, and returns
 /// their length.
 fn return_to(
     present: &[u8],

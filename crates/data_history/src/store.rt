@@ -1,9 +1,10 @@
-//! What a cache saves: the sessions that it left, and the history of the present one.
+//! The file of a cache: the sessions that it left, and the history of the present one.
 
-ghost use Rattle.std.specs.Prelude.{◌≡◌, ◌<◌, ◌≤◌, ◌+◌, ◌^◌, ◌++◌, ◌↔◌, IfOk, IfSome, IsSome};
+ghost use Rattle.std.specs.Prelude.{◌≡◌, ◌≢◌, ◌<◌, ◌≤◌, ◌+◌, ◌^◌, ◌++◌, ◌↔◌, IfOk, IfSome, IsSome};
 ghost use Rattle.std.specs.Prelude.{IsTrue, List, [], Some, drop, length, take};
+ghost use Rattle.rtr_base.specs.Bytes.{be};
 ghost use Rattle.data_slices.specs.Canonical.{PlacesFront};
-ghost use Rattle.data_history.specs.Parts.{head_bytes, part_rest};
+ghost use Rattle.data_history.specs.Parts.{head_bytes, part_bytes, part_form, part_rest};
 ghost use Rattle.data_history.specs.Snapshots.{HoldsHistory, Snapshot};
 ghost use Rattle.data_history.specs.Store.{BeginsStore, IsAmong, WantsOutput, WritesStore};
 ghost use Rattle.data_history.specs.Store.{HoldsStore, left_sessions, sessions_of};
@@ -18,20 +19,21 @@ use unit_views::placing::place;
 /// Why no store was written.
 #[derive(Clone, Copy, Debug, PartialEq, Eq)]
 pub enum TakeFault {
-    /// The cache left the session of the new data before.
+    /// The cache has already left the session of the new data.
     SessionLeft,
-    /// The old bytes are no store.
+    /// The old bytes are not a store.
     Malformed,
     /// The output is too short. `wanted` bytes suffice.
     NoRoom { wanted: usize },
 }
 
 /// Writes the first store of a cache, which left no session, and returns its length: 16 bytes more
-/// than that of the history.
+/// than the history.
 pub fn first_store_into(history: &[u8], output: &mut [u8]) -> Result<usize, TakeFault>
     ensures begins { (z : Snapshot) (ys : List Snapshot) → HoldsHistory history.now z ys →
         BeginsStore result z ys output.new }
     ensures history { IfOk result (λ n. part_rest (take n output.new) ≡ history.now) }
+    ensures form { IfOk result (λ n. take n output.new ≡ part_form 0 [] ++ history.now) }
     ensures room { WantsOutput result (16 + length history.now) (length output.old) }
 {
     match place_store(&[], &[], history, output) {
@@ -42,8 +44,8 @@ pub fn first_store_into(history: &[u8], output: &mut [u8]) -> Result<usize, Take
     }
 }
 
-/// Writes the store of a file of the form `rtrkept1`, whose cache left no session, and returns its
-/// length, which is that of the file. If the output has no room for it, or the file isn't whole, it
+/// Writes the store of a file of the format `rtrkept1`, whose cache left no session, and returns
+/// its length, which is that of the file. If the output is too short, or the file isn't whole, it
 /// writes nothing.
 pub fn old_store_into(file: &[u8], output: &mut [u8]) -> Result<usize, CheckFault>
     ensures opens { OpensOld result file.now output.old output.new }
@@ -64,9 +66,9 @@ pub fn old_store_into(file: &[u8], output: &mut [u8]) -> Result<usize, CheckFaul
     }
 }
 
-/// Writes the store to be saved after newer data, of which this is the history, and returns its
-/// length. It names the session of the present data and that of the newer ones: if they differ, the
-/// present one is left, and a session that was left is refused.
+/// Writes the store to save after newer data, whose history this is, and returns its length. It
+/// takes the session of the present data and that of the newer ones: if they differ, the present
+/// one is recorded as left, and a session that was left before is refused.
 ///
 /// An output 18 bytes longer than the old store and the history together always suffices.
 pub fn take_into(
@@ -79,6 +81,10 @@ pub fn take_into(
     ensures takes { (x z : Snapshot) (ys zs : List Snapshot) → WritesStore result store.now present
         next history.now x z ys zs output.new }
     ensures history { IfOk result (λ n. part_rest (take n output.new) ≡ history.now) }
+    ensures stays { IfOk result (λ n. present ≡ next →
+        take n output.new ≡ part_form 0 (part_bytes store.now) ++ history.now) }
+    ensures leaves { IfOk result (λ n. present ≢ next →
+        take n output.new ≡ part_form 0 (be present 2 ++ part_bytes store.now) ++ history.now) }
     ensures room { WantsOutput result (18 + length store.now + length history.now)
         (length output.old) }
 {
@@ -105,7 +111,7 @@ pub fn take_into(
     }
 }
 
-/// Writes the part of the sessions, in two pieces, and the history behind it.
+/// Writes the part of the sessions, in two pieces, and the history after it.
 fn place_store(last: &[u8], left: &[u8], history: &[u8], output: &mut [u8]) -> Option<usize>
     ensures bytes { IfSome result (λ n. PlacesFront (Some n)
         ((head_bytes 0 (length last.now + length left.now) ++ last.now) ++ left.now ++ history.now)

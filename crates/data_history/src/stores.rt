@@ -1,4 +1,4 @@
-//! The store that a cache serves, and the next one, which has to be saved first.
+//! The store that a cache serves, and the next one, which must be saved first.
 
 ghost use Rattle.std.specs.Prelude.{◌≡◌, ◌≤◌, ◌+◌, ◌-◌, ◌∷◌, ℕ, ◌↔◌, IfErr, IfOk, IfSome};
 ghost use Rattle.std.specs.Prelude.{[], Err, IsOk, IsSome, IsTrue, List, None, Option, Some};
@@ -9,7 +9,8 @@ ghost use Rattle.data_history.specs.Life.{IsLife, IsUnsavedLife, MayTake};
 ghost use Rattle.data_history.specs.Parts.{HasPart, part_rest};
 ghost use Rattle.data_history.specs.Snapshots.{HoldsHistory, Snapshot};
 ghost use Rattle.data_history.specs.Store.{HoldsStore};
-ghost use Rattle.data_history.specs.Stores.{ChecksStore, IsFlawOfNew, IsShortForTaking, MayBeOf};
+ghost use Rattle.data_history.specs.Stores.{ChecksNewFirst, ChecksStore, IsShortForTaking};
+ghost use Rattle.data_history.specs.Stores.{IsStoreFrom, MayBeOf};
 ghost use Rattle.data_history.specs.Stores.{TakesData, after_call, after_giving_up, after_saving};
 ghost use Rattle.data_history.specs.Stores.{fresh_stores, front_of, held_of};
 ghost use Rattle.data_history.specs.Stores.{numbered_stores, numbers_of, other_of, served_store};
@@ -23,26 +24,26 @@ use crate::part::first_part;
 use data_slices::check_data;
 use rtr_units::end::EndOfData;
 
-/// The store that a cache serves, and the next one, which waits to be saved, each in one of two
-/// buffers, which belong to the caller and are passed to each call.
+/// The store that a cache serves, and the next one, which is pending until it is saved, each in one
+/// of two buffers, which the caller owns and passes to each call.
 ///
-/// New data are served only once the caller says that their store is saved, and the next data are
-/// taken only after that: so two data are never served under one session and serial number
-/// (`laws::one_data_under_each_name`), if a cache starts from what it saved.
+/// New data are served only once the caller reports that their store is saved, and the next data
+/// are taken only after that: so a cache that starts from its saved file never serves two different
+/// data under one session and serial number (`laws::one_data_under_each_name`).
 #[derive(Clone, Copy, Debug, PartialEq, Eq)]
 pub struct Stores {
-    /// The length of the store that is served, if there is one.
+    /// The length of the served store, if there is one.
     served: Option<usize>,
-    /// The length of the store that waits to be saved, if there is one, in the other buffer.
+    /// The length of the pending store, if there is one, in the other buffer.
     taken: Option<usize>,
-    /// Whether the store that is served is in the second buffer.
+    /// Whether the served store is in the second buffer.
     second: bool,
     /// The session of this start, if the cache doesn't save.
     unsaved: Option<u16>,
 }
 
 impl Stores {
-    /// Those of a new cache, which saves, and has no data and no file yet.
+    /// The stores of a new cache, which saves, and has no data and no file yet.
     pub fn new() -> Stores
         ensures is { result ≡ fresh_stores None None }
         ensures life { (first second : List ℕ) →
@@ -56,8 +57,8 @@ impl Stores {
         }
     }
 
-    /// Those of a cache that doesn't save, at a start: all data are of this session, under which it
-    /// served none before (RFC 8210 section 5.1).
+    /// The stores of a cache that doesn't save, at a start: all data are of this session, under
+    /// which it served none before (RFC 8210 section 5.1).
     pub fn unsaved(session: u16) -> Stores
         ensures is { result ≡ fresh_stores None (Some session) }
         ensures session { result.unsaved ≡ Some session }
@@ -85,7 +86,7 @@ impl Stores {
         }
     }
 
-    /// The stores that have these numbers, or none if the numbers are of none.
+    /// The stores with these numbers, or none if no stores have them.
     pub fn of_numbers(numbers: &Numbers) -> Option<Stores>
         ensures { result ≡ numbered_stores numbers.now }
     {
@@ -100,9 +101,9 @@ impl Stores {
         })
     }
 
-    /// Those of a cache that saves, at a start: its file has the store of this length at the front
-    /// of the first buffer, which is served. It works in an index and a buffer, as `check_history`
-    /// does.
+    /// The stores of a cache that saves, at a start: its file's store, of this length, is at the
+    /// front of the first buffer, and is served. It uses an index and a buffer as work space, as
+    /// `check_history` does.
     pub fn start(
         size: usize,
         first: &[u8],
@@ -157,7 +158,11 @@ impl Stores {
             TakesData (now - limits.now.time) limits.now.bytes result self.old
             (served_store self.old first.old second.old) z
             (other_of self.old.second first.new second.new) }
-        ensures flaw { IfErr result (IsFlawOfNew new.now) }
+        ensures form { IfOk result (λ n. (z : Snapshot) → HoldsData new.now z.payloads z.end →
+            IsStoreFrom now (now - limits.now.time) limits.now.bytes
+            (served_store self.old first.old second.old) z new.now
+            (take n (other_of self.old.second first.new second.new))) }
+        ensures flaw { ChecksNewFirst self.old.taken result new.now }
         ensures rooms { IsShortForTaking result
             (size_of (served_store self.old first.old second.old) + length new.now)
             (length buffer.old) (length spare.old)
@@ -188,7 +193,7 @@ impl Stores {
         }
     }
 
-    /// Writes the store that newer data make of the served one, if there is one, and returns its
+    /// Writes the store of the newer data after the served one, if there is one, and returns its
     /// length.
     fn write(
         &self,
@@ -205,7 +210,10 @@ impl Stores {
             TakesData (now - limits.now.time) limits.now.bytes result self.now
             (front_of self.now.served held.now) z output.new }
         ensures holds { IfOk result (λ n. (z : Snapshot) × HoldsData new.now z.payloads z.end) }
-        ensures flaw { IfErr result (IsFlawOfNew new.now) }
+        ensures form { IfOk result (λ n. (z : Snapshot) → HoldsData new.now z.payloads z.end →
+            IsStoreFrom now (now - limits.now.time) limits.now.bytes
+            (front_of self.now.served held.now) z new.now (take n output.new)) }
+        ensures flaw { ChecksNewFirst self.now.taken result new.now }
         ensures rooms { IsShortForTaking result
             (size_of (front_of self.now.served held.now) + length new.now) (length buffer.old)
             (length spare.old) (length output.old) }
@@ -236,7 +244,7 @@ impl Stores {
         }
     }
 
-    /// Notes the length of a store that was written.
+    /// Records the length of a store that was written.
     fn note(&mut self, written: Result<usize, Untaken>) -> Result<usize, Untaken>
         ensures same { result ≡ written }
         ensures after { self.new ≡ after_call written self.old }
@@ -274,8 +282,8 @@ impl Stores {
         front(second, size)
     }
 
-    /// Returns the store that waits to be saved, if there is one. Before `saved` is called the file
-    /// must be replaced as a whole, by the head of `seal_head` and this store, and synced.
+    /// Returns the pending store, if there is one. Before calling `saved`, replace the file as a
+    /// whole, by the head of `seal_head` and this store, and sync it.
     pub fn to_save<'a>(&self, first: &'a [u8], second: &'a [u8]) -> Option<&'a [u8]>
         ensures is { IfSome result (λ b. taken_store self.now first.now second.now ≡ Some b.now) }
         ensures finds { IsSome self.now.taken → IsSome result }
@@ -286,8 +294,8 @@ impl Stores {
         }
     }
 
-    /// Says that the file has the store that was taken, which is served from now on. If none waits,
-    /// nothing happens.
+    /// Records that the file has the pending store, which is served from now on. No-op if none is
+    /// pending.
     pub fn saved(&mut self)
         ensures after { self.new ≡ after_saving self.old.taken self.old }
         ensures life { (xs : List Snapshot) (first second b : List ℕ) (z : Snapshot)
@@ -306,8 +314,8 @@ impl Stores {
         }
     }
 
-    /// Drops the store that waits to be saved, as when saving failed: the served store stays,
-    /// whether or not the file has the other one.
+    /// Drops the pending store, as when saving failed: the served store stays, whether or not the
+    /// file has the other one.
     pub fn give_up(&mut self)
         ensures after { self.new ≡ after_giving_up self.old }
         ensures life { (xs : List Snapshot) (file : Option (List ℕ)) (first second : List ℕ) →
@@ -319,7 +327,8 @@ impl Stores {
         self.taken = None;
     }
 
-    /// The history that is served: what answers queries, by `since_into`, `knows` and `first_part`.
+    /// Returns the served history, from which `since_into`, `knows` and `first_part` answer
+    /// queries.
     pub fn history<'a>(&self, first: &'a [u8], second: &'a [u8]) -> Option<&'a [u8]>
         ensures is { IfSome result (λ h. (b : List ℕ) →
             served_store self.now first.now second.now ≡ Some b → h.now ≡ part_rest b) }
@@ -341,8 +350,7 @@ impl Stores {
         }
     }
 
-    /// Where the history that is served stands in the buffer of the store that is served: its
-    /// offset, and its length.
+    /// Returns the offset and the length of the served history in the buffer of the served store.
     pub fn history_at(&self, first: &[u8], second: &[u8]) -> Option<(usize, usize)>
         ensures at { IfSome result (λ p. (b : List ℕ) →
             served_store self.now first.now second.now ≡ Some b → drop p.0 b ≡ part_rest b) }
@@ -360,7 +368,7 @@ impl Stores {
     }
 }
 
-/// Where the parts after the first one begin, and how long they are.
+/// Returns the offset and the length of the parts after the first one.
 fn rest_at(parts: &[u8]) -> Option<(usize, usize)>
     ensures at { IfSome result (λ p. drop p.0 parts.now ≡ part_rest parts.now) }
     ensures length { IfSome result (λ p. p.0 + p.1 ≡ length parts.now) }

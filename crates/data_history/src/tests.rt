@@ -26,7 +26,7 @@ const fn end(session: u8, serial: u8) -> [u8; 24] {
     ]
 }
 
-/// The time and the length before a part.
+/// The time and the length, which come before a part.
 const fn part(time: u8, size: u8) -> [u8; 16] {
     [0, 0, 0, 0, 0, 0, 0, time, 0, 0, 0, 0, 0, 0, 0, size]
 }
@@ -172,7 +172,7 @@ fn only_times_that_differ_are_named(rt: HostRuntime) -> Result<(), Fail> {
     Ok(())
 }
 
-/// Old and new data have 244 bytes together, and what is written 280.
+/// Old and new data have 244 bytes together, and the output 280.
 #[test]
 fn slices_that_are_too_short_are_named(rt: HostRuntime) -> Result<(), Fail> {
     let (old, new) = (history(&rt)?, joined(&rt, &[&prefix(1, 1, A), &end(7, 4)])?);
@@ -210,7 +210,7 @@ fn slices_that_are_too_short_are_named(rt: HostRuntime) -> Result<(), Fail> {
     Ok(())
 }
 
-/// What is written for a serial query.
+/// Returns the output for a serial query.
 fn since(rt: &HostRuntime, serial: u32, version: u8) -> Result<Vec<u8>, Fail> {
     let (mut index, mut buffer, mut spare, mut output) = ([0; 16], [0; 512], [0; 512], [0; 512]);
     let history = history(rt)?;
@@ -370,8 +370,8 @@ fn are_ones(bytes: Option<&[u8]>) -> bool {
     bytes.unwrap_or(&[]).iter().all(|byte| *byte == 1)
 }
 
-/// A file of the form before has the head `rtrkept1` and a history, whose store begins with a part
-/// of no sessions.
+/// A file of the earlier format has the head `rtrkept1` and a history, whose store begins with an
+/// empty part of sessions.
 #[test]
 fn files_of_the_form_before_are_opened(rt: HostRuntime) -> Result<(), Fail> {
     let saved = history(&rt)?;
@@ -431,7 +431,7 @@ fn earlier_serial_numbers_are_listed(rt: HostRuntime) -> Result<(), Fail> {
     Ok(())
 }
 
-/// The store after newer data of a session.
+/// Returns the store after newer data of a session.
 fn taken(rt: &HostRuntime, store: &[u8], present: u16, next: u16) -> Result<Vec<u8>, Fail> {
     let mut output = [0; 512];
     let size = take_into(store, present, next, &history(rt)?, &mut output).unwrap_or(0);
@@ -463,7 +463,7 @@ fn a_session_that_was_left_is_not_taken_up_again(rt: HostRuntime) -> Result<(), 
     Ok(())
 }
 
-/// The two buffers of a cache, and those to work in.
+/// The two buffers of a cache, and its work space.
 #[derive(Drop)]
 struct Buffers {
     first: [u8; 512],
@@ -491,7 +491,7 @@ fn take(stores: &mut Stores, new: &[u8], now: u64, b: &mut Buffers) -> Result<us
     )
 }
 
-/// The serial number that a router gets.
+/// Returns the serial number that a router gets.
 fn served(stores: &Stores, b: &Buffers) -> Option<u32> {
     let history = stores.history(&b.first, &b.second)?;
     let (mut index, mut buffer) = ([0; 16], [0; 512]);

@@ -1,7 +1,8 @@
 -- A life of stores with two data, in which the later ones are stored with a step back to the
 -- earlier ones, which the prover computes, so that the premises of the laws are seen to be met.
 use native.Mathlib.Omega.{arith}
-use Rattle.std.proofs.Common.{◌≡◌, ◌<◌, ◌^◌, ◌∙◌, ℕ, List, [], ◌∷◌, ◌++◌, Option, Some, None, Ok, length}
+use Rattle.std.proofs.Common.{◌≡◌, ◌<◌, ◌^◌, ◌∙◌, ℕ, List, [], ◌∷◌, ◌++◌, Option, Some, None, Ok}
+use Rattle.std.proofs.Common.{length}
 use Rattle.std.proofs.Common.{append-nil, ap, inl, lit<, refl, subst, sym, take}
 use Rattle.std.proofs.lemmas.List.{take_all}
 use Rattle.data_memory.proofs.Versions.{no_data}

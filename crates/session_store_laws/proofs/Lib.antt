@@ -5,6 +5,7 @@ mod Example
 mod ExampleHistory
 mod FromServed
 mod Held
+mod KeptVersions
 mod OneName
 mod Sending
 mod Shown

@@ -1,4 +1,4 @@
-//! What a cache writes of the history that its stores serve is what its machine answers.
+//! What a cache writes of the history that its stores serve is the answer of its machine.
 
 ghost use Rattle.std.specs.Prelude.{◌≡◌, ◌∷◌, ◌++◌, [], ℕ, Bool, IsSome, List, Ok, Some, false};
 ghost use Rattle.std.specs.Prelude.{length, take};
@@ -27,9 +27,9 @@ ghost use Rattle.session_store_laws.specs.ServedData.{AreHad, AreServed, IsEditi
 use data_history::laws::what_is_stored_is_a_history;
 use session_server_laws::laws::queries_are_answered_in_order;
 
-/// Where a cache's machine answers a query with changes, and was given the serial numbers that
+/// If a cache's machine answers a query with changes, and was given the serial numbers that
 /// `serials_into` writes of the history, the history has the data that the changes are from, so
-/// that `since_into` doesn't return `Unknown`. The bytes that `since_into` writes, behind the unit
+/// that `since_into` doesn't return `Unknown`. The bytes that `since_into` writes, after the unit
 /// of `place_opening`, are this answer, and the changes are from data that the cache had, if it had
 /// those of the history. These are some of the data that were stored.
 pub fn changes_are_from_the_history()
@@ -54,8 +54,8 @@ pub fn changes_are_from_the_history()
     what_is_stored_is_a_history();
 }
 
-/// What `normalise_for_into` writes of the present data for the version of a connection, behind the
-/// unit of `place_opening`, is the answer to a query for all data.
+/// The output of `normalise_for_into` for the present data and the version of a connection, after
+/// the unit of `place_opening`, is the answer to a query for all data.
 pub fn all_data_are_the_present()
     ensures { (had : List PayloadEdition) (t : Turn) (limit : ℕ)
         (input opening before after : List ℕ) (progress : Progress) (x : Snapshot)
@@ -68,9 +68,9 @@ pub fn all_data_are_the_present()
 {}
 
 /// On each connection of a cache that serves what its stores serve, whatever comes and whenever,
-/// the bytes of each answer with data are all of a snapshot that the stores served, or the changes
-/// to it from one of its session that they served, too, at the serial number of the answer; or
-/// there are none, where the host gave up.
+/// the bytes of each answer with data are either all of a snapshot that the stores served, or the
+/// changes to it from another snapshot of its session that they served, with the serial number of
+/// the answer; or there are none, if the host gave up.
 pub fn answers_are_of_served_data()
     ensures { (s : ServerSettings) (served : List Snapshot) (had : List PayloadEdition)
         (w : Service) → AreServed served had → IsRunOfService s had w
@@ -80,7 +80,7 @@ pub fn answers_are_of_served_data()
 }
 
 /// There are a history of two data, a query of a router that has the earlier ones, and the changes
-/// that were written for it, where the cache had both; data with a prefix, all of which were
+/// that were written for it by a cache that had both; data with a prefix, all of which were
 /// written; and a run in which a cache sends data that its stores served. They meet the premises of
 /// the laws above.
 pub fn stored_data_are_sent()

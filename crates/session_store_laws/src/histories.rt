@@ -1,22 +1,27 @@
-//! Each of the data of a history that a cache's stores hold was served by them, and so the changes
-//! that are written of it lead from data that were served.
+//! A cache's stores served each of the data of a history that they hold, and so the changes that
+//! are written from it lead from data that were served.
 
-ghost use Rattle.std.specs.Prelude.{◌≡◌, ◌∷◌, ◌++◌, [], ℕ, List, None, Ok, Option, Some, length};
-ghost use Rattle.std.specs.Prelude.{take};
+ghost use Rattle.std.specs.Prelude.{◌≡◌, ◌<◌, ◌≤◌, ◌∷◌, ◌++◌, [], ℕ, Err, List, None, Ok, Option};
+ghost use Rattle.std.specs.Prelude.{Some, length, take, true};
 ghost use Rattle.rtr_units.specs.Queries.{bare_list};
 ghost use Rattle.data_history.specs.Life.{MayTake};
 ghost use Rattle.data_history.specs.Parts.{part_rest};
 ghost use Rattle.data_history.specs.Since.{WritesChangesSince};
 ghost use Rattle.data_history.specs.Snapshots.{HoldsHistory, Snapshot, snapshot_at};
 ghost use Rattle.data_history.specs.Store.{HoldsStore};
-ghost use Rattle.data_history.specs.Stores.{TakesData, after_giving_up, after_saving, after_taking};
+ghost use Rattle.data_history.specs.Stores.{TakesData, TakesLater, after_giving_up, after_saving};
+ghost use Rattle.data_history.specs.Stores.{after_taking};
 ghost use Rattle.data_history.specs.Stores.{fresh_stores, held_of, other_of, served_store};
 ghost use Rattle.data_history.specs.Stores.{taken_store};
+ghost use Rattle.data_history.specs.declared.newer.Untaken.TheVariants.{Refused};
+ghost use Rattle.data_history.specs.declared.next.Refused.TheVariants.{UnitVersion};
 ghost use Rattle.data_history.specs.declared.stores.Stores.{Stores};
 ghost use Rattle.session_cache.specs.Worlds.{IsIn};
 ghost use Rattle.session_cache.specs.declared.event.Answer.TheVariants as answers;
+ghost use Rattle.session_cache.specs.declared.event.Present.{Present};
 ghost use Rattle.session_bytes.specs.Answered.{opening_bytes};
 ghost use Rattle.session_laws.specs.Editions.{PayloadEdition};
+ghost use Rattle.session_server.specs.Keeping.{kept_version};
 ghost use Rattle.session_server_laws.specs.Services.{Turn, WritesTurn};
 ghost use Rattle.session_store_laws.specs.HeldHistory.{AllIn, HasLife, HasUnsavedLife};
 ghost use Rattle.session_store_laws.specs.HeldHistory.{KeepsHistory, ServesHistory};
@@ -25,11 +30,11 @@ ghost use Rattle.session_store_laws.specs.ServedData.{AreHad, AreServed, HasServ
 
 use crate::answers::changes_are_from_the_history;
 
-/// Over any life of a cache's stores, with savings that succeed or fail, starts and cuts of power
-/// at any time: each of the data of the history that is served, the present ones and those back,
-/// was served. Of a history that waits to be saved, or is in the file, each was but the present
-/// ones, which were taken. In such a life no store has other earlier data than the one before it,
-/// which the next law says of `Stores`.
+/// Over any life of a cache's stores, with saves that succeed or fail, starts and power cuts at any
+/// time: each of the data of the history that is served, the present ones and earlier ones, was
+/// served. For a history that is pending, or is in the file, this holds of all but the present
+/// data, which were taken. In such a life no store has other earlier data than the previous store,
+/// which the next law states for `Stores`.
 pub fn the_history_is_of_served_data()
     ensures serves { (served : List Snapshot) (history : List ℕ) (x : Snapshot)
         (ys : List Snapshot) → ServesHistory served history → HoldsHistory history x ys
@@ -39,8 +44,8 @@ pub fn the_history_is_of_served_data()
         → AllIn served ys }
 {}
 
-/// What the calls of `Stores` promise leads on in such a life: `take`, where it returns a length,
-/// with a file and without, `saved`, `give_up`, and `start`.
+/// The contracts of the calls of `Stores` lead from state to state of such a life: `take`, if it
+/// returns a length, with a file and without, `saved`, `give_up`, and `start`.
 pub fn stores_add_only_what_they_take()
     ensures takes { (since most n : ℕ) (m after : Stores) (f s f' s' : List ℕ)
         (served : List Snapshot) (file : Option (List ℕ)) (z : Snapshot)
@@ -68,11 +73,11 @@ pub fn stores_add_only_what_they_take()
         → HasLife (z ∷ served) (Some (take size f)) (served_store m f s) (taken_store m f s) }
 {}
 
-/// Where a cache serves this history, the bytes that `since_into` writes of it for a serial query,
-/// behind the unit of `place_opening`, are the changes to the present data from data that its
-/// stores served under that serial number of their session. They are the answer of its machine,
-/// from data that the cache had, if it had all that its stores served; and whatever it had of these
-/// data, there are editions of the others.
+/// If a cache serves this history, the bytes that `since_into` writes for a serial query, after the
+/// unit of `place_opening`, are the changes to the present data from data that its stores served
+/// under that serial number of their session. They are the answer of its machine, from data that
+/// the cache had, if it had all that its stores served; and whatever it had of these data, there
+/// are editions of the others.
 pub fn changes_are_from_served_data()
     ensures sends { (served : List Snapshot) (t : Turn) (since size : ℕ)
         (history opening before after : List ℕ) (x : Snapshot) (ys : List Snapshot)
@@ -99,9 +104,24 @@ pub fn changes_are_from_served_data()
     changes_are_from_the_history();
 }
 
+/// Data in the version that `kept_version` returns are never refused for their version, if they
+/// came in no higher version than that of the present data: they have that of the present data, or
+/// another session. There are such data, of the present session and converted to its version.
+pub fn kept_versions_are_taken()
+    ensures taken { (since most new v : ℕ) (p : Present) (b after : List ℕ) (z x : Snapshot)
+        (ys : List Snapshot) → p.has ≡ true → p.session ≡ x.end.session → new ≤ x.end.version
+        → z.end.version ≡ kept_version p x.end.version z.end.session new
+        → TakesLater since most (Err (Refused (UnitVersion v))) b z x ys after → ⊥ }
+    ensures converted { (new : ℕ) × (p : Present) × (z x : Snapshot) × (p.has ≡ true)
+        × (p.session ≡ x.end.session) × (new < x.end.version)
+        × (z.end.session ≡ x.end.session) × (z.end.version ≡ x.end.version)
+        × (z.end.version ≡ kept_version p x.end.version z.end.session new) }
+{}
+
 /// There are a life of stores in which they served two data and have the changes back to the
-/// earlier ones, one without a file, and one in which the later data wait; first data that are
-/// taken; and the changes that were written for a query. They meet the premises of the laws above.
+/// earlier ones, one without a file, and one in which the later data are pending; first data that
+/// are taken; and the changes that were written for a query. They meet the premises of the laws
+/// above.
 pub fn served_histories_are_written()
     ensures serves { (served : List Snapshot) × (history : List ℕ) × (x y : Snapshot)
         × ServesHistory served history × HoldsHistory history x (y ∷ [])

@@ -27,8 +27,8 @@ use session_client_laws::laws::{client_current_again, data_agree, runs_in_bytes}
 use session_laws::laws::{bytes_agree, bytes_in_peace};
 
 /// A cache whose data are those that its stores served, in any part of their life in which no
-/// session's serial numbers went round the circle, never had two data under one session and serial
-/// number. This is the premise of the laws of agreement.
+/// session's serial numbers wrapped around, never had two different data under one session and
+/// serial number. This is the premise of the laws of agreement.
 pub fn stores_have_one_data_per_name()
     ensures { (served before : List Snapshot) (had : List PayloadEdition)
         → HasServed (served ++ before) → StayOnCircles served → AreServed served had
@@ -39,10 +39,10 @@ pub fn stores_have_one_data_per_name()
 }
 
 /// Over any calls of one client and any connections with such a cache, each cut anywhere, with new
-/// data, savings that succeed or fail, starts and cuts of power at the cache at any time: whenever
-/// the client has data, its data buffer has the payloads of the one snapshot that the stores served
-/// under their session and serial number, as the client's version has them. The same of the bytes
-/// that any router's caller shows.
+/// data, saves that succeed or fail, starts and power cuts at the cache at any time: whenever the
+/// client has data, its data buffer has the payloads of the one snapshot that the stores served
+/// under their session and serial number, as far as the client's version has them. The same holds
+/// of the bytes that any router's caller shows.
 pub fn stored_data_agree()
     ensures client { (served before : List Snapshot) (p : Pair)
         → HasServed (served ++ before) → StayOnCircles served → AreServed served p.had
@@ -58,7 +58,7 @@ pub fn stored_data_agree()
     bytes_agree()
 }
 
-/// Over the bytes of such a cache a router ends no connection, with the exceptions of the law
+/// A router ends no connection because of the bytes of such a cache, with the exceptions of the law
 /// `bytes_in_peace` of `session_laws`.
 pub fn stored_data_come_in_peace()
     ensures { (served before : List Snapshot) (c : Caller (List ℕ) (List ℕ)) (w : Joined)
@@ -75,7 +75,7 @@ pub fn stored_data_come_in_peace()
 }
 
 /// From when a client has no connection, what it shows next are the present data of such a cache,
-/// as in the law `client_current_again` of `session_client_laws`, which says by when.
+/// as in the law `client_current_again` of `session_client_laws`, which states by when.
 pub fn stored_data_are_current_again()
     ensures { (served older : List Snapshot) (before p : Pair) (k : Client)
         (input held : Octets) (c : Calls p k input held (Some actions.Show))
@@ -89,7 +89,7 @@ pub fn stored_data_are_current_again()
     client_current_again()
 }
 
-/// There is a life of stores that save, in which they served data without payloads and then a
+/// There are a life of stores that save, in which they served data without payloads and then a
 /// prefix, and a run in which a client gets that prefix and shows it: they meet the premises of the
 /// laws above.
 pub fn stored_data_are_shown()

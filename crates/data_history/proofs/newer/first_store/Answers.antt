@@ -1,4 +1,5 @@
-use Rattle.std.proofs.Common.{◌≤◌, ◌+◌, Err, [], arith, length, subst, sym, take}
+use Rattle.std.proofs.Common.{◌≤◌, ◌+◌, ◌++◌, ◌∙◌, Err, [], ap, arith, length, subst, sym, take}
+use Rattle.data_history.specs.Parts.{part_form}
 use Rattle.std.proofs.lemmas.List.{length-take}
 use Rattle.data_history.specs.Stores.{IsShortForTaking, TakesFirst}
 use Rattle.data_history.proofs.Serving.{first_room, not_begun, refused_first, wants}
@@ -40,3 +41,7 @@ returns-in-Err-first_store_into-clause-rooms c = λ buffer.
     (16 + length (take c.in-Ok.size c.begin.new.output)) (length c.args.output.now)
     (length c.args.new.now) buffer (length c.args.spare.now) (omega (arith, size))
     c.in-Err-first_store_into.ensures.room)
+
+pub returns-in-Ok-first_store_into-clause-form : goal.returns-in-Ok-first_store_into-clause-form
+returns-in-Ok-first_store_into-clause-form c =
+    c.in-Ok-first_store_into.ensures.form ∙ ap (λ l. part_form 0 [] ++ l) c.in-Ok.ensures.form

@@ -1,8 +1,11 @@
-use Rattle.std.proofs.Common.{◌≡◌, ◌≤◌, ◌+◌, ◌*◌, ◌-◌, Err, List, [], arith, length, refl, subst}
+use Rattle.std.proofs.Common.{◌≡◌, ◌≤◌, ◌+◌, ◌*◌, ◌-◌, ◌++◌, ◌∙◌, Err, List, [], arith, length}
+use Rattle.std.proofs.Common.{refl}
+use Rattle.std.proofs.Common.{subst}
+use Rattle.rtr_base.specs.Bytes.{be}
 use Rattle.std.proofs.Common.{sym, take, ℕ, false, true}
 use Rattle.std.proofs.lemmas.List.{length-take}
-use Rattle.data_history.specs.Next.{ContinuesHistory}
-use Rattle.data_history.specs.Parts.{part_bytes, part_rest}
+use Rattle.data_history.specs.Next.{ContinuesHistory, IsLongest}
+use Rattle.data_history.specs.Parts.{part_bytes, part_form, part_rest}
 use Rattle.data_history.specs.Snapshots.{HoldsHistory, Snapshot}
 use Rattle.data_history.specs.Store.{HoldsStore}
 use Rattle.data_history.specs.Stores.{IsShortForTaking, TakesLater}
@@ -89,3 +92,26 @@ returns-in-Err-take_into-clause-rooms c =
     (wants c.in-Err-take_into.fault (18 + length c.args.store.now + kept)
     (length c.args.output.now) all (length c.args.buffer.now) (length c.args.spare.now)
     (omega (arith, size)) c.in-Err-take_into.ensures.room)
+
+pub returns-in-Ok-take_into-clause-form : goal.returns-in-Ok-take_into-clause-form
+returns-in-Ok-take_into-clause-form c = λ z x ys h j.
+    let g = history_of c.args.store.now c.in-Some.part.2.now x ys c.in-Some.ensures.rest j in
+    let present = session_is (part_bytes c.in-Some.part.2.now) c.session.result
+    c.in-Some-present_end.before x c.session.ensures
+    (c.in-Some-present_end.ensures.holds.1, c.in-Some-present_end.ensures.holds.2) g.holds in
+    let next = session_is c.args.new.now c.session-2.result c.args.end.now z c.session-2.ensures
+    c.requires.new h in
+    let written = take c.in-Ok.size c.advance.new.output in
+    record {
+      history = written;
+      stays = λ same. (
+        c.in-Ok-take_into.ensures.stays (present ∙ sym same ∙ sym next),
+        subst (λ l. IsLongest c.args.now (c.args.now - c.args.limits.now.time)
+            c.args.limits.now.bytes z x c.args.new.now l written) c.in-Some.ensures.rest
+            (c.in-Ok.ensures.longest x z ys g h same),
+      );
+      leaves = λ other.
+          c.in-Ok-take_into.ensures.leaves (λ e. other (sym next ∙ sym e ∙ present))
+          ∙ (λ i. part_form 0 (be (present i) 2 ++ part_bytes c.args.store.now)
+          ++ c.in-Ok.ensures.alone x z ys g h other i);
+    }

@@ -1,5 +1,6 @@
 use Rattle.data_history.specs.Next.{MayBeKept}
-use Rattle.data_history.proofs.Advancing.{longest_at, too_long}
+use Rattle.data_history.proofs.Advancing.{longest_at, too_long, written_front}
+use Rattle.data_slices.specs.Delta.{delta_form}
 use Rattle.std.proofs.Common.{drop}
 use Rattle.std.proofs.lemmas.List.{length-take-le}
 use Rattle.std.proofs.Common.{◌+◌, ◌*◌, Ok, Err, inl, inr}
@@ -113,6 +114,8 @@ returns-then-version-clause-data c = λ x z ys h j.
     let t = known c.args.old.now c.args.new.now c.in-Some.part.1.now c.args.end.now
     c.args.before.now z x ys h j c.in-Some.ensures.bytes c.requires.new
     (c.requires.present.1, c.requires.present.2) in (
+      same_field t the_session c.session.result c.session-2.result c.session.ensures
+          c.session-2.ensures c.if-session.false,
       other_field t the_version c.version.result c.version-2.result c.version.ensures
           c.version-2.ensures c.if-version.true,
       c.version-then-version.ensures ∙ ap the_version t.new_end,
@@ -143,7 +146,7 @@ returns-then-not-is_earlier-clause-data c = λ x z ys h j.
     (λ less.
     let wrong : false ≡ true = c.if-not-is_earlier.ensures.1
     ((λ i. serial_cmp (left i) (right i)) ∙ less) in
-    absurd cc)
+    absurd cc) version session
 
 pub returns-then-not-is_earlier-clause-flaw : goal.returns-then-not-is_earlier-clause-flaw
 returns-then-not-is_earlier-clause-flaw c = c.not_later.ensures.no_flaw c.args.new.now
@@ -317,17 +320,12 @@ returns-then-session-clause-longest c = λ x z ys h j same.
     absurd (other_field t the_session c.session.result c.session-2.result c.session.ensures
     c.session-2.ensures c.if-session.true (sym same))
 
-pub returns-then-not-is_earlier-clause-longest : goal.returns-then-not-is_earlier-clause-longest
-returns-then-not-is_earlier-clause-longest c = λ x z ys h j same.
-    c.not_later.ensures.longest (c.args.now - c.args.limits.now.time) c.args.limits.now.bytes z
-    x
-    c.args.old.now c.args.output.now
-
 pub returns-then-limits-lt-HEAD-clause-longest : goal.returns-then-limits-lt-HEAD-clause-longest
 returns-then-limits-lt-HEAD-clause-longest c = λ x z ys h j same.
-    too_long (c.args.now - c.args.limits.now.time) c.args.limits.now.bytes
-    c.begin-then-limits-lt-HEAD.result z x c.args.old.now
+    too_long c.args.now (c.args.now - c.args.limits.now.time) c.args.limits.now.bytes
+    c.begin-then-limits-lt-HEAD.result z x c.args.new.now c.args.old.now
     c.begin-then-limits-lt-HEAD.new.output (omega (arith, c.if-limits-lt-HEAD.true))
+    c.begin-then-limits-lt-HEAD.ensures.form
 
 pub returns-then-size-most-clause-longest : goal.returns-then-size-most-clause-longest
 returns-then-size-most-clause-longest c = λ x z ys h j same.
@@ -339,10 +337,11 @@ returns-then-size-most-clause-longest c = λ x z ys h j same.
     let placed = written c.args.new.now c.in-Some.part.1.now c.args.buffer.now
     c.delta_into.new.output z.payloads x.payloads z.end x.end j t.old_data
     (Ok c.in-Ok.size) version same c.in-Ok.ensures in
-    too_long (c.args.now - c.args.limits.now.time) c.args.limits.now.bytes
-    c.begin-then-size-most.result z x c.args.old.now
+    too_long c.args.now (c.args.now - c.args.limits.now.time) c.args.limits.now.bytes
+    c.begin-then-size-most.result z x c.args.new.now c.args.old.now
     c.begin-then-size-most.new.output
     (omega (arith, placed.0, c.if-size-most.true, c.if-limits-lt-HEAD.false))
+    c.begin-then-size-most.ensures.form
 
 pub returns-in-Some-place_history-clause-longest : goal.returns-in-Some-place_history-clause-longest
 returns-in-Some-place_history-clause-longest c = λ x z ys h j same.
@@ -367,8 +366,17 @@ returns-in-Some-place_history-clause-longest c = λ x z ys h j same.
     longest_at (c.args.now - c.args.limits.now.time) c.args.limits.now.bytes c.args.now
     c.in-Some-place_history.size kept c.args.new.now (take size c.delta_into.new.output)
     c.in-Some.part.2.now c.args.old.now c.args.output.now c.place_history.new.output z x
-    c.ranges.now.fits c.place_history.ensures.new c.place_history.ensures.step
-    c.kept_front-kept.ensures.within c.in-Some.ensures.rest c.in-Some-place_history.ensures.bytes
+    c.kept_front-kept.ensures.within c.in-Some.ensures.rest
+    (written_front size (delta_form z.payloads x.payloads x.end) c.args.buffer.now
+    c.delta_into.new.output placed)
+    (omega (
+      arith,
+      step,
+      c.kept_front-kept.ensures.short,
+      c.if-size-most.false,
+      c.if-limits-lt-HEAD.false,
+    ))
+    c.in-Some-place_history.ensures.bytes
     (λ m. c.kept_front-kept.ensures.longest
     (subst (λ s. MayBeKept (drop kept c.in-Some.part.2.now) s
     ((c.args.limits.now.bytes - 16 - size) - kept) c.serial-3.result.0)
@@ -378,6 +386,26 @@ returns-in-Some-place_history-clause-longest c = λ x z ys h j same.
     (sym right')
     (subst (λ r. MayBeKept (drop kept c.in-Some.part.2.now)
     (c.args.now - c.args.limits.now.time) r z.end.serial) left m))))
+
+-- ---- data of another session
+
+pub returns-then-session-clause-alone : goal.returns-then-session-clause-alone
+returns-then-session-clause-alone c = λ x z ys h j other. c.begin.ensures.form
+
+pub returns-then-limits-lt-HEAD-clause-alone : goal.returns-then-limits-lt-HEAD-clause-alone
+returns-then-limits-lt-HEAD-clause-alone c = λ x z ys h j other.
+    c.begin-then-limits-lt-HEAD.ensures.form
+
+pub returns-then-size-most-clause-alone : goal.returns-then-size-most-clause-alone
+returns-then-size-most-clause-alone c = λ x z ys h j other. c.begin-then-size-most.ensures.form
+
+pub returns-in-Some-place_history-clause-alone : goal.returns-in-Some-place_history-clause-alone
+returns-in-Some-place_history-clause-alone c = λ x z ys h j other.
+    let t = known c.args.old.now c.args.new.now c.in-Some.part.1.now c.args.end.now
+    c.args.before.now z x ys h j c.in-Some.ensures.bytes c.requires.new
+    (c.requires.present.1, c.requires.present.2) in
+    absurd (other (same_field t the_session c.session.result c.session-2.result c.session.ensures
+    c.session-2.ensures c.if-session.false))
 
 -- ---- that the serial number is later
 

@@ -4,7 +4,7 @@ use Rattle.std.proofs.lemmas.List.{length-append}
 use Rattle.data_history.proofs.Parts.{head_length}
 use Rattle.std.proofs.Common.{◌++◌, ◌∙◌, ap}
 use Rattle.data_history.specs.Parts.{head_bytes}
-use Rattle.data_history.proofs.Advancing.{alone}
+use Rattle.data_history.proofs.Advancing.{alone, written_front}
 use Rattle.data_history.proofs.next.begin.Goals as goal
 
 pub returns-in-Some-clause-data : goal.returns-in-Some-clause-data
@@ -31,3 +31,10 @@ returns-in-None-clause-rooms c =
 
 pub returns-in-Some-clause-within : goal.returns-in-Some-clause-within
 returns-in-Some-clause-within c = c.in-Some.ensures.1
+
+pub returns-in-Some-clause-form : goal.returns-in-Some-clause-form
+returns-in-Some-clause-form c =
+    written_front c.in-Some.size (c.head.result ++ c.args.new.now) c.args.output.now
+    c.place.new.output c.in-Some.ensures
+    ∙ ap (λ l. l ++ c.args.new.now)
+    (c.head.ensures ∙ ap (λ n. head_bytes c.args.now n) c.length_of.ensures.length)

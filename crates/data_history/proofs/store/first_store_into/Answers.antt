@@ -23,3 +23,8 @@ pub returns-in-Some-clause-history : goal.returns-in-Some-clause-history
 returns-in-Some-clause-history c =
     (placed c.in-Some.size [] [] c.args.history.now c.args.output.now c.place_store.new.output
     (omega arith) c.in-Some.ensures.bytes).rest
+
+pub returns-in-Some-clause-form : goal.returns-in-Some-clause-form
+returns-in-Some-clause-form c =
+    (placed c.in-Some.size [] [] c.args.history.now c.args.output.now c.place_store.new.output
+    (omega arith) c.in-Some.ensures.bytes).form

@@ -29,4 +29,5 @@ returns-in-Some-place-clause-left c =
     let (old, size, placed) = old_written file c.in-Some.history.now c.head.result c.args.output.now
     c.place.new.output c.in-Some-place.size c.in-Some.ensures.opens c.head.ensures
     c.in-Some-place.ensures in
-    (placed_none c.in-Some-place.size (drop 16 file) c.args.output.now c.place.new.output placed).left
+    (placed_none c.in-Some-place.size (drop 16 file) c.args.output.now c.place.new.output
+    placed).left

@@ -1,8 +1,9 @@
-use Rattle.std.proofs.Common.{◌≡◌, ◌+◌, ◌++◌, [], ap, arith, false, length, subst, sym, take, true}
-use Rattle.std.proofs.Common.{refl}
+use Rattle.std.proofs.Common.{◌≡◌, ◌∙◌, ◌+◌, ◌++◌, [], ap, arith, false, length, subst, sym, take}
+use Rattle.std.proofs.Common.{refl, true}
 use Rattle.std.proofs.Common.{◌<◌, inl, inr}
 use Rattle.std.proofs.lemmas.Bool.{cases_lt}
 use Rattle.rtr_base.proofs.Numbers.{length-be}
+use Rattle.data_history.specs.Parts.{part_form}
 use Rattle.data_history.proofs.Parts.{part_sizes}
 use Rattle.data_history.proofs.Sessions.{IsStoreOf, among_left, leaves, placed, stays}
 use Rattle.data_history.proofs.store.take_into.Goals as goal
@@ -97,3 +98,25 @@ returns-in-Some-place_store-2-clause-history c =
     (placed c.in-Some-place_store-2.size c.to_be_bytes.result c.in-Some.part.1.now
     c.args.history.now c.args.output.now c.place_store-2.new.output c.place_store-2.ensures.fits
     c.in-Some-place_store-2.ensures.bytes).rest
+
+-- ---- the bytes that were written
+
+pub returns-in-Some-place_store-clause-stays : goal.returns-in-Some-place_store-clause-stays
+returns-in-Some-place_store-clause-stays c = λ same.
+    (placed c.in-Some-place_store.size [] c.in-Some.part.1.now c.args.history.now c.args.output.now
+    c.place_store.new.output c.place_store.ensures.fits c.in-Some-place_store.ensures.bytes).form
+    ∙ ap (λ l. part_form 0 l ++ c.args.history.now) c.in-Some.ensures.bytes
+
+pub returns-in-Some-place_store-clause-leaves : goal.returns-in-Some-place_store-clause-leaves
+returns-in-Some-place_store-clause-leaves c = λ other. absurd (other c.if-present-next.true)
+
+pub returns-in-Some-place_store-2-clause-stays : goal.returns-in-Some-place_store-2-clause-stays
+returns-in-Some-place_store-2-clause-stays c = λ same. absurd (c.if-present-next.false same)
+
+pub returns-in-Some-place_store-2-clause-leaves : goal.returns-in-Some-place_store-2-clause-leaves
+returns-in-Some-place_store-2-clause-leaves c = λ other.
+    (placed c.in-Some-place_store-2.size c.to_be_bytes.result c.in-Some.part.1.now
+    c.args.history.now c.args.output.now c.place_store-2.new.output c.place_store-2.ensures.fits
+    c.in-Some-place_store-2.ensures.bytes).form
+    ∙ (λ i. part_form 0 (c.to_be_bytes.ensures i ++ c.in-Some.ensures.bytes i)
+    ++ c.args.history.now)

@@ -1,9 +1,10 @@
-use Rattle.std.proofs.Common.{◌≡◌, ◌+◌, ◌-◌, ◌∙◌, ap, false, length, refl, subst, sym, true}
-use Rattle.std.specs.Prelude.{IfErr, IfOk, IsSome}
+use Rattle.std.proofs.Common.{◌≡◌, ◌+◌, ◌-◌, ◌∙◌, ap, false, length, refl, subst, sym, take}
+use Rattle.std.proofs.Common.{true}
+use Rattle.std.specs.Prelude.{IfOk, IsSome}
 use Rattle.data_slices.specs.Canonical.{HoldsData}
 use Rattle.data_history.specs.Snapshots.{Snapshot}
-use Rattle.data_history.specs.Stores.{IsFlawOfNew, IsShortForTaking, TakesData, after_call}
-use Rattle.data_history.specs.Stores.{front_of}
+use Rattle.data_history.specs.Stores.{ChecksNewFirst, IsShortForTaking, IsStoreFrom, TakesData}
+use Rattle.data_history.specs.Stores.{after_call, front_of}
 use Rattle.data_history.specs.Stores.{held_of, other_of, size_of}
 use Rattle.data_history.proofs.Serving.{Took, goes_on, serves_as_before, serves_at_once, took_by}
 use Rattle.data_history.proofs.stores.Stores.take.Goals as goal
@@ -12,6 +13,9 @@ use Rattle.data_history.proofs.stores.Stores.take.Goals as goal
 
 pub returns-in-Some-clause-takes : goal.returns-in-Some-clause-takes
 returns-in-Some-clause-takes c = λ z h. subst (λ o. IsSome o) (sym c.in-Some.is) refl
+
+pub returns-in-Some-clause-flaw : goal.returns-in-Some-clause-flaw
+returns-in-Some-clause-flaw c = subst (λ o. IsSome o) (sym c.in-Some.is) refl
 
 pub returns-in-Some-clause-waits : goal.returns-in-Some-clause-waits
 returns-in-Some-clause-waits c = λ some. (refl, refl, refl)
@@ -60,8 +64,23 @@ returns-then-self-clause-takes c = (took-then-self c).takes
 
 pub returns-then-self-clause-flaw : goal.returns-then-self-clause-flaw
 returns-then-self-clause-flaw c =
-    subst (λ r. IfErr r (IsFlawOfNew c.args.new.now))
+    subst (λ r. ChecksNewFirst c.args.self.now.taken r c.args.new.now)
     (sym c.note.ensures.same) c.write-written.ensures.flaw
+
+pub returns-then-self-clause-form : goal.returns-then-self-clause-form
+returns-then-self-clause-form c =
+    let now = c.args.now in
+    let since = now - c.args.limits.now.time in
+    let most = c.args.limits.now.bytes in
+    let new = c.args.new.now in
+    subst (λ b. IfOk c.note.result (λ n. (z : Snapshot) → HoldsData new z.payloads z.end →
+    IsStoreFrom now since most
+    (front_of c.args.self.now.served (held_of b c.args.first.now c.args.second.now)) z new
+    (take n (other_of b c.write-written.new.output c.args.second.now)))) (sym c.if-self.true)
+    (subst (λ r. IfOk r (λ n. (z : Snapshot) → HoldsData new z.payloads z.end →
+    IsStoreFrom now since most (front_of c.args.self.now.served c.args.second.now) z new
+    (take n c.write-written.new.output))) (sym c.note.ensures.same)
+    c.write-written.ensures.form)
 
 pub returns-then-self-clause-rooms : goal.returns-then-self-clause-rooms
 returns-then-self-clause-rooms c =
@@ -123,8 +142,24 @@ returns-else-self-clause-takes c = (took-else-self c).takes
 
 pub returns-else-self-clause-flaw : goal.returns-else-self-clause-flaw
 returns-else-self-clause-flaw c =
-    subst (λ r. IfErr r (IsFlawOfNew c.args.new.now))
+    subst (λ r. ChecksNewFirst c.args.self.now.taken r c.args.new.now)
     (sym c.note-else-self.ensures.same) c.write-written-else-self.ensures.flaw
+
+pub returns-else-self-clause-form : goal.returns-else-self-clause-form
+returns-else-self-clause-form c =
+    let now = c.args.now in
+    let since = now - c.args.limits.now.time in
+    let most = c.args.limits.now.bytes in
+    let new = c.args.new.now in
+    subst (λ b. IfOk c.note-else-self.result (λ n. (z : Snapshot) → HoldsData new z.payloads z.end →
+    IsStoreFrom now since most
+    (front_of c.args.self.now.served (held_of b c.args.first.now c.args.second.now)) z new
+    (take n (other_of b c.args.first.now c.write-written-else-self.new.output))))
+    (sym c.if-self.false)
+    (subst (λ r. IfOk r (λ n. (z : Snapshot) → HoldsData new z.payloads z.end →
+    IsStoreFrom now since most (front_of c.args.self.now.served c.args.first.now) z new
+    (take n c.write-written-else-self.new.output))) (sym c.note-else-self.ensures.same)
+    c.write-written-else-self.ensures.form)
 
 pub returns-else-self-clause-rooms : goal.returns-else-self-clause-rooms
 returns-else-self-clause-rooms c =

@@ -1,12 +1,14 @@
-use Rattle.std.proofs.Common.{◌≡◌, ◌+◌, ◌-◌, Some, None, arith, false, true, length}
+use Rattle.std.proofs.Common.{◌≡◌, ◌+◌, ◌-◌, ◌++◌, Some, None, List, [], arith, false, true, length}
 use Rattle.std.proofs.Common.{refl, subst, sym, take}
+use Rattle.std.specs.Prelude.{IfOk}
+use Rattle.data_history.specs.Parts.{part_form}
 use Rattle.rtr_units.specs.AnyEnd.{end_meaning}
 use Rattle.data_slices.specs.Canonical.{HoldsData}
 use Rattle.data_history.specs.Snapshots.{Snapshot}
 use Rattle.data_history.specs.Store.{HoldsStore}
-use Rattle.data_history.specs.Stores.{IsShortForTaking, MayBeOf, TakesData, TakesLater, front_of}
-use Rattle.data_history.specs.Stores.{size_of}
-use Rattle.data_history.proofs.Serving.{if_ok, looked_at, session_is}
+use Rattle.data_history.specs.Stores.{IsShortForTaking, IsStoreAfter, IsStoreFrom, MayBeOf}
+use Rattle.data_history.specs.Stores.{TakesData, TakesLater, front_of, size_of}
+use Rattle.data_history.proofs.Serving.{checks_new_first, if_ok, looked_at, of_length, session_is}
 use Rattle.data_history.proofs.stores.Stores.write.Goals as goal
 
 pub returns-in-Err-clause-takes : goal.returns-in-Err-clause-takes
@@ -81,3 +83,63 @@ returns-in-None-clause-rooms c =
     subst (λ n. IsShortForTaking c.first_store.result n (length c.args.buffer.now)
     (length c.args.spare.now) (length c.args.output.now)) all
     (c.first_store.ensures.rooms (length c.args.buffer.now)))
+
+-- ---- the bytes that were written
+
+pub returns-in-Some-clause-form : goal.returns-in-Some-clause-form
+returns-in-Some-clause-form c =
+    let now = c.args.now in
+    let since = now - c.args.limits.now.time in
+    let most = c.args.limits.now.bytes in
+    let new = c.args.new.now in
+    let out = c.next_store.new.output in
+    subst (λ o. IfOk c.next_store.result (λ n. (z : Snapshot) → HoldsData new z.payloads z.end →
+    IsStoreFrom now since most (front_of o c.args.held.now) z new (take n out)))
+    (sym c.in-Some.is)
+    (of_length c.next_store.result
+    (λ n. (z x : Snapshot) (ys : List Snapshot) → HoldsData new z.payloads z.end →
+    HoldsStore c.front-store.result.now x ys →
+    IsStoreAfter now since most c.front-store.result.now z x new (take n out))
+    (λ n. (z : Snapshot) → HoldsData new z.payloads z.end →
+    IsStoreFrom now since most (Some (take c.in-Some.size c.args.held.now)) z new (take n out))
+    (λ n p z h x ys j. subst (λ b. IsStoreAfter now since most b z x new (take n out))
+    c.front-store.ensures
+    (p z x ys h (subst (λ b. HoldsStore b x ys) (sym c.front-store.ensures) j)))
+    c.next_store.ensures.form)
+
+pub returns-in-None-clause-form : goal.returns-in-None-clause-form
+returns-in-None-clause-form c =
+    let now = c.args.now in
+    let since = now - c.args.limits.now.time in
+    let most = c.args.limits.now.bytes in
+    let new = c.args.new.now in
+    let out = c.first_store.new.output in
+    subst (λ o. IfOk c.first_store.result (λ n. (z : Snapshot) → HoldsData new z.payloads z.end →
+    IsStoreFrom now since most (front_of o c.args.held.now) z new (take n out)))
+    (sym c.in-None.is)
+    (of_length c.first_store.result
+    (λ n. take n out ≡ part_form 0 [] ++ part_form now new)
+    (λ n. (z : Snapshot) → HoldsData new z.payloads z.end →
+    IsStoreFrom now since most None z new (take n out))
+    (λ n p z h. p) c.first_store.ensures.form)
+
+-- ---- bytes that are data
+
+pub returns-in-Some-clause-flaw : goal.returns-in-Some-clause-flaw
+returns-in-Some-clause-flaw c =
+    let k = c.in-Ok.ensures.«data» in
+    checks_new_first c.args.self.now.taken c.next_store.result c.args.new.now
+    c.next_store.ensures.flaw c.next_store.ensures.late
+    (record { end = end_meaning c.in-Ok.end; payloads = k.0 }, k.1)
+
+pub returns-in-None-clause-flaw : goal.returns-in-None-clause-flaw
+returns-in-None-clause-flaw c =
+    let k = c.in-Ok.ensures.«data» in
+    checks_new_first c.args.self.now.taken c.first_store.result c.args.new.now
+    c.first_store.ensures.flaw c.first_store.ensures.late
+    (record { end = end_meaning c.in-Ok.end; payloads = k.0 }, k.1)
+
+pub returns-then-not-may_be_of-clause-flaw : goal.returns-then-not-may_be_of-clause-flaw
+returns-then-not-may_be_of-clause-flaw c =
+    let k = c.in-Ok.ensures.«data» in
+    (record { end = end_meaning c.in-Ok.end; payloads = k.0 }, k.1)
