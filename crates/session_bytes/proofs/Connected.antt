@@ -1,4 +1,4 @@
--- What is answered of an input, a connection goes on by.
+-- The answers to an input continue the run of a connection.
 use Rattle.std.proofs.Common.{ℕ, Bool, List, sym, subst}
 use Rattle.session_cache.specs.Connections.{CacheMoment, IsConnection}
 use Rattle.session_cache.specs.Connections.IsConnectionBy.{connection_goes_on}

@@ -87,7 +87,7 @@ unit_shown (session.Error v) b (is, report) = record {
   has = report_has b report;
   in_order = tt;
   head = ap (λ l. record (bare_head kinds.ErrorReport (version_field l) (length b)) {
-    code = session_field l;
+    code = record { 0 = session_field l };
   }) is;
 }
 

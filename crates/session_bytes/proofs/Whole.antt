@@ -24,7 +24,7 @@ use Rattle.data_slices.specs.Apply.{data_form}
 use Rattle.data_slices.specs.Canonical.{HoldsData}
 use Rattle.data_slices.specs.InOrder.{AppliesInOrder}
 use Rattle.data_slices.specs.Order.{Sends}
-use Rattle.data_slices.proofs.AsTheyCame.{holds_made}
+use Rattle.data_slices.proofs.AsTheyCame.{holds_sent}
 use Rattle.data_slices.proofs.OneData.{one_data}
 use Rattle.data_slices.proofs.Ordering.{one_sequence}
 use Rattle.unit_any.specs.AnyFields.{AnyFields, HasAnyFields, serial_notify, serial_query}
@@ -85,7 +85,7 @@ of_fields b v f has order version = (
       (fields_unit b f (has_fields b f has) order),
 )
 
-unit_change : (b : List ℕ) (u : Head) (v : ℕ) → HasHead b u → IsPayloadOf v u.kind →
+pub unit_change : (b : List ℕ) (u : Head) (v : ℕ) → HasHead b u → IsPayloadOf v u.kind →
     u.version ≡ v → (c : Change) × IsUnit b (unit_of v c)
 unit_change b u v x kind version = go x.fields x.has x.in_order x.head
   where
@@ -262,7 +262,7 @@ written base input places size before after d cs e e'
           subst (λ l. HoldsData l new e')
           (append-nil form ∙ sym (front_is size form (drop size before) after long is))
           (subst (λ x. HoldsData (form ++ []) new x) b.1
-          (holds_made base input [] d₀ new cs₀ e₀ e₁ h₀ s₀ v made));
+          (holds_sent base input [] d₀ new cs₀ e₀ e₁ h₀ s₀ v made));
     }
 
 -- ---- histories

@@ -49,7 +49,7 @@ closing_text reason r = reason_text reason
 abbrev pub closing_report : Option OwedReport → Reason → Option Refusal → List ℕ →
     Option (List ℕ)
 closing_report (Some owed) reason r b =
-    Some (held_report owed.version owed.code (about_reason reason r b) (closing_text reason r))
+    Some (held_report owed.version owed.code.0 (about_reason reason r b) (closing_text reason r))
 closing_report None reason r b = None
 
 -- Before the first data it has code 2 (section 12), and the connection stays.

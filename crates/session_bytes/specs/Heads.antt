@@ -18,7 +18,7 @@ bare_head k v n = record {
   version = v;
   session = 0;
   serial = 0;
-  code = 0;
+  code = record { 0 = 0 };
   refresh = 0;
   retry = 0;
   expire = 0;
@@ -50,7 +50,8 @@ head_of (cache_response v s) n = record (bare_head kinds.CacheResponse v n) { se
 head_of (payload f) n = payload_head f n
 head_of (end_of_data e) n = end_head e n
 head_of (cache_reset v s) n = bare_head kinds.CacheReset v n
-head_of (error_report v c body) n = record (bare_head kinds.ErrorReport v n) { code = c }
+head_of (error_report v c body) n =
+    record (bare_head kinds.ErrorReport v n) { code = record { 0 = c } }
 
 -- the lengths of a prefix are in order (sections 5.6 and 5.7)
 abbrev pub IsInOrder : AnyFields → Type 0

@@ -36,5 +36,5 @@ shown_head (session.CacheReset u) n =
     bare_head kinds.CacheReset (version_field (fixed_bytes u)) n
 shown_head (session.Error v) n =
     record (bare_head kinds.ErrorReport (version_field v.unit.now) n) {
-      code = session_field v.unit.now;
+      code = record { 0 = session_field v.unit.now };
     }

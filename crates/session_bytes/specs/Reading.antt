@@ -1,6 +1,6 @@
 -- What comes of reading: the units that an input begins with are told to a router's machine.
 use Rattle.std.specs.Prelude.{◌≡◌, ◌≢◌, ℕ, Bool, true, ◌<◌, ◌≤◌, List, [], ◌++◌, length, take}
-use Rattle.std.specs.Prelude.{Option, drop}
+use Rattle.std.specs.Prelude.{Option, drop, option_map}
 use Rattle.rtr_payload.specs.FirstFault.{BeginsUnit}
 use Rattle.rtr_units.specs.Codes.{code_of}
 use Rattle.rtr_units.specs.Header.{version_field, type_field}
@@ -31,7 +31,7 @@ pub data KeepsAll (n : ℕ) : Router → List ℕ → Router → Type 0 where
 abbrev pub fault_of : List ℕ → ViewFault → Fault
 fault_of b e = record {
   version = version_field b;
-  code = owed (type_field b) (code_of (read_fault [] e));
+  code = option_map (λ n. record { 0 = n }) (owed (type_field b) (code_of (read_fault [] e)));
 }
 
 -- The first k bytes are payload units that the machine keeps, and no whole one follows them.

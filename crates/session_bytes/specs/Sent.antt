@@ -1,8 +1,12 @@
 -- What a router sends (RFC 8210 sections 5.3, 5.4 and 5.11; the texts are this library's own).
-use Rattle.std.specs.Prelude.{◌≡◌, ℕ, List, ◌++◌, length, take, Option, Some, None, codes}
-use Rattle.std.specs.Prelude.{decimal, nat_lt, if◌then◌else◌}
+use Rattle.std.specs.Prelude.{◌≡◌, ℕ, List, length, take, Option, Some, None}
+use Rattle.std.specs.Prelude.{nat_lt, if◌then◌else◌}
+use Rattle.rtr_base.specs.declared.error_code.ErrorCode.{ErrorCode}
 use Rattle.rtr_units.specs.Header.{length_field}
+use Rattle.rtr_units.specs.PeerFaults.{fault_name, fault_text, peer_code}
 use Rattle.rtr_units.specs.Queries.{bare_list, serial_list}
+use Rattle.rtr_units.specs.declared.peer_fault.PeerFault.{PeerFault}
+use Rattle.rtr_units.specs.declared.peer_fault.PeerFault.TheVariants as peer_faults
 use Rattle.rtr_payload.specs.FirstFault.{text_of}
 use Rattle.unit_views.specs.Placing.{Places}
 use Rattle.unit_views.specs.declared.fault.ViewFault.{ViewFault}
@@ -35,38 +39,29 @@ refusal_of (faults.Prefix rule) = Some (refusals.Prefix (Some rule))
 refusal_of (faults.Writer e) = None
 refusal_of faults.TooMany = None
 
--- section 12; that of a list of providers as in the Rust crate
+-- what the peer did wrong, without the part of the rule that a prefix breaks
+abbrev pub refusal_fault : Refusal → PeerFault
+refusal_fault refusals.Short = peer_faults.Short
+refusal_fault (refusals.UnitType t) = peer_faults.UnitType t
+refusal_fault (refusals.UnitVersion v) = peer_faults.UnitVersion v
+refusal_fault refusals.TooLong = peer_faults.TooLong
+refusal_fault refusals.UnitLength = peer_faults.UnitLength
+refusal_fault refusals.EmptyProviders = peer_faults.EmptyProviders
+refusal_fault (refusals.Prefix rule) = peer_faults.Prefix
+refusal_fault refusals.Duplicate = peer_faults.Duplicate
+refusal_fault refusals.Unknown = peer_faults.Unknown
+
 abbrev pub refusal_code : Refusal → ℕ
-refusal_code refusals.Short = 0
-refusal_code (refusals.UnitType t) = 5
-refusal_code (refusals.UnitVersion v) = 4
-refusal_code refusals.TooLong = 0
-refusal_code refusals.UnitLength = 0
-refusal_code refusals.EmptyProviders = 9
-refusal_code (refusals.Prefix rule) = 0
-refusal_code refusals.Duplicate = 7
-refusal_code refusals.Unknown = 6
+refusal_code r = peer_code (refusal_fault r)
 
--- what is said of it without its number and the rule that is broken
+-- its text without its number and the rule that is broken
 abbrev pub refusal_name : Refusal → List ℕ
-refusal_name refusals.Short = codes "unexpected end of input"
-refusal_name (refusals.UnitType t) = codes "unit type is not allowed here"
-refusal_name (refusals.UnitVersion v) = codes "version is not supported here"
-refusal_name refusals.TooLong = codes "unit is longer than 65535 bytes"
-refusal_name refusals.UnitLength = codes "invalid unit length"
-refusal_name refusals.EmptyProviders = codes "ASPA unit has no providers"
-refusal_name (refusals.Prefix rule) = codes "prefix fields are not allowed"
-refusal_name refusals.Duplicate = codes "duplicate announcement"
-refusal_name refusals.Unknown = codes "withdrawal of an unknown record"
+refusal_name r = fault_name (refusal_fault r)
 
--- what is said of it, in a report too: unit type 5 is not allowed here
+-- its text, in a report too: unit type 5 is not allowed here
 abbrev pub refusal_text : Refusal → List ℕ
-refusal_text (refusals.UnitType t) =
-    codes "unit type " ++ decimal t ++ codes " is not allowed here"
-refusal_text (refusals.UnitVersion v) =
-    codes "version " ++ decimal v ++ codes " is not supported here"
 refusal_text (refusals.Prefix (Some rule)) = text_of rule
-refusal_text r = refusal_name r
+refusal_text r = fault_text (refusal_fault r)
 
 -- the unit that b begins with, as far as it is there
 abbrev pub unit_part : List ℕ → List ℕ
@@ -96,10 +91,10 @@ ending_text causes.Faulty r = refused_text causes.Faulty r
 ending_text causes.NotApplied r = refused_text causes.NotApplied r
 ending_text c r = cause_text c
 
-abbrev PlacesReport : ℕ → Option ℕ → Cause → Option Refusal → List ℕ → Option ℕ →
+abbrev PlacesReport : ℕ → Option ErrorCode → Cause → Option Refusal → List ℕ → Option ℕ →
     (before after : List ℕ) → Type 0
 PlacesReport v (Some code) c r b n before after =
-    Places n (held_report v code (about r b) (ending_text c r)) before after
+    Places n (held_report v code.0 (about r b) (ending_text c r)) before after
 PlacesReport v None c r b n before after = (n ≡ None) × (after ≡ before)
 
 -- The report of this ending is placed; or none is owed, and nothing is written.

@@ -1,4 +1,4 @@
-//! What a cache's machine wants sent, but for data and changes.
+//! Writing what a cache's machine answers, except data and changes.
 
 ghost use Rattle.std.specs.Prelude.{◌≡◌};
 ghost use Rattle.session_bytes.specs.Answered.{PlacesOpening, PlacesServed, about_reason};
@@ -14,13 +14,13 @@ use rtr_units::queries::{CacheReset, CacheResponse, SerialNotify};
 use session_cache::event::{Answer, OwedReport, Present, Reason};
 use unit_any::placing::{place_report, place_unit};
 
-/// What to say of the want of data, in a report (RFC 8210 section 8.4).
+/// The text of the report that the cache has no data yet (RFC 8210 section 8.4).
 const NO_DATA: &str = "the cache has no data yet";
 
-/// Writes the unit that this answer begins with, on a connection of this version, where these are
-/// the newest data, to the front of the output, and answers its length in bytes: a cache response
-/// before data and changes, or a cache reset, of 8 bytes; or a notify, of 12 (RFC 8210 sections
-/// 5.2, 5.5 and 5.9). If the answer begins with none of these, or the output is shorter, it answers
+/// Writes the unit that this answer begins with, on a connection of this version, given the newest
+/// data, to the front of the output, and returns its length in bytes: a cache response before data
+/// and changes, or a cache reset, of 8 bytes; or a notify, of 12 (RFC 8210 sections 5.2, 5.5 and
+/// 5.9). If the answer begins with another unit or none, or the output is too short, it returns
 /// none and leaves the output unchanged.
 pub fn place_opening(
     version: u8,
@@ -42,12 +42,12 @@ pub fn place_opening(
 }
 
 /// Writes the report that this answer owes the router (RFC 8210 section 5.11), on a connection of
-/// this version, to the front of the output, and answers its length in bytes. If none is owed, or
-/// the output is shorter, it answers none and leaves the output unchanged; 65535 bytes are always
-/// enough.
+/// this version, to the front of the output, and returns its length in bytes. If none is owed, or
+/// the output is too short, it returns none and leaves the output unchanged; 65535 bytes always
+/// suffice.
 ///
-/// The report is about the unit that `about` begins with, which is refused for this reason, if it
-/// is; where there are too many connections, it is about none.
+/// The report is about the unit at the front of `about`, and `refusal` is why it is refused, if it
+/// is. A report that there are too many connections is about no unit.
 pub fn place_owed(
     version: u8,
     answer: &Answer,
@@ -75,7 +75,7 @@ pub fn place_owed(
     }
 }
 
-/// Writes the report that an end for this reason owes, about a unit that is refused for this one.
+/// Writes the report that is owed for an end with this reason, about a unit that may be refused.
 fn place_closing(
     owed: OwedReport,
     reason: Reason,
@@ -84,11 +84,10 @@ fn place_closing(
     output: &mut [u8],
 ) -> Option<usize>
     ensures { Places result
-        (held_report owed.version owed.code (about_reason reason refusal about.now)
+        (held_report owed.version owed.code.0 (about_reason reason refusal about.now)
         (closing_text reason refusal)) output.old output.new }
 {
     let OwedReport { version, code } = owed;
-    let code = ErrorCode(code);
     let unit = about_reason(reason, refusal, about);
     match (reason, refusal) {
         (Reason::Faulty, Some(refusal)) => place_refusal(version, code, unit, refusal, output),
@@ -96,7 +95,7 @@ fn place_closing(
     }
 }
 
-/// How much of the input the report of an end for this reason holds.
+/// Returns the part of the input that the report for an end with this reason copies.
 fn about_reason(reason: Reason, refusal: Option<Refusal>, input: &[u8]) -> &[u8]
     ensures { result.now ≡ about_reason reason refusal input.now }
 {

@@ -1,17 +1,18 @@
-//! What the machine sees of a unit.
+//! The fields of a unit that the machine looks at.
 
 ghost use Rattle.std.specs.Prelude.{◌≡◌};
 ghost use Rattle.rtr_units.specs.AnyEnd.{end_meaning};
 ghost use Rattle.session_bytes.specs.Heads.{bare_head, end_head};
 ghost use Rattle.session_bytes.specs.PrivateHeads.{data_head, shown_head};
 
+use rtr_base::error_code::ErrorCode;
 use rtr_units::end::EndOfData;
 use rtr_units::unit::Unit;
 use session_router::head::{Head, Kind};
 use unit_any::SessionView;
 use unit_views::view::UnitView;
 
-/// What the machine sees of a unit of this view and size.
+/// The head of a unit with this view and size.
 #[inline(always)]
 pub(crate) fn head_of(view: &SessionView<'_>, size: u32) -> Head
     ensures { result ≡ shown_head view.now size }
@@ -35,13 +36,13 @@ pub(crate) fn head_of(view: &SessionView<'_>, size: u32) -> Head
         },
         SessionView::CacheReset(unit) => bare(Kind::CacheReset, unit.version(), size),
         SessionView::Error(report) => Head {
-            code: report.code().0,
+            code: report.code(),
             ..bare(Kind::ErrorReport, report.version(), size)
         },
     }
 }
 
-/// The same of a payload unit or an end of data.
+/// The head of a payload unit or an end of data.
 #[inline(always)]
 fn data_head(view: &UnitView<'_>, size: u32) -> Head
     ensures { result ≡ data_head view.now size }
@@ -54,7 +55,7 @@ fn data_head(view: &UnitView<'_>, size: u32) -> Head
     }
 }
 
-/// The same of an end of data.
+/// The head of an end of data.
 fn end_head(end: &EndOfData, size: u32) -> Head
     ensures { result ≡ end_head (end_meaning end.now) size }
 {
@@ -74,7 +75,7 @@ fn end_head(end: &EndOfData, size: u32) -> Head
     }
 }
 
-/// What all units have.
+/// A head with the fields that all units have.
 #[inline(always)]
 fn bare(kind: Kind, version: u8, size: u32) -> Head
     ensures { result ≡ bare_head kind version size }
@@ -84,7 +85,7 @@ fn bare(kind: Kind, version: u8, size: u32) -> Head
         version,
         session: 0,
         serial: 0,
-        code: 0,
+        code: ErrorCode(0),
         refresh: 0,
         retry: 0,
         expire: 0,

@@ -3,10 +3,10 @@
 ghost use Rattle.std.specs.List.{concat};
 ghost use Rattle.std.specs.Option.{option_map};
 ghost use Rattle.std.specs.Prelude.{◌≡◌, ◌⊎◌, ◌++◌, ℕ, Bool, List, None, Some, drop, take};
-ghost use Rattle.rtr_units.specs.Codes.{code_of};
+ghost use Rattle.rtr_units.specs.Codes.{code_of, peer_fault_of};
 ghost use Rattle.unit_views.specs.OwedCodes.{read_fault};
 ghost use Rattle.unit_views.specs.declared.fault.ViewFault.{ViewFault};
-ghost use Rattle.data_memory.specs.ChangeCodes.{change_code};
+ghost use Rattle.data_memory.specs.ChangeCodes.{change_code, change_fault};
 ghost use Rattle.data_memory.specs.declared.change_error.ChangeError.TheVariants as changes;
 ghost use Rattle.session_cache.specs.Connections.{CacheMoment, IsConnection};
 ghost use Rattle.session_cache.specs.declared.cache.Cache.{Cache};
@@ -14,7 +14,7 @@ ghost use Rattle.session_cache.specs.declared.event.Present.{Present};
 ghost use Rattle.session_cache.specs.declared.settings.CacheSettings.{CacheSettings};
 ghost use Rattle.session_bytes.specs.Reading.{Acts, Hears, KeepsAll};
 ghost use Rattle.session_bytes.specs.Sending.{AreWhole, CacheHearsSent, HearsSent};
-ghost use Rattle.session_bytes.specs.Sent.{refusal_code, refusal_of};
+ghost use Rattle.session_bytes.specs.Sent.{refusal_code, refusal_fault, refusal_of};
 ghost use Rattle.session_bytes.specs.Serving.{HearsRouter, ServesOn};
 ghost use Rattle.session_bytes.specs.ShownData.{ActsOn, AppliesAnswers, AreHeard, KeepsOn};
 ghost use Rattle.session_bytes.specs.ShownData.{ShowsAnswer};
@@ -28,11 +28,11 @@ ghost use Rattle.session_router.specs.declared.router.Router.{Router};
 use rtr_units::header::LAST_VERSION;
 use session_router::settings::HIGHEST;
 
-/// Whatever bytes come to a router, and whenever: a caller that tells it of units by their bytes,
-/// and makes changes by `apply_in_order` of `data_slices`, shows no data, or those that one whole
-/// answer made, by the rules of `Data::apply`, of the data before it or of none. They are in
-/// canonical form, each payload in a unit of the version of the answer, and none are shown after
-/// they have expired.
+/// Whatever bytes a router receives, and whenever: if its caller passes units to the machine by
+/// their bytes, and applies changes with `apply_in_order` of `data_slices`, it shows either no
+/// data, or the result of one whole answer, applied by the rules of `Data::apply` to the data
+/// before it or to no data. The shown data are in canonical form, each payload in a unit of the
+/// version of the answer, and none are shown after they have expired.
 pub fn only_whole_answers_in_bytes()
     ensures { (c : Caller (List ℕ) (List ℕ)) (history : List (Moment (List ℕ))) (r : Router)
         (h : Host (List ℕ) (List ℕ))
@@ -42,8 +42,8 @@ pub fn only_whole_answers_in_bytes()
         × ShowsAnswer c.settings history r.known shown) }
 {}
 
-/// What `tell` answers of payload units that the machine keeps, and of a unit after them, a run of
-/// the machine goes on by, in which it was told of each of these units by its bytes.
+/// The result of `tell` for payload units that the machine keeps, and for a unit after them, is
+/// that of a run of the machine in which it was told of each of these units by its bytes.
 pub fn what_is_told_is_heard()
     ensures kept { (c : Caller (List ℕ) (List ℕ)) (history : List (Moment (List ℕ))) (r : Router)
         (h : Host (List ℕ) (List ℕ)) (now : ℕ) (b : List ℕ) (after : Router)
@@ -56,8 +56,8 @@ pub fn what_is_told_is_heard()
         → ActsOn c h now (take start input) (drop start (take end input)) a after }
 {}
 
-/// Whatever bytes come to a cache, its connection goes on by what `serve` answers of them: so what
-/// `orderly` of `session_cache` says of whole connections holds of them in bytes.
+/// Whatever bytes a cache receives, the results of `serve` are those of a run of its connection: so
+/// what `orderly` of `session_cache` states about whole connections holds of them in bytes.
 pub fn what_is_served_goes_on()
     ensures { (s : CacheSettings) (moments : List CacheMoment) (c : Cache) (now : ℕ) (p : Present)
         (kept input : List ℕ) (ended : Bool) (came : Served) (after : Cache)
@@ -65,10 +65,10 @@ pub fn what_is_served_goes_on()
         → ServesOn s moments now p came after }
 {}
 
-/// Units that were sent one after the other are heard as they were sent, in their order, from a
-/// buffer that holds any front of their bytes: each that is told of is the next one that was sent,
-/// byte for byte; `tell` and `serve` wait only where the next one isn't whole, and refuse only what
-/// the end of the connection cuts off.
+/// Units that were sent one after the other are read as they were sent, in their order, from a
+/// buffer that holds any prefix of their bytes: each unit that the machine is told of is the next
+/// that was sent, byte for byte. `tell` and `serve` wait only if the next unit isn't whole, and
+/// refuse only a unit that the end of the connection cuts off.
 pub fn what_is_sent_is_heard()
     ensures router { (r : Router) (now : ℕ) (sent : List (List ℕ)) (input later : List ℕ)
         (ended : Bool) (t : Told) (after : Router)
@@ -81,17 +81,22 @@ pub fn what_is_sent_is_heard()
         → CacheHearsSent c now present kept sent input ended s after }
 {}
 
-/// The error code of a refused unit (RFC 8210 section 12) is that of its fault, of
-/// `ViewFault::code`; a fault that isn't the peer's has neither a refusal nor a code. The error code
-/// of a refused change is that of `ChangeError::code` of `data_memory`.
+/// A refused unit is refused for what the peer did wrong by its fault, so that text and error code
+/// (RFC 8210 section 12) are those that `Fault` and `ViewFault` have for it; a fault that isn't the
+/// peer's has neither a refusal nor a code. A refused change is refused for what `ChangeError` of
+/// `data_memory` names, and its code is that of `ChangeError::code`.
 pub fn codes_of_refusals()
+    ensures unit_fault { (fault : ViewFault) (report : List ℕ) →
+        option_map refusal_fault (refusal_of fault) ≡ peer_fault_of (read_fault report fault) }
+    ensures double { Some (refusal_fault refusals.Duplicate) ≡ change_fault changes.Duplicate }
+    ensures absent { Some (refusal_fault refusals.Unknown) ≡ change_fault changes.Unknown }
     ensures unit { (fault : ViewFault) (report : List ℕ) →
         option_map refusal_code (refusal_of fault) ≡ code_of (read_fault report fault) }
     ensures duplicate { Some (refusal_code refusals.Duplicate) ≡ change_code changes.Duplicate }
     ensures unknown { Some (refusal_code refusals.Unknown) ≡ change_code changes.Unknown }
 {}
 
-/// The highest version that a router and a cache speak is the last one that there are units of.
+/// The highest version of a router and a cache is the last version that has units.
 pub fn versions_of_sessions()
     ensures { HIGHEST ≡ LAST_VERSION }
 {}

@@ -1,5 +1,5 @@
-//! Both ends of a session in bytes (RFC 8210): units that came are passed to the machines of
-//! `session_router` and `session_cache`, and what these send is written, except data and changes.
+//! Both ends of a session in bytes (RFC 8210): passes received units to the machines of
+//! `session_router` and `session_cache`, and writes what these send, except data and changes.
 //! Nothing allocates.
 #![tactic(auto)]
 

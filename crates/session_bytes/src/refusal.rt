@@ -1,13 +1,14 @@
 //! Why a unit or a change is refused.
 
 ghost use Rattle.std.specs.Prelude.{◌≡◌, take};
-ghost use Rattle.session_bytes.specs.Sent.{refusal_code, refusal_of, refusal_part};
+ghost use Rattle.session_bytes.specs.Sent.{refusal_code, refusal_fault, refusal_of, refusal_part};
 ghost use Rattle.session_bytes.specs.Sent.{about, unit_part};
 
 use rtr_base::error_code::ErrorCode;
 use rtr_payload::pdu::prefix_rule::PrefixRule;
 use rtr_units::header::HEADER_SIZE;
 use rtr_units::numbers::u32_at;
+use rtr_units::peer_fault::PeerFault;
 use unit_views::fault::ViewFault;
 
 /// Why a unit or a change is refused.
@@ -15,9 +16,9 @@ use unit_views::fault::ViewFault;
 pub enum Refusal {
     /// The peer closed inside the unit.
     Short,
-    /// The type that is not allowed.
+    /// A unit of this type is not allowed.
     UnitType(u8),
-    /// The version that is not supported.
+    /// This version of the unit is not supported.
     UnitVersion(u8),
     TooLong,
     UnitLength,
@@ -31,7 +32,7 @@ pub enum Refusal {
 }
 
 impl Refusal {
-    /// The refusal of a unit for this fault; none for faults that aren't the peer's.
+    /// The refusal of a unit with this fault; none for a fault that isn't the peer's.
     pub fn of(fault: &ViewFault) -> Option<Refusal>
         ensures { result ≡ refusal_of fault.now }
     {
@@ -47,20 +48,28 @@ impl Refusal {
         }
     }
 
-    /// The code of a report about it (RFC 8210 section 12).
+    /// What the peer did wrong.
+    pub fn fault(self) -> PeerFault
+        ensures { result ≡ refusal_fault self }
+    {
+        match self {
+            Refusal::Short => PeerFault::Short,
+            Refusal::UnitType(kind) => PeerFault::UnitType(kind),
+            Refusal::UnitVersion(version) => PeerFault::UnitVersion(version),
+            Refusal::TooLong => PeerFault::TooLong,
+            Refusal::UnitLength => PeerFault::UnitLength,
+            Refusal::EmptyProviders => PeerFault::EmptyProviders,
+            Refusal::Prefix(_) => PeerFault::Prefix,
+            Refusal::Duplicate => PeerFault::Duplicate,
+            Refusal::Unknown => PeerFault::Unknown,
+        }
+    }
+
+    /// The error code of the report about it (RFC 8210 section 12).
     pub fn code(self) -> ErrorCode
         ensures { result.0 ≡ refusal_code self }
     {
-        match self {
-            Refusal::Short | Refusal::TooLong | Refusal::UnitLength | Refusal::Prefix(_) => {
-                ErrorCode::CORRUPT_DATA
-            }
-            Refusal::UnitType(_) => ErrorCode::UNSUPPORTED_PDU_TYPE,
-            Refusal::UnitVersion(_) => ErrorCode::UNSUPPORTED_PROTOCOL_VERSION,
-            Refusal::EmptyProviders => ErrorCode::ASPA_PROVIDER_LIST_ERROR,
-            Refusal::Duplicate => ErrorCode::DUPLICATE_ANNOUNCEMENT_RECEIVED,
-            Refusal::Unknown => ErrorCode::WITHDRAWAL_OF_UNKNOWN_RECORD,
-        }
+        self.fault().code()
     }
 
     /// Returns the part of the input that a report about its first unit copies: only the header if
@@ -88,7 +97,7 @@ pub(crate) fn part(refusal: Option<Refusal>, input: &[u8]) -> &[u8]
     }
 }
 
-/// Returns the unit at the front of the input, or as much of it as came.
+/// Returns the unit at the front of the input, or the part of it that has come.
 pub(crate) fn unit_of(input: &[u8]) -> &[u8]
     ensures { result.now ≡ unit_part input.now }
 {
@@ -98,7 +107,7 @@ pub(crate) fn unit_of(input: &[u8]) -> &[u8]
     front(input, u32_at(input, 4) as usize)
 }
 
-/// As many of the first bytes as this, or all if there are fewer.
+/// The first `most` bytes, or all if there are fewer.
 fn front(bytes: &[u8], most: usize) -> &[u8]
     ensures { result.now ≡ take most bytes.now }
 {

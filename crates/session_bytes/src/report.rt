@@ -11,11 +11,11 @@ use session_router::event::{Cause, Ending};
 use unit_any::placing::place_report;
 
 /// Writes the report that this ending owes the cache (RFC 8210 section 5.11) to the front of the
-/// output, and returns its length in bytes. If none is owed, or the output is shorter, it returns
-/// none and leaves the output unchanged; 65535 bytes are always enough.
+/// output, and returns its length in bytes. If none is owed, or the output is too short, it returns
+/// none and leaves the output unchanged; 65535 bytes always suffice.
 ///
-/// The report is of the version of the connection, about the unit at the front of `about`, which
-/// may be refused for this reason. Its text is that of the cause, or of the refusal.
+/// The report is of the version of the connection, about the unit at the front of `about`;
+/// `refusal` is why it is refused, if it is. Its text is that of the cause, or of the refusal.
 pub fn place_ending(
     version: u8,
     ending: &Ending,
@@ -29,18 +29,11 @@ pub fn place_ending(
         return None;
     };
     let unit = part(refusal, about);
-    place_cause(
-        version,
-        ErrorCode(code),
-        unit,
-        ending.cause,
-        refusal,
-        output,
-    )
+    place_cause(version, code, unit, ending.cause, refusal, output)
 }
 
-/// Writes the report with this version and error code about this part of a unit, for this cause,
-/// of a unit or a change that is refused for this reason.
+/// Writes the report with this version and error code about this part of a unit, for this cause. If
+/// a unit or a change is refused, `refusal` is why.
 fn place_cause(
     version: u8,
     code: ErrorCode,

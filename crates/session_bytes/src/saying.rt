@@ -11,11 +11,11 @@ use rtr_base::error_code::ErrorCode;
 use text_lines::laying;
 use unit_any::placing::place_report;
 
-/// More than the longest text has.
+/// A buffer length that is greater than that of the longest text.
 const ROOM: usize = 64;
 
-/// Writes the report with this version and error code about this part of a unit, which is refused
-/// for this reason, to the front of the output, as `place_report`.
+/// Writes the report with this version and error code about this part of a refused unit, with the
+/// text of the refusal, to the front of the output, as `place_report`.
 pub(crate) fn place_refusal(
     version: u8,
     code: ErrorCode,
@@ -33,25 +33,15 @@ pub(crate) fn place_refusal(
 }
 
 impl Refusal {
-    /// What to say of it without its number and the rule that is broken.
+    /// The text of the refusal, without its number and the part of the rule that is broken.
     pub fn name(self) -> &'static str
         ensures { result.now ≡ refusal_name self }
     {
-        match self {
-            Refusal::Short => "unexpected end of input",
-            Refusal::UnitType(_) => "unit type is not allowed here",
-            Refusal::UnitVersion(_) => "version is not supported here",
-            Refusal::TooLong => "unit is longer than 65535 bytes",
-            Refusal::UnitLength => "invalid unit length",
-            Refusal::EmptyProviders => "ASPA unit has no providers",
-            Refusal::Prefix(_) => "prefix fields are not allowed",
-            Refusal::Duplicate => "duplicate announcement",
-            Refusal::Unknown => "withdrawal of an unknown record",
-        }
+        self.fault().name()
     }
 
-    /// Lays what to say of it, in a report too, over the output from this place on, as far as there
-    /// is room, and answers where it ends.
+    /// Writes the text of the refusal, which a report has too, to the output from offset `at` on,
+    /// as much of it as fits, and returns the offset of its end.
     pub fn lay(self, output: &mut [u8], at: usize) -> usize
         ensures laid { Lays (refusal_text self) at output.old result output.new }
         ensures short { length (refusal_text self) ≤ 64 }
@@ -69,7 +59,7 @@ impl Refusal {
     }
 }
 
-/// Lays a number between two texts.
+/// Writes a number between two texts.
 fn around(output: &mut [u8], at: usize, before: &str, number: u8, after: &str) -> usize
     ensures laid { Lays (before.now ++ decimal number ++ after.now) at output.old result
         output.new }

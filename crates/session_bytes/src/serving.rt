@@ -15,20 +15,20 @@ use unit_any::laws::bounded_lengths;
 use unit_any::{SessionFault, SessionView};
 use unit_views::fault::ViewFault;
 
-/// What came of the unit that an input begins with.
+/// The result for the unit at the front of the input.
 #[derive(Drop)]
 pub enum Served {
     /// No whole unit has come.
     Awaits,
-    /// The unit has this many bytes, and made the machine answer this.
+    /// The unit has this many bytes, and this is the machine's answer.
     Answered(usize, Answer),
     /// The unit is refused for this fault, or the end of the input cuts it off.
     Refused(ViewFault, Answer),
 }
 
-/// Tells the machine of the unit that the input begins with, at this time, where these are the
-/// newest data. The changes since the data of the present session can be told from each of the kept
-/// serial numbers. Where the peer has closed, `ended`, a unit that isn't whole is refused.
+/// Tells the machine of the unit at the front of the input, at this time, given the newest data.
+/// The cache can send the changes since each of the kept serial numbers of the present session. If
+/// the peer has closed, `ended`, a unit that isn't whole is refused.
 pub fn serve(
     cache: &mut Cache,
     now: u64,
@@ -49,7 +49,7 @@ pub fn serve(
     }
 }
 
-/// What the machine sees of the unit that the input begins with, and its size in bytes.
+/// The head of the unit at the front of the input, and its size in bytes.
 fn first_head(input: &[u8]) -> Result<(Head, usize), SessionFault>
     ensures unit { IfOk result (λ p. HasFirstHead input.now p.0 p.1) }
     ensures fault { IfErr result (λ e. IsSessionFault input.now e.fault e.size) }
@@ -62,7 +62,7 @@ fn first_head(input: &[u8]) -> Result<(Head, usize), SessionFault>
     Ok((head_of(&view, u32_at(input, 4)), size))
 }
 
-/// Tells the machine of a unit that is refused, unless more of it may come.
+/// Tells the machine of a refused unit, unless the rest of it may still come.
 fn refuse(
     cache: &mut Cache,
     now: u64,

@@ -20,32 +20,31 @@ use unit_any::laws::bounded_lengths;
 use unit_any::{SessionFault, SessionView};
 use unit_views::fault::ViewFault;
 
-/// What came of the units of an input.
+/// The result for the units of an input.
 #[derive(Drop)]
 pub enum Told {
     /// No whole unit has come.
     Awaits,
-    /// The input begins with payload units of this many bytes in all, which are to be kept.
+    /// The input begins with payload units of this many bytes in all, which the caller keeps.
     Kept(usize),
-    /// The unit between these offsets of the input made the machine take this action. Before it
-    /// come payload units that the machine had kept; if there are some, the action ends the
-    /// connection, and they are dropped.
+    /// At the unit between these offsets of the input the machine took this action. Before it come
+    /// payload units that the machine had kept; if there are any, the action ends the connection,
+    /// and they are dropped.
     Acted {
         start: usize,
         end: usize,
         action: Action,
     },
-    /// The input begins with a unit that is refused for this fault, or that the end of the input
-    /// cuts off.
+    /// The first unit of the input is refused for this fault, or the end of the input cuts it off.
     Refused {
         fault: ViewFault,
         action: Action,
     },
 }
 
-/// Tells the machine of the units that the input begins with: of payload units that it keeps as
-/// many as there are, and otherwise of one. Where the peer has closed, `ended`, a unit that isn't
-/// whole is refused.
+/// Tells the machine of the units at the front of the input: of payload units as long as it keeps
+/// them, otherwise of one unit. If the peer has closed, `ended`, a unit that isn't whole is
+/// refused.
 pub fn tell(router: &mut Router, now: u64, input: &[u8], ended: bool) -> Told
     requires { now < 2 ^ 63 }
     ensures { Hears router.old now input.now ended result router.new }
@@ -63,7 +62,7 @@ pub fn tell(router: &mut Router, now: u64, input: &[u8], ended: bool) -> Told
     }
 }
 
-/// The same after this many bytes of payload units, which the machine keeps.
+/// Does the same after this many bytes of payload units, which the machine keeps.
 fn tell_on(router: &mut Router, now: u64, input: &[u8], size: usize) -> Told
     requires now { now < 2 ^ 63 }
     requires some { 0 < size }
@@ -94,7 +93,7 @@ fn tell_on(router: &mut Router, now: u64, input: &[u8], size: usize) -> Told
     }
 }
 
-/// Whether the type of a payload unit stands in its place.
+/// Whether the input begins with the header of a payload unit.
 fn begins_payload(input: &[u8]) -> bool
     ensures { result ≡ is_payload_begun input.now }
 {
@@ -122,7 +121,7 @@ fn came(router: &mut Router, now: u64, input: &[u8]) -> Result<(Action, usize), 
     Ok((router.hear(now, &head), size))
 }
 
-/// Tells the machine of the payload unit that the input begins with, unless it is refused.
+/// Tells the machine of the payload unit at the front of the input, unless it is refused.
 #[inline(always)]
 fn heard(router: &mut Router, now: u64, input: &[u8]) -> Option<(Action, usize)>
     requires { now < 2 ^ 63 }
@@ -138,7 +137,7 @@ fn heard(router: &mut Router, now: u64, input: &[u8]) -> Option<(Action, usize)>
     Some((router.hear(now, &head), size))
 }
 
-/// Tells the machine of a unit that is refused, unless more of it may come.
+/// Tells the machine of a refused unit, unless the rest of it may still come.
 fn refuse(router: &mut Router, now: u64, input: &[u8], ended: bool, fault: ViewFault) -> Told
     requires now { now < 2 ^ 63 }
     ensures { (size : Option ℕ) → IsSessionFault input.now fault size →

@@ -536,7 +536,7 @@ heard_asked C r tc x xs a y h (inr (t, inr (inr (inl w)))) =
     (h.resets w.0.kind (w.0.version ∙ query_version r r.changes refl)
     (sym (query_changes r r.changes refl) ∙ w.0.changes)) tt
 heard_asked C r tc x xs a y h (inr (t, inr (inr (inr w)))) =
-    let z : (x.head.code ≡ 2) × (x.head.version ≡ r.version) = y.report w.0 in
+    let z : (x.head.code.0 ≡ 2) × (x.head.version ≡ r.version) = y.report w.0 in
     goes_on a actions.NoData (h.has_none w.0 z.1 z.0) tt
 
 heard_reading : (C : Type 0) (r : Router) (x : Sent C) (xs : List (Sent C)) (a : Action)

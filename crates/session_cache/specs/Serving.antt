@@ -1,6 +1,7 @@
 -- What a cache has to do at what it is told in time, on a connection that hasn't ended (RFC 8210
 -- sections 5 to 8, 12).
 use Rattle.std.specs.Prelude.{◌≡◌, ◌≢◌, ℕ, Bool, true, false, ◌<◌, ◌≤◌, Option, Some, None}
+use Rattle.rtr_base.specs.declared.error_code.ErrorCode.{ErrorCode}
 use Rattle.session_router.specs.declared.head.Head.{Head}
 use Rattle.session_router.specs.declared.head.Fault.{Fault}
 use Rattle.session_router.specs.declared.head.Kind.{Kind}
@@ -25,7 +26,7 @@ closes_with report reason = answers.End (record { report = report; reason = reas
 -- with a report of this version and code (section 12)
 abbrev pub reports : (version code : ℕ) → Reason → Answer
 reports version code reason =
-    closes_with (Some (record { version = version; code = code })) reason
+    closes_with (Some (record { version = version; code = record { 0 = code } })) reason
 
 -- without one
 abbrev pub closes_for : Reason → Answer
@@ -84,17 +85,17 @@ pub record ServesUnit (c : Cache) (p : Present) (u : Head) (kept : Bool) (a : An
 pub record ServesFault (c : Cache) (f : Fault) (a : Answer) : Type 0 where
   pub unowed : f.code ≡ None → a ≡ closes_for reasons.Faulty
   pub other_version :
-      (code : ℕ) → f.code ≡ Some code → c.asked ≡ true → f.version ≢ c.version
+      (code : ErrorCode) → f.code ≡ Some code → c.asked ≡ true → f.version ≢ c.version
       → a ≡ reports c.version 8 reasons.OtherVersion
   pub no_version :
-      (code : ℕ) → f.code ≡ Some code → c.asked ≡ false → 2 < f.version
+      (code : ErrorCode) → f.code ≡ Some code → c.asked ≡ false → 2 < f.version
       → a ≡ reports 2 4 reasons.NoVersion
   pub owed :
-      (code : ℕ) → f.code ≡ Some code → c.asked ≡ true → f.version ≡ c.version
-      → a ≡ reports c.version code reasons.Faulty
+      (code : ErrorCode) → f.code ≡ Some code → c.asked ≡ true → f.version ≡ c.version
+      → a ≡ reports c.version code.0 reasons.Faulty
   pub first :
-      (code : ℕ) → f.code ≡ Some code → c.asked ≡ false → f.version ≤ 2
-      → a ≡ reports f.version code reasons.Faulty
+      (code : ErrorCode) → f.code ≡ Some code → c.asked ≡ false → f.version ≤ 2
+      → a ≡ reports f.version code.0 reasons.Faulty
 
 -- ---- time, and new data
 

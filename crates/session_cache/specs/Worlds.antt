@@ -113,7 +113,7 @@ plain_head kind v s n code = record {
   version = v;
   session = s;
   serial = n;
-  code = code;
+  code = record { 0 = code };
   refresh = 0;
   retry = 0;
   expire = 0;
@@ -158,7 +158,7 @@ sized_report C v code m =
 -- a report, if one is owed
 abbrev pub report_sent : (C : Type 0) → (size : ℕ) → Option OwedReport → List (Sent C)
 report_sent C m None = []
-report_sent C m (Some r) = sized_report C r.version r.code m ∷ []
+report_sent C m (Some r) = sized_report C r.version r.code.0 m ∷ []
 
 -- What the cache's caller writes, where changes are those from `old`. A report has some size, by
 -- its text and the unit that it is about.
@@ -353,7 +353,7 @@ pub record IsPeaceful (r : Router) (u : Head) : Type 0 where
       u.kind ≡ kinds.EndOfData → r.changes ≡ true
       → serial_cmp u.serial r.known.serial ≢ Some Less
   pub room : IsPayloadOf r.version u.kind → HasRoom r u.size
-  pub report : u.kind ≡ kinds.ErrorReport → (u.code ≡ 2) × (u.version ≡ r.version)
+  pub report : u.kind ≡ kinds.ErrorReport → (u.code.0 ≡ 2) × (u.version ≡ r.version)
 
 -- the answer to a query of this kind, where there are data: all of them, for a reset query (section
 -- 8.1); the changes, for a serial query whose changes can be told (section 8.2); or a cache reset

@@ -13,33 +13,34 @@ use rtr_base::error_code::ErrorCode;
 use session_router::head::{Head, Kind};
 use session_router::settings::HIGHEST;
 
-/// The cache's end of one connection. It holds which data the router knows of, and no data.
+/// The cache's end of one connection. It records which data the router was told of, but not the
+/// data.
 ///
-/// Times are in milliseconds, of a clock that doesn't go back.
+/// Times are in milliseconds of a monotonic clock.
 #[derive(Clone, Copy)]
 pub struct Cache {
     pub settings: CacheSettings,
-    /// Whether the connection hasn't ended.
+    /// Whether the connection is open.
     pub live: bool,
-    /// Whether a query came, whose version is that of the connection.
+    /// Whether a query came. Its version is that of the connection.
     pub asked: bool,
     pub version: u8,
     /// Whether the router was told of data, by an answer or a notify.
     pub told: bool,
-    /// Whether a cache reset told it to ask for all data, and it wasn't told of any since.
+    /// Whether a cache reset told the router to ask for all data, and it wasn't told of any since.
     pub reset: bool,
     /// The session and the serial number of the data that it was told of, or that were the newest
     /// at the cache reset.
     pub session: u16,
     pub serial: u32,
-    /// When the next notify may be sent.
+    /// The earliest time of the next notify.
     pub notify_from: u64,
-    /// When the connection ends, if no query comes before.
+    /// The deadline for the next query, after which the connection ends.
     pub due: u64,
 }
 
 impl Cache {
-    /// A connection that was made at this time.
+    /// The end of a connection that was made at this time.
     pub fn new(now: u64, settings: CacheSettings) -> Cache
         requires time { now < 2 ^ 63 }
         ensures settings { result.settings ≡ settings }
@@ -81,14 +82,14 @@ impl Cache {
         }
         match event {
             CacheEvent::Tick => self.tick(now, &present),
-            CacheEvent::Full => self.report(HIGHEST, ErrorCode::INTERNAL_ERROR.0, Reason::Full),
+            CacheEvent::Full => self.report(HIGHEST, ErrorCode::INTERNAL_ERROR, Reason::Full),
             CacheEvent::Came(unit, kept) => self.came(now, &present, &unit, kept),
             CacheEvent::Faulty(fault) => self.faulty(&fault),
             CacheEvent::Lost => self.close(None, Reason::Lost),
         }
     }
 
-    /// When `Tick` is wanted, where these are the newest data, if nothing comes before.
+    /// When to call `step` with `Tick`, given the newest data, if nothing comes before.
     pub fn wakes(&self, present: Present) -> u64
         ensures { result ≡ cache_wakes_at self.now present }
     {
@@ -110,8 +111,8 @@ impl Cache {
         present.has && self.told && self.session != present.session
     }
 
-    /// Reports whether a router that has sent a query has to be notified: it wasn't sent the newest
-    /// data or a notify of them, nor a cache reset. Of another session it is notified once.
+    /// Reports whether to notify a router that has sent a query: it wasn't sent the newest data or
+    /// a notify of them, nor a cache reset. Data of another session are notified once.
     fn has_news(&self, present: &Present) -> bool
         ensures { result ≡ has_news self.now present.now }
     {
@@ -157,7 +158,7 @@ impl Cache {
         self.serial = present.serial;
     }
 
-    /// A query came. The first one says what version the connection has (RFC 8210 section 7).
+    /// Takes a query. The first one sets the version of the connection (RFC 8210 section 7).
     fn hear(&mut self, now: u64, version: u8)
         requires time { now < 2 ^ 63 }
         ensures { self.new ≡ heard self.old now version }
@@ -180,23 +181,23 @@ impl Cache {
             _ if self.asked && unit.version != self.version => {
                 self.report(
                     unit.version,
-                    ErrorCode::UNEXPECTED_PROTOCOL_VERSION.0,
+                    ErrorCode::UNEXPECTED_PROTOCOL_VERSION,
                     Reason::OtherVersion,
                 )
             }
             _ if unit.version > HIGHEST => {
                 self.report(
                     unit.version,
-                    ErrorCode::UNSUPPORTED_PROTOCOL_VERSION.0,
+                    ErrorCode::UNSUPPORTED_PROTOCOL_VERSION,
                     Reason::NoVersion,
                 )
             }
             Kind::ResetQuery | Kind::SerialQuery => self.queried(now, present, unit, kept),
-            _ => self.report(unit.version, ErrorCode::INVALID_REQUEST.0, Reason::NoQuery),
+            _ => self.report(unit.version, ErrorCode::INVALID_REQUEST, Reason::NoQuery),
         }
     }
 
-    /// A query of the version of the connection came.
+    /// Takes a query of the version of the connection.
     fn queried(&mut self, now: u64, present: &Present, unit: &Head, kept: bool) -> Answer
         requires time { now < 2 ^ 63 }
         requires live { self.old.live ≡ true }
@@ -219,7 +220,7 @@ impl Cache {
             Kind::ResetQuery => Answer::All,
             _ if known => Answer::Changes(unit.serial),
             _ if self.settings.refuses => {
-                return self.report(unit.version, ErrorCode::CORRUPT_DATA.0, Reason::Unknown);
+                return self.report(unit.version, ErrorCode::CORRUPT_DATA, Reason::Unknown);
             }
             _ => {
                 self.hear(now, unit.version);

@@ -22,10 +22,10 @@ impl Cache {
         Answer::End(Closing { report, reason })
     }
 
-    /// Ends the connection with a report about a unit of this version. It is in the version of the
-    /// connection, or else in that of the unit if there is such a version, and else in the highest.
-    pub(crate) fn report(&mut self, version: u8, code: u16, reason: Reason) -> Answer
-        ensures answer { result ≡ reports (report_version self.old version) code reason }
+    /// Ends the connection with a report about a unit of this version. The report has the version
+    /// of the connection; without one, that of the unit if it is supported, otherwise the highest.
+    pub(crate) fn report(&mut self, version: u8, code: ErrorCode, reason: Reason) -> Answer
+        ensures answer { result ≡ reports (report_version self.old version) code.0 reason }
         ensures after { self.new ≡ once_closed self.old }
     {
         let version = if self.asked {
@@ -36,8 +36,8 @@ impl Cache {
         self.close(Some(OwedReport { version, code }), reason)
     }
 
-    /// A unit is refused. Its version comes first (RFC 8210 section 7), and nothing is said about
-    /// an error report (section 5.11).
+    /// Takes a refused unit. Its version is checked first (RFC 8210 section 7), and no report is
+    /// sent about an error report (section 5.11).
     pub(crate) fn faulty(&mut self, fault: &Fault) -> Answer
         requires live { self.old.live ≡ true }
         ensures rule { (n : ℕ) (p : Present)
@@ -49,14 +49,14 @@ impl Cache {
             Some(_) if self.asked && fault.version != self.version => {
                 self.report(
                     fault.version,
-                    ErrorCode::UNEXPECTED_PROTOCOL_VERSION.0,
+                    ErrorCode::UNEXPECTED_PROTOCOL_VERSION,
                     Reason::OtherVersion,
                 )
             }
             Some(_) if !self.asked && fault.version > HIGHEST => {
                 self.report(
                     fault.version,
-                    ErrorCode::UNSUPPORTED_PROTOCOL_VERSION.0,
+                    ErrorCode::UNSUPPORTED_PROTOCOL_VERSION,
                     Reason::NoVersion,
                 )
             }

@@ -3,12 +3,13 @@
 ghost use Rattle.std.specs.Prelude.{◌≡◌};
 ghost use Rattle.session_cache.specs.ReasonTexts.{reason_text};
 
+use rtr_base::error_code::ErrorCode;
 use session_router::head::{Fault, Head};
 
-/// What names the newest data of a cache, if it has any.
+/// The session and the serial number of a cache's newest data, if it has any.
 #[derive(Clone, Copy)]
 pub struct Present {
-    /// Whether there are any; the session and the serial number say nothing where there are none.
+    /// Whether there are any; otherwise the session and the serial number have no meaning.
     pub has: bool,
     pub session: u16,
     pub serial: u32,
@@ -19,31 +20,31 @@ pub struct Present {
 pub enum CacheEvent {
     /// Time passed, or there are new data.
     Tick,
-    /// The connection is one more than the cache may have.
+    /// The connection exceeds the cache's limit of connections.
     Full,
-    /// A unit came. For a serial query: whether the cache can tell the changes from the data of the
-    /// present session at its serial number.
+    /// A unit came. For a serial query: whether the cache can send the changes since the data of
+    /// the present session with its serial number.
     Came(Head, bool),
-    /// A unit came that is refused, or that a close cut off.
+    /// A unit came that is refused, or that the close of the connection cut off.
     Faulty(Fault),
-    /// The connection is gone, or something that is sent isn't taken in its time.
+    /// The connection is gone, or the router didn't take in time what was sent.
     Lost,
 }
 
-/// What its caller has to do, to its end, before it tells of anything else. All is sent in the
-/// version of the connection.
+/// What the caller has to do, and complete, before it reports the next event. Everything is sent in
+/// the version of the connection.
 #[derive(Clone, Copy)]
 pub enum Answer {
-    /// Nothing, until something comes, there are new data, or the time is `wakes`.
+    /// Nothing, until something comes, there are new data, or the time of `wakes` is reached.
     Wait,
     /// Send a cache response, all present data and an end of data.
     All,
-    /// Send a cache response, the changes from the data of this serial number to the present ones,
-    /// and an end of data.
+    /// Send a cache response, the changes from the data with this serial number to the present
+    /// ones, and an end of data.
     Changes(u32),
     /// Send a cache reset.
     Reset,
-    /// Send a report of code 2, about the query. The connection stays.
+    /// Send a report of code 2 about the query. The connection stays open.
     NoData,
     /// Send a notify of the present data.
     Notify,
@@ -54,7 +55,7 @@ pub enum Answer {
 /// How a connection ends.
 #[derive(Clone, Copy)]
 pub struct Closing {
-    /// The report that is sent before.
+    /// The report that is sent before, if one is owed.
     pub report: Option<OwedReport>,
     pub reason: Reason,
 }
@@ -62,39 +63,39 @@ pub struct Closing {
 /// A report that is owed.
 #[derive(Clone, Copy)]
 pub struct OwedReport {
-    /// The version that it is sent in.
+    /// The version in which it is sent.
     pub version: u8,
     /// Its code (RFC 8210 section 12).
-    pub code: u16,
+    pub code: ErrorCode,
 }
 
 /// Why a connection ends.
 #[derive(Clone, Copy)]
 pub enum Reason {
-    /// It is gone.
+    /// The connection is gone.
     Lost,
-    /// No query came in the time for it.
+    /// No query came in time.
     Slow,
-    /// There are as many connections as there may be.
+    /// The limit of connections is reached.
     Full,
     /// A unit is refused.
     Faulty,
     /// The router sent an error report.
     Reported,
-    /// A unit that is no query.
+    /// The router sent a unit that isn't a query.
     NoQuery,
-    /// A unit of another version than the connection.
+    /// The router sent a unit of another version than the connection.
     OtherVersion,
-    /// A first unit of a version that there isn't.
+    /// The router's first unit has an unsupported version.
     NoVersion,
-    /// The router knows of data of a session that isn't the present one.
+    /// The router has data of a session that isn't the present one.
     NewSession,
-    /// The changes that a serial query asks for can't be told.
+    /// The changes that a serial query asks for aren't available.
     Unknown,
 }
 
 impl Reason {
-    /// What to say of it, in a report too.
+    /// The text of the reason, which a report has too.
     pub fn text(self) -> &'static str
         ensures { result.now ≡ reason_text self }
     {

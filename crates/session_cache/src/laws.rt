@@ -1,4 +1,4 @@
-//! What holds of whole connections of a cache, and of a router and a cache that are joined.
+//! What holds of whole connections of a cache, and of a router and a cache that are connected.
 
 ghost use Rattle.std.specs.Prelude.{◌≡◌, ◌≤◌, ◌+◌, ◌∷◌, ℕ, Bool, List, Some, max, true};
 ghost use Rattle.session_cache.specs.CacheSteps.{IsCacheStep};
@@ -29,17 +29,18 @@ ghost use Rattle.session_router.specs.declared.router.Phase.TheVariants as phase
 ghost use Rattle.session_router.specs.declared.router.Router.{Router};
 
 /// Over any number of connections, each cut anywhere, with new data, sessions and notifies at the
-/// cache at any time, and whatever of what their rules let them do the router and the cache do:
-/// whenever the router has data, what it shows are those that the cache had under their session and
-/// serial number, as the router's version has them.
+/// cache at any time, and whichever of their allowed steps the router and the cache take: whenever
+/// the router has data, it shows the data that the cache had under their session and serial number,
+/// as far as the router's version has them.
 pub fn agreement<D, C>()
     ensures { (S : Source D C) (w : World D C) → IsSource D C S w.had → IsOneDataPerName w.had
         → IsReached D C S w → w.router.has_data ≡ true → Agrees D C w }
 {}
 
-/// Over what a cache of ours sends a router of ours ends no connection, in any such run, unless
-/// that is of another session, goes back in serial numbers, is above the limits of an answer, or is
-/// a report; while the data haven't expired, and no limit of time is over.
+/// In any such run a router of this library ends no connection because of what a cache of this
+/// library sends, unless that is of another session, goes back in serial numbers, exceeds the
+/// limits of an answer, or is a report; this holds while the data haven't expired and no deadline
+/// has passed.
 pub fn peace<D, C>()
     ensures { (S : Source D C) (w : World D C) (x : Sent C) (rest : List (Sent C)) (n : ℕ)
         (a : Action) (after : Router) → IsSource D C S w.had → IsOneDataPerName w.had
@@ -48,10 +49,10 @@ pub fn peace<D, C>()
         → IsStep w.router n (events.Came x.head) a after → GoesOn a }
 {}
 
-/// In any such run the step at which a cache of ours hears a query of a router of ours that awaits
-/// an answer, in a version that there is, has this answer, unless the time for a query is over, it
-/// has begun another session, or it was chosen that it refuses. Where a cache of ours answers with
-/// changes, there are data that they are from: the cache had them.
+/// In any such run, when a cache of this library gets a query of a supported version from a router
+/// of this library that awaits an answer, the query has this answer, unless the deadline for a
+/// query has passed, the cache has begun another session, or it is set to refuse. If the cache
+/// answers with changes, they are from data that the cache had.
 pub fn queries_are_answered<D, C>()
     ensures answer { (S : Source D C) (w : World D C) (u : Head) (rest : List Head) (kept : Bool)
         (n : ℕ) (a : Answer) (after : Cache) → IsSource D C S w.had → IsOneDataPerName w.had
@@ -66,23 +67,22 @@ pub fn queries_are_answered<D, C>()
         → (old : Edition D) × AreFrom w.had w.present (answers.Changes since) old }
 {}
 
-/// Whatever a cache is told on a connection, with whichever data, and whatever of what its rules
-/// let it do it does: notifies come a pause after each other and none before a query was answered,
-/// all queries that are answered are of one version, all data of one session, and nothing comes
-/// after the end.
+/// Whatever a cache is told on a connection, with whichever data, and whichever of its allowed
+/// steps it takes: notifies come at least a pause apart and none before a query was answered, all
+/// answered queries are of one version, all data of one session, and nothing comes after the end.
 pub fn orderly()
     ensures { (s : CacheSettings) (moments : List CacheMoment) (c : Cache)
         → IsAllowedConnection s moments c → IsOrderly s.pause moments }
 {}
 
-/// After a cut, or from when a router has asked or waits and nothing but notifies is on its way to
-/// it, while from then on no connection is cut, no new data come, the cache ends no connection, and
+/// After a cut, or from when a router has asked or waits and only notifies are on their way to it,
+/// while from then on no connection is cut, no new data come, the cache ends no connection, and
 /// each answer comes in time and is within the limits: the router shows data by `served_until`, a
-/// formula of its pause and its limits, and those are the present data of the cache, as the
-/// router's version has them. Where it waited, and is then told of the present data by a notify,
-/// that time counts from the notify, or from a pause after its last query if that is later; and the
-/// notify comes when the cache may send it, which is a pause after the one before, and then in the
-/// time that the pipe takes.
+/// formula of its pause and its limits, and these are the present data of the cache, as far as the
+/// router's version has them. If it waited, and then gets a notify of the present data, that time
+/// counts from the notify, or from a pause after its last query if that is later; and the notify
+/// comes when the cache may send it, which is a pause after the previous one, plus the time that
+/// the pipe takes.
 pub fn current_again<D, C>()
     ensures soon { (S : Source D C) (before w : World D C) (start n : ℕ)
         → IsSource D C S before.had → IsOneDataPerName before.had → IsLived D C S before

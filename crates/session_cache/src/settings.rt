@@ -1,25 +1,26 @@
-//! What a caller sets.
+//! The settings of a cache's end.
 
 ghost use Rattle.std.specs.Prelude.{◌≡◌, false};
 
-/// What a caller sets. Times are in milliseconds.
+/// The settings of a cache's end. Times are in milliseconds.
 #[derive(Clone, Copy)]
 pub struct CacheSettings {
-    /// From the connection to the first query.
+    /// The limit from the connection to the first query.
     pub first_limit: u32,
-    /// From a query to the next one.
+    /// The limit from a query to the next one.
     pub idle_limit: u32,
-    /// Between two notifies, at least.
+    /// The least time between two notifies.
     pub pause: u32,
-    /// Whether a report of code 0 and the end answer a serial query whose changes can't be told, in
-    /// the place of a cache reset. Some routers, such as BIRD 2.0, ask again at once after such a
-    /// report, and wait for their whole retry time after a cache reset; most do the opposite.
+    /// Whether to answer a serial query whose changes aren't available with a report of code 0 and
+    /// the end of the connection, instead of a cache reset. Some routers, such as BIRD 2.0, ask
+    /// again at once after such a report, and wait for their whole retry time after a cache reset;
+    /// most do the opposite.
     pub refuses: bool,
 }
 
 impl CacheSettings {
-    /// The usual ones: 30 seconds to the first query, 25 hours between two, since a router asks
-    /// once a day at least (RFC 8210 section 6), a minute between two notifies (section 8.2), and
+    /// The defaults: 30 seconds to the first query, 25 hours between two, since a router asks at
+    /// least once a day (RFC 8210 section 6), a minute between two notifies (section 8.2), and
     /// cache resets (section 8.3).
     pub fn usual() -> CacheSettings
         ensures first_limit { result.first_limit ≡ 30000 }

@@ -1,8 +1,9 @@
-//! Runs of a cache's end, as docs/SESSIONS.md has them.
+//! Runs of a cache's end, as in docs/SESSIONS.md.
 
 use crate::cache::Cache;
 use crate::event::{Answer, CacheEvent, Present, Reason};
 use crate::settings::CacheSettings;
+use rtr_base::error_code::ErrorCode;
 use session_router::head::{Fault, Head, Kind};
 use std::process::Abort;
 use std::rt::HostRuntime;
@@ -27,7 +28,7 @@ fn head(kind: Kind, version: u8, session: u16, serial: u32) -> Head {
         version,
         session,
         serial,
-        code: 0,
+        code: ErrorCode::CORRUPT_DATA,
         refresh: 0,
         retry: 0,
         expire: 0,
@@ -44,7 +45,10 @@ fn since(version: u8, session: u16, serial: u32, kept: bool) -> CacheEvent {
 }
 
 fn faulty(version: u8, code: Option<u16>) -> CacheEvent {
-    CacheEvent::Faulty(Fault { version, code })
+    CacheEvent::Faulty(Fault {
+        version,
+        code: code.map(ErrorCode),
+    })
 }
 
 /// An answer in a word.
@@ -61,19 +65,19 @@ fn word(answer: Answer) -> &'static str {
         Answer::End(closing) => match closing.report {
             None => "end",
             Some(report) => match (report.version, report.code) {
-                (1, 0) => "report 0 in 1, end",
-                (1, 3) => "report 3 in 1, end",
-                (1, 5) => "report 5 in 1, end",
-                (1, 8) => "report 8 in 1, end",
-                (2, 1) => "report 1 in 2, end",
-                (2, 4) => "report 4 in 2, end",
+                (1, ErrorCode(0)) => "report 0 in 1, end",
+                (1, ErrorCode(3)) => "report 3 in 1, end",
+                (1, ErrorCode(5)) => "report 5 in 1, end",
+                (1, ErrorCode(8)) => "report 8 in 1, end",
+                (2, ErrorCode(1)) => "report 1 in 2, end",
+                (2, ErrorCode(4)) => "report 4 in 2, end",
                 _ => "report, end",
             },
         },
     }
 }
 
-/// Tells a cache these events, and holds its answers against the words.
+/// Tells a cache these events, and compares its answers with the words.
 fn follow(rt: &impl Abort, cache: &mut Cache, rows: &[(u32, Present, CacheEvent, &str)]) {
     for (i, (now, present, event, want)) in rows.iter().enumerate() {
         let got = word(cache.step(*now as u64, *present, *event));
@@ -172,7 +176,8 @@ fn ends(rt: HostRuntime) {
     }
 }
 
-/// A cache reset tells of no data: the router may be given those of another session next.
+/// After a cache reset the router counts as told of no data, so the next data may be of another
+/// session.
 #[test]
 fn cache_resets(rt: HostRuntime) {
     let mut cache = Cache::new(0, CacheSettings::usual());

@@ -2,98 +2,30 @@
 use native.Mathlib.Omega.{arith}
 use Rattle.std.proofs.Common.{◌≡◌, ℕ, Bool, ◌+◌, ◌-◌, ◌≤◌, List, [], ◌∷◌, ◌++◌, length, map}
 use Rattle.std.proofs.Common.{take, drop, refl, sym, ap, subst, ◌∙◌, append_assoc, length-append}
-use Rattle.std.proofs.Common.{Option, Some, None}
 use Rattle.std.proofs.lemmas.List.{append-nil, map-append, take-take}
-use Rattle.rtr_units.specs.End.{EndMeaning}
-use Rattle.rtr_payload.specs.UnitFields.{Fields, HasFields, LengthsAgree, prefix_unit, key_unit}
-use Rattle.rtr_payload.specs.UnitFields.{aspa_unit, meaning}
 use Rattle.rtr_payload.specs.Units.{IsUnit}
-use Rattle.rtr_payload.proofs.ByFields.{fields_unit}
 use Rattle.rtr_wire.specs.Sequences.{AreUnits}
 use Rattle.rtr_wire.proofs.Push.{units_push}
 use Rattle.data_memory.specs.Data.{Change}
 use Rattle.data_memory.specs.Deltas.{unit_of}
-use Rattle.data_memory.specs.Sequences.{change_of}
 use Rattle.data_slices.specs.InOrder.{RefusesInOrder}
 use Rattle.data_slices.specs.declared.in_order_fault.InOrderFault.TheVariants.{NoIndex}
 use Rattle.data_slices.proofs.Ordering.{one_sequence}
-use Rattle.unit_any.specs.AnyFields.{AnyFields, HasAnyFields, serial_notify, serial_query}
-use Rattle.unit_any.specs.AnyFields.{reset_query, cache_response, payload, end_of_data}
-use Rattle.unit_any.specs.AnyFields.{cache_reset, error_report}
 use Rattle.session_router.specs.declared.event.Action.TheVariants as actions
 use Rattle.session_router.specs.declared.event.Event.{Event}
 use Rattle.session_router.specs.declared.event.Event.TheVariants as events
 use Rattle.session_router.specs.declared.head.Head.{Head}
-use Rattle.session_router.specs.declared.head.Kind.{Kind}
-use Rattle.session_router.specs.declared.head.Kind.TheVariants as kinds
 use Rattle.session_router.specs.declared.router.Router.{Router}
-use Rattle.session_router.specs.Rules.{IsPayloadOf, Waits, known_of}
+use Rattle.session_router.specs.Rules.{Waits, known_of}
 use Rattle.session_router.specs.Step.{IsStep}
-use Rattle.rtr_base.specs.declared.timing.Timing.{Timing}
-use Rattle.session_bytes.specs.Heads.{HasHead, IsInOrder, head_of, serial_head, timed_head}
+use Rattle.session_bytes.specs.Heads.{HasHead}
 use Rattle.session_bytes.specs.Reading.{KeepsAll, kept_none, kept_more}
-use Rattle.session_bytes.proofs.Whole.{end_named}
+use Rattle.session_bytes.proofs.Whole.{end_named, unit_change}
 use Rattle.session_client.specs.Counting.{AreCounted, IsKeptCount, IsCountedAnswer}
 use Rattle.session_client.specs.Holding.{IsHearing, due_after, due_size}
 use Rattle.session_client.specs.declared.client.Holding.{Holding}
 use Rattle.session_client.specs.declared.client.Holding.TheVariants as holdings
 use Rattle.session_client.proofs.Places.{answer_of, joined, unit_there}
-
--- ---- a payload unit makes a change
-
-has_fields : (b : List ℕ) (f : Fields) → HasAnyFields b (payload f) → HasFields b f
-has_fields b f has = record {
-  fits = has.fits.0;
-  limits = has.fits.1;
-  bytes = has.bytes;
-  are_bytes = has.are_bytes;
-}
-
-of_fields : (b : List ℕ) (v : ℕ) (f : Fields) → HasAnyFields b (payload f) → LengthsAgree f →
-    (meaning f).version ≡ v → (c : Change) × IsUnit b (unit_of v c)
-of_fields b v f has order version = (
-  change_of (meaning f),
-  subst (λ w. IsUnit b (unit_of w (change_of (meaning f)))) version
-      (fields_unit b f (has_fields b f has) order),
-)
-
-unit_change : (b : List ℕ) (u : Head) (v : ℕ) → HasHead b u → IsPayloadOf v u.kind →
-    u.version ≡ v → (c : Change) × IsUnit b (unit_of v c)
-unit_change b u v x kind version = go x.fields x.has x.in_order x.head
-  where
-    none : (k : Kind) → u.kind ≡ k → IsPayloadOf v k
-    none k e = subst (λ k. IsPayloadOf v k) e kind
-
-    timed : (e : EndMeaning) → u ≡ head_of (end_of_data e) (length b) → u.kind ≡ kinds.EndOfData
-    timed e is = ap (λ (h : Head). h.kind) is ∙ kind_of e.timing
-      where
-        kind_of : (t : Option Timing) →
-            (timed_head t (serial_head kinds.EndOfData e.version e.session e.serial
-            (length b))).kind ≡ kinds.EndOfData
-        kind_of None = refl
-        kind_of (Some t) = refl
-
-    go : (f : AnyFields) → HasAnyFields b f → IsInOrder f → u ≡ head_of f (length b) →
-        (c : Change) × IsUnit b (unit_of v c)
-    go (payload (prefix_unit p)) has order is = of_fields b v (prefix_unit p) has order
-        (sym (ap (λ (h : Head). h.version) is) ∙ version)
-    go (payload (key_unit p)) has order is = of_fields b v (key_unit p) has order
-        (sym (ap (λ (h : Head). h.version) is) ∙ version)
-    go (payload (aspa_unit p)) has order is = of_fields b v (aspa_unit p) has order
-        (sym (ap (λ (h : Head). h.version) is) ∙ version)
-    go (end_of_data e) has order is = absurd (none kinds.EndOfData (timed e is))
-    go (serial_notify w s q) has order is =
-        absurd (none kinds.SerialNotify (ap (λ (h : Head). h.kind) is))
-    go (serial_query w s q) has order is =
-        absurd (none kinds.SerialQuery (ap (λ (h : Head). h.kind) is))
-    go (reset_query w s) has order is =
-        absurd (none kinds.ResetQuery (ap (λ (h : Head). h.kind) is))
-    go (cache_response w s) has order is =
-        absurd (none kinds.CacheResponse (ap (λ (h : Head). h.kind) is))
-    go (cache_reset w s) has order is =
-        absurd (none kinds.CacheReset (ap (λ (h : Head). h.kind) is))
-    go (error_report w c body) has order is =
-        absurd (none kinds.ErrorReport (ap (λ (h : Head). h.kind) is))
 
 -- ---- units that are kept
 

@@ -2,6 +2,7 @@
 use native.Mathlib.Omega.{arith}
 use Rattle.std.proofs.Common.{◌≡◌, ℕ, ◌+◌, ◌≤◌, true, false, List, length, Option, Some, None}
 use Rattle.std.proofs.Common.{◌≢◌, if◌then◌else◌, refl}
+use Rattle.rtr_base.specs.declared.error_code.ErrorCode.{ErrorCode}
 use Rattle.rtr_units.specs.Queries.{bare_list, serial_list}
 use Rattle.unit_views.specs.Placing.{Places}
 use Rattle.unit_any.specs.HeldReports.{held_report}
@@ -15,7 +16,7 @@ use Rattle.session_bytes.specs.declared.refusal.Refusal.{Refusal}
 use Rattle.session_client.specs.Said.{given_up, report_bytes}
 
 pub owed : (v : ℕ) (x : Ending) (r : Option Refusal) (b : List ℕ) (n : Option ℕ)
-    (before after : List ℕ) (o : Option ℕ) (code : ℕ) → o ≡ Some code →
+    (before after : List ℕ) (o : Option ErrorCode) (code : ErrorCode) → o ≡ Some code →
     PlacesEnding v (record x { report = o }) r b n before after →
     Places n (report_bytes v o x r b) before after
 owed v x r b n before after None code is placed = absurd (let e = is in cc)
@@ -43,7 +44,7 @@ query_short q =
     [ true ↦ within 12 65523 | false ↦ within 8 65527 ]
 
 pub report_short : ((v c : ℕ) (p t : List ℕ) → length (held_report v c p t) ≤ 65535) →
-    (v : ℕ) (o : Option ℕ) (x : Ending) (r : Option Refusal) (b : List ℕ) →
+    (v : ℕ) (o : Option ErrorCode) (x : Ending) (r : Option Refusal) (b : List ℕ) →
     length (report_bytes v o x r b) ≤ 65535
 report_short most v None x r b = within 0 65535
-report_short most v (Some code) x r b = most v code (about r b) (ending_text x.cause r)
+report_short most v (Some code) x r b = most v code.0 (about r b) (ending_text x.cause r)

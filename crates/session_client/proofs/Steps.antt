@@ -3,6 +3,7 @@ use native.Mathlib.Omega.{arith}
 use Rattle.std.proofs.Common.{◌≡◌, ◌≢◌, ◌⊎◌, ℕ, Bool, true, false, ◌+◌, ◌<◌, ◌≤◌, List}
 use Rattle.std.proofs.Common.{take, refl, sym, ap, subst, ◌∙◌, inl, inr, Option}
 use Rattle.std.proofs.lemmas.Bool.{cases_lt}
+use Rattle.rtr_base.specs.declared.error_code.ErrorCode.{ErrorCode}
 use Rattle.session_router.specs.declared.event.Action.{Action}
 use Rattle.session_router.specs.declared.event.Action.TheVariants as actions
 use Rattle.session_router.specs.declared.event.Ending.{Ending}
@@ -457,7 +458,7 @@ faulty_ends r r' n f actions.NoData talks rule = absurd rule
 faulty_ends r r' n f actions.Drop talks rule = absurd (talks.0 rule.from)
 faulty_ends r r' n f (actions.End x) talks rule = tt
 
-pub refused_ends : (r r' : Router) (n : ℕ) (code : Option ℕ) (a : Action) →
+pub refused_ends : (r r' : Router) (n : ℕ) (code : Option ErrorCode) (a : Action) →
     r.phase ≡ phases.Applying → Rule r n (events.NotApplied code) a r' → EndsConnection a
 refused_ends r r' n code actions.Wait at rule = absurd (rule.passes.0 at)
 refused_ends r r' n code actions.Connect at rule = absurd rule

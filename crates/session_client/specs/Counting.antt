@@ -10,13 +10,13 @@ use Rattle.session_client.specs.declared.client.Client.{Client}
 use Rattle.session_client.specs.declared.client.Holding.{Holding}
 use Rattle.session_client.specs.declared.client.Holding.TheVariants as holdings
 
--- the bytes are so many payload units of this version
+-- the bytes are this many payload units of this version
 pub record AreCounted (b : List ℕ) (version units : ℕ) : Type 0 where
   pub changes : List Change
   pub are_units : AreUnits b (map (unit_of version) changes)
   pub count : length changes ≡ units
 
--- the bytes are so many payload units and their end of data
+-- the bytes are this many payload units and their end of data
 pub record IsCountedAnswer (b : List ℕ) (units : ℕ) : Type 0 where
   pub changes : List Change
   pub end : EndMeaning

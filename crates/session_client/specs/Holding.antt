@@ -25,13 +25,13 @@ use Rattle.session_client.specs.declared.hearing.Heard.TheVariants as heard
 use Rattle.session_client.specs.declared.client.Holding.{Holding}
 use Rattle.session_client.specs.declared.client.Holding.TheVariants as holdings
 
--- data that are shown are so many bytes at the front of a buffer
+-- data that are shown are this many bytes at the front of a buffer
 abbrev pub ShowsFront : Option Octets → Option ℕ → (buffer : Octets) → Type 0
 ShowsFront None None buffer = Unit {0}
 ShowsFront (Some d) (Some n) buffer = d ≡ take n buffer
 ShowsFront _ _ buffer = ⊥
 
--- A whole answer is there, and its changes are to be made: its units, of so many bytes, stand at
+-- A whole answer is there, and its changes are to be made: its units, of this many bytes, stand at
 -- the front of the input, and its end of data behind them.
 pub record IsDue (c : Caller Octets Octets) (h : Host Octets Octets) (size : ℕ) (since : Bool)
     (kept : ℕ) (input : Octets) : Type 0 where
@@ -121,7 +121,7 @@ client_again k = record (new_client k.router.settings) {
   router = record (new_router k.router.settings) { wait = k.router.wait };
 }
 
--- the payload units of an answer whose changes are to be made: so many bytes at the front of the
+-- the payload units of an answer whose changes are to be made: this many bytes at the front of the
 -- input
 abbrev pub answer_at : Holding → (kept : ℕ) → Option (ℕ × Bool)
 answer_at (holdings.Answer size since) kept = Some (kept, since)
@@ -136,7 +136,7 @@ shown_after actions.Drop n = None
 shown_after (actions.End x) n = if x.drop then None else n
 shown_after _ n = n
 
--- what stands at the front of the input after an end of data of so many bytes
+-- what stands at the front of the input after an end of data of this many bytes
 abbrev pub due_after : Holding → ℕ → Bool → Holding
 due_after holdings.Units size since = holdings.Answer size since
 due_after m size since = holdings.Nothing

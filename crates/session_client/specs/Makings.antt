@@ -39,14 +39,14 @@ abbrev pub MakesAll : Caller Octets Octets → List MadeAnswer → Type 0
 MakesAll c [] = Unit {0}
 MakesAll c (m ∷ ms) = MakesThis c m × MakesAll c ms
 
--- what changes are made onto: so many bytes of the data that are shown, or the end of data that
+-- what changes are made onto: this many bytes of the data that are shown, or the end of data that
 -- came, alone
 abbrev pub onto : (since : Bool) → Option ℕ → (held end : Octets) → Octets
 onto since None held end = end
 onto since (Some n) held end = if since then take n held else end
 
--- So many bytes of data are shown now: what `apply_in_order` made of the whole answer that stood at
--- the front of the input, all of it and no more.
+-- `shown'` is the number of bytes of the data now: what `apply_in_order` made of the whole answer
+-- that stood at the front of the input, all of it and no more.
 pub record ShowsMade (m : Holding) (kept : ℕ) (shown : Option ℕ) (input held : Octets)
     (places : ℕ) (made made' : Octets) (shown' : Option ℕ) : Type 0 where
   pub end : ℕ

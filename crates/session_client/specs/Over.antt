@@ -67,7 +67,8 @@ pub data IsOver (now : ℕ) (r : Router) (m : Holding) (kept filled : ℕ) (show
       → m ≡ holdings.Answer size since
       → IsRefusedOver refusal offset (onto since shown held (take size (drop kept input)))
       (take (kept + size) input) places
-      → IsStep r now (events.NotApplied (Some (refusal_code refusal))) (actions.End x) r'
+      → IsStep r now (events.NotApplied (Some (record { 0 = refusal_code refusal })))
+      (actions.End x) r'
       → IsOver now r m kept filled shown input held x r' (Some refusal) offset
       (drop offset (take filled input))
   over_none :

@@ -1,6 +1,7 @@
 -- What a client sends.
 use Rattle.std.specs.Prelude.{◌≡◌, ◌⊎◌, ◌+◌, ◌≤◌, ℕ, List, [], ◌++◌, length, take, nat_le}
 use Rattle.std.specs.Prelude.{Option, Some, None, if◌then◌else◌}
+use Rattle.rtr_base.specs.declared.error_code.ErrorCode.{ErrorCode}
 use Rattle.session_router.specs.Step.{IsStep}
 use Rattle.session_router.specs.declared.event.Event.{Event}
 use Rattle.session_router.specs.declared.event.Event.TheVariants as events
@@ -19,10 +20,11 @@ use Rattle.session_client.specs.declared.applying.Applied.TheVariants as applied
 use Rattle.session_client.specs.declared.hearing.Heard.{Heard}
 use Rattle.session_client.specs.declared.hearing.Heard.TheVariants as heard
 
-abbrev pub report_bytes : (version : ℕ) → Option ℕ → Ending → Option Refusal → List ℕ → List ℕ
+abbrev pub report_bytes : (version : ℕ) → Option ErrorCode → Ending → Option Refusal → List ℕ →
+    List ℕ
 report_bytes v None x refusal b = []
 report_bytes v (Some code) x refusal b =
-    held_report v code (about refusal b) (ending_text x.cause refusal)
+    held_report v code.0 (about refusal b) (ending_text x.cause refusal)
 
 -- the bytes that an action sends: its query; or its report, about the unit that b begins with
 abbrev pub bytes_of : (version : ℕ) → Action → Option Refusal → List ℕ → List ℕ
@@ -30,7 +32,7 @@ bytes_of v (actions.Ask q) refusal b = query_bytes q
 bytes_of v (actions.End x) refusal b = report_bytes v x.report x refusal b
 bytes_of v _ refusal b = []
 
--- of so many bytes that were still to be sent as many are left: none where a connection is made
+-- of this many bytes that were still to be sent as many are left: none where a connection is made
 abbrev pub left_at : Action → (unsent : ℕ) → ℕ
 left_at actions.Connect n = 0
 left_at _ n = n

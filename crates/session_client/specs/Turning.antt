@@ -25,7 +25,7 @@ InPhase p m = ⊥
 abbrev pub IsInStep : Client → Type 0
 IsInStep k = InPhase k.router.phase k.holding
 
--- what is held after an action: where units are held and an end of data of so many bytes makes
+-- what is held after an action: where units are held and an end of data of this many bytes makes
 -- their answer whole, that answer
 abbrev pub holding_after : Action → Holding → (size : ℕ) → Holding
 holding_after actions.Wait m size = m

@@ -70,9 +70,9 @@ IsOfResult (Ok n) w = IsOfEvent events.Applied w
 IsOfResult (Err faults.NoRoom) w = IsOfNothing w
 IsOfResult (Err faults.NoIndex) w = IsOfNothing w
 IsOfResult (Err (faults.Duplicate offset)) w =
-    IsOfEvent (events.NotApplied (Some (refusal_code refusals.Duplicate))) w
+    IsOfEvent (events.NotApplied (Some (record { 0 = refusal_code refusals.Duplicate }))) w
 IsOfResult (Err (faults.Unknown offset)) w =
-    IsOfEvent (events.NotApplied (Some (refusal_code refusals.Unknown))) w
+    IsOfEvent (events.NotApplied (Some (record { 0 = refusal_code refusals.Unknown }))) w
 IsOfResult (Err f) w = IsOfEvent (events.NotApplied None) w
 
 -- Its changes are made in a buffer that has room for all that they may come to.
@@ -88,7 +88,7 @@ IsOfChanges m kept shown input held places made made' w = Unit {0}
 
 -- ---- of a call of `next`
 
--- With an output of this length, data in `held`, an index of so many places, and another buffer
+-- With an output of this length, data in `held`, an index of this many elements, and another buffer
 -- that held `made` before and holds `made'` after the call: nothing is told where the output has no
 -- room for a report.
 pub record IsOfNext (now : ℕ) (k : Client) (input held : Octets) (output places : ℕ)

@@ -1,4 +1,4 @@
-//! The changes of a whole answer are made.
+//! Applying the changes of a whole answer.
 
 ghost use Rattle.std.specs.Prelude.{◌≡◌, ◌≢◌, ◌<◌, ◌≤◌, ◌+◌, ◌-◌, ◌^◌, ℕ, Bool, length, take, drop};
 ghost use Rattle.std.specs.Prelude.{List, Option, Some, None, Err, IfOk, min};
@@ -29,21 +29,21 @@ use data_slices::{InOrderFault, apply_in_order};
 use session_bytes::Refusal;
 use session_router::event::{Action, Event};
 
-/// What came of a whole answer.
+/// The result of applying a whole answer.
 #[derive(Drop)]
 pub enum Applied {
     /// No whole answer has come.
     Nothing,
-    /// What the changes made are the data, which have this length, in the other buffer.
+    /// The result of the changes is now the data, of this length, in the other buffer.
     Shown(usize),
-    /// The other buffer is shorter than this, the most bytes that the changes make. Nothing has
-    /// happened, and nothing was sorted.
+    /// The other buffer is shorter than this length, the greatest that the result can have. Nothing
+    /// has changed, and nothing was sorted.
     Data(usize),
-    /// The index is shorter than this, a place for each unit. Nothing has happened, and nothing was
-    /// sorted.
+    /// The index is shorter than this, one element for each unit. Nothing has changed, and nothing
+    /// was sorted.
     Index(usize),
-    /// The changes are refused, or came too late, and the machine took this action. Where one of
-    /// the changes is refused, this is why, and the offset of its unit in the input.
+    /// The changes are refused, or came too late, and the machine took this action. If one of the
+    /// changes is refused, this is why, with the offset of its unit in the input.
     Acted {
         action: Action,
         refusal: Option<Refusal>,
@@ -52,8 +52,8 @@ pub enum Applied {
 }
 
 impl Client {
-    /// Makes all changes of an answer that is whole, or none. The data are in one buffer, and what
-    /// the changes make of them is written to the other.
+    /// Applies all changes of a whole answer, or none. The data are in one buffer, and the result
+    /// is written to the other.
     pub(crate) fn apply(
         &mut self,
         now: u64,
@@ -181,7 +181,7 @@ impl Client {
         }
     }
 
-    /// The most bytes that the changes of an answer make.
+    /// The greatest length that the result of an answer can have.
     fn data_room(&self, size: usize, since: bool) -> usize
         requires { self.now.kept + size ≤ self.now.filled }
         ensures { result ≡ min (room_for since self.now.shown size self.now.kept) (2 ^ 64 - 1) }
@@ -189,7 +189,7 @@ impl Client {
         base_room(since, self.shown, size).saturating_add(self.kept + size)
     }
 
-    /// The changes of an answer were made.
+    /// Records that the changes of an answer were applied.
     fn adopt(
         &mut self,
         now: u64,
@@ -249,7 +249,7 @@ impl Client {
         }
     }
 
-    /// A change is refused for this reason, whose unit begins at this offset of the input.
+    /// Refuses a change for this reason, whose unit begins at this offset of the input.
     fn refuse(
         &mut self,
         now: u64,
@@ -275,7 +275,7 @@ impl Client {
             self.new.unsent output.old output.new }
         ensures takes { (held made : Octets) → (x : TakesCall (did_of result) now self.old input.old
             held self.new input.new (data_after result held made))
-            × IsOfEvent (events.NotApplied (Some (refusal_code refusal))) x.word }
+            × IsOfEvent (events.NotApplied (Some (record { 0 = refusal_code refusal }))) x.word }
         ensures room { self.new.unsent ≤ length output.new }
         ensures names { (held : Octets) (since : Bool) (size places : ℕ)
             → self.old.holding ≡ holdings.Answer size since
@@ -290,7 +290,7 @@ impl Client {
     {
         let action = self
             .router
-            .step(now, Event::NotApplied(Some(refusal.code().0)));
+            .step(now, Event::NotApplied(Some(refusal.code())));
         let version = self.router.version;
         let about = part(input, offset.min(self.filled), self.filled);
         let refusal = Some(refusal);
@@ -303,7 +303,7 @@ impl Client {
         }
     }
 
-    /// The changes can't be made, and none of them is to blame.
+    /// Ends the connection: the changes can't be applied, and none of them is at fault.
     fn cannot_make(&mut self, now: u64, input: &mut [u8], output: &mut [u8]) -> Applied
         requires time { now < 2 ^ 63 }
         requires fits { Fits self.old input.old }
@@ -339,7 +339,7 @@ impl Client {
         }
     }
 
-    /// Writes what the changes make, to the other buffer.
+    /// Writes the result of the changes to the other buffer.
     fn make(
         &self,
         size: usize,
@@ -368,7 +368,7 @@ impl Client {
     }
 }
 
-/// The most bytes of what changes are made of.
+/// The greatest length of what the changes are applied to.
 fn base_room(since: bool, shown: Option<usize>, size: usize) -> usize
     ensures { result ≡ base_room since shown size }
 {
@@ -378,7 +378,7 @@ fn base_room(since: bool, shown: Option<usize>, size: usize) -> usize
     }
 }
 
-/// What the changes are applied to: the data, or no data, which is the end of data alone.
+/// What the changes are applied to: the data, or no data, which is just the end of data.
 fn base<'a>(since: bool, shown: Option<usize>, held: &'a [u8], end: &'a [u8]) -> &'a [u8]
     ensures { result.now ≡ onto since shown held.now end.now }
 {

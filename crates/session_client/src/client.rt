@@ -1,4 +1,4 @@
-//! A client's numbers.
+//! The state of a client.
 
 ghost use Rattle.std.specs.Prelude.{◌≡◌, ◌≤◌, ◌-◌, ◌==◌, List, ℕ, take, drop, length, min, None};
 ghost use Rattle.std.specs.Prelude.{true};
@@ -12,21 +12,21 @@ use session_router::event::Action;
 use session_router::router::{Phase, Router};
 use session_router::settings::Settings;
 
-/// What the first bytes of the input are.
+/// The contents of the front of the input.
 #[derive(Clone, Copy)]
 pub enum Holding {
-    /// Nothing that counts.
+    /// Nothing that is kept.
     Nothing,
-    /// Payload units of a response that isn't whole yet.
+    /// Payload units of an incomplete response.
     Units,
-    /// The length in bytes of all payload units of a response and its end of data. Their changes
-    /// are to be applied to the data if true, and otherwise to no data.
+    /// All payload units of a response and its end of data, which has this length in bytes. Their
+    /// changes are to be applied to the data if true, and otherwise to no data.
     Answer(usize, bool),
 }
 
 /// A router's end of a session. Its buffers belong to the caller, who passes them to each call:
 ///
-/// - input: payload units of the answer, and behind them bytes that the machine hasn't read yet
+/// - input: payload units of the answer, and after them bytes that the machine hasn't read yet
 /// - two data buffers: one has the data, and the next answer is written to the other
 /// - index: used to sort the payload units of an answer
 /// - output: the bytes to be sent
@@ -40,17 +40,18 @@ pub struct Client {
     pub filled: usize,
     /// The length of the data, if there are data.
     pub shown: Option<usize>,
-    /// How many bytes of the output are still to be sent.
+    /// The number of bytes of the output that are still to be sent.
     pub unsent: usize,
     /// Whether the data are in the second data buffer.
     pub second: bool,
-    /// Whether a connection was opened, or closed by the peer, and the machine wasn't told.
+    /// Whether a connection was opened, or was closed by the peer, and the machine wasn't told of
+    /// it yet.
     pub opened: bool,
     pub closed: bool,
 }
 
 impl Client {
-    /// A client without data, which wants to connect at once.
+    /// A client without data, which connects at its first call.
     pub fn new(settings: Settings) -> Client
         ensures serves { (input buffer : Octets)
             → IsClient (record settings { highest = min settings.highest 2 }) result input buffer }
@@ -71,7 +72,8 @@ impl Client {
         }
     }
 
-    /// A client without data that goes on with a cache which was asked before: its waits grow on.
+    /// A client without data that continues with a cache that was asked before: its waits keep
+    /// growing.
     pub fn again(&self) -> Client
         ensures serves { (input buffer : Octets)
             → IsClient (record self.now.router.settings {
@@ -94,7 +96,7 @@ impl Client {
         }
     }
 
-    /// Whether the client's offsets are in this input.
+    /// Whether the client's offsets fit this input.
     pub fn fits(&self, input: &[u8]) -> bool
         ensures yes { result ≡ true → Fits self.now input.now }
         ensures no { Fits self.now input.now → result ≡ true }
@@ -106,7 +108,7 @@ impl Client {
         due <= self.filled && self.kept <= self.filled - due && self.filled <= input.len()
     }
 
-    /// Whether the input is held as the machine's phase says.
+    /// Whether the contents of the input agree with the machine's phase.
     pub fn is_in_step(&self) -> bool
         ensures yes { result ≡ true → IsInStep self.now }
         ensures no { IsInStep self.now → result ≡ true }
@@ -118,9 +120,9 @@ impl Client {
         }
     }
 
-    /// The payload units of an answer whose changes the next call of `next` makes: their length at
-    /// the front of the input, and whether they are the changes since the data. Where it returns
-    /// `Data` then, these are what changed, or all payloads.
+    /// The payload units of an answer that the next call of `next` applies: their length at the
+    /// front of the input, and whether they are changes to the data. If `next` then returns `Data`,
+    /// these units are what changed, or else all payloads.
     pub fn answer(&self) -> Option<(usize, bool)>
         ensures { result ≡ whole_answer self.now }
     {

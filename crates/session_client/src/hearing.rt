@@ -1,4 +1,4 @@
-//! Reads the input, and passes each unit to the machine.
+//! Reading the input, and passing each unit to the machine.
 
 ghost use Rattle.std.specs.Prelude.{◌≡◌, ◌≢◌, ◌<◌, ◌≤◌, ◌+◌, ◌-◌, ◌^◌, ℕ, length, take, drop, List};
 ghost use Rattle.std.specs.Prelude.{Some, None, []};
@@ -32,14 +32,14 @@ use session_bytes::laws::what_is_told_is_heard;
 use session_bytes::{Refusal, Told, tell};
 use session_router::event::{Action, Event};
 
-/// What came of an input.
+/// The result for an input.
 #[derive(Drop)]
 pub enum Heard {
     /// No whole unit has come.
     Awaits,
     /// Payload units were kept.
     Kept,
-    /// The machine took this action. Where a unit is refused, this is why. The unit began at this
+    /// The machine took this action. If a unit is refused, this is why. The unit began at this
     /// offset of the input, where it still is if the connection ends.
     Acted {
         action: Action,
@@ -49,7 +49,7 @@ pub enum Heard {
 }
 
 impl Client {
-    /// Tells the machine of the bytes that it wasn't told of yet. Where the peer has closed, a unit
+    /// Tells the machine of the bytes that it wasn't told of yet. If the peer has closed, a unit
     /// that isn't whole is refused.
     pub(crate) fn hear(
         &mut self,
@@ -122,7 +122,7 @@ impl Client {
         }
     }
 
-    /// Tells the machine of this, which is no unit that came.
+    /// Tells the machine of this event, which isn't a unit.
     pub(crate) fn happens(
         &mut self,
         now: u64,
@@ -182,8 +182,8 @@ impl Client {
         tell(&mut self.router, now, rest, closed)
     }
 
-    /// Does in the input what the unit between these offsets of the untold bytes made the machine
-    /// do. Before it come units that the machine keeps.
+    /// Carries out in the input what the machine did at the unit between these offsets of the
+    /// unread bytes. Before it come units that the machine keeps.
     fn act(&mut self, start: usize, end: usize, action: &Action, input: &mut [u8])
         requires order { start < end }
         requires within { self.old.kept + end ≤ self.old.filled }
@@ -251,7 +251,7 @@ impl Client {
         self.kept = from;
     }
 
-    /// A response begins behind this offset of the untold bytes.
+    /// Begins a response after this offset of the unread bytes.
     fn begin(&mut self, end: usize, input: &mut [u8])
         requires within { self.old.kept + end ≤ self.old.filled }
         requires fits { Fits self.old input.old }
@@ -270,7 +270,7 @@ impl Client {
         self.holding = Holding::Units;
     }
 
-    /// The end of data is between these offsets of the untold bytes.
+    /// Takes the end of data between these offsets of the unread bytes.
     fn complete(&mut self, start: usize, end: usize, since: bool)
         requires order { start < end }
         requires within { self.old.kept + end ≤ self.old.filled }
@@ -290,7 +290,7 @@ impl Client {
         }
     }
 
-    /// Drops what comes before this offset of the unread bytes. The bytes stay where they are.
+    /// Drops the unread bytes before this offset. The bytes stay where they are.
     fn set_aside(&mut self, end: usize)
         requires within { self.old.kept + end ≤ self.old.filled }
         ensures { self.new ≡ record self.old {
@@ -302,7 +302,7 @@ impl Client {
         self.kept += end;
     }
 
-    /// Discards the input up to this offset; all of it where a connection ends or is to be opened.
+    /// Drops the input up to this offset; all of it if a connection ends or is to be opened.
     pub(crate) fn forget(&mut self, to: usize, action: &Action, input: &mut [u8])
         requires within { to ≤ self.old.filled }
         requires fits { Fits self.old input.old }
@@ -327,7 +327,7 @@ impl Client {
         self.shown = shown_after(action, self.shown);
     }
 
-    /// Does in the input what an event that is no unit made the machine do.
+    /// Carries out in the input what the machine did at an event that isn't a unit.
     pub(crate) fn follow(&mut self, action: &Action, input: &mut [u8])
         requires fits { Fits self.old input.old }
         ensures stands { (c : Caller Octets Octets) (buffer : Octets) (now : ℕ) (before : Router)

@@ -1,6 +1,6 @@
-//! A router's end of a session of the RPKI to Router protocol (RFC 8210) over buffers of its
-//! caller: reads units, applies answers, writes queries and reports, as the machine of
-//! `session_router` decides. It has no sockets, clock or memory.
+//! A router's end of a session of the RPKI to Router protocol (RFC 8210) over its caller's buffers:
+//! it reads units, applies answers, and writes queries and reports, as the machine of
+//! `session_router` decides. It uses no sockets, clock or memory of its own.
 #![tactic(auto)]
 
 pub mod applying;

@@ -1,4 +1,4 @@
-//! What a caller has to do next.
+//! The caller's next action.
 
 ghost use Rattle.std.specs.Prelude.{◌≡◌, ◌<◌, ◌≤◌, ◌+◌, ◌^◌, ℕ, List, length, drop, take, true};
 ghost use Rattle.std.specs.Prelude.{Option, Some, false, min, ◌-◌, ◌≢◌};
@@ -35,18 +35,18 @@ use session_bytes::Refusal;
 use session_router::event::{Action, Ending, Event};
 use session_router::router::Phase;
 
-/// What a caller has to do next.
+/// The caller's next action.
 #[derive(Drop)]
 pub enum Todo {
     /// Call again at once.
     Go,
     /// Send the unsent bytes of the output, and read into the input; call again when bytes came,
-    /// the peer closed the connection, or the time is `wakes`.
+    /// the peer closed the connection, or the time of `wakes` is reached.
     Wait,
-    /// Open a connection, until `wakes`.
+    /// Open a connection. The deadline is `wakes`.
     Connect,
-    /// Send the unsent bytes of the output, and close the connection, which ends so. Where a unit
-    /// or a change is refused, this is why; the unit begins at this offset of the input.
+    /// Send the unsent bytes of the output, and close the connection, which ends for this cause. If
+    /// a unit or a change is refused, this is why; the unit begins at this offset of the input.
     Close {
         ending: Ending,
         refusal: Option<Refusal>,
@@ -56,17 +56,18 @@ pub enum Todo {
     Data,
     /// There are no data any more.
     Dropped,
-    /// The cache has no data yet, as it says in the report that begins at this offset of the input.
+    /// The cache has no data yet, as it states in the report that begins at this offset of the
+    /// input.
     NoData {
         offset: usize,
     },
-    /// Give the input, the data buffer without the data, or the index this length, and call again;
-    /// or call `give_up`. Nothing has happened.
+    /// Enlarge the input, the data buffer without the data, or the index to this length, and call
+    /// again; or call `give_up`. Nothing has changed.
     InputRoom(usize),
     DataRoom(usize),
     IndexRoom(usize),
-    /// Send unsent bytes, or give the output this length, and call again; or call `give_up`.
-    /// Nothing has happened.
+    /// Send unsent bytes, or enlarge the output to this length, and call again; or call `give_up`.
+    /// Nothing has changed.
     OutputRoom(usize),
 }
 
@@ -74,8 +75,8 @@ pub enum Todo {
 const UNIT: usize = 65_535;
 
 impl Client {
-    /// What a caller has to do next; `now` is the time in milliseconds. The machine takes one
-    /// action at most.
+    /// Returns the caller's next action; `now` is the time in milliseconds. The machine takes at
+    /// most one action.
     pub fn next(
         &mut self,
         now: u64,
@@ -151,7 +152,7 @@ impl Client {
         }
     }
 
-    /// Whether the output has room for the bytes that any action sends.
+    /// Whether the bytes that any action sends fit into the output.
     fn has_room(&self, output: &[u8]) -> bool
         requires { self.now.unsent ≤ length output.now }
         ensures yes { result ≡ true → self.now.unsent + 65535 ≤ length output.now }
@@ -160,7 +161,7 @@ impl Client {
         output.len() - self.unsent >= MOST_SENT
     }
 
-    /// The changes of a whole answer are made, and whether what they made are the data.
+    /// Applies the changes of a whole answer, and takes the result as the data if that succeeds.
     fn settle(
         &mut self,
         now: u64,
@@ -222,7 +223,7 @@ impl Client {
         }
     }
 
-    /// Time passed, a connection was opened or closed, or bytes came.
+    /// Handles passed time, a connection that was opened or closed, or bytes that came.
     fn go_on(&mut self, now: u64, input: &mut [u8], output: &mut [u8]) -> Todo
         requires time { now < 2 ^ 63 }
         requires fits { Fits self.old input.old }
@@ -276,7 +277,7 @@ impl Client {
         !matches!(self.router.phase, Phase::Offline | Phase::Connecting)
     }
 
-    /// A connection was opened.
+    /// Tells the machine that a connection was opened.
     fn connected(&mut self, now: u64, input: &mut [u8], output: &mut [u8]) -> Todo
         requires time { now < 2 ^ 63 }
         requires fits { Fits self.old input.old }
@@ -312,7 +313,7 @@ impl Client {
         }
     }
 
-    /// Bytes may have come.
+    /// Handles bytes that may have come.
     fn listen(&mut self, now: u64, input: &mut [u8], output: &mut [u8]) -> Todo
         requires time { now < 2 ^ 63 }
         requires fits { Fits self.old input.old }
@@ -359,7 +360,7 @@ impl Client {
         }
     }
 
-    /// No whole unit has come.
+    /// Handles an input without a whole unit.
     fn starve(&mut self, now: u64, input: &mut [u8], output: &mut [u8]) -> Todo
         requires time { now < 2 ^ 63 }
         requires fits { Fits self.old input.old }
@@ -401,7 +402,7 @@ impl Client {
         Todo::Wait
     }
 
-    /// Tells the machine of this, which is no unit that came.
+    /// Tells the machine of this event, which isn't a unit.
     fn tells(&mut self, now: u64, event: Event, input: &mut [u8], output: &mut [u8]) -> Todo
         requires time { now < 2 ^ 63 }
         requires fits { Fits self.old input.old }
@@ -442,7 +443,7 @@ impl Client {
         self.todo(&action, None, 0)
     }
 
-    /// What a caller has to do at this action.
+    /// The caller's next action for this action of the machine.
     fn todo(&mut self, action: &Action, refusal: Option<Refusal>, offset: usize) -> Todo
         ensures todo { IsTodoOf (Some action.now) result }
         ensures takes { (a : Option Action) (now : ℕ) (k : Client)
@@ -486,8 +487,8 @@ impl Client {
         }
     }
 
-    /// The caller wants the present data: the machine asks for them as soon as it may. Where the
-    /// output has no room, nothing has happened.
+    /// Requests the present data: the machine asks for them as soon as it may. If the output is too
+    /// short, nothing has changed.
     pub fn ask_now(&mut self, now: u64, input: &mut [u8], output: &mut [u8]) -> Todo
         requires time { now < 2 ^ 63 }
         requires fits { Fits self.old input.old }
@@ -521,8 +522,8 @@ impl Client {
         self.tells(now, Event::Asked, input, output)
     }
 
-    /// The caller gives a buffer no more room: the connection ends, if there is one, and the data
-    /// stay. Where the output has no room for a report, its unsent bytes are dropped.
+    /// Ends the connection, if there is one, because the caller doesn't enlarge a buffer. The data
+    /// stay. If the output is too short for a report, its unsent bytes are dropped.
     pub fn give_up(&mut self, now: u64, input: &mut [u8], output: &mut [u8]) -> Todo
         requires time { now < 2 ^ 63 }
         requires fits { Fits self.old input.old }
@@ -557,7 +558,7 @@ impl Client {
         }
     }
 
-    /// Drops the unsent bytes, where an output of this length has no room for a report behind them.
+    /// Drops the unsent bytes, if a report doesn't fit after them into an output of this length.
     fn make_room(&mut self, room: usize)
         requires { 65535 ≤ room }
         ensures room { self.new.unsent + 65535 ≤ room }
@@ -568,15 +569,15 @@ impl Client {
         }
     }
 
-    /// A connection was opened.
+    /// Records that a connection was opened.
     pub fn opened(&mut self)
         ensures { self.new ≡ record self.old { opened = true } }
     {
         self.opened = true;
     }
 
-    /// No connection could be opened, or the peer closed it. The bytes that were read before are
-    /// still taken.
+    /// Records that no connection could be opened, or that the peer closed it. The bytes that were
+    /// read before are still handled.
     pub fn closed(&mut self)
         ensures { self.new ≡ record self.old { closed = true } }
     {
@@ -596,7 +597,7 @@ impl Client {
         self.filled += size;
     }
 
-    /// Records that `size` bytes of the output were sent, and moves the others to its front.
+    /// Records that `size` bytes of the output were sent, and moves the rest to its front.
     pub fn sent(&mut self, size: usize, output: &mut [u8])
         requires within { size ≤ self.old.unsent }
         requires room { self.old.unsent ≤ length output.old }

@@ -1,4 +1,4 @@
-//! What a client sends.
+//! Writing what a client sends.
 
 ghost use Rattle.std.specs.Prelude.{◌≡◌, ◌≤◌, ◌+◌, length};
 ghost use Rattle.session_client.specs.Said.{PutsBehind, bytes_of, left_at, report_bytes};
@@ -11,12 +11,12 @@ use session_router::event::{Action, Ending};
 use session_router::head::Query;
 use unit_any::laws::placed_reports;
 
-/// The most bytes that one action sends: an error report has at most as many.
+/// The greatest number of bytes that one action sends, which is that of an error report.
 pub(crate) const MOST_SENT: usize = 65_535;
 
 /// Appends the bytes that this action sends to the unsent ones: its query, or the report that it
 /// owes, in this version, about the unit at the front of `about`, which may be refused for this
-/// reason. An action that connects drops all unsent bytes of the connection before.
+/// reason. An action that connects drops all unsent bytes of the previous connection.
 pub(crate) fn put(
     version: u8,
     action: &Action,

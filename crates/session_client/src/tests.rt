@@ -1,5 +1,4 @@
-//! Runs of a client over its buffers, as docs/SESSIONS.md has them. Units are as in RFC 8210
-//! section 5.
+//! Runs of a client over its buffers, as in docs/SESSIONS.md. Units are as in RFC 8210 section 5.
 
 use crate::client::Client;
 use crate::next::Todo;
@@ -41,7 +40,7 @@ const QUERY_5: [u8; 12] = [1, 1, 0, 7, 0, 0, 0, 12, 0, 0, 0, 5];
 
 const QUERY_6: [u8; 12] = [1, 1, 0, 7, 0, 0, 0, 12, 0, 0, 0, 6];
 
-/// What a caller has to do, in a word, and the room that is wanted.
+/// The caller's next action in a word, and the length that is wanted.
 fn word(todo: &Todo) -> (&'static str, usize) {
     match todo {
         Todo::Go => ("go", 0),
@@ -62,7 +61,7 @@ fn word(todo: &Todo) -> (&'static str, usize) {
     }
 }
 
-/// A client and its buffers, of which so much is given.
+/// A client and its buffers, of which the caller passes these lengths.
 #[derive(Drop)]
 struct World {
     client: Client,
@@ -178,7 +177,7 @@ fn sends(rt: &impl Abort, w: &mut World, bytes: &[u8], at: usize) {
     w.client.sent(size, &mut w.output);
 }
 
-/// Does this, and holds what the caller has to do then against the words.
+/// Does this, and compares the caller's next action with the words.
 fn play(rt: &impl Abort, w: &mut World, rows: &[(u64, Act, &str, usize)]) {
     for (i, (now, act, want, room)) in rows.iter().enumerate() {
         let got = match act {

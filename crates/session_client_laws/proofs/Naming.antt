@@ -1,14 +1,13 @@
 -- What a cache of ours writes are units, and an end of data among them names its present data (RFC
 -- 8210 section 5.8).
 use native.Mathlib.Omega.{arith}
-use Rattle.std.proofs.Common.{◌≡◌, ◌⊎◌, inl, inr, ◌≤◌, ◌<◌, ◌^◌, ◌++◌, ℕ, List, [], ◌∷◌}
+use Rattle.std.proofs.Common.{◌≡◌, ◌≤◌, ◌<◌, ◌^◌, ◌++◌, ℕ, List, [], ◌∷◌}
 use Rattle.std.proofs.Common.{Option, Some, None, map, length, refl, sym, ap, subst, ◌∙◌}
 use Rattle.std.proofs.Common.{append-nil, append_assoc}
 use Rattle.std.specs.List.{AllByRecursion, concat}
-use Rattle.std.proofs.lemmas.Bool.Decides.{nat_tests}
 use Rattle.rtr_base.specs.Bytes.{IsBytes, be}
 use Rattle.rtr_base.proofs.Numbers.{IsBytes-be}
-use Rattle.rtr_units.specs.End.{EndMeaning, IsEndMeaning, end_list}
+use Rattle.rtr_units.specs.End.{EndMeaning, end_list}
 use Rattle.rtr_units.specs.Queries.{bare_list, serial_list}
 use Rattle.rtr_units.proofs.Ends.{end_made}
 use Rattle.rtr_units.proofs.Headers.{header_bytes}
@@ -25,6 +24,7 @@ use Rattle.unit_any.proofs.Units.{end_has, payload_has}
 use Rattle.data_memory.specs.Data.{Change}
 use Rattle.data_memory.specs.Deltas.{all_for, change_forms, changes_for, unit_of}
 use Rattle.data_memory.proofs.Accepted.{all_sequence, delta_sequence}
+use Rattle.session_laws.proofs.Writing.{end_fits, end_head_is}
 use Rattle.session_router.specs.declared.head.Head.{Head}
 use Rattle.session_router.specs.declared.head.Kind.TheVariants as kinds
 use Rattle.session_cache.specs.declared.cache.Cache.{Cache}
@@ -36,7 +36,7 @@ use Rattle.session_cache.specs.declared.event.OwedReport.{OwedReport}
 use Rattle.session_cache.specs.declared.event.Present.{Present}
 use Rattle.session_cache.specs.CacheRules.{CacheRule}
 use Rattle.session_cache.specs.Worlds.{change_unit, data_end, plain_head}
-use Rattle.session_bytes.specs.Heads.{HasHead, bare_head, head_of, payload_head}
+use Rattle.session_bytes.specs.Heads.{HasHead, bare_head, payload_head}
 use Rattle.session_bytes.specs.Sending.{AreWhole}
 use Rattle.session_laws.specs.Editions.{PayloadEdition, edition_of, payload_source, unit_kind}
 use Rattle.session_laws.specs.Written.{CacheWrites, FitsEdition, IsOwed, IsReportOf}
@@ -140,30 +140,6 @@ report_names these v code b r = (
 
 -- ---- ends of data
 
-three : (v : ℕ) → v ≤ 2 → (v ≡ 0) ⊎ ((v ≡ 1) ⊎ (v ≡ 2))
-three v most = grind (arith, nat_tests)
-
-end_fits : (v : ℕ) (p : PayloadEdition) → FitsEdition p → v ≤ 2 →
-    IsEndMeaning (end_of_edition v p)
-end_fits v p fits most = record {
-  session = fits.session;
-  serial = fits.serial;
-  timing = elim (three v most) [
-    | inl e ↦ rw e refl
-    | inr (inl e) ↦ rw e (inl refl, fits.refresh, fits.retry, fits.expire)
-    | inr (inr e) ↦ rw e (inr refl, fits.refresh, fits.retry, fits.expire)
-  ];
-}
-
-end_head_is : (v : ℕ) (p : PayloadEdition) → v ≤ 2 →
-    (data_end (List Payload) Change v (edition_of p)).head
-    ≡ head_of (end_of_data (end_of_edition v p)) (length (end_list (end_of_edition v p)))
-end_head_is v p most = elim (three v most) [
-  | inl e ↦ rw e refl
-  | inr (inl e) ↦ rw e refl
-  | inr (inr e) ↦ rw e refl
-]
-
 end_names : (v : ℕ) (p : PayloadEdition) → FitsEdition p → v ≤ 2 →
     IsNamingUnit p.name (end_list (end_of_edition v p))
 end_names v p fits most =
@@ -260,7 +236,7 @@ owed_written : (these : Present) (r : Option OwedReport) (b : List ℕ) → IsOw
     IsNaming these b
 owed_written these None b owed = none_written these b owed
 owed_written these (Some r) b owed =
-    one_written these b b refl (report_names these r.version r.code b owed)
+    one_written these b b refl (report_names these r.version r.code.0 b owed)
 
 -- the version of an answer with data is one that there is
 all_version : (c c' : Cache) (n : ℕ) (p : Present) (e : CacheEvent) →

@@ -1,4 +1,4 @@
-//! What holds of a client and a cache that are joined.
+//! What holds of a client and a cache that are connected.
 
 ghost use Rattle.std.specs.Prelude.{◌≡◌, ◌≤◌, ◌+◌, ℕ, List, Option, Some, true};
 ghost use Rattle.session_client_laws.specs.Again.{IsServedAgain, IsSettled, ShowsThese};
@@ -26,17 +26,17 @@ ghost use Rattle.session_router.specs.declared.settings.Settings.{Settings};
 use session_laws::laws::bytes_agree;
 use session_router::laws::recovers;
 
-/// Each run of a client and a cache of ours, whatever the caller calls and when, is a run in bytes
-/// of the client's machine and the cache: what `session_laws` says of such runs holds of the
-/// client.
+/// Each run of a client and a cache of this library, whatever the caller calls and when, is a run
+/// in bytes of the client's machine and the cache: what `session_laws` states about such runs holds
+/// of the client.
 pub fn runs_in_bytes()
     ensures { (p : Pair) → IsRunOfClient p → RunsInBytes p }
 {}
 
-/// Over any calls of one client and any number of connections with a cache of ours, each cut
-/// anywhere and read in any pieces, with new editions, sessions and restarts of the cache at any
-/// time: whenever the client has data, its data buffer has the payloads of the edition that the
-/// cache had under their session and serial number, as the client's version has them.
+/// Over any calls of one client and any number of connections with a cache of this library, each
+/// cut anywhere and read in any pieces, with new editions, sessions and restarts of the cache at
+/// any time: whenever the client has data, its data buffer has the payloads of the edition that the
+/// cache had under their session and serial number, as far as the client's version has them.
 pub fn data_agree()
     ensures { (p : Pair) → IsOneDataPerName (editions_of p.had) → IsRunOfClient p
         → p.client.router.has_data ≡ true → ShowsHad p }
@@ -44,23 +44,24 @@ pub fn data_agree()
     bytes_agree()
 }
 
-/// Each call of a client is such steps of its machine: one at an event, or one at each unit that
-/// the bytes begin with, told by its bytes.
+/// Each call of a client is a sequence of steps of its machine: one at an event, or one at each
+/// unit at the front of the bytes, told by its bytes.
 pub fn calls_take_steps()
     ensures { (a : Option Action) (now : ℕ) (k k' : Client) (input held input' held' : Octets)
         → (t : TakesCall a now k input held k' input' held') → TakesSteps now k input k' t.word }
 {}
 
-/// Whatever comes: the time at which a client acts by itself is never far, `longest` after its last
-/// call. (`Client::next` says that it does act then.)
+/// Whatever comes: the time at which a client acts by itself is at most `longest` after its last
+/// call. (The contract of `Client::next` states that it acts then.)
 pub fn client_acts_soon()
     ensures { (s : Settings) (k : Client) (now : ℕ)
         → IsCalled s k now → wakes_at k.router ≤ now + longest s }
 {}
 
-/// While a cache that has data and keeps the rules serves a client, whatever it did before, and no
-/// data are shown since, it isn't later than `served_until`, as in the law `recovers` of
-/// `session_router`: so data are shown by then. The client is called when it wakes, at the latest.
+/// While a cache that has data and keeps the rules serves a client, whatever it did before, and the
+/// client has shown no data since, the time is at most `served_until`, as in the law `recovers` of
+/// `session_router`: so data are shown by then. The client must be called when it wakes, at the
+/// latest.
 pub fn client_recovers()
     ensures after { (c : Caller ℕ ℕ) (history : List (Moment ℕ)) (h : Host ℕ ℕ)
         (most spoken start : ℕ) (k k' : Client) (x : Exchange) (now : ℕ)
@@ -82,11 +83,12 @@ pub fn client_recovers()
     recovers()
 }
 
-/// After any run, from when the client has no connection: while a cache of ours that has data, and
-/// no new ones, keeps the rules, and no data are shown, it isn't later than `served_until`; and the
-/// data that are shown next are the present data of that cache: the client's data buffer has them,
-/// as its version has them. The client is called when it wakes, at the latest. What is shown are
-/// the present data whatever the cache does, and whenever: as long as it has no new ones.
+/// After any run, from when the client has no connection: while a cache of this library that has
+/// data, and no new ones, keeps the rules, and no data are shown, the time is at most
+/// `served_until`; and the data that are shown next are the present data of that cache, as far as
+/// the client's version has them, in the client's data buffer. The client must be called when it
+/// wakes, at the latest. The shown data are the present ones whatever the cache does, and whenever,
+/// as long as it has no new ones.
 pub fn client_current_again()
     ensures soon { (most start : ℕ) (before p : Pair) (none x : Exchange) (now : ℕ)
         → before.client.router.phase ≡ phases.Offline → none.phase ≡ phases.Offline
@@ -105,8 +107,8 @@ pub fn client_current_again()
     recovers()
 }
 
-/// There is a run in which a client gets a prefix of a cache and shows it: it meets the premises of
-/// `runs_in_bytes` and `data_agree`, beside a cache that keeps the rules those of
+/// There is a run in which a client gets a prefix from a cache and shows it: it meets the premises
+/// of `runs_in_bytes` and `data_agree`, and, with a cache that keeps the rules, those of
 /// `client_recovers` and `client_current_again`, and those of `client_acts_soon`.
 pub fn data_are_shown()
     ensures run { (p : Pair) × IsRunOfClient p × IsOneDataPerName (editions_of p.had)

@@ -1,5 +1,5 @@
-//! What holds of the client that runs and a cache that are joined, over whole runs of both, in
-//! bytes (RFC 8210).
+//! What holds of a running client and a cache that are connected, over whole runs of both, in bytes
+//! (RFC 8210).
 #![tactic(auto)]
 
 pub mod laws;

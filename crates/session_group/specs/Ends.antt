@@ -81,7 +81,7 @@ with_fresh ends (Some k) x i = if i == k then x else ends i
 
 -- ---- runs
 
--- Any run of a group of so many routers' ends, whatever comes to each, and whenever: with the
+-- Any run of a group of this many routers' ends, whatever comes to each, and whenever: with the
 -- history of the group, its caller, and the ends.
 pub data IsGroup {Body Data : Type 0} (c : ℕ → histories.Caller Body Data) (count : ℕ)
     (s : Settings) (payloads : Data → ℕ) :

@@ -162,7 +162,7 @@ abbrev pub news_of : {Data : Type 0} → Settings → Happened Data → Option �
 news_of s time_passed = None
 news_of s (to_member m e d) = news s m e
 
--- any run of a group of so many members and its caller, whatever comes, and whenever
+-- any run of a group of this many members and its caller, whatever comes, and whenever
 pub data IsGroupRun {Data : Type 0} (count : ℕ) (s : Settings) :
     List (GroupMoment Data) → Group → Listener Data → Type 0 where
   group_run_begins :

@@ -14,7 +14,7 @@ pub enum Event {
     Fails,
 }
 
-/// What happens to the data that are shown.
+/// What happens to the shown data.
 #[derive(Clone, Copy)]
 pub enum Shown {
     /// They stay.

@@ -17,8 +17,8 @@ ghost use Rattle.session_group.specs.declared.group.Group.{Group};
 ghost use Rattle.session_group.specs.declared.settings.Settings as settings;
 
 /// Whatever comes to a group, and whenever, its caller shows the data of the most preferred member
-/// that is current; if none is, of the members with data those of the one that had a whole answer
-/// last; and none if no member has data. `Group::best` returns which member that is.
+/// that is current; if none is current, the data of the member with data whose last whole answer is
+/// the latest; and none if no member has data. `Group::best` returns that member.
 pub fn best_data_shown()
     ensures shown { (count : ℕ) (s : settings.Settings) (history : List (GroupMoment ℕ)) (g : Group)
         (c : Listener ℕ) → IsGroupRun count s history g c → ShowsBest c }
@@ -34,16 +34,16 @@ pub fn changes_with_it()
         → ChangesRightly c h (answer_then g n h) (caller_then c n h (answer_then g n h)) }
 {}
 
-/// Whatever comes: data that are shown give way to those of another member only if that one is
-/// current, or if they are gone. So data of a whole answer never give way to those of an earlier
-/// one.
+/// Whatever comes: shown data are replaced by those of another member only if that member is
+/// current, or if they are gone. So data of a whole answer are never replaced by those of an
+/// earlier one.
 pub fn never_older()
     ensures { (count : ℕ) (s : settings.Settings) (history : List (GroupMoment ℕ)) (g : Group)
         (c : Listener ℕ) (n : ℕ) (h : Happened ℕ) → IsGroupRun count s history g c
         → NeverOlder c (caller_then c n h (answer_then g n h)) }
 {}
 
-/// Whatever comes: a member runs if and only if each one before it, since it began and since its
+/// Whatever comes: a member runs if and only if each one before it, since it started and since its
 /// last whole answer, failed or was silent for the patience. A stopped member has no data.
 pub fn asked_in_order()
     ensures runs { (count : ℕ) (s : settings.Settings) (history : List (GroupMoment ℕ)) (g : Group)
@@ -53,9 +53,9 @@ pub fn asked_in_order()
 {}
 
 /// A failure counts once. Whatever comes: if a member failed, lost its data or was silent for the
-/// patience, since it began and since its last whole answer, its next failure changes nothing. So
+/// patience, since it started and since its last whole answer, its next failure changes nothing. So
 /// its caller may report a loss of data and then, whatever else happens between, the failure that
-/// caused it: both are one event, also of the routers' ends of `whole_answers_of_one`.
+/// caused it: both count as one event, also for the routers' ends of `whole_answers_of_one`.
 pub fn failure_counts_once()
     ensures again { (count : ℕ) (s : settings.Settings) (history : List (GroupMoment ℕ)) (g : Group)
         (c : Listener ℕ) (m n : ℕ) → IsGroupRun count s history g c
@@ -69,8 +69,9 @@ pub fn failure_counts_once()
 {}
 
 /// A group recovers. After any history: if member `i` keeps the rules from `start` on, so that it
-/// isn't without a whole answer for longer than `within` while it runs, then by `shown_until` it is
-/// current, or a better one is; so the data of one of these are shown by then (`best_data_shown`).
+/// isn't without a whole answer for longer than `within` while it runs, then by `shown_until` it or
+/// a more preferred member is current; so the data of one of these are shown by then
+/// (`best_data_shown`).
 pub fn group_recovers()
     ensures { (count : ℕ) (s : settings.Settings) (history : List (GroupMoment ℕ)) (g₀ : Group)
         (c₀ : Listener ℕ) (i within start : ℕ) (g : Group) (c : Listener ℕ) (now : ℕ)
@@ -80,11 +81,11 @@ pub fn group_recovers()
 {}
 
 /// The same by messages. After any history of a group of routers' ends: if the cache of member `i`
-/// has data and keeps the rules from `start` on, told by what was exchanged with it, then member
-/// `i` is current, or a better one is, by a stated time. If the member runs at `start`, that is
-/// when its router recovers (`recovers` of `session_router`); otherwise `served_by`: a patience for
-/// each member before it, and a connection for each version. Each step of such a run leads from a
-/// run of a group to another one.
+/// has data and keeps the rules from `start` on, by the messages exchanged with it, then member `i`
+/// or a more preferred member is current by a stated time. If the member runs at `start`, that is
+/// when its router recovers (`recovers` of `session_router`); otherwise it is `served_by`: a
+/// patience for each member before it, and a connection for each version. Each step of such a run
+/// leads from a run of a group to another one.
 pub fn group_recovers_by_messages()
     ensures running { (c : ℕ → histories.Caller ℕ ℕ) (count : ℕ) (s : settings.Settings)
         (payloads : ℕ → ℕ) (history : List (GroupMoment ℕ)) (g₀ g : Group) (k₀ k : Listener ℕ)
@@ -109,9 +110,9 @@ pub fn group_recovers_by_messages()
         → GroupReaches c count s payloads g' k' ends' }
 {}
 
-/// Whatever comes to the routers' ends of a group, and whenever: its caller shows no data, or those
-/// that one end shows, the best; one whole answer of that cache made them, of no data or of the
-/// data of that end before it, and they haven't expired.
+/// Whatever comes to the routers' ends of a group, and whenever: its caller shows either no data,
+/// or those that the best end shows. These are the result of one whole answer of that cache,
+/// applied to no data or to the data of that end before it, and they haven't expired.
 pub fn whole_answers_of_one()
     ensures { (c : ℕ → histories.Caller ℕ ℕ) (count : ℕ) (s : settings.Settings)
         (payloads : ℕ → ℕ) (history : List (GroupMoment ℕ)) (g : Group) (k : Listener ℕ)

@@ -1,4 +1,4 @@
-//! What a caller sets.
+//! The settings of a group.
 
 ghost use Rattle.std.specs.Prelude.{◌≡◌, ◌||◌, ◌<◌, false, nat_lt};
 ghost use Rattle.session_group.specs.Groups.{counts};

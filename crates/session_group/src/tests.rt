@@ -1,4 +1,4 @@
-//! Runs of groups, as docs/SESSIONS.md has them.
+//! Runs of groups, as in docs/SESSIONS.md.
 
 use crate::event::{Answer, Event, Shown};
 use crate::group::{Group, GroupError};
@@ -14,7 +14,7 @@ fn group_of(rt: &impl Abort, count: usize) -> Group {
     }
 }
 
-/// What becomes of what is shown, in a word.
+/// What happens to the shown data, in a word.
 fn word(answer: &Answer) -> &'static str {
     match answer.shown {
         Shown::Same => "same",
@@ -26,12 +26,12 @@ fn word(answer: &Answer) -> &'static str {
     }
 }
 
-/// Who stops and who starts, with 99 for nobody.
+/// The members that stop and start, with 99 for none.
 fn who(answer: &Answer) -> (usize, usize) {
     (answer.stops.unwrap_or(99), answer.starts.unwrap_or(99))
 }
 
-/// Each event, and what is shown, who stops, and who starts.
+/// Each event, and then the shown data, the member that stops, and the member that starts.
 fn follow(rt: &impl Abort, group: &mut Group, rows: &[(usize, Event, &'static str, usize, usize)]) {
     for (member, event, shown, stops, starts) in rows {
         let answer = group.step(0, *member, *event);
@@ -40,7 +40,7 @@ fn follow(rt: &impl Abort, group: &mut Group, rows: &[(usize, Event, &'static st
     }
 }
 
-/// Times at which time passes, and who starts.
+/// Times at which time passes, and the member that starts.
 fn pass(rt: &impl Abort, group: &mut Group, rows: &[(u32, usize)]) {
     for (now, starts) in rows {
         let answer = group.tick(*now as u64);

@@ -19,15 +19,15 @@ ghost use Rattle.session_router.specs.declared.settings.Settings as routers;
 use session_client::laws::{only_whole_answers_are_shown, room_may_change};
 use session_group::laws::{asked_in_order, best_data_shown};
 
-/// What a group is told of a call is what it is told of the action that the client's machine took
+/// The event that a group is told for a call is that of the action that the client's machine took
 /// in it, as in the laws of `session_group`: at most one event, and none without an action.
 pub fn calls_tell_actions()
     ensures { (action : Option Action) (t : Todo) (p : ℕ) → IsTodoOf action t
         → todo_tells p t ≡ taken_tells p action }
 {}
 
-/// A loss of data is told, and only that: after a call that the group is told of as a loss, the
-/// client has no data; after each other call but one that is told as new data it has the same data
+/// Exactly a loss of data is reported as a loss: after a call that is reported as a loss, the
+/// client has no data; after any other call that isn't reported as new data, it has the same data
 /// as before, or none as before.
 pub fn losses_are_told()
     ensures loss { (p : ℕ) (t : Todo) (x x' : MemberClient) → CallsMember x x' t
@@ -38,11 +38,11 @@ pub fn losses_are_told()
         → todo_tells p t ≡ None → x'.client.shown ≡ x.client.shown }
 {}
 
-/// Whatever calls of its clients are made, in any order and at any time: a group that is told what
-/// each client has to do next is where a run of a group is. So its caller shows the data of the
-/// most preferred member that is current, or else of the one that had a whole answer last; the
-/// group returns which one; a member runs if and only if each one before it gave way; and one that
-/// doesn't run has no data.
+/// Whatever calls of its clients are made, in any order and at any time: if a group is told each
+/// client's next action, its state is that of a run of a group. So its caller shows the data of the
+/// most preferred member that is current, or else of the member whose last whole answer is the
+/// latest; the group returns that member; a member runs if and only if each one before it failed or
+/// was silent for the patience; and a member that doesn't run has no data.
 pub fn clients_make_a_group()
     ensures run { (count : ℕ) (s : Settings) (history : List (GroupMoment ℕ)) (g : Group)
         (c : Listener ℕ) (xs : ℕ → MemberClient) → IsRunOfMembers count s history g c xs
@@ -73,8 +73,9 @@ pub fn shows_data_of_a_client()
 {}
 
 /// Whenever the group shows data of a member, these are the bytes that this member's client last
-/// told as data, unchanged since: its data buffer still begins with them, and one whole answer of
-/// its cache made them. So are the data of each member, shown or not.
+/// reported as data, unchanged since: its data buffer still begins with them, and they are the
+/// result of one whole answer of its cache. The same holds of the data of each member, shown or
+/// not.
 pub fn shown_data_are_a_clients()
     ensures shown { (count : ℕ) (s : Settings) (t : ℕ → routers.Settings) (bytes : ℕ → Octets)
         (history : List (GroupMoment ℕ)) (g : Group) (c : Listener ℕ) (xs : ℕ → MemberClient)
@@ -90,8 +91,8 @@ pub fn shown_data_are_a_clients()
     best_data_shown()
 }
 
-/// A call that is told as a failure, or not at all, leaves the bytes of a client's data as they
-/// are.
+/// A call that is reported as a failure, or isn't reported, leaves the bytes of a client's data
+/// unchanged.
 pub fn told_data_stay()
     ensures failure { (p : ℕ) (t : Todo) (x x' : MemberClient) (d : Octets) → CallsMember x x' t
         → todo_tells p t ≡ Some events.Fails → ClientHas d x → ClientHas d x' }

@@ -1,6 +1,6 @@
 pub mod Payloads
 mod OnTheWay
-mod Writing
+pub mod Writing
 mod Holding
 mod InBytes
 mod Agreeing

@@ -107,10 +107,10 @@ report_has v code b r =
 
 -- ---- ends of data
 
-three : (v : ℕ) → v ≤ 2 → (v ≡ 0) ⊎ ((v ≡ 1) ⊎ (v ≡ 2))
+pub three : (v : ℕ) → v ≤ 2 → (v ≡ 0) ⊎ ((v ≡ 1) ⊎ (v ≡ 2))
 three v most = grind (arith, nat_tests)
 
-end_fits : (v : ℕ) (p : PayloadEdition) → FitsEdition p → v ≤ 2 →
+pub end_fits : (v : ℕ) (p : PayloadEdition) → FitsEdition p → v ≤ 2 →
     IsEndMeaning (end_of_edition v p)
 end_fits v p fits most = record {
   session = fits.session;
@@ -122,7 +122,7 @@ end_fits v p fits most = record {
   ];
 }
 
-end_head_is : (v : ℕ) (p : PayloadEdition) → v ≤ 2 →
+pub end_head_is : (v : ℕ) (p : PayloadEdition) → v ≤ 2 →
     (data_end (List Payload) Change v (edition_of p)).head
     ≡ head_of (end_of_data (end_of_edition v p)) (length (end_list (end_of_edition v p)))
 end_head_is v p most = elim (three v most) [
@@ -258,8 +258,8 @@ owed_written : (v : ℕ) (old p : PayloadEdition) (a : Answer) (r : Option OwedR
     ((m : ℕ) → writes v m old p a ≡ report_sent Change m r) → IsWritten v old p a b
 owed_written v old p a None b owed is = nothing_written v old p a b owed (is 0)
 owed_written v old p a (Some r) b owed is =
-    one_written v (length b) old p a b (sized_report Change r.version r.code (length b))
-    (report_has r.version r.code b owed) (is (length b))
+    one_written v (length b) old p a b (sized_report Change r.version r.code.0 (length b))
+    (report_has r.version r.code.0 b owed) (is (length b))
 
 -- the version of an answer with data is one that there is
 all_version : (c c' : Cache) (n : ℕ) (p : Present) (e : CacheEvent) →

@@ -65,7 +65,7 @@ IsReportOf v code b = (body : List ℕ) × HasAnyFields b (error_report v code b
 
 abbrev pub IsOwed : Option OwedReport → List ℕ → Type 0
 IsOwed None b = b ≡ []
-IsOwed (Some r) b = IsReportOf r.version r.code b
+IsOwed (Some r) b = IsReportOf r.version r.code.0 b
 
 -- What the cache's caller writes at an answer: nothing; all data, or the changes from `old`; a
 -- cache reset (section 5.9); a report that there are no data; a serial notify (section 5.2); the

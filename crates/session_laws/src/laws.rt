@@ -1,4 +1,4 @@
-//! What holds of a router and a cache that are joined, over payloads and over bytes.
+//! What holds of a router and a cache that are connected, over payloads and over bytes.
 
 ghost use Rattle.std.specs.Prelude.{◌≡◌, ◌∷◌, ◌++◌, ℕ, Bool, List, true};
 ghost use Rattle.session_laws.specs.Editions.{PayloadEdition, ShowsEdition, editions_of};
@@ -22,10 +22,10 @@ ghost use Rattle.session_router.specs.declared.event.Action.{Action};
 ghost use Rattle.session_router.specs.declared.event.Event.TheVariants as events;
 ghost use Rattle.session_router.specs.declared.router.Router.{Router};
 
-/// Over any number of connections of a router and a cache of ours, each cut anywhere, with new
-/// editions, sessions and restarts of the cache at any time: whenever a router has data, what it
-/// shows are the payloads of the edition that the cache had under their session and serial number,
-/// as the router's version has them.
+/// Over any number of connections of a router and a cache of this library, each cut anywhere, with
+/// new editions, sessions and restarts of the cache at any time: whenever a router has data, it
+/// shows the payloads of the edition that the cache had under their session and serial number, as
+/// far as the router's version has them.
 pub fn payloads_agree()
     ensures { (editions : List PayloadEdition) (w : World (List Payload) Change)
         → w.had ≡ editions_of editions → IsOneDataPerName w.had
@@ -33,9 +33,10 @@ pub fn payloads_agree()
         → ShowsEdition w }
 {}
 
-/// In any such run a router of ours ends no connection over what a cache of ours sends, unless that
-/// is of another session, goes back in serial numbers, is above the limits of an answer, or is a
-/// report; while the data haven't expired, and no limit of time is over.
+/// In any such run a router of this library ends no connection because of what a cache of this
+/// library sends, unless that is of another session, goes back in serial numbers, exceeds the
+/// limits of an answer, or is a report; this holds while the data haven't expired and no deadline
+/// has passed.
 pub fn payloads_in_peace()
     ensures { (editions : List PayloadEdition) (w : World (List Payload) Change) (x : Sent Change)
         (rest : List (Sent Change)) (n : ℕ) (a : Action) (after : Router)
@@ -46,20 +47,21 @@ pub fn payloads_in_peace()
         → GoesOn a }
 {}
 
-/// The same in bytes, however reads cut them: over any number of connections of a router and a
-/// cache of ours, whenever the router has data, the bytes that it shows are data in canonical form,
-/// with the payloads of the edition that the cache had under their session and serial number, as
-/// the router's version has them. The cache writes what `write_all`, `write_delta` and `delta_into`
-/// write; the router is told of it by `tell` and makes changes by `apply_in_order`.
+/// The same in bytes, however reads split them: over any number of connections of a router and a
+/// cache of this library, whenever the router has data, the bytes that it shows are data in
+/// canonical form, with the payloads of the edition that the cache had under their session and
+/// serial number, as far as the router's version has them. The cache writes the output of
+/// `write_all`, `write_delta` and `delta_into`; the router reads it with `tell` and applies changes
+/// with `apply_in_order`.
 pub fn bytes_agree()
     ensures { (c : Caller (List ℕ) (List ℕ)) (w : Joined)
         → AppliesAnswers c → IsOneDataPerName (editions_of w.had) → IsRunInBytes c w
         → w.router.has_data ≡ true → ShowsBytes w }
 {}
 
-/// In any such run what is on its way is units, each as it was sent, and each side hears the next
-/// of them, byte for byte: of any front of the bytes, with any cuts. Neither refuses any of them,
-/// unless the end of the connection cuts it off.
+/// In any such run the bytes on their way are units, each as it was sent, and each side reads the
+/// next of them, byte for byte, from any prefix of the bytes, however they are split. Neither
+/// refuses any of them, unless the end of the connection cuts it off.
 pub fn bytes_are_units()
     ensures units { (c : Caller (List ℕ) (List ℕ)) (w : Joined)
         → AppliesAnswers c → IsRunInBytes c w → IsRunOfUnits w }
@@ -76,8 +78,8 @@ pub fn bytes_are_units()
         × CacheHearsSent w.cache n w.present.name kept x.queries input ended s after }
 {}
 
-/// In any such run a router of ours ends no connection over the bytes of a cache of ours, with the
-/// same exceptions as over its units.
+/// In any such run a router of this library ends no connection because of the bytes of a cache of
+/// this library, with the same exceptions as for its units.
 pub fn bytes_in_peace()
     ensures { (c : Caller (List ℕ) (List ℕ)) (w : Joined) (n : ℕ)
         (input later : List ℕ) (start end : ℕ) (a : Action) (after : Router)

@@ -442,11 +442,11 @@ asked_well Silent most r x e y l (resets_well u k v c) =
 asked_well Silent most r x e y l (refuses_session u k c z t) =
     answer.refuses_session u k (sym y.changes ∙ c) (complaint z) (still t)
   where
-    complaint : (u.code ≢ 2) ⊎ (u.version ≢ x.version) → IsComplaint r u
+    complaint : (u.code.0 ≢ 2) ⊎ (u.version ≢ x.version) → IsComplaint r u
     complaint (inl f) = inl f
     complaint (inr f) = inr (λ g. f (g ∙ sym y.version))
 
-    still : (x.answered ≡ true) ⊎ (x.version ≡ 0) ⊎ ((u.code ≢ 4) × (x.version ≤ u.version))
+    still : (x.answered ≡ true) ⊎ (x.version ≡ 0) ⊎ ((u.code.0 ≢ 4) × (x.version ≤ u.version))
         → StandsStill r u
     still (inl f) = agreed_on (sym y.answered ∙ f)
     still (inr (inl f)) = lowest (sym y.version ∙ f)
@@ -455,7 +455,7 @@ asked_well Silent most r x e y l (refuses_version u k m g z) =
     answer.refuses_version u (lt_to most r.version x.version y.version m) (sym y.answered ∙ g) k
     (go z)
   where
-    go : (u.code ≡ 4) ⊎ (u.version < x.version) → (u.code ≡ 4) ⊎ (u.version < r.version)
+    go : (u.code.0 ≡ 4) ⊎ (u.version < x.version) → (u.code.0 ≡ 4) ⊎ (u.version < r.version)
     go (inl f) = inl f
     go (inr f) = inr (lt_to u.version r.version x.version y.version f)
 asked_well Silent most r x e y l (answers_lower u v m g z) =

@@ -5,6 +5,7 @@ use Rattle.std.proofs.lemmas.Bool.{cases_eq, cases_lt, cases_order}
 use Rattle.std.specs.declared.cmp.Ordering.{Ordering}
 use Rattle.std.specs.declared.cmp.Ordering.TheVariants as orders
 use Rattle.std.specs.declared.cmp.Ordering.TheVariants.{Less}
+use Rattle.rtr_base.specs.declared.error_code.ErrorCode.{ErrorCode}
 use Rattle.rtr_base.specs.Serial.{serial_cmp}
 use Rattle.session_router.specs.declared.head.Fault.{Fault}
 use Rattle.session_router.specs.declared.head.Head.{Head}
@@ -169,12 +170,12 @@ resets r u false true ge ce k m s x (above h) = record {
 
 -- a report
 reports : (r : Router) (u : Head) → u.kind ≡ kinds.ErrorReport → Decided (HeedsAsked r u)
-reports r u k = go (cases_eq u.version r.version) (cases_eq u.code 2)
+reports r u k = go (cases_eq u.version r.version) (cases_eq u.code.0 2)
   where
     complains : IsComplaint r u → StandsStill r u → Decided (HeedsAsked r u)
     complains x y = record { is = ends_for causes.Reported; one = λ a w. w.reported k x y }
 
-    falls : (u.code ≡ 4) ⊎ (u.version < r.version) → r.agreed ≡ false → 1 ≤ r.version
+    falls : (u.code.0 ≡ 4) ⊎ (u.version < r.version) → r.agreed ≡ false → 1 ≤ r.version
         → Decided (HeedsAsked r u)
     falls x g l = record { is = ends_for causes.Lower; one = λ a w. w.falls k x g l }
 
@@ -182,7 +183,7 @@ reports r u k = go (cases_eq u.version r.version) (cases_eq u.code 2)
     at_zero v h = omega arith
 
     by_code : IsComplaint r u → r.agreed ≡ false → 1 ≤ r.version
-        → (u.code ≡ 4) ⊎ (u.code ≢ 4) → (u.version < r.version) ⊎ (r.version ≤ u.version)
+        → (u.code.0 ≡ 4) ⊎ (u.code.0 ≢ 4) → (u.version < r.version) ⊎ (r.version ≤ u.version)
         → Decided (HeedsAsked r u)
     by_code x g l (inl y) z = falls (inl y) g l
     by_code x g l (inr y) (inl z) = falls (inr z) g l
@@ -192,13 +193,13 @@ reports r u k = go (cases_eq u.version r.version) (cases_eq u.code 2)
         → Decided (HeedsAsked r u)
     by_version x g (inl l) = complains x (lowest (at_zero r.version l))
     by_version x g (inr l) =
-        by_code x g l (cases_eq u.code 4) (cases_lt u.version r.version)
+        by_code x g l (cases_eq u.code.0 4) (cases_lt u.version r.version)
 
     complaint : (b : Bool) → r.agreed ≡ b → IsComplaint r u → Decided (HeedsAsked r u)
     complaint true g x = complains x (agreed_on g)
     complaint false g x = by_version x g (cases_lt r.version 1)
 
-    go : (u.version ≡ r.version) ⊎ (u.version ≢ r.version) → (u.code ≡ 2) ⊎ (u.code ≢ 2)
+    go : (u.version ≡ r.version) ⊎ (u.version ≢ r.version) → (u.code.0 ≡ 2) ⊎ (u.code.0 ≢ 2)
         → Decided (HeedsAsked r u)
     go (inl e) (inl c) = record { is = actions.NoData; one = λ a w. w.has_none k e c }
     go (inl e) (inr c) = complaint r.agreed refl (inl c)
@@ -328,12 +329,12 @@ notes r u k v = go (cases_eq u.session r.session)
 
 reports_inside : (r : Router) (u : Head) → u.kind ≡ kinds.ErrorReport
     → Decided (HeedsReading r u)
-reports_inside r u k = go (cases_eq u.version r.version) (cases_eq u.code 2)
+reports_inside r u k = go (cases_eq u.version r.version) (cases_eq u.code.0 2)
   where
     complains : IsComplaint r u → Decided (HeedsReading r u)
     complains x = record { is = ends_for causes.Reported; one = λ a w. w.reported k x }
 
-    go : (u.version ≡ r.version) ⊎ (u.version ≢ r.version) → (u.code ≡ 2) ⊎ (u.code ≢ 2)
+    go : (u.version ≡ r.version) ⊎ (u.version ≢ r.version) → (u.code.0 ≡ 2) ⊎ (u.code.0 ≢ 2)
         → Decided (HeedsReading r u)
     go (inl e) (inl c) = record { is = actions.NoData; one = λ a w. w.has_none k e c }
     go (inl e) (inr c) = complains (inl c)
@@ -549,8 +550,8 @@ at_applied phases.Reading r n q at =
 at_applied phases.Waiting r n q at =
     idle r n events.Applied at (is_not phases.Waiting phases.Applying r q (λ e. cc))
 
-at_not_applied : (p : Phase) (code : Option ℕ) (r : Router) (n : ℕ) → r.phase ≡ p → Place r n
-    → Decided (Steps r n (events.NotApplied code))
+at_not_applied : (p : Phase) (code : Option ErrorCode) (r : Router) (n : ℕ) → r.phase ≡ p
+    → Place r n → Decided (Steps r n (events.NotApplied code))
 at_not_applied phases.Applying code r n q at = record {
   is = ends_with false code causes.NotApplied;
   one = λ a w. w.1.heeds at.fresh at.soon (inr q);
@@ -615,7 +616,7 @@ at_lost phases.Waiting r n q at =
 
 -- a unit that is refused
 agreed_fault :
-    (r : Router) (n : ℕ) (f : Fault) (code : ℕ) → Place r n → IsTalking r
+    (r : Router) (n : ℕ) (f : Fault) (code : ErrorCode) → Place r n → IsTalking r
     → f.code ≡ Some code → (r.phase ≢ phases.Asked) ⊎ (r.agreed ≡ true)
     → (f.version ≡ r.version) ⊎ (f.version ≢ r.version) → Decided (Steps r n (events.Faulty f))
 agreed_fault r n f code at on c x (inl v) = record {
@@ -629,11 +630,11 @@ agreed_fault r n f code at on c x (inr v) = record {
 
 fault_by_code :
     (r : Router) (n : ℕ) (f : Fault) → Place r n → IsTalking r
-    → ((code : ℕ) → f.code ≡ Some code → Decided (Steps r n (events.Faulty f)))
+    → ((code : ErrorCode) → f.code ≡ Some code → Decided (Steps r n (events.Faulty f)))
     → Decided (Steps r n (events.Faulty f))
 fault_by_code r n f at on x = go f.code refl
   where
-    go : (o : Option ℕ) → f.code ≡ o → Decided (Steps r n (events.Faulty f))
+    go : (o : Option ErrorCode) → f.code ≡ o → Decided (Steps r n (events.Faulty f))
     go None c = record {
       is = ends_for causes.Faulty;
       one = λ a w. (w.1.heeds at.fresh at.soon).unowed on c;
@@ -653,7 +654,7 @@ at_fault phases.Asked r n f q at =
       is_not phases.Asked phases.Connecting r q (λ e. cc),
     )
 
-    go : (code : ℕ) → f.code ≡ Some code → (b : Bool) → r.agreed ≡ b
+    go : (code : ErrorCode) → f.code ≡ Some code → (b : Bool) → r.agreed ≡ b
         → (r.version < f.version) ⊎ (f.version ≤ r.version) → Decided (Steps r n (events.Faulty f))
     go code c true g l =
         agreed_fault r n f code at on c (inr g) (cases_eq f.version r.version)

@@ -247,7 +247,7 @@ end_of x = record {
   version = x.version;
   session = x.session;
   serial = picked (x.units == 0) x.query.serial;
-  code = 0;
+  code = record { 0 = 0 };
   refresh = 3600;
   retry = 600;
   expire = 7200;
@@ -303,7 +303,7 @@ response_of r x = record {
   version = x.version;
   session = r.known.session;
   serial = 0;
-  code = 0;
+  code = record { 0 = 0 };
   refresh = 0;
   retry = 0;
   expire = 0;

@@ -159,7 +159,7 @@ falls_by_word most m r r' u x quiet g w h l = go x
         none v a e f = omega arith
     stays k (other_code z n) = go (w.report k)
       where
-        go : (u.code ≡ 4) ⊎ (u.version < r.version) → ⊥
+        go : (u.code.0 ≡ 4) ⊎ (u.version < r.version) → ⊥
         go (inl c) = z c
         go (inr c) = contrary u.version r.version c n
           where

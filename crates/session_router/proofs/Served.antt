@@ -3,6 +3,7 @@
 -- exchanged is what the router has of it.
 use Rattle.std.proofs.Common.{◌≡◌, ◌≢◌, ◌⊎◌, ℕ, true, false, ◌<◌, ◌≤◌, max, Option, Some}
 use Rattle.std.specs.declared.cmp.Ordering.TheVariants.{Less}
+use Rattle.rtr_base.specs.declared.error_code.ErrorCode.{ErrorCode}
 use Rattle.rtr_base.specs.Serial.{serial_cmp}
 use Rattle.session_router.specs.declared.head.Head.{Head}
 use Rattle.session_router.specs.declared.head.Kind.TheVariants as kinds
@@ -55,7 +56,7 @@ pub data AnswersWell (Silent : Router → Type 0) (most : ℕ) (r : Router) : Ev
   closes_session : r.changes ≡ true → AnswersWell Silent most r events.Lost
   refuses_version :
       (u : Head) → most < r.version → r.agreed ≡ false
-      → u.kind ≡ kinds.ErrorReport → (u.code ≡ 4) ⊎ (u.version < r.version)
+      → u.kind ≡ kinds.ErrorReport → (u.code.0 ≡ 4) ⊎ (u.version < r.version)
       → AnswersWell Silent most r (events.Came u)
   answers_lower :
       (u : Head) → u.version ≡ most → most < r.version → r.agreed ≡ false
@@ -88,7 +89,7 @@ pub data IsMadeWell (r : Router) : Event → Type 0 where
   not_made_yet : IsMadeWell r events.Tick
   wished_meanwhile : IsMadeWell r events.Asked
   are_made : IsMadeWell r events.Applied
-  are_refused : (code : Option ℕ) → r.changes ≡ true → IsMadeWell r (events.NotApplied code)
+  are_refused : (code : Option ErrorCode) → r.changes ≡ true → IsMadeWell r (events.NotApplied code)
 
 -- While the router waits such a cache may send notifies.
 pub data LeavesWell (r : Router) : Event → Type 0 where

@@ -51,6 +51,10 @@ use Rattle.session_router.proofs.Acting.{on_failure, on_loss, on_drop}
 
 -- ---- what is done at what such a cache sends
 
+-- how a connection ends at another session
+abbrev flushed_with : Bool → Action
+flushed_with dropped = ends_with dropped (Some (record { 0 = 0 })) causes.OtherSession
+
 pub record Done (r : Router) (n : ℕ) (e : Event) (x : Action) (r' : Router) : Type 0 where
   pub rule : Rule r n e x r'
   pub paces : Paces r n e x r'
@@ -247,11 +251,11 @@ asked most s r r' n n' e a g q h t fresh soon (answers_anew u k v c x) w =
     go : (b : Bool) → r.has_data ≡ b → Kept s r r' n n'
     go false f = let has : r.has_data ≡ true = h.has_data c in cc
     go true f =
-        let flushed : a ≡ ends_with true (Some 0) causes.OtherSession =
+        let flushed : a ≡ flushed_with true =
         heeds.other_session k v c x
-        ∙ ap (λ (b : Bool). ends_with b (Some 0) causes.OtherSession) f in
-        let d : Done r n' (events.Came u) (ends_with true (Some 0) causes.OtherSession) r' =
-        done r r' n' (events.Came u) a (ends_with true (Some 0) causes.OtherSession) w
+        ∙ ap flushed_with f in
+        let d : Done r n' (events.Came u) (flushed_with true) r' =
+        done r r' n' (events.Came u) a (flushed_with true) w
         flushed in
         on_loss phases.Asked s r r' n n' g q h.fell f t
         (more_le (if r.changes then s.response_limit else 0) s.pause
@@ -373,11 +377,11 @@ waiting s r r' n n' e a g q h t fresh soon (notifies_then u k v) w =
     go false f x = noted (λ e. cc)
     go true f (inl x) = noted (λ e. x)
     go true f (inr x) =
-        let flushed : a ≡ ends_with true (Some 0) causes.OtherSession =
+        let flushed : a ≡ flushed_with true =
         heeds.other_session k v f x
-        ∙ ap (λ (b : Bool). ends_with b (Some 0) causes.OtherSession) f in
-        let d : Done r n' (events.Came u) (ends_with true (Some 0) causes.OtherSession) r' =
-        done r r' n' (events.Came u) a (ends_with true (Some 0) causes.OtherSession) w
+        ∙ ap flushed_with f in
+        let d : Done r n' (events.Came u) (flushed_with true) r' =
+        done r r' n' (events.Came u) a (flushed_with true) w
         flushed in
         on_loss phases.Waiting s r r' n n' g q h f t
         (room s.response_limit s.pause (after s r * connection_time s)

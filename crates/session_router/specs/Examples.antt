@@ -38,7 +38,7 @@ unit_of_kind k = record {
   version = 1;
   session = 4660;
   serial = 5;
-  code = 0;
+  code = record { 0 = 0 };
   refresh = 3600;
   retry = 600;
   expire = 7200;

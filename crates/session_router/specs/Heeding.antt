@@ -3,6 +3,7 @@
 use Rattle.std.specs.Prelude.{◌≡◌, ◌≢◌, ◌⊎◌, ℕ, Bool, true, false, ◌+◌, ◌-◌, ◌<◌, ◌≤◌, Option, Some}
 use Rattle.std.specs.Prelude.{None, min}
 use Rattle.std.specs.declared.cmp.Ordering.TheVariants.{Less}
+use Rattle.rtr_base.specs.declared.error_code.ErrorCode.{ErrorCode}
 use Rattle.rtr_base.specs.Serial.{serial_cmp}
 use Rattle.session_router.specs.declared.head.Head.{Head}
 use Rattle.session_router.specs.declared.head.Fault.{Fault}
@@ -20,12 +21,12 @@ use Rattle.session_router.specs.Rules.{IsPayloadOf, MayAnswer, query}
 
 -- ---- how a connection ends
 
-abbrev pub ends_with : Bool → Option ℕ → Cause → Action
+abbrev pub ends_with : Bool → Option ErrorCode → Cause → Action
 ends_with drop report cause = actions.End (record { drop = drop; report = report; cause = cause })
 
 -- with a report of this code (section 12)
 abbrev pub breaks : ℕ → Cause → Action
-breaks code cause = ends_with false (Some code) cause
+breaks code cause = ends_with false (Some (record { 0 = code })) cause
 
 -- without a report, since a report is never answered, the cache did nothing wrong, or it can't hear
 abbrev pub ends_for : Cause → Action
@@ -33,7 +34,7 @@ ends_for cause = ends_with false None cause
 
 -- another session: all data of this cache go (section 5.1)
 abbrev pub flushes : Router → Action
-flushes r = ends_with r.has_data (Some 0) causes.OtherSession
+flushes r = ends_with r.has_data (Some (record { 0 = 0 })) causes.OtherSession
 
 -- a query for all data
 abbrev pub asks_for_all : Router → Action
@@ -52,13 +53,13 @@ IsNoAnswer r _ = Unit {0}
 
 -- a report that doesn't say that the cache has no data
 abbrev pub IsComplaint : Router → Head → Type 0
-IsComplaint r u = (u.code ≢ 2) ⊎ (u.version ≢ r.version)
+IsComplaint r u = (u.code.0 ≢ 2) ⊎ (u.version ≢ r.version)
 
 -- nor that it may have a lower version, before one was agreed on (section 7)
 pub data StandsStill (r : Router) (u : Head) : Type 0 where
   agreed_on : r.agreed ≡ true → StandsStill r u
   lowest : r.version ≡ 0 → StandsStill r u
-  other_code : u.code ≢ 4 → r.version ≤ u.version → StandsStill r u
+  other_code : u.code.0 ≢ 4 → r.version ≤ u.version → StandsStill r u
 
 pub record HeedsAsked (r : Router) (u : Head) (a : Action) : Type 0 where
   -- a cache response, to a serial query of the session of the data (section 5.5)
@@ -82,11 +83,11 @@ pub record HeedsAsked (r : Router) (u : Head) (a : Action) : Type 0 where
       → a ≡ ends_for causes.Lower
   -- no data available (section 8.4)
   pub has_none :
-      u.kind ≡ kinds.ErrorReport → u.version ≡ r.version → u.code ≡ 2
+      u.kind ≡ kinds.ErrorReport → u.version ≡ r.version → u.code.0 ≡ 2
       → a ≡ actions.NoData
   -- a report of code 4, or in a lower version (section 7)
   pub falls :
-      u.kind ≡ kinds.ErrorReport → (u.code ≡ 4) ⊎ (u.version < r.version)
+      u.kind ≡ kinds.ErrorReport → (u.code.0 ≡ 4) ⊎ (u.version < r.version)
       → r.agreed ≡ false → 1 ≤ r.version
       → a ≡ ends_for causes.Lower
   -- another report
@@ -179,7 +180,7 @@ pub record HeedsReading (r : Router) (u : Head) (a : Action) : Type 0 where
       → a ≡ flushes r
   -- no data available after all (section 8.4)
   pub has_none :
-      u.kind ≡ kinds.ErrorReport → u.version ≡ r.version → u.code ≡ 2
+      u.kind ≡ kinds.ErrorReport → u.version ≡ r.version → u.code.0 ≡ 2
       → a ≡ actions.NoData
   -- another report
   pub reported : u.kind ≡ kinds.ErrorReport → IsComplaint r u → a ≡ ends_for causes.Reported
@@ -243,11 +244,11 @@ pub record HeedsFault (r : Router) (f : Fault) (a : Action) : Type 0 where
   pub unowed : IsTalking r → f.code ≡ None → a ≡ ends_for causes.Faulty
   pub other_version :
       IsTalking r → (r.phase ≢ phases.Asked) ⊎ (r.agreed ≡ true) → f.version ≢ r.version
-      → (code : ℕ) → f.code ≡ Some code
+      → (code : ErrorCode) → f.code ≡ Some code
       → a ≡ breaks 8 causes.OtherVersion
   pub higher_version :
       IsNegotiating r → r.version < f.version
-      → (code : ℕ) → f.code ≡ Some code
+      → (code : ErrorCode) → f.code ≡ Some code
       → a ≡ breaks 4 causes.HigherVersion
   pub owed : IsTalking r → f.version ≡ r.version → a ≡ ends_with false f.code causes.Faulty
   pub lower : IsNegotiating r → f.version ≤ r.version → a ≡ ends_with false f.code causes.Faulty

@@ -2,6 +2,7 @@
 use Rattle.std.specs.Prelude.{◌≡◌, ◌≢◌, ◌⊎◌, ℕ, true, false, ◌+◌, ◌*◌, ◌<◌, ◌≤◌, max}
 use Rattle.std.specs.Prelude.{Option, Some, if◌then◌else◌}
 use Rattle.std.specs.declared.cmp.Ordering.TheVariants.{Less}
+use Rattle.rtr_base.specs.declared.error_code.ErrorCode.{ErrorCode}
 use Rattle.rtr_base.specs.Serial.{serial_cmp}
 use Rattle.session_router.specs.declared.head.Head.{Head}
 use Rattle.session_router.specs.declared.head.Kind.{Kind}
@@ -38,12 +39,12 @@ pub data AnswersWell (most : ℕ) (x : Exchange) : Event → Type 0 where
       → AnswersWell most x (events.Came u)
   refuses_session :
       (u : Head) → u.kind ≡ kinds.ErrorReport → x.query.changes ≡ true
-      → (u.code ≢ 2) ⊎ (u.version ≢ x.version)
-      → (x.answered ≡ true) ⊎ (x.version ≡ 0) ⊎ ((u.code ≢ 4) × (x.version ≤ u.version))
+      → (u.code.0 ≢ 2) ⊎ (u.version ≢ x.version)
+      → (x.answered ≡ true) ⊎ (x.version ≡ 0) ⊎ ((u.code.0 ≢ 4) × (x.version ≤ u.version))
       → AnswersWell most x (events.Came u)
   refuses_version :
       (u : Head) → u.kind ≡ kinds.ErrorReport → most < x.version → x.answered ≡ false
-      → (u.code ≡ 4) ⊎ (u.version < x.version)
+      → (u.code.0 ≡ 4) ⊎ (u.version < x.version)
       → AnswersWell most x (events.Came u)
   answers_lower :
       (u : Head) → u.version ≡ most → most < x.version → x.answered ≡ false
@@ -78,7 +79,8 @@ pub data GoesOnWell (s : Settings) (x : Exchange) : Event → Type 0 where
 -- be this cache's.
 pub data IsMadeWell (x : Exchange) : Event → Type 0 where
   are_made : IsMadeWell x events.Applied
-  are_refused : (code : Option ℕ) → x.query.changes ≡ true → IsMadeWell x (events.NotApplied code)
+  are_refused :
+      (code : Option ErrorCode) → x.query.changes ≡ true → IsMadeWell x (events.NotApplied code)
 
 -- while nothing is asked such a cache may send notifies
 pub data LeavesWell (x : Exchange) : Event → Type 0 where

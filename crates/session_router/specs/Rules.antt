@@ -2,6 +2,7 @@
 use Rattle.std.specs.Prelude.{◌≡◌, ◌≢◌, ◌⊎◌, ℕ, Bool, true, false, ◌+◌, ◌<◌, ◌≤◌, Option, Some}
 use Rattle.std.specs.Prelude.{None, if◌then◌else◌, max, ◌-◌, ◌&&◌}
 use Rattle.std.specs.declared.cmp.Ordering.TheVariants.{Less}
+use Rattle.rtr_base.specs.declared.error_code.ErrorCode.{ErrorCode}
 use Rattle.rtr_base.specs.Serial.{serial_cmp}
 use Rattle.session_router.specs.declared.head.Head.{Head}
 use Rattle.session_router.specs.declared.head.Known.{Known}
@@ -239,7 +240,7 @@ pub record Adopts (r : Router) (n : ℕ) (r' : Router) : Type 0 where
 pub record HasNoData (r : Router) (u : Head) (r' : Router) : Type 0 where
   pub same : SameKnown r r'
   pub kind : u.kind ≡ kinds.ErrorReport
-  pub code : u.code ≡ 2
+  pub code : u.code.0 ≡ 2
   pub version : u.version ≡ r.version
   pub from : (r.phase ≡ phases.Asked) ⊎ (r.phase ≡ phases.Reading)
   pub phase : r'.phase ≡ phases.Waiting
@@ -267,7 +268,7 @@ Drops true r r' = HasLost r r'
 Drops false r r' = SameKnown r r'
 
 -- no report answers a report (RFC 8210 section 5.11)
-abbrev pub NoneAboutReports : Event → Option ℕ → Type 0
+abbrev pub NoneAboutReports : Event → Option ErrorCode → Type 0
 NoneAboutReports (events.Came u) report = u.kind ≡ kinds.ErrorReport → report ≡ None
 NoneAboutReports (events.Faulty f) report = f.code ≡ None → report ≡ None
 NoneAboutReports _ report = Unit {0}
@@ -276,7 +277,7 @@ NoneAboutReports _ report = Unit {0}
 -- that of the query; the answer to a serial query in a lower version, to that one (RFC 8210 section
 -- 7).
 pub record FallsAt (r : Router) (u : Head) (r' : Router) : Type 0 where
-  pub report : u.kind ≡ kinds.ErrorReport → (u.code ≡ 4) ⊎ (u.version < r.version)
+  pub report : u.kind ≡ kinds.ErrorReport → (u.code.0 ≡ 4) ⊎ (u.version < r.version)
   pub by_one : u.kind ≡ kinds.ErrorReport → r'.version + 1 ≡ r.version
   pub changes : u.kind ≢ kinds.ErrorReport → r.changes ≡ true
   pub to : u.kind ≢ kinds.ErrorReport → r'.version ≡ u.version

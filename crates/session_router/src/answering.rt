@@ -1,4 +1,4 @@
-//! The units that come, and what the changes of a response made.
+//! Handling the units that come, and the result of a response's changes.
 
 ghost use Rattle.std.specs.Prelude.{◌≡◌, ◌≢◌, ◌≤◌, ◌<◌, ◌+◌, ◌^◌, ◌⊎◌, ◌↔◌, IsTrue, true, false};
 ghost use Rattle.std.specs.Prelude.{None, Some, max, min};
@@ -48,9 +48,9 @@ impl Router {
         }
     }
 
-    /// A unit came while an answer is awaited. The first answer says what version the session has,
-    /// and a notify before it says nothing (RFC 8210 section 7). A later one is kept, as in a
-    /// response.
+    /// Takes a unit while an answer is awaited. The first unit of the answer sets the version of
+    /// the session; a notify before it doesn't (RFC 8210 section 7). A later notify is recorded, as
+    /// in a response.
     fn answered(&mut self, now: u64, unit: &Head) -> Action
         requires time { now < 2 ^ 63 }
         requires asked { self.old.phase ≡ phases.Asked }
@@ -67,14 +67,14 @@ impl Router {
             _ if self.agreed && unit.version != self.version => {
                 self.end(
                     now,
-                    Some(ErrorCode::UNEXPECTED_PROTOCOL_VERSION.0),
+                    Some(ErrorCode::UNEXPECTED_PROTOCOL_VERSION),
                     Cause::OtherVersion,
                 )
             }
             _ if unit.version > self.version => {
                 self.end(
                     now,
-                    Some(ErrorCode::UNSUPPORTED_PROTOCOL_VERSION.0),
+                    Some(ErrorCode::UNSUPPORTED_PROTOCOL_VERSION),
                     Cause::HigherVersion,
                 )
             }
@@ -84,13 +84,13 @@ impl Router {
             Kind::CacheReset if self.changes => self.reset(now, unit),
             _ => self.end(
                 now,
-                Some(ErrorCode::UNSUPPORTED_PDU_TYPE.0),
+                Some(ErrorCode::UNSUPPORTED_PDU_TYPE),
                 Cause::OutOfPlace,
             ),
         }
     }
 
-    /// A report came in place of an answer.
+    /// Takes a report instead of an answer.
     fn reported(&mut self, now: u64, unit: &Head) -> Action
         requires time { now < 2 ^ 63 }
         requires asked { self.old.phase ≡ phases.Asked }
@@ -103,8 +103,8 @@ impl Router {
         ensures heeds { HeedsAsked self.old unit.now result }
     {
         let lower = unit.version < self.version
-            || unit.code == ErrorCode::UNSUPPORTED_PROTOCOL_VERSION.0;
-        if unit.code == ErrorCode::NO_DATA_AVAILABLE.0 && unit.version == self.version {
+            || unit.code == ErrorCode::UNSUPPORTED_PROTOCOL_VERSION;
+        if unit.code == ErrorCode::NO_DATA_AVAILABLE && unit.version == self.version {
             self.has_none(now)
         } else if lower && !self.agreed && self.version > 0 {
             self.fall(now, self.version - 1)
@@ -113,8 +113,8 @@ impl Router {
         }
     }
 
-    /// The cache has no data yet. It is asked for all data after the retry time, until it has some
-    /// (RFC 8210 section 8.4).
+    /// Handles a cache without data. It is asked for all data again after each retry time, until it
+    /// has some (RFC 8210 section 8.4).
     fn has_none(&mut self, now: u64) -> Action
         requires time { now < 2 ^ 63 }
         ensures action { result ≡ actions.NoData }
@@ -135,7 +135,7 @@ impl Router {
         Action::NoData
     }
 
-    /// A cache response begins the answer to a serial query.
+    /// Takes a cache response that begins the answer to a serial query.
     fn begin_changes(&mut self, now: u64, unit: &Head) -> Action
         requires time { now < 2 ^ 63 }
         requires asked { self.old.phase ≡ phases.Asked }
@@ -159,7 +159,7 @@ impl Router {
         }
     }
 
-    /// A cache response begins the answer.
+    /// Takes a cache response that begins the answer.
     fn begin(&mut self, unit: &Head) -> Action
         requires asked { self.old.phase ≡ phases.Asked }
         requires kind { unit.now.kind ≡ kinds.CacheResponse }
@@ -180,7 +180,7 @@ impl Router {
         Action::Begin
     }
 
-    /// A cache reset answers a serial query: all data are asked for (RFC 8210 section 8.3).
+    /// Takes a cache reset in answer to a serial query: asks for all data (RFC 8210 section 8.3).
     fn reset(&mut self, now: u64, unit: &Head) -> Action
         requires time { now < 2 ^ 63 }
         requires asked { self.old.phase ≡ phases.Asked }
@@ -204,7 +204,7 @@ impl Router {
         self.ask(now)
     }
 
-    /// A unit came in a response.
+    /// Takes a unit in a response.
     #[inline(always)]
     fn read_on(&mut self, now: u64, unit: &Head) -> Action
         requires time { now < 2 ^ 63 }
@@ -218,14 +218,14 @@ impl Router {
     {
         match unit.kind {
             Kind::ErrorReport
-                if unit.code == ErrorCode::NO_DATA_AVAILABLE.0 && unit.version == self.version => {
+                if unit.code == ErrorCode::NO_DATA_AVAILABLE && unit.version == self.version => {
                 self.has_none(now)
             }
             Kind::ErrorReport => self.end(now, None, Cause::Reported),
             _ if unit.version != self.version => {
                 self.end(
                     now,
-                    Some(ErrorCode::UNEXPECTED_PROTOCOL_VERSION.0),
+                    Some(ErrorCode::UNEXPECTED_PROTOCOL_VERSION),
                     Cause::OtherVersion,
                 )
             }
@@ -234,7 +234,7 @@ impl Router {
             Kind::Aspa if self.version >= 2 => self.keep(now, unit),
             Kind::RouterKey | Kind::Aspa => self.end(
                 now,
-                Some(ErrorCode::UNSUPPORTED_PDU_TYPE.0),
+                Some(ErrorCode::UNSUPPORTED_PDU_TYPE),
                 Cause::NoSuchPayload,
             ),
             Kind::SerialNotify => self.note(now, unit),
@@ -242,14 +242,14 @@ impl Router {
             Kind::SerialQuery | Kind::ResetQuery | Kind::CacheResponse | Kind::CacheReset => {
                 self.end(
                     now,
-                    Some(ErrorCode::UNSUPPORTED_PDU_TYPE.0),
+                    Some(ErrorCode::UNSUPPORTED_PDU_TYPE),
                     Cause::OutOfPlace,
                 )
             }
         }
     }
 
-    /// A payload unit of the version came in a response.
+    /// Takes a payload unit of the version in a response.
     #[inline(always)]
     fn keep(&mut self, now: u64, unit: &Head) -> Action
         requires time { now < 2 ^ 63 }
@@ -275,8 +275,8 @@ impl Router {
         Action::Keep
     }
 
-    /// Handles a notify of the version that came inside a response. Keeps its state until the
-    /// response ends, if it is of the same session.
+    /// Takes a notify of the version inside a response. Keeps its serial number until the response
+    /// ends, if it is of the same session.
     fn note(&mut self, now: u64, unit: &Head) -> Action
         requires time { now < 2 ^ 63 }
         requires reading { self.old.phase ≡ phases.Reading }
@@ -295,7 +295,7 @@ impl Router {
         self.note_serial(unit)
     }
 
-    /// Keeps what a notify says until the data are there.
+    /// Keeps the serial number of a notify until the data are there.
     fn note_serial(&mut self, unit: &Head) -> Action
         ensures action { result ≡ actions.Wait }
         ensures notes { self.new ≡ once_noted self.old unit.now }
@@ -305,7 +305,7 @@ impl Router {
         Action::Wait
     }
 
-    /// The end of data of a response came, of its version.
+    /// Takes the end of data of a response, of its version.
     fn finish(&mut self, now: u64, unit: &Head) -> Action
         requires time { now < 2 ^ 63 }
         requires reading { self.old.phase ≡ phases.Reading }
@@ -322,10 +322,10 @@ impl Router {
             return self.other_session(now);
         }
         if self.changes && is_before(unit.serial, self.known.serial) {
-            return self.end(now, Some(ErrorCode::CORRUPT_DATA.0), Cause::OldSerial);
+            return self.end(now, Some(ErrorCode::CORRUPT_DATA), Cause::OldSerial);
         }
         if self.changes && unit.serial == self.known.serial && self.units > 0 {
-            return self.end(now, Some(ErrorCode::CORRUPT_DATA.0), Cause::OtherData);
+            return self.end(now, Some(ErrorCode::CORRUPT_DATA), Cause::OtherData);
         }
         self.answer = Known {
             version: unit.version,
@@ -340,7 +340,7 @@ impl Router {
         Action::Apply(self.changes)
     }
 
-    /// All changes were made: what they made are the data.
+    /// Records that all changes were applied: their result is the data.
     pub(crate) fn applied(&mut self, now: u64) -> Action
         requires time { now < 2 ^ 63 }
         requires fresh { Fresh self.old now }
@@ -361,7 +361,7 @@ impl Router {
         }
     }
 
-    /// Adopts the data that the changes made.
+    /// Adopts the data that result from the changes.
     fn take(&mut self, now: u64)
         requires time { now < 2 ^ 63 }
         requires applying { self.old.phase ≡ phases.Applying }
@@ -391,8 +391,8 @@ impl Router {
         self.phase = Phase::Waiting;
     }
 
-    /// When a version that silence made it leave is tried again, once data come: their refresh time
-    /// counts where it is shorter, until the wait has grown.
+    /// Once data come after a silent fall, sets the highest version to be tried again after their
+    /// refresh time, if that is earlier and the wait hasn't grown.
     fn rise_by(&mut self, now: u64)
         requires time { now < 2 ^ 63 }
         ensures { self.new ≡ record self.old {
@@ -419,7 +419,8 @@ impl Router {
             || self.known.version != self.answer.version
     }
 
-    /// A unit came unasked: a notify of a serial number that it hasn't makes it ask.
+    /// Takes a unit that wasn't requested: a notify of another serial number than that of the data
+    /// leads to a query.
     fn notified(&mut self, now: u64, unit: &Head) -> Action
         requires time { now < 2 ^ 63 }
         requires waiting { self.old.phase ≡ phases.Waiting }
@@ -435,7 +436,7 @@ impl Router {
             _ if unit.version != self.version => {
                 self.end(
                     now,
-                    Some(ErrorCode::UNEXPECTED_PROTOCOL_VERSION.0),
+                    Some(ErrorCode::UNEXPECTED_PROTOCOL_VERSION),
                     Cause::OtherVersion,
                 )
             }
@@ -450,7 +451,7 @@ impl Router {
             }
             _ => self.end(
                 now,
-                Some(ErrorCode::UNSUPPORTED_PDU_TYPE.0),
+                Some(ErrorCode::UNSUPPORTED_PDU_TYPE),
                 Cause::OutOfPlace,
             ),
         }

@@ -23,12 +23,12 @@ use crate::head::Fault;
 use crate::router::{FIRST_WAIT, Phase, Router};
 use rtr_base::error_code::ErrorCode;
 
-/// The longest time for which a version isn't tried: a day, in milliseconds.
+/// The longest time until the highest version is tried again: a day, in milliseconds.
 const LONGEST_RISE: u32 = 86_400_000;
 
 impl Router {
     /// Ends the connection because of a failure.
-    pub(crate) fn end(&mut self, now: u64, report: Option<u16>, cause: Cause) -> Action
+    pub(crate) fn end(&mut self, now: u64, report: Option<ErrorCode>, cause: Cause) -> Action
         requires time { now < 2 ^ 63 }
         ensures action { result ≡ ends_with false report cause }
         ensures becomes { self.new ≡ once_failed false self.old now }
@@ -53,7 +53,7 @@ impl Router {
         })
     }
 
-    /// Ends the connection because the time for what was under way is over.
+    /// Ends the connection because the deadline of what was under way has passed.
     pub(crate) fn give_up(&mut self, now: u64) -> Action
         requires time { now < 2 ^ 63 }
         ensures action { result ≡ ends_with false None causes.Slow }
@@ -75,7 +75,7 @@ impl Router {
     }
 
     /// Drops the data, and ends the connection.
-    fn drop_all(&mut self, now: u64, report: Option<u16>, cause: Cause) -> Action
+    fn drop_all(&mut self, now: u64, report: Option<ErrorCode>, cause: Cause) -> Action
         requires time { now < 2 ^ 63 }
         ensures action { result ≡ ends_with true report cause }
         ensures becomes { self.new ≡ once_failed true self.old now }
@@ -97,10 +97,11 @@ impl Router {
         })
     }
 
-    /// The cache has begun another session (RFC 8210 section 5.1).
+    /// Handles that the cache has begun another session (RFC 8210 section 5.1).
     pub(crate) fn other_session(&mut self, now: u64) -> Action
         requires time { now < 2 ^ 63 }
-        ensures action { result ≡ ends_with self.old.has_data (Some 0) causes.OtherSession }
+        ensures action { result ≡
+            ends_with self.old.has_data (Some (record { 0 = 0 })) causes.OtherSession }
         ensures becomes { self.new ≡ once_failed self.old.has_data self.old now }
         ensures data_then { Drops self.old.has_data self.old self.new }
         ensures fresh { Fresh self.old now → Fresh self.new now }
@@ -109,13 +110,13 @@ impl Router {
         ensures paces { PacesFailure self.old now self.old.has_data self.new }
     {
         if self.has_data {
-            self.drop_all(now, Some(ErrorCode::CORRUPT_DATA.0), Cause::OtherSession)
+            self.drop_all(now, Some(ErrorCode::CORRUPT_DATA), Cause::OtherSession)
         } else {
-            self.end(now, Some(ErrorCode::CORRUPT_DATA.0), Cause::OtherSession)
+            self.end(now, Some(ErrorCode::CORRUPT_DATA), Cause::OtherSession)
         }
     }
 
-    /// The data have expired (RFC 8210 section 6).
+    /// Handles that the data have expired (RFC 8210 section 6).
     pub(crate) fn expire(&mut self, now: u64) -> Action
         requires time { now < 2 ^ 63 }
         ensures rule { (e : Event) → Rule self.old now e result self.new }
@@ -137,7 +138,7 @@ impl Router {
         }
     }
 
-    /// Ends the connection, and makes another one at once in a lower version (RFC 8210 section 7).
+    /// Ends the connection, and reconnects at once in a lower version (RFC 8210 section 7).
     pub(crate) fn fall(&mut self, now: u64, version: u8) -> Action
         requires time { now < 2 ^ 63 }
         ensures action { result ≡ ends_with false None causes.Lower }
@@ -161,8 +162,8 @@ impl Router {
         })
     }
 
-    /// Falls to the next lower version at a close without a word. The highest one is tried again
-    /// after the refresh time, or later each time that it ends so.
+    /// Falls to the next lower version when the cache closes without an error report. The highest
+    /// one is tried again after the refresh time, and later each time that it ends so.
     fn fall_silently(&mut self, now: u64) -> Action
         requires time { now < 2 ^ 63 }
         requires version { 1 ≤ self.old.version }
@@ -191,7 +192,7 @@ impl Router {
         })
     }
 
-    /// How long the highest version isn't tried: the refresh time, and twice as long each time, up
+    /// How long until the highest version is tried again: the refresh time, doubled each time, up
     /// to a day.
     fn next_rise(&self) -> u32
         ensures { result ≡ next_rise self.now }
@@ -200,7 +201,7 @@ impl Router {
         refresh.max(self.rise_wait.saturating_mul(2).min(LONGEST_RISE))
     }
 
-    /// Ends the connection, and makes another one at once in the highest version. Data stay.
+    /// Ends the connection, and reconnects at once in the highest version. The data stay.
     pub(crate) fn rise(&mut self, now: u64) -> Action
         ensures action { result ≡ ends_with false None causes.Higher }
         ensures becomes { self.new ≡ once_risen self.old now }
@@ -214,8 +215,9 @@ impl Router {
         })
     }
 
-    /// A connection could not be made, or is gone. Before a version was agreed on the next one may
-    /// be in a lower version, but not in one below that in which the cache answered before.
+    /// Handles a connection that couldn't be made, or is gone. If no version was agreed on yet, the
+    /// next connection may be in a lower version, but not in one below that in which the cache
+    /// answered before.
     pub(crate) fn lost(&mut self, now: u64) -> Action
         requires time { now < 2 ^ 63 }
         requires fresh { Fresh self.old now }
@@ -233,8 +235,8 @@ impl Router {
         }
     }
 
-    /// A unit is refused. Its version comes first (RFC 8210 section 7), and nothing is said about
-    /// an error report.
+    /// Takes a refused unit. Its version is checked first (RFC 8210 section 7), and no report is
+    /// sent about an error report.
     pub(crate) fn faulty(&mut self, now: u64, fault: &Fault) -> Action
         requires time { now < 2 ^ 63 }
         requires fresh { Fresh self.old now }
@@ -251,7 +253,7 @@ impl Router {
             Phase::Asked if !self.agreed && fault.version > self.version => {
                 self.end(
                     now,
-                    Some(ErrorCode::UNSUPPORTED_PROTOCOL_VERSION.0),
+                    Some(ErrorCode::UNSUPPORTED_PROTOCOL_VERSION),
                     Cause::HigherVersion,
                 )
             }
@@ -259,7 +261,7 @@ impl Router {
             _ if fault.version != self.version => {
                 self.end(
                     now,
-                    Some(ErrorCode::UNEXPECTED_PROTOCOL_VERSION.0),
+                    Some(ErrorCode::UNEXPECTED_PROTOCOL_VERSION),
                     Cause::OtherVersion,
                 )
             }
@@ -267,8 +269,8 @@ impl Router {
         }
     }
 
-    /// The changes of a response couldn't be kept or made.
-    pub(crate) fn not_applied(&mut self, now: u64, code: Option<u16>) -> Action
+    /// Handles that the changes of a response couldn't be kept or applied.
+    pub(crate) fn not_applied(&mut self, now: u64, code: Option<ErrorCode>) -> Action
         requires time { now < 2 ^ 63 }
         requires fresh { Fresh self.old now }
         ensures rule { Rule self.old now (events.NotApplied code) result self.new }
@@ -284,14 +286,14 @@ impl Router {
         }
     }
 
-    /// Whether a serial query is out.
+    /// Whether the answer to a serial query is awaited.
     fn awaits_changes(&self) -> bool
         ensures { result ≡ awaits_changes self.now }
     {
         self.is_answering() && self.changes
     }
 
-    /// Whether a query is out, or its answer isn't made yet.
+    /// Whether an answer is awaited, read or applied.
     fn is_answering(&self) -> bool
         ensures { result ≡ is_answering self.now.phase }
     {
@@ -305,9 +307,10 @@ impl Router {
         !self.has_data || self.answered || self.agreed
     }
 
-    /// How long to wait after a failure that isn't a serial query's: longer each time, up to the
-    /// retry time, or that time. A cache without data here that was silent for so long may be one
-    /// of a lower version, whatever answered before.
+    /// How long to wait after a failure that isn't that of a serial query: if waits grow, longer
+    /// each time, up to the retry time; otherwise the retry time. If a cache was silent for that
+    /// long and the router has no data, the cache may have a lower version, whatever it answered
+    /// before.
     fn rest(&mut self, grows: bool) -> u64
         ensures value { result ≡ rest grows self.old }
         ensures most { result < 2 ^ 32 }
@@ -328,7 +331,7 @@ impl Router {
         wait.max(self.settings.pause as u64)
     }
 
-    /// The longest wait that grows: the retry time, or the refresh time where nothing was asked.
+    /// The limit of growing waits: the retry time, or the refresh time if nothing was asked.
     fn longest_rest(&self) -> u64
         ensures value { result ≡ longest_rest self.now }
         ensures most { result < 2 ^ 32 }
@@ -340,7 +343,7 @@ impl Router {
         }
     }
 
-    /// The next wait that grows.
+    /// The next growing wait.
     fn grown(&mut self, most: u64) -> u64
         requires { most < 2 ^ 32 }
         ensures value { result ≡ shortened self.old.settings.chance (min most self.old.wait) }

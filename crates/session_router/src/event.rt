@@ -4,50 +4,52 @@ ghost use Rattle.std.specs.Prelude.{◌≡◌};
 ghost use Rattle.session_router.specs.Texts.{cause_text};
 
 use crate::head::{Fault, Head, Query};
+use rtr_base::error_code::ErrorCode;
 
 /// An event that the caller reports to a router.
 #[derive(Clone, Copy)]
 pub enum Event {
     /// Time passed.
     Tick,
-    /// Its caller wants the present data: it asks as soon as it may.
+    /// The caller requests the present data: the router asks for them as soon as it may.
     Asked,
     /// The connection is made.
     Connected,
-    /// None could be made, or it is gone. Where the close cut off a unit, that is `Faulty`.
+    /// No connection could be made, or it is gone. If the close cut off a unit, report `Faulty`
+    /// instead.
     Lost,
     /// A unit came.
     Came(Head),
-    /// A unit came that is refused, or that a close cut off.
+    /// A unit came that is refused, or that the close of the connection cut off.
     Faulty(Fault),
-    /// All changes of the response were made.
+    /// All changes of the response were applied.
     Applied,
-    /// None was made, or a unit couldn't be kept; with the code of the report that is owed.
-    NotApplied(Option<u16>),
+    /// No changes were applied, or a unit couldn't be kept; with the code of the report that is
+    /// owed.
+    NotApplied(Option<ErrorCode>),
 }
 
 /// What its caller has to do.
 #[derive(Clone, Copy)]
 pub enum Action {
-    /// Nothing, until something comes or the time is `wakes`.
+    /// Nothing, until something comes or the time of `wakes` is reached.
     Wait,
     /// Open a connection.
     Connect,
     /// Send this query.
     Ask(Query),
-    /// Forget the units that are kept: a response begins.
+    /// Drop the units that are kept: a response begins.
     Begin,
     /// Keep the unit that came.
     Keep,
-    /// Make all changes that were kept, in their order, or none: of the data if true, and otherwise
-    /// of no data. Then say `Applied` or `NotApplied`, before the expire time of the answer is
-    /// over.
+    /// Apply all kept changes, in their order, or none: to the data if true, and otherwise to no
+    /// data. Then report `Applied` or `NotApplied`, before the expire time of the answer is over.
     Apply(bool),
-    /// What the changes made are the data now.
+    /// The result of the changes is now the data.
     Show,
     /// The cache has no data yet. It is asked again.
     NoData,
-    /// The data have expired while there is no connection: there are none any more.
+    /// Drop the data: they have expired while there is no connection.
     Drop,
     /// End the connection.
     End(Ending),
@@ -56,54 +58,54 @@ pub enum Action {
 /// How a connection ends.
 #[derive(Clone, Copy)]
 pub struct Ending {
-    /// Whether there are no data any more.
+    /// Whether the data are dropped.
     pub drop: bool,
     /// The code of the report that is sent before (RFC 8210 section 12).
-    pub report: Option<u16>,
+    pub report: Option<ErrorCode>,
     pub cause: Cause,
 }
 
 /// Why a connection ends.
 #[derive(Clone, Copy)]
 pub enum Cause {
-    /// It could not be made, or is gone.
+    /// The connection couldn't be made, or is gone.
     Lost,
-    /// A limit of time passed.
+    /// A deadline has passed.
     Slow,
     /// A unit is refused.
     Faulty,
     /// The cache sent an error report.
     Reported,
-    /// A unit of this kind may not come here.
+    /// A unit of this kind is not allowed at this point.
     OutOfPlace,
-    /// The version of the session has no payloads of this kind.
+    /// The version of the session has no such payloads.
     NoSuchPayload,
-    /// A unit of another version than the session.
+    /// The unit is of another version than the session.
     OtherVersion,
-    /// An answer of a higher version than the query.
+    /// The answer has a higher version than the query.
     HigherVersion,
-    /// A unit of another session than the data, or than the response.
+    /// The unit is of another session than the data, or than the response.
     OtherSession,
-    /// An end of data whose serial number comes before that of the query.
+    /// The serial number of the end of data comes before that of the query.
     OldSerial,
-    /// Changes at the very serial number that was asked from.
+    /// The answer has changes, but the same serial number as the query.
     OtherData,
     /// The answer has too many units or bytes.
     TooLong,
-    /// The changes couldn't be kept or made.
+    /// The changes couldn't be kept or applied.
     NotApplied,
     /// The data have expired.
     Expired,
-    /// The cache may have a lower version, which the next connection begins in at once. This is no
-    /// failure.
+    /// The cache may have a lower version, in which the next connection begins at once. This is not
+    /// a failure.
     Lower,
     /// The cache may support a higher version than the one that the router fell to at a silent
-    /// close. The next connection begins in the highest version, at once. This is no failure.
+    /// close. The next connection begins in the highest version, at once. This is not a failure.
     Higher,
 }
 
 impl Cause {
-    /// What to say of it, in a report too.
+    /// The text of the cause, which a report has too.
     pub fn text(self) -> &'static str
         ensures { result.now ≡ cause_text self }
     {

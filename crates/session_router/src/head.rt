@@ -1,4 +1,6 @@
-//! What a machine sees of a unit, and what names data.
+//! The fields of a unit that a machine looks at, and the identity of data.
+
+use rtr_base::error_code::ErrorCode;
 
 /// The kinds of units (RFC 8210 sections 5.2 to 5.11, and ASPA units).
 #[derive(Clone, Copy)]
@@ -23,9 +25,9 @@ pub struct Head {
     pub version: u8,
     pub session: u16,
     pub serial: u32,
-    /// Of an error report.
-    pub code: u16,
-    /// Of an end of data of version 1 or 2, in seconds, as the next two.
+    /// The code of an error report.
+    pub code: ErrorCode,
+    /// The times of an end of data of version 1 or 2, in seconds.
     pub refresh: u32,
     pub retry: u32,
     pub expire: u32,
@@ -33,18 +35,18 @@ pub struct Head {
     pub size: u32,
 }
 
-/// A unit that is refused, or that a close cut off.
+/// A unit that is refused, or that the close of the connection cut off.
 #[derive(Clone, Copy)]
 pub struct Fault {
-    /// Its first byte.
+    /// The first byte of the unit.
     pub version: u8,
-    /// The code of the report that is owed about it. An error report is owed none (RFC 8210 section
-    /// 5.11).
-    pub code: Option<u16>,
+    /// The code of the report that is owed about the unit; none for an error report (RFC 8210
+    /// section 5.11).
+    pub code: Option<ErrorCode>,
 }
 
-/// What names data: their version, their session and their serial number; and their times in
-/// seconds. Data of version 0 have no times.
+/// The identity of data: their version, session and serial number; with their times in seconds.
+/// Data of version 0 have no times.
 #[derive(Clone, Copy)]
 pub struct Known {
     pub version: u8,
@@ -55,8 +57,8 @@ pub struct Known {
     pub expire: u32,
 }
 
-/// A query for the changes since these data, or a reset query, whose session and serial number are
-/// zero.
+/// A serial query for the changes since these data, or a reset query, whose session and serial
+/// number are zero.
 #[derive(Clone, Copy)]
 pub struct Query {
     /// Whether it is a serial query.

@@ -36,58 +36,57 @@ pub fn one_result()
         → IsStep r now e a r₁ → IsStep r now e b r₂ → (a ≡ b) × (r₁ ≡ r₂) }
 {}
 
-/// Whatever comes to a router, and whenever, its caller shows no data, or those that one whole
-/// answer made, of no data or of the data before it; and none after they have expired.
+/// Whatever comes to a router, and whenever, its caller shows either no data, or the result of one
+/// whole answer, applied to no data or to the data before it; and none after they have expired.
 pub fn only_whole_answers()
     ensures { (c : Caller ℕ ℕ) (history : List (Moment ℕ)) (r : Router) (h : Host ℕ ℕ)
         → IsAllowed c history r h
         → (h.shown ≡ None) ⊎ IsAnswered c history r.known h.shown }
 {}
 
-/// Whatever comes: a query comes a pause after the one before it, unless it is a reset query that
-/// follows a serial query, or in a lower version: so at most six come in a pause.
+/// Whatever comes: a query comes at least a pause after the previous one, unless it is a reset
+/// query that follows a serial query, or is in a lower version. So at most six come in a pause.
 pub fn paced_queries()
     ensures { (c : Caller ℕ ℕ) (history : List (Moment ℕ)) (r : Router) (h : Host ℕ ℕ)
         → IsHistory c history r h → IsTimed history → IsPaced c.settings.pause history }
 {}
 
-/// Whatever comes: between two queries lie a failure, the answer that there are no data, a notify,
-/// its caller's wish, a cache reset, or the refresh time.
+/// Whatever comes: between two queries there is a failure, the answer that there are no data, a
+/// notify, a request of the caller, a cache reset, or the refresh time.
 pub fn quiet()
     ensures { (c : Caller ℕ ℕ) (history : List (Moment ℕ)) (r : Router) (h : Host ℕ ℕ)
         → IsHistory c history r h → IsTimed history → IsQuiet c.settings history }
 {}
 
-/// Whatever comes: the time at which a router acts by itself is never far. (`Router::step` says
-/// that it does act then.)
+/// Whatever comes: the time at which a router acts by itself is within a stated bound. (The
+/// contract of `Router::step` states that it acts then.)
 pub fn acts_soon()
     ensures { (c : Caller ℕ ℕ) (history : List (Moment ℕ)) (r : Router) (h : Host ℕ ℕ)
         → IsHistory c history r h → IsTimed history
         → wakes_at r ≤ latest history + longest c.settings }
 {}
 
-/// Whatever comes: a query or a report goes out on a connection that was asked for and hasn't
-/// ended, there is one at a time, and no report is about a report.
+/// Whatever comes: a query or a report is sent on a connection that was requested and hasn't ended,
+/// there is at most one connection at a time, and no report is about a report.
 pub fn tidy_connections()
     ensures { (c : Caller ℕ ℕ) (history : List (Moment ℕ)) (r : Router) (h : Host ℕ ℕ)
         → IsAllowed c history r h → IsTidy history }
 {}
 
-/// Whatever comes: all answers that are taken on one connection are of one version.
+/// Whatever comes: all accepted answers of one connection are of one version.
 pub fn one_version()
     ensures { (c : Caller ℕ ℕ) (history : List (Moment ℕ)) (r : Router) (h : Host ℕ ℕ)
         → IsAllowed c history r h → IsOfOneVersion history }
 {}
 
-/// Whatever comes: a connection begins in the highest version, unless the one before ended because
-/// the cache may have a lower one.
+/// Whatever comes: a connection begins in the highest version, unless the previous one ended
+/// because the cache may have a lower one.
 pub fn highest_first()
     ensures { (c : Caller ℕ ℕ) (history : List (Moment ℕ)) (r : Router) (h : Host ℕ ℕ)
         → IsHistory c history r h → TriesHighest c.settings.highest history }
 {}
 
-/// Whatever comes: a connection that is lost makes a router fall to no version below that of its
-/// data.
+/// Whatever comes: a lost connection never makes a router fall to a version below that of its data.
 pub fn never_below_data()
     ensures { (c : Caller ℕ ℕ) (history : List (Moment ℕ)) (r : Router) (h : Host ℕ ℕ)
         (now : ℕ) (x : Ending) (after : Router) → IsAllowed c history r h
@@ -96,13 +95,13 @@ pub fn never_below_data()
 {}
 
 /// After any history: while a cache that has data and keeps the rules from then on serves a router,
-/// and no data are shown since, it isn't later than `served_until`; so data are shown by then. From
-/// when there is no connection this holds of any router. What the cache may send is told by what
-/// was exchanged. It may close without a word at a query for all data, in a version that it lacks,
-/// which is above those in which it answered since and above `spoken`, which the router's `floor`
-/// is not. If the router has data, whatever its floor, it isn't later than `expired_until`. By the
-/// usual limits, in versions 0 and 1, `served_until` is 542 seconds after a router without data
-/// connects, and 1,626 with data.
+/// and no data are shown since, the time is at most `served_until`; so data are shown by then. From
+/// when there is no connection this holds of any router. What the cache may send is stated in terms
+/// of the messages exchanged. It may close without an error report at a query for all data, in a
+/// version that it lacks, which is above those in which it answered since and above `spoken`, which
+/// is at least the router's `floor`. If the router has data, whatever its floor, the time is at
+/// most `expired_until`. With the default limits, in versions 0 and 1, `served_until` is 542
+/// seconds after a router without data connects, and 1,626 with data.
 pub fn recovers()
     ensures after { (c : Caller ℕ ℕ) (history : List (Moment ℕ)) (before : Router) (h : Host ℕ ℕ)
         (most spoken start : ℕ) (r : Router) (x : Exchange) (now : ℕ)
@@ -127,8 +126,8 @@ pub fn recovers()
         → r.resync ≡ false → time_needed phases.Offline r ≡ 1626000 }
 {}
 
-/// Such a run isn't stuck: from each of its states it goes on, by steps that the cache may take in
-/// time, to one at which data are shown, by `served_until`.
+/// Such a run isn't stuck: from each of its states it continues, by steps that the cache may take
+/// in time, to a state at which data are shown, by `served_until`.
 pub fn data_come()
     ensures { (c : Caller ℕ ℕ) (history : List (Moment ℕ)) (before : Router) (h : Host ℕ ℕ)
         (most spoken start : ℕ) (r : Router) (x : Exchange) (now : ℕ)
@@ -142,11 +141,11 @@ pub fn data_come()
         → IsShownBy most r x now (served_until before start) }
 {}
 
-/// After any history: beside a cache that has data and keeps the rules from then on, all data that
+/// After any history: with a cache that has data and keeps the rules from then on, all data that
 /// come on later connections are of the highest version that both have, or a higher one that the
-/// cache answers in. A router that fell in silence begins such a connection in time: at the first
-/// query after `rises`, which is never far. Until it has failed in silence twice, that is at the
-/// latest the refresh time of the data that came since.
+/// cache answers in. A router that fell to a lower version at a silent close begins such a
+/// connection in time: at the first query after `rises`, which is within a stated bound. Until it
+/// has fallen so twice, that is at most the refresh time of the data that came since.
 pub fn version_rises()
     ensures highest { (c : Caller ℕ ℕ) (history : List (Moment ℕ)) (before : Router)
         (h : Host ℕ ℕ) (most start : ℕ) (r : Router) (x : Exchange) (now then : ℕ)
@@ -173,8 +172,8 @@ pub fn version_rises()
         × (after.rises ≤ r.rises) × (is_first_rise after ≡ true) }
 {}
 
-/// There is a run in which data are shown, 40 milliseconds after its start, beside a cache that
-/// keeps the rules: it meets the premises of the laws about runs.
+/// There is a run in which data are shown, 40 milliseconds after its start, with a cache that keeps
+/// the rules: it meets the premises of the laws about runs.
 pub fn data_are_shown()
     ensures new { IsNew numbering.settings first }
     ensures run { IsHistory numbering first_answer sixth seven }
@@ -185,9 +184,10 @@ pub fn data_are_shown()
     ensures until { served_until first 0 ≡ 542000 }
 {}
 
-/// There is a run in which a cache of version 0 closes without a word at a query in version 1, and
-/// again when that version is tried after the refresh time, with data there: it meets the premises
-/// of `version_rises`, of `never_below_data`, and of `recovers` where there are data.
+/// There is a run in which a cache of version 0 closes without an error report at a query in
+/// version 1, and again when that version is tried after the refresh time, while the router has
+/// data: it meets the premises of `version_rises`, of `never_below_data`, and of `recovers` for a
+/// router with data.
 pub fn version_is_tried_again()
     ensures low { IsHistory numbering low_answer low seven }
     ensures silent { (low.phase ≡ phases.Waiting) × (low.silent ≡ true) × Fresh low 3600050 }

@@ -15,51 +15,52 @@ use crate::event::{Action, Cause, Event};
 use crate::head::{Head, Known, Query};
 use crate::settings::{HIGHEST, Settings};
 
-/// Where a router is.
+/// What a router is doing.
 #[derive(Clone, Copy)]
 pub enum Phase {
-    /// Without a connection, until `due`.
+    /// It has no connection, until `due`.
     Offline,
-    /// A connection is being made.
+    /// Its caller opens a connection.
     Connecting,
     /// It awaits the first unit of an answer.
     Asked,
     /// It reads a response.
     Reading,
-    /// A response is whole, and its changes are being made.
+    /// A response is complete, and its changes are being applied.
     Applying,
     /// It waits for a notify, or until `due`.
     Waiting,
 }
 
-/// A router's end of the protocol. It holds the state of the session, and not the data.
+/// A router's end of the protocol. It holds the state of the session, but not the data.
 ///
-/// Times are in milliseconds, of a clock that doesn't go back.
+/// Times are in milliseconds of a monotonic clock.
 #[derive(Clone, Copy)]
 pub struct Router {
     pub settings: Settings,
     pub phase: Phase,
-    /// The version that it asks in, or that was agreed on.
+    /// The version of its queries, or the version that was agreed on.
     pub version: u8,
     /// Whether the cache answered on this connection.
     pub agreed: bool,
-    /// Whether the next connection begins in `version`, which it fell to.
+    /// Whether the next connection begins in `version`, to which it fell.
     pub fell: bool,
-    /// Whether it fell to `version` at a close without a word.
+    /// Whether it fell to `version` at a close without an error report.
     pub silent: bool,
-    /// How long after such a fall the highest version is tried again, in milliseconds, or 0; and
-    /// when.
+    /// How long after such a fall the highest version is tried again, in milliseconds, or 0; and at
+    /// what time.
     pub rise_wait: u32,
     pub rises: u64,
-    /// The version in which the cache answered, or 0: silence makes no fall to a lower one.
+    /// The version in which the cache answered, or 0: the router doesn't fall below it at a silent
+    /// close.
     pub floor: u8,
     /// Whether the last query was a serial query.
     pub changes: bool,
     /// Whether the next query must be a reset query.
     pub resync: bool,
-    /// Whether the connection, or where there is none the last one, brought data.
+    /// Whether the connection, or the last one if there is none, brought data.
     pub answered: bool,
-    /// The next wait that grows, in milliseconds.
+    /// The next growing wait, in milliseconds.
     pub wait: u32,
     /// The session of the response that it reads.
     pub session: u16,
@@ -69,20 +70,20 @@ pub struct Router {
     /// Whether a notify came after the query was sent, and its serial number.
     pub noted: bool,
     pub note: u32,
-    /// What names the data that the response makes.
+    /// The identity of the data that the response makes.
     pub answer: Known,
     pub has_data: bool,
-    /// What names the data; after they were dropped, what named the last ones.
+    /// The identity of the data or, after they were dropped, of the last ones.
     pub known: Known,
-    /// When the end of data came that `answer` is of.
+    /// When the end of data of `answer` came.
     pub came: u64,
     /// When the data are dropped.
     pub expires: u64,
-    /// When it asked last.
+    /// When the last query was sent.
     pub asked: u64,
-    /// When it began its last connection.
+    /// When the last connection was begun.
     pub tried: u64,
-    /// When it connects, gives up, or asks.
+    /// When it connects, gives up, or sends a query.
     pub due: u64,
 }
 
@@ -132,7 +133,8 @@ impl Router {
         }
     }
 
-    /// A router without data that goes on with a cache which was asked before: its waits grow on.
+    /// A router without data that continues with a cache that was asked before: its waits keep
+    /// growing.
     pub fn again(&self) -> Router
         ensures { result ≡ record (new_router self.now.settings) { wait = self.now.wait } }
     {
@@ -169,8 +171,8 @@ impl Router {
         }
     }
 
-    /// The step at a unit: what `step` does, in a form that is laid out where it is called, so that
-    /// a payload unit of a response costs no call.
+    /// The step at a unit: does what `step` does, but is inlined, so that a payload unit of a
+    /// response costs no call.
     #[inline(always)]
     pub fn hear(&mut self, now: u64, unit: &Head) -> Action
         requires time { now < 2 ^ 63 }
@@ -182,7 +184,7 @@ impl Router {
         self.came(now, unit)
     }
 
-    /// When `Tick` is wanted, if nothing comes before.
+    /// When to call `step` with `Tick`, if nothing comes before.
     pub fn wakes(&self) -> u64
         ensures { result ≡ wakes_at self.now }
     {
@@ -199,15 +201,15 @@ impl Router {
         }
     }
 
-    /// Whether there are data at this time: they are there until they expire, also where no step
-    /// has dropped them yet.
+    /// Whether there are data at this time: until they expire, even if no step has dropped expired
+    /// ones yet.
     pub fn has_data_at(&self, now: u64) -> bool
         ensures { result ≡ has_data_at self.now now }
     {
         self.has_data && now < self.expires
     }
 
-    /// Whether the answer whose changes are being made has expired.
+    /// Whether the answer whose changes are being applied has expired.
     fn is_stale(&self, now: u64) -> bool
         ensures stale { result ≡ true → self.now.phase ≡ phases.Applying }
         ensures over { result ≡ true → made_until self.now ≤ now }
@@ -222,7 +224,7 @@ impl Router {
         }
     }
 
-    /// Its caller wants the present data.
+    /// Handles the caller's request for the present data.
     fn wished(&mut self, now: u64) -> Action
         requires time { now < 2 ^ 63 }
         requires fresh { Fresh self.old now }
@@ -240,7 +242,7 @@ impl Router {
         Action::Wait
     }
 
-    /// Now, or a pause from now where the last query or connection was less than a pause ago.
+    /// Now, or a pause after the last query or connection, whichever is later.
     fn soonest(&self, now: u64) -> u64
         requires time { now < 2 ^ 63 }
         ensures { result ≡ soonest self.now now }
@@ -293,7 +295,7 @@ impl Router {
         }
     }
 
-    /// Makes a connection, in the version that it fell to, or the highest (RFC 8210 section 7).
+    /// Requests a connection, in the version that it fell to, or the highest (RFC 8210 section 7).
     fn connect(&mut self, now: u64) -> Action
         requires time { now < 2 ^ 63 }
         requires offline { self.old.phase ≡ phases.Offline }
@@ -337,7 +339,7 @@ impl Router {
     }
 
     /// Sends a serial query if there are data of the version of the session, or else a reset query
-    /// (RFC 8210 sections 8.1 and 8.2). The answer has its whole time.
+    /// (RFC 8210 sections 8.1 and 8.2). The whole response limit applies to the answer.
     pub(crate) fn ask(&mut self, now: u64) -> Action
         requires time { now < 2 ^ 63 }
         ensures action { result ≡ actions.Ask (query self.new) }
@@ -382,5 +384,5 @@ impl Router {
     }
 }
 
-/// The first wait that grows, in milliseconds.
+/// The first growing wait, in milliseconds.
 pub(crate) const FIRST_WAIT: u32 = 1000;

@@ -1,33 +1,34 @@
-//! What a caller sets, and the times of data.
+//! The settings of a router, and the times of data.
 
 ghost use Rattle.std.specs.Prelude.{◌≡◌, ◌<◌, ◌≤◌, ◌*◌, ◌^◌, ◌==◌, if◌then◌else◌, min};
 ghost use Rattle.session_router.specs.Times.{expire_ms, refresh_ms, retry_ms, set_or};
 
 use crate::head::Known;
 
-/// The highest version of the protocol that a router or a cache speaks.
+/// The highest version of the protocol that routers and caches support.
 pub const HIGHEST: u8 = 2;
 
-/// What a caller sets. Times are in milliseconds.
+/// The settings of a router. Times are in milliseconds.
 #[derive(Clone, Copy)]
 pub struct Settings {
-    /// The version that a connection begins in, at most 2.
+    /// The version in which a connection begins, at most 2.
     pub highest: u8,
-    /// Between two queries, and before a connection that follows a failure, at least.
+    /// The least time between two queries, and before a connection that follows a failure.
     pub pause: u32,
-    /// To make a connection.
+    /// The limit for making a connection.
     pub connect_limit: u32,
-    /// From a query to the end of data that answers it.
+    /// The limit from a query to the end of data of its answer.
     pub response_limit: u32,
-    /// In the place of the cache's times, where they aren't zero.
+    /// The times that replace those of the cache, unless they are zero.
     pub refresh: u32,
     pub retry: u32,
     pub expire: u32,
-    /// How many payload units an answer may have, and how many bytes in them.
+    /// The greatest number of payload units of an answer, and of bytes in them.
     pub most_units: u32,
     pub most_bytes: u64,
-    /// By how much waits that grow are shortened: `wait * chance / 131072`, less than half. Routers
-    /// that lost one cache at one time ask it again at different times if each has a random number.
+    /// How much growing waits are shortened: by `wait * chance / 131072`, less than half. If
+    /// routers that lost one cache at the same time each have a random number, they ask it again at
+    /// different times.
     pub chance: u16,
 }
 
@@ -59,8 +60,8 @@ impl Settings {
         }
     }
 
-    /// The time from the end of data to the next query. It isn't above half of that to when the
-    /// data are dropped where the cache's times would drop them first.
+    /// The time from the end of data to the next query. If the cache's times would drop the data
+    /// first, it is at most half of the time until they are dropped.
     pub(crate) fn refresh(&self, known: &Known) -> u64
         ensures value { result ≡ refresh_ms self.now known.now }
         ensures most { result < 2 ^ 32 }
@@ -75,7 +76,7 @@ impl Settings {
         if named < expire { named } else { expire / 2 }
     }
 
-    /// The time from a query that failed to the next one.
+    /// The time from a failed query to the next one.
     pub(crate) fn retry(&self, known: &Known) -> u64
         ensures value { result ≡ retry_ms self.now known.now }
         ensures most { result < 2 ^ 32 }
@@ -83,7 +84,7 @@ impl Settings {
         chosen(self.retry, known.version, known.retry.clamp(1, 7200), 600)
     }
 
-    /// The time from the end of data to when they are dropped.
+    /// The time from the end of data until the data are dropped.
     pub(crate) fn expire(&self, known: &Known) -> u64
         ensures value { result ≡ expire_ms self.now known.now }
         ensures least { 1 ≤ result }
@@ -98,8 +99,8 @@ impl Settings {
     }
 }
 
-/// The milliseconds that a caller set, or else those of these seconds: of the end of data, or the
-/// recommended ones where its version has none (RFC 8210 section 6).
+/// The milliseconds of a setting, or else those of these seconds: of the end of data, or the
+/// recommended ones if its version has none (RFC 8210 section 6).
 fn chosen(set: u32, version: u8, named: u32, recommended: u32) -> u64
     requires named { named ≤ 172800 }
     requires recommended { recommended ≤ 172800 }

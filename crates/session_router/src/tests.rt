@@ -1,9 +1,10 @@
-//! Runs of a router, as docs/SESSIONS.md has them.
+//! Runs of a router, as in docs/SESSIONS.md.
 
 use crate::event::{Action, Event};
 use crate::head::{Fault, Head, Kind};
 use crate::router::Router;
 use crate::settings::Settings;
+use rtr_base::error_code::ErrorCode;
 use std::process::Abort;
 
 fn head(kind: Kind, version: u8, session: u16, serial: u32) -> Head {
@@ -12,7 +13,7 @@ fn head(kind: Kind, version: u8, session: u16, serial: u32) -> Head {
         version,
         session,
         serial,
-        code: 0,
+        code: ErrorCode::CORRUPT_DATA,
         refresh: 3600,
         retry: 600,
         expire: 7200,
@@ -26,7 +27,7 @@ fn came(kind: Kind, version: u8, session: u16, serial: u32) -> Event {
 
 fn report(version: u8, code: u16) -> Event {
     Event::Came(Head {
-        code,
+        code: ErrorCode(code),
         ..head(Kind::ErrorReport, version, 0, 0)
     })
 }
@@ -52,19 +53,19 @@ fn word(action: Action) -> &'static str {
         Action::NoData => "no data",
         Action::Drop => "drop",
         Action::End(ending) => match (ending.drop, ending.report) {
-            (true, Some(0)) => "drop, report 0, end",
+            (true, Some(ErrorCode(0))) => "drop, report 0, end",
             (true, _) => "drop, end",
             (false, None) => "end",
-            (false, Some(0)) => "report 0, end",
-            (false, Some(4)) => "report 4, end",
-            (false, Some(5)) => "report 5, end",
-            (false, Some(8)) => "report 8, end",
+            (false, Some(ErrorCode(0))) => "report 0, end",
+            (false, Some(ErrorCode(4))) => "report 4, end",
+            (false, Some(ErrorCode(5))) => "report 5, end",
+            (false, Some(ErrorCode(8))) => "report 8, end",
             (false, _) => "report, end",
         },
     }
 }
 
-/// Tells a router these events, and holds its actions against the words.
+/// Tells a router these events, and compares its actions with the words.
 fn follow(rt: &impl Abort, router: &mut Router, rows: &[(u32, Event, &str)]) {
     for (i, (now, event, want)) in rows.iter().enumerate() {
         let got = word(router.step(*now as u64, *event));
@@ -435,7 +436,7 @@ fn faults_and_limits(rt: HostRuntime) {
     let mut router = Router::new(settings);
     let broken = |version| Event::Faulty(Fault {
         version,
-        code: Some(0),
+        code: Some(ErrorCode::CORRUPT_DATA),
     });
     follow(
         &rt,

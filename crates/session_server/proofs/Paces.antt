@@ -1,7 +1,7 @@
 -- A connection sends its answers whole, and its host is never late.
 use Rattle.std.proofs.Common.{◌≡◌, ◌≢◌, ℕ, Bool, true, false, ◌+◌, ◌-◌, ◌^◌, ◌<◌, ◌≤◌, ◌||◌, ◌&&◌}
-use Rattle.std.proofs.Common.{◌==◌, List, [], ◌∷◌, not, min, nat_lt, nat_le, if◌then◌else◌, refl}
-use Rattle.std.proofs.Common.{Option, Some, None, arith, ap, ◌∙◌}
+use Rattle.std.proofs.Common.{◌==◌, List, ◌∷◌, not, min, nat_lt, nat_le, if◌then◌else◌, refl}
+use Rattle.std.proofs.Common.{Some, None, arith, ap, ◌∙◌}
 use Rattle.std.proofs.lemmas.Bool.Decides.{nat_tests}
 use Rattle.session_cache.specs.CacheSteps.{IsCacheStep, cache_wakes_at, has_moved, has_news}
 use Rattle.session_cache.specs.declared.cache.Cache.{Cache}
@@ -10,19 +10,18 @@ use Rattle.session_cache.specs.declared.event.Answer.TheVariants as said
 use Rattle.session_cache.specs.declared.event.CacheEvent.TheVariants as events
 use Rattle.session_cache.specs.declared.event.Present.{Present}
 use Rattle.session_server.specs.declared.connection.Connection.{Connection}
-use Rattle.session_server.specs.declared.connection.Cut.{Cut}
 use Rattle.session_server.specs.declared.connection.Cut.TheVariants as cuts
 use Rattle.session_server.specs.declared.connection.Next.{Next}
 use Rattle.session_server.specs.declared.connection.Next.TheVariants as nexts
 use Rattle.session_server.specs.declared.connection.Phase.{Phase}
 use Rattle.session_server.specs.declared.connection.Phase.TheVariants as phases
 use Rattle.session_server.specs.declared.settings.ServerSettings.{ServerSettings}
-use Rattle.session_server.specs.Paces.{IsServed, SendsWhole, answered, begins, closed_by, cut_at}
+use Rattle.session_server.specs.Paces.{IsServed, SendsWhole}
 use Rattle.session_server.specs.Paces.{due_at, finish_at, input_taken, is_free, is_serving, later}
-use Rattle.session_server.specs.Paces.{next_at, next_in, once_received, open_wakes, report_begun}
-use Rattle.session_server.specs.Paces.{sending_at, serving_at}
-use Rattle.session_server.specs.Paces.{sent, tell_at, total, connection_wakes_at, wakes_in}
-use Rattle.session_server.specs.Paces.IsServed.{answers, ends, host_hears, is_accepted}
+use Rattle.session_server.specs.Paces.{next_at, next_in, once_received}
+use Rattle.session_server.specs.Paces.{reads_now, sending_at}
+use Rattle.session_server.specs.Paces.{sent, total, connection_wakes_at, wakes_in}
+use Rattle.session_server.specs.Paces.IsServed.{answers, is_broken, ends, host_hears, is_accepted}
 use Rattle.session_server.specs.Paces.IsServed.{peer_closes, receives}
 use Rattle.session_server.specs.Paces.IsServed.{sends}
 
@@ -87,6 +86,7 @@ all_sent s _ _ _ (is_accepted n) = refl
 all_sent s _ _ _ (receives k sizes bytes n size run) =
     omega (arith, unsent_received k n size, all_sent s k sizes bytes run)
 all_sent s _ _ _ (peer_closes k sizes bytes run) = all_sent s k sizes bytes run
+all_sent s _ _ _ (is_broken k sizes bytes run) = all_sent s k sizes bytes run
 all_sent s _ _ _ (host_hears k sizes bytes n size run) =
     omega (arith, unsent_heard k n size, all_sent s k sizes bytes run)
 all_sent s _ _ _ (answers k sizes bytes n size number run) = begun_one k
@@ -188,6 +188,123 @@ pub rests_in_time :
     (k : Connection) (n number : ℕ) (c : Cache) (p : Present) (r : Next) → rests r ≡ true
     → next_at k n c p number ≡ r → n < connection_wakes_at k c p
 rests_in_time k n number c p r t e = in_time k.phase k n number c p (ap rests e ∙ t)
+
+-- ---- reading
+
+abbrev waits_now : Next → Bool
+waits_now nexts.Wait = true
+waits_now _ = false
+
+abbrev sends_now : Next → Bool
+sends_now nexts.Send = true
+sends_now _ = false
+
+none_unsent : (n : ℕ) → nat_lt 0 n ≡ false → ((n == 0) && true) ≡ true
+none_unsent n p = go (n == 0) (zero n p)
+  where
+    zero : (n : ℕ) → nat_lt 0 n ≡ false → (n == 0) ≡ true
+    zero n p = grind (arith, nat_tests)
+
+    go : (b : Bool) → b ≡ true → (b && true) ≡ true
+    go true q = refl
+    go false q = cc
+
+some_unsent : (n : ℕ) (c : Bool) → nat_lt 0 n ≡ true → ((n == 0) && c) ≡ false
+some_unsent n c p = go (n == 0) (above n p)
+  where
+    above : (n : ℕ) → nat_lt 0 n ≡ true → (n == 0) ≡ false
+    above n p = grind (arith, nat_tests)
+
+    go : (b : Bool) → b ≡ false → (b && c) ≡ false
+    go true q = cc
+    go false q = refl
+
+open_reads :
+    (u f c w d m b : Bool) (n : ℕ) → nat_lt 0 n ≡ u
+    → waits_now (if u
+    then sending_at
+    (if d then Some cuts.Slow
+    else if m then Some cuts.NewSession
+    else if b then Some cuts.Behind
+    else None)
+    else if f then nexts.Hear
+    else if c then nexts.Lose
+    else if w then nexts.Tick
+    else if d then nexts.Close (Some cuts.Slow)
+    else nexts.Wait) ≡ true
+    → ((n == 0) && not c) ≡ true
+open_reads true f c w true m b n p e = cc
+open_reads true f c w false true b n p e = cc
+open_reads true f c w false false true n p e = cc
+open_reads true f c w false false false n p e = cc
+open_reads false true c w d m b n p e = cc
+open_reads false false true w d m b n p e = cc
+open_reads false false false true d m b n p e = cc
+open_reads false false false false true m b n p e = cc
+open_reads false false false false false m b n p e = none_unsent n p
+
+finish_waits :
+    (t u c : Bool)
+    → waits_now (if t then nexts.Close None
+    else if u then nexts.Send
+    else if c then nexts.Close None
+    else nexts.Finish) ≡ false
+finish_waits true u c = refl
+finish_waits false true c = refl
+finish_waits false false true = refl
+finish_waits false false false = refl
+
+reads_in :
+    (ph : Phase) (k : Connection) (n number : ℕ) (c : Cache) (p : Present)
+    → waits_now (next_in ph k n c p number) ≡ true
+    → ((is_serving ph && (k.unsent == 0)) && not k.closed) ≡ true
+reads_in phases.Open k n number c p e = open_reads (nat_lt 0 k.unsent) k.fresh k.closed
+    (nat_le (cache_wakes_at c p) n) (nat_le (due_at k) n) (has_moved c p)
+    (nat_lt k.settings.most_behind (number - k.number)) k.unsent refl e
+reads_in phases.Ending k n number c p e =
+    let f = finish_waits (nat_le k.until n) (nat_lt 0 k.unsent) k.closed in absurd cc
+reads_in phases.Over k n number c p e = absurd cc
+
+pub waiting_reads :
+    (k : Connection) (n number : ℕ) (c : Cache) (p : Present)
+    → next_at k n c p number ≡ nexts.Wait → reads_now k ≡ true
+waiting_reads k n number c p e = reads_in k.phase k n number c p (ap waits_now e)
+
+open_sends :
+    (u f c w d m b : Bool) (n : ℕ) → nat_lt 0 n ≡ u
+    → sends_now (if u
+    then sending_at
+    (if d then Some cuts.Slow
+    else if m then Some cuts.NewSession
+    else if b then Some cuts.Behind
+    else None)
+    else if f then nexts.Hear
+    else if c then nexts.Lose
+    else if w then nexts.Tick
+    else if d then nexts.Close (Some cuts.Slow)
+    else nexts.Wait) ≡ true
+    → ((n == 0) && not c) ≡ false
+open_sends true f c w d m b n p e = some_unsent n (not c) p
+open_sends false true c w d m b n p e = cc
+open_sends false false true w d m b n p e = cc
+open_sends false false false true d m b n p e = cc
+open_sends false false false false true m b n p e = cc
+open_sends false false false false false m b n p e = cc
+
+sends_in :
+    (ph : Phase) (k : Connection) (n number : ℕ) (c : Cache) (p : Present)
+    → sends_now (next_in ph k n c p number) ≡ true
+    → ((is_serving ph && (k.unsent == 0)) && not k.closed) ≡ false
+sends_in phases.Open k n number c p e = open_sends (nat_lt 0 k.unsent) k.fresh k.closed
+    (nat_le (cache_wakes_at c p) n) (nat_le (due_at k) n) (has_moved c p)
+    (nat_lt k.settings.most_behind (number - k.number)) k.unsent refl e
+sends_in phases.Ending k n number c p e = refl
+sends_in phases.Over k n number c p e = refl
+
+pub sending_rests :
+    (k : Connection) (n number : ℕ) (c : Cache) (p : Present)
+    → next_at k n c p number ≡ nexts.Send → reads_now k ≡ false
+sending_rests k n number c p e = sends_in k.phase k n number c p (ap sends_now e)
 
 -- ---- ticks
 

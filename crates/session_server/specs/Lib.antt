@@ -1,3 +1,4 @@
 pub mod Limits
 pub mod Doors
 pub mod Paces
+pub mod Keeping

@@ -52,7 +52,11 @@ once_received k n size =
 abbrev pub closed_by : Connection → Connection
 closed_by k = record k { closed = true; fresh = nat_lt 0 k.filled }
 
--- the machine took so many bytes, or found no whole unit
+-- nothing can be sent on it any more; the number of unsent bytes stays, too
+abbrev pub broken_off : Connection → Connection
+broken_off k = record k { phase = phases.Over }
+
+-- the machine took this many bytes, or found no whole unit
 abbrev pub input_taken : Connection → (now size : ℕ) → Connection
 input_taken k n size =
     if size == 0 then record k { fresh = false }
@@ -65,6 +69,10 @@ input_taken k n size =
 -- the answer before is sent, and the connection hasn't ended
 abbrev pub is_free : Connection → Bool
 is_free k = is_serving k.phase && (k.unsent == 0)
+
+-- Its host reads where an answer may begin, until the router has closed.
+abbrev pub reads_now : Connection → Bool
+reads_now k = is_free k && not k.closed
 
 abbrev pub answered : Connection → (now size number : ℕ) → Connection
 answered k n size number =
@@ -181,6 +189,9 @@ pub data IsServed (s : ServerSettings) : Connection → (sizes : List ℕ) → (
   peer_closes :
       (k : Connection) (sizes : List ℕ) (bytes : ℕ) → IsServed s k sizes bytes
       → IsServed s (closed_by k) sizes bytes
+  is_broken :
+      (k : Connection) (sizes : List ℕ) (bytes : ℕ) → IsServed s k sizes bytes
+      → IsServed s (broken_off k) sizes bytes
   host_hears :
       (k : Connection) (sizes : List ℕ) (bytes n size : ℕ) → IsServed s k sizes bytes
       → IsServed s (input_taken k n size) sizes bytes

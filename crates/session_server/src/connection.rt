@@ -1,81 +1,83 @@
 //! A connection of a server: what its host does next, and when a limit ends it.
 
 ghost use Rattle.std.specs.Prelude.{◌≡◌, ◌<◌, ◌≤◌, true, false};
-ghost use Rattle.session_server.specs.Paces.{answered, closed_by, cut_at, due_at, finish_at};
-ghost use Rattle.session_server.specs.Paces.{input_taken, is_free, later, new_connection};
-ghost use Rattle.session_server.specs.Paces.{connection_wakes_at, once_received, report_begun};
-ghost use Rattle.session_server.specs.Paces.{next_at, sent, tell_at};
+ghost use Rattle.session_server.specs.Paces.{answered, broken_off, closed_by, cut_at, due_at};
+ghost use Rattle.session_server.specs.Paces.{connection_wakes_at, finish_at, input_taken, is_free};
+ghost use Rattle.session_server.specs.Paces.{later, new_connection, next_at, once_received};
+ghost use Rattle.session_server.specs.Paces.{reads_now, report_begun, sent, tell_at};
 
 use crate::settings::ServerSettings;
 use session_cache::cache::Cache;
 use session_cache::event::Present;
 
-/// Whether a connection is served.
+/// The phase of a connection.
 #[derive(Clone, Copy, PartialEq, Eq)]
 pub enum Phase {
     Open,
-    /// The machine has ended it: its last report is sent, and the router may read it.
+    /// The machine has ended it: its last report is being sent, or the router may still read it.
     Ending,
-    /// The machine has ended it without a report.
+    /// The machine has ended it without a report, or it broke.
     Over,
 }
 
-/// Why a connection ends, where its machine didn't end it.
+/// Why a connection ends without its machine ending it.
 #[derive(Clone, Copy, PartialEq, Eq)]
 pub enum Cut {
-    /// The router sends a unit, or takes an answer, too slowly.
+    /// The router sends a unit, or reads an answer, too slowly.
     Slow,
     /// There are data of another session than those that the router was told of.
     NewSession,
-    /// More newer data than `most_behind` came while it was sent an answer.
+    /// More than `most_behind` newer data came while it was sent an answer.
     Behind,
 }
 
-/// What the host does next.
+/// The host's next action.
 #[derive(Clone, Copy, PartialEq, Eq)]
 pub enum Next {
-    /// Wait until bytes come, the router closes, there are new data, or the time is `wakes`.
+    /// Wait until bytes come, the router closes, there are new data, or the time of `wakes` is
+    /// reached.
     Wait,
-    /// Pass the input to the machine, by `session_bytes::serve`; then call `heard`, and `answers`
-    /// or `ends` with what it answers.
+    /// Pass the input to the machine with `session_bytes::serve`; then call `heard`, and `answers`
+    /// or `ends` with its result.
     Hear,
-    /// Tell the machine the time, by `CacheEvent::Tick`; then call `answers` or `ends`.
+    /// Tell the machine the time with `CacheEvent::Tick`; then call `answers` or `ends`.
     Tick,
-    /// The router has closed, and all input was heard: tell the machine `CacheEvent::Lost`.
+    /// Tell the machine `CacheEvent::Lost`: the router has closed, and all input was handled.
     Lose,
     /// Send the unsent bytes, until `wakes`; then call `sent`.
     Send,
     /// Shut the connection down for writing; then read, and ignore what comes, until the router
-    /// closes or the time is `wakes`.
+    /// closes or the time of `wakes` is reached.
     Finish,
-    /// Close the connection: a limit has ended it, or else its machine has.
+    /// Close the connection: this limit has ended it, or its machine has, or it broke.
     Close(Option<Cut>),
 }
 
-/// How far a connection is with its input and its output, in numbers. The host has the bytes.
+/// The state of a connection's input and output, in numbers. The host has the bytes.
 #[derive(Clone, Copy)]
 pub struct Connection {
     pub settings: ServerSettings,
     pub phase: Phase,
-    /// How many bytes came that the machine hasn't taken, and when the first of them came.
+    /// The number of bytes that came and that the machine hasn't taken, and when the first of them
+    /// came.
     pub filled: usize,
     pub begun: u64,
-    /// Whether there may be a whole unit among them.
+    /// Whether they may contain a whole unit.
     pub fresh: bool,
-    /// Whether the router has closed.
+    /// Whether the router has closed the connection.
     pub closed: bool,
-    /// How many bytes of the present answer, or of the last report, are unsent.
+    /// The number of bytes of the present answer, or of the last report, that are unsent.
     pub unsent: usize,
-    /// When a byte of it was sent last, or it began.
+    /// When a byte of it was last sent, or when it began.
     pub taken: u64,
-    /// When all of it has to be sent; at an end, when the connection is closed.
+    /// The deadline for sending all of it; after the end, the time at which the connection is
+    /// closed.
     pub until: u64,
-    /// The number of the data that were the newest when the answer began. Data are numbered as
-    /// they come.
+    /// The number of the newest data when the answer began. Data are numbered as they come.
     pub number: u64,
 }
 
-/// The time after a limit.
+/// The time at which a limit ends; it saturates.
 fn later(time: u64, limit: u32) -> u64
     ensures { result ≡ later time limit }
 {
@@ -101,7 +103,8 @@ impl Connection {
         }
     }
 
-    /// So many bytes were read. They don't count once the machine has ended the connection.
+    /// Records that `size` bytes were read. They are ignored once the machine has ended the
+    /// connection.
     pub fn received(&mut self, now: u64, size: usize)
         ensures { self.new ≡ once_received self.old now size }
     {
@@ -115,7 +118,7 @@ impl Connection {
         self.fresh = true;
     }
 
-    /// The router closed the connection. The input that came before is still heard.
+    /// Records that the router closed the connection. The input that came before is still handled.
     pub fn closed(&mut self)
         ensures { self.new ≡ closed_by self.old }
     {
@@ -123,7 +126,15 @@ impl Connection {
         self.fresh = self.filled > 0;
     }
 
-    /// The machine took so many bytes of the input; none, if no whole unit is there.
+    /// Records that the connection broke, as after a reset or a failed write: nothing can be sent
+    /// on it any more. The input that came before isn't heard.
+    pub fn broke(&mut self)
+        ensures { self.new ≡ broken_off self.old }
+    {
+        self.phase = Phase::Over;
+    }
+
+    /// Records that the machine took `size` bytes of the input; 0 means that it has no whole unit.
     pub fn heard(&mut self, now: u64, size: usize)
         ensures { self.new ≡ input_taken self.old now size }
     {
@@ -136,14 +147,23 @@ impl Connection {
         self.begun = now;
     }
 
-    /// Whether an answer may begin: the one before is sent.
+    /// Reports whether an answer may begin: the connection is open, and the previous one is sent.
     fn is_free(&self) -> bool
         ensures { result ≡ is_free self.now }
     {
         matches!(self.phase, Phase::Open) && self.unsent == 0
     }
 
-    /// An answer of so many bytes begins, when these are the newest data. Returns false, and
+    /// Reports whether the host reads from it: no answer is being sent, and neither the machine nor
+    /// the router has ended the connection. While an answer is sent, what the router sends waits in
+    /// the system's buffer.
+    pub fn reads(&self) -> bool
+        ensures { result ≡ reads_now self.now }
+    {
+        self.is_free() && !self.closed
+    }
+
+    /// Records that an answer of `size` bytes begins, given the newest data. Returns false, and
     /// changes nothing, if another one is unsent, or the connection has ended.
     pub fn answers(&mut self, now: u64, size: usize, number: u64) -> bool
         ensures free { result ≡ is_free self.old }
@@ -159,8 +179,8 @@ impl Connection {
         true
     }
 
-    /// The machine ends the connection, with a report of so many bytes, or none. Returns false, and
-    /// changes nothing, if an answer is unsent, or the connection has ended.
+    /// Records that the machine ends the connection, with a report of `size` bytes, or 0 for none.
+    /// Returns false, and changes nothing, if an answer is unsent, or the connection has ended.
     pub fn ends(&mut self, now: u64, size: usize) -> bool
         ensures free { result ≡ is_free self.old }
         ensures after { self.new ≡ report_begun self.old now size }
@@ -179,7 +199,8 @@ impl Connection {
         true
     }
 
-    /// So many bytes were sent. Returns false, and changes nothing, if there aren't as many.
+    /// Records that `size` bytes were sent. Returns false, and changes nothing, if fewer are
+    /// unsent.
     pub fn sent(&mut self, now: u64, size: usize) -> bool
         ensures within { result ≡ true → size ≤ self.old.unsent }
         ensures above { result ≡ false → self.old.unsent < size }
@@ -198,7 +219,7 @@ impl Connection {
         true
     }
 
-    /// When the next byte of the answer has to be sent, or the rest of the unit received.
+    /// The deadline for sending the next byte of the answer, or for receiving the rest of the unit.
     fn due(&self) -> u64
         ensures { result ≡ due_at self.now }
     {
@@ -211,7 +232,7 @@ impl Connection {
         }
     }
 
-    /// Which limit ends an answer that is being sent.
+    /// Which limit, if any, ends an answer that is being sent.
     fn cut(&self, now: u64, cache: &Cache, present: &Present, number: u64) -> Option<Cut>
         ensures { result ≡ cut_at self.now now cache.now present.now number }
     {
@@ -227,7 +248,7 @@ impl Connection {
         }
     }
 
-    /// What to tell the machine, or whether to wait, where nothing is unsent.
+    /// The next action when nothing is unsent.
     fn tell(&self, now: u64, wakes: u64) -> Next
         ensures { result ≡ tell_at self.now now wakes }
     {
@@ -244,7 +265,7 @@ impl Connection {
         }
     }
 
-    /// What is left to do after the machine has ended the connection with a report.
+    /// The next action after the machine has ended the connection with a report.
     fn finish(&self, now: u64) -> Next
         ensures { result ≡ finish_at self.now now }
     {
@@ -259,8 +280,8 @@ impl Connection {
         }
     }
 
-    /// What the host does next, where this is the connection's machine, and these are the newest
-    /// data and their number.
+    /// Returns the host's next action, given the connection's machine, and the newest data and
+    /// their number.
     pub fn next(&self, now: u64, cache: &Cache, present: &Present, number: u64) -> Next
         ensures next { result ≡ next_at self.now now cache.now present.now number }
     {

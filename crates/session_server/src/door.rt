@@ -1,5 +1,4 @@
-//! The door of a server: whether a new connection is served, is refused by a report, or has to
-//! wait.
+//! The door of a server: whether a new connection is served, refused with a report, or has to wait.
 
 ghost use Rattle.std.specs.Prelude.{◌≡◌};
 ghost use Rattle.session_server.specs.Doors.{new_door, entry_at, entered, has_inside, once_left};
@@ -11,7 +10,7 @@ use crate::settings::ServerSettings;
 pub enum Entry {
     /// Serve it.
     Serve,
-    /// Send it the report that there are too many connections, of code 1, and close it: tell its
+    /// Send the report that there are too many connections, of code 1, and close it: tell its
     /// machine `CacheEvent::Full`.
     Refuse,
     /// Don't accept it now. If it is accepted already, close it without a report.
@@ -21,11 +20,11 @@ pub enum Entry {
 /// Counts the connections of a server, each from its entry until it is closed.
 #[derive(Clone, Copy)]
 pub struct Door {
-    /// The most connections that are served at once, and the most above them that are refused at
-    /// once.
+    /// The greatest number of connections that are served at once, and of further ones that are
+    /// refused at once.
     pub most_connections: u32,
     pub most_refused: u32,
-    /// The connections that are served, and those that are refused.
+    /// The number of connections that are served, and of those that are refused.
     pub served: u32,
     pub refused: u32,
 }
@@ -43,8 +42,8 @@ impl Door {
         }
     }
 
-    /// What a new connection would get now; `spare` reports whether the system has another
-    /// descriptor beside the one of that connection. Nothing changes.
+    /// Returns what a new connection would get now; `spare` is whether the system has another
+    /// descriptor beside that of the connection. Changes nothing.
     pub fn next(&self, spare: bool) -> Entry
         ensures { result ≡ entry_at self.now spare }
     {
@@ -57,7 +56,7 @@ impl Door {
         }
     }
 
-    /// A connection was accepted: counts it, and returns what it gets.
+    /// Counts a connection that was accepted, and returns what it gets.
     pub fn enter(&mut self, spare: bool) -> Entry
         ensures entry { result ≡ entry_at self.old spare }
         ensures door { self.new ≡ entered self.old (entry_at self.old spare) }
@@ -71,8 +70,8 @@ impl Door {
         entry
     }
 
-    /// A connection that got this was closed. Returns false, and changes nothing, if there is no
-    /// such connection.
+    /// Records that a connection with this entry was closed. Returns false, and changes nothing, if
+    /// there is no such connection.
     pub fn leave(&mut self, entry: Entry) -> bool
         ensures counted { result ≡ has_inside self.old entry }
         ensures door { self.new ≡ once_left self.old entry }

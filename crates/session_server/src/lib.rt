@@ -1,10 +1,11 @@
-//! A cache's end of the RPKI to Router protocol (RFC 8210), as far as it needs no sockets, clock or
-//! memory: the limits of a server, the door, which decides whether a new connection is served, and
-//! the limits of a connection.
+//! A cache's end of the RPKI to Router protocol (RFC 8210), without sockets, clock or memory: the
+//! limits of a server, the door, which decides whether a new connection is served, the limits of a
+//! connection, and what a server keeps.
 #![tactic(auto)]
 
 pub mod connection;
 pub mod door;
+pub mod keeping;
 pub mod laws;
 pub mod settings;
 #[cfg(test)]
@@ -12,4 +13,5 @@ mod tests;
 
 pub use connection::{Connection, Cut, Next, Phase};
 pub use door::{Door, Entry};
+pub use keeping::{kept_version, retry_after};
 pub use settings::ServerSettings;

@@ -10,24 +10,25 @@ use session_cache::settings::CacheSettings;
 pub struct ServerSettings {
     /// The settings of each connection's machine.
     pub cache: CacheSettings,
-    /// From the first byte of a unit to its last.
+    /// The limit from the first byte of a unit to its last.
     pub unit_limit: u32,
-    /// For which a router may take no byte of an answer.
+    /// How long a router may read nothing of an answer.
     pub write_limit: u32,
-    /// From the start of an answer until all of it is sent.
+    /// The limit from the start of an answer until all of it is sent.
     pub response_limit: u32,
-    /// From the end of a connection to its close: to send its last report, and for the router to
-    /// read it.
+    /// The limit from the end of a connection to its close: to send its last report, and for the
+    /// router to read it.
     pub report_limit: u32,
-    /// How long changes from data are kept after newer data came, at least.
+    /// How long changes are kept, at least, after newer data came.
     pub keep: u64,
-    /// The most bytes of changes that are kept.
+    /// The greatest number of bytes of changes that are kept.
     pub keep_bytes: usize,
-    /// The most connections that are served at once. One above gets a report of code 1.
+    /// The greatest number of connections that are served at once. A further connection gets a
+    /// report of code 1.
     pub most_connections: u32,
-    /// The most connections above that limit that get their report at once.
+    /// The greatest number of further connections that get their report at once.
     pub most_refused: u32,
-    /// A connection ends if more newer data than this come while it is sent some.
+    /// A connection ends if more than this many newer data come while it is sent an answer.
     pub most_behind: u32,
 }
 

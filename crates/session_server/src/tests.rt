@@ -2,6 +2,7 @@
 
 use crate::connection::{Connection, Cut, Next};
 use crate::door::{Door, Entry};
+use crate::keeping::{kept_version, retry_after};
 use crate::settings::ServerSettings;
 use session_cache::cache::Cache;
 use session_cache::event::Present;
@@ -9,7 +10,7 @@ use session_cache::settings::CacheSettings;
 use std::process::Abort;
 use std::rt::HostRuntime;
 
-/// Who comes or leaves.
+/// A connection that comes or leaves.
 enum Move {
     Comes(bool, Entry),
     Leaves(Entry, bool),
@@ -23,7 +24,7 @@ fn word(entry: Entry) -> &'static str {
     }
 }
 
-/// Each move, what comes of it, and how many connections are served and refused then.
+/// Each move, its result, and how many connections are served and refused then.
 fn follow(rt: &impl Abort, door: &mut Door, rows: &[(Move, u32, u32)]) {
     for (i, (step, served, refused)) in rows.iter().enumerate() {
         match step {
@@ -76,6 +77,7 @@ enum Event {
     Ends(usize, bool),
     Sent(usize, bool),
     Closed,
+    Broke,
 }
 
 fn next_word(next: Next) -> &'static str {
@@ -104,11 +106,12 @@ fn tell(rt: &impl Abort, connection: &mut Connection, now: u64, event: &Event, i
         Event::Ends(size, want) => assert_eq!(rt; connection.ends(now, *size), *want, "at {i}"),
         Event::Sent(size, want) => assert_eq!(rt; connection.sent(now, *size), *want, "at {i}"),
         Event::Closed => connection.closed(),
+        Event::Broke => connection.broke(),
     }
 }
 
-/// A time, an event, the session and the number of the newest data, and what to do then, until
-/// when. The router was told of data of session 7, and its machine waits until 90 s.
+/// Each row has a time, an event, the session and the number of the newest data, the next action,
+/// and until when. The router was told of data of session 7, and its machine waits until 90 s.
 fn serve(rt: &impl Abort, rows: &[(u64, Event, u16, u64, &'static str, u64)]) {
     let mut cache = Cache::new(60_000, CacheSettings::usual());
     cache.told = true;
@@ -124,6 +127,9 @@ fn serve(rt: &impl Abort, rows: &[(u64, Event, u16, u64, &'static str, u64)]) {
         let next = connection.next(*now, &cache, &present, *number);
         assert_eq!(rt; next_word(next), *want, "at {i}");
         assert_eq!(rt; connection.wakes(&cache, &present), *wakes, "wakes at {i}");
+        let reads = matches!(next, Next::Wait | Next::Hear | Next::Tick) && !connection.closed
+            || matches!(next, Next::Close(Some(Cut::Slow))) && connection.unsent == 0;
+        assert_eq!(rt; connection.reads(), reads, "reads at {i}");
     }
 }
 
@@ -186,4 +192,81 @@ fn answers_are_sent(rt: HostRuntime) {
             (1000, Event::Ends(5, false), 7, 1, "close", 0),
         ],
     );
+}
+
+// A connection that breaks is closed, with bytes unheard or unsent, and stays so.
+#[test]
+fn connections_break(rt: HostRuntime) {
+    serve(
+        &rt,
+        &[
+            (1000, Event::Came(5), 7, 1, "hear", 0),
+            (1000, Event::Broke, 7, 1, "close", 0),
+            (1000, Event::Came(5), 7, 1, "close", 0),
+            (1000, Event::Closed, 7, 1, "close", 0),
+            (1000, Event::Answers(9, 1, false), 7, 1, "close", 0),
+        ],
+    );
+    serve(
+        &rt,
+        &[
+            (1000, Event::Answers(9, 1, true), 7, 1, "send", 31_000),
+            (1000, Event::Broke, 7, 1, "close", 0),
+            (99_000, Event::Sent(9, true), 8, 1, "close", 0),
+            (99_000, Event::Ends(5, false), 8, 1, "close", 0),
+        ],
+    );
+}
+
+// Whether there are data, their session and version, those of new ones, and the version of these.
+#[test]
+fn versions_are_kept(rt: HostRuntime) {
+    let rows = [
+        (false, 7, 0, 7, 0, 2),
+        (true, 7, 1, 7, 0, 1),
+        (true, 7, 1, 7, 1, 1),
+        (true, 7, 1, 7, 2, 2),
+        (true, 8, 1, 7, 1, 2),
+        (true, 7, 0, 7, 0, 0),
+        (true, 7, 2, 7, 0, 2),
+    ];
+    for (i, (has, session, version, of, new, want)) in rows.iter().enumerate() {
+        let present = Present {
+            has: *has,
+            session: *session,
+            serial: 1,
+        };
+        let kept = kept_version(&present, *version, *of, *new);
+        assert_eq!(rt; kept, *want, "at {i}");
+    }
+}
+
+// A sum above the largest number is above each limit.
+#[test]
+fn changes_are_kept(rt: HostRuntime) {
+    let mut settings = ServerSettings::usual();
+    settings.keep_bytes = 100;
+    let rows = [
+        (0, 100, true),
+        (40, 60, true),
+        (40, 61, false),
+        (100, 0, true),
+        (101, 0, false),
+        (1, usize::MAX, false),
+        (usize::MAX, 1, false),
+    ];
+    for (i, (kept, more, want)) in rows.iter().enumerate() {
+        assert_eq!(rt; settings.keeps(*kept, *more), *want, "at {i}");
+    }
+}
+
+#[test]
+fn saving_is_retried(rt: HostRuntime) {
+    let waits = [1000, 2000, 4000, 8000, 16_000, 32_000, 60_000, 60_000];
+    let mut wait = 0;
+    for (i, want) in waits.iter().enumerate() {
+        wait = retry_after(wait);
+        assert_eq!(rt; wait, *want, "at {i}");
+    }
+    assert_eq!(rt; retry_after(u32::MAX), 60_000, "after the longest");
 }

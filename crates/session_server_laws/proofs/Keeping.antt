@@ -12,8 +12,8 @@ use Rattle.session_laws.specs.Editions.{PayloadEdition}
 use Rattle.session_laws.specs.Pipes.{Bytes}
 use Rattle.session_server.specs.declared.connection.Connection.{Connection}
 use Rattle.session_server.specs.declared.connection.Phase.TheVariants as phases
-use Rattle.session_server.specs.Paces.{answered, closed_by, is_free, is_serving, later, sent}
-use Rattle.session_server.specs.Paces.{report_begun}
+use Rattle.session_server.specs.Paces.{answered, broken_off, closed_by, is_free, is_serving, later}
+use Rattle.session_server.specs.Paces.{report_begun, sent}
 use Rattle.session_server_laws.specs.Services.{Service, Turn, bytes_read}
 use Rattle.session_server_laws.specs.Talks.{AllKeepTalking, EndsService, KeepsTalking, IsTalk}
 use Rattle.session_server_laws.specs.Talks.{SendsInOrder, answers_to, units_told}
@@ -265,6 +265,23 @@ closed_keeps had w x = record {
       subst HasNoUnit
       (sym (empty w.input (sym (x.filled o) ∙ none_filled w.connection.filled f)))
       nothing_left;
+}
+
+-- the connection broke
+pub broken_keeps :
+    (had : List PayloadEdition) (w : Service) → Keeps had w
+    → Keeps had (record w { connection = broken_off w.connection })
+broken_keeps had w x = record {
+  talk = x.talk;
+  all = λ o. absurd cc;
+  live = λ o. absurd cc;
+  untold = x.untold;
+  came = x.came;
+  waits = λ o. absurd cc;
+  sends = x.sends;
+  unsent = x.unsent;
+  filled = λ o. absurd cc;
+  heard = λ o f. absurd cc;
 }
 
 pub sends_more :

@@ -12,8 +12,9 @@ use Rattle.session_server.specs.declared.connection.Next.TheVariants as nexts
 use Rattle.session_server.specs.declared.settings.ServerSettings.{ServerSettings}
 use Rattle.session_server.specs.Paces.{is_serving}
 use Rattle.session_server_laws.specs.Services.{ServiceGoes, IsRunOfService, Service, Turn}
-use Rattle.session_server_laws.specs.Services.ServiceGoes.{hears_input, router_closes, reads_bytes}
-use Rattle.session_server_laws.specs.Services.ServiceGoes.{refuses, sends_piece, tells_event}
+use Rattle.session_server_laws.specs.Services.ServiceGoes.{connection_breaks, hears_input}
+use Rattle.session_server_laws.specs.Services.ServiceGoes.{reads_bytes, refuses, router_closes}
+use Rattle.session_server_laws.specs.Services.ServiceGoes.{sends_piece, tells_event}
 use Rattle.session_server_laws.specs.Services.IsRunOfService.{service_begins, service_goes_on}
 use Rattle.session_server_laws.specs.Talks.{AllKeepTalking, AnswersInOrder, AnswersQuery, IsTalk}
 use Rattle.session_server_laws.specs.Talks.{TellsNews, TellsInOrder, told_unit, units_told}
@@ -21,7 +22,7 @@ use Rattle.session_server_laws.specs.Talks.IsTalk.{talk_ended, talk_goes_on}
 use Rattle.session_server_laws.proofs.Steps.{empty, some_is, whole_append, told_free, free_open}
 use Rattle.session_server_laws.proofs.Steps.{all_heard, after_full}
 use Rattle.session_server_laws.proofs.Keeping.{nothing_left, Keeps, all_handed, received_keeps}
-use Rattle.session_server_laws.proofs.Keeping.{closed_keeps, sent_keeps}
+use Rattle.session_server_laws.proofs.Keeping.{broken_keeps, closed_keeps, sent_keeps}
 use Rattle.session_server_laws.proofs.Telling.{ready, stop_keeps, told_keeps, heard_keeps}
 
 -- ---- runs
@@ -30,6 +31,7 @@ goes :
     (had : List PayloadEdition) (w w' : Service) → Keeps had w → ServiceGoes had w w' → Keeps had w'
 goes had _ _ x (reads_bytes w n b fits) = received_keeps had w n b x fits
 goes had _ _ x (router_closes w) = closed_keeps had w x
+goes had _ _ x (connection_breaks w) = broken_keeps had w x
 goes had _ _ x (hears_input w asked n begins number p kept s t c w' now y is which does) =
     heard_keeps had w n begins number kept s t c w' x
     (told_free w.connection asked number w.cache p nexts.Hear refl now) y is which does

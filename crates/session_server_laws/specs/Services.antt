@@ -17,7 +17,8 @@ use Rattle.session_bytes.specs.declared.serving.Served.TheVariants as served
 use Rattle.session_laws.specs.Editions.{PayloadEdition}
 use Rattle.session_laws.specs.Pipes.{Bytes}
 use Rattle.session_laws.specs.Written.{CacheWrites, IsSentFrom}
-use Rattle.session_server.specs.Paces.{answered, closed_by, input_taken, is_free, is_serving}
+use Rattle.session_server.specs.Paces.{answered, broken_off, closed_by, input_taken, is_free}
+use Rattle.session_server.specs.Paces.{is_serving}
 use Rattle.session_server.specs.Paces.{new_connection, next_at, once_received, report_begun, sent}
 use Rattle.session_server.specs.declared.connection.Connection.{Connection}
 use Rattle.session_server.specs.declared.connection.Next.{Next}
@@ -50,7 +51,7 @@ pub record Service : Type 0 where
 
 -- ---- what its host does
 
--- so many bytes of the input were taken
+-- this many bytes of the input were taken
 abbrev pub takes : Service → (now size : ℕ) → Service
 takes w n size = record w {
   connection = input_taken w.connection n size;
@@ -142,6 +143,9 @@ pub data ServiceGoes (had : List PayloadEdition) : Service → Service → Type 
       → ServiceGoes had w (bytes_read w n b)
   router_closes :
       (w : Service) → ServiceGoes had w (record w { connection = closed_by w.connection })
+  -- nothing can be sent on it any more, as after a reset or a failed write
+  connection_breaks :
+      (w : Service) → ServiceGoes had w (record w { connection = broken_off w.connection })
   hears_input :
       (w : Service) (asked n begins number : ℕ) (p : Present) (kept : List ℕ) (s : Served)
       (t : Turn) (c : Cache) (w' : Service)

@@ -104,7 +104,8 @@ pub record AnswersInOrder (had : List PayloadEdition) (w : Service) : Type 0 whe
   pub sends : SendsInOrder w.turns w.handed w.output
   pub sent : w.connection.unsent ≡ 0 → w.handed ≡ answers_to w.turns
   -- The units that were told are the first of the bytes that came, each once and in their order.
-  -- The others wait, or came after the end and are ignored.
+  -- The others wait, or are ignored: they came after the end, or weren't told before it, as at a
+  -- break.
   pub untold : Bytes
   pub came : w.came ≡ concat (units_told w.turns) ++ untold
   pub waits : is_serving w.connection.phase ≡ true → untold ≡ w.input

@@ -9,20 +9,20 @@ ghost use Rattle.session_server.specs.declared.settings.ServerSettings.{ServerSe
 ghost use Rattle.session_server_laws.specs.Services.{IsRunOfService, Service, Turn};
 ghost use Rattle.session_server_laws.specs.Talks.{AnswersInOrder, TellsInOrder, answers_to};
 
-/// Whatever bytes come, in whichever pieces they are read and sent, and whenever there are new
-/// data: the machine is told of the units that came, each once and in their order, and the bytes
-/// that are handed to the socket are its answers to the queries among them, in that order, one
-/// whole answer after the other; between them there are notifies, and at the end at most one
-/// report. Nothing is told or said after the end.
+/// Whatever bytes come, in whichever pieces they are read and sent, whenever there are new data,
+/// and wherever the connection breaks: the machine is told of the units that came, each once and in
+/// their order, and the bytes that are passed to the socket are its answers to the queries among
+/// them, in that order, each whole answer before the next; between them there are notifies, and at
+/// the end at most one report. No answer begins after the end, or the break.
 pub fn queries_are_answered_in_order()
     ensures { (s : ServerSettings) (had : List PayloadEdition) (w : Service)
         → IsRunOfService s had w → AnswersInOrder had w }
 {}
 
-/// In any such run, if a router sends these units: those that the machine is told of are the first
-/// of them; while one that came whole is left, `next` says to hear, unless an answer is being sent
-/// or the connection has ended; and what is heard is the next one. So none is lost, however many
-/// come at once.
+/// In any such run, if a router sends these units, the machine is told of the first ones of them;
+/// while a unit that came whole is left, `next` returns `Hear`, unless an answer is being sent or
+/// the connection has ended; and the next unit is then taken. So none is lost while the connection
+/// goes on, however many come at once.
 pub fn no_query_is_lost()
     ensures { (s : ServerSettings) (had : List PayloadEdition) (w : Service)
         (units : List Bytes) (later : Bytes)

@@ -1,5 +1,5 @@
-//! The times that a cache may name (RFC 8210 section 6): refused by name wherever a cache gets
-//! some.
+//! The allowed times of a cache (RFC 8210 section 6): every caller that takes times from a user
+//! refuses others by the rule that they break.
 #![tactic(auto)]
 
 #[cfg(test)]

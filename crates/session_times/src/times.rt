@@ -5,7 +5,7 @@ ghost use Rattle.session_times.specs.AllowedTimes.{AreAllowedTimes, broken_time_
 
 use rtr_base::timing::Timing;
 
-/// A rule on the times that a cache names (RFC 8210 section 6).
+/// A rule on the times of a cache (RFC 8210 section 6).
 #[derive(Clone, Copy, Debug, PartialEq, Eq)]
 pub enum TimeRule {
     /// The refresh time is 1 to 86400 seconds.
@@ -20,7 +20,7 @@ pub enum TimeRule {
     AboveRetry,
 }
 
-/// The first rule that these times break, if they break one.
+/// The first rule that these times break, if any.
 pub fn broken_time_rule(timing: Timing) -> Option<TimeRule>
     ensures first { result ≡ broken_time_rule timing }
     ensures allowed { result ≡ None ↔ AreAllowedTimes timing }
@@ -46,7 +46,7 @@ pub fn broken_time_rule(timing: Timing) -> Option<TimeRule>
 }
 
 impl TimeRule {
-    /// What the rule asks for.
+    /// The text of the rule.
     pub fn text(self) -> &'static str
         ensures { result.now ≡ rule_text self }
     {

@@ -55,7 +55,8 @@ returns-in-Err-Unknown-clause-enough c = λ room wants.
     c.refuse-in-Err-Unknown.ensures.enough (wants_room _ wants)
 
 pub returns-in-Err-Data-clause-enough : goal.returns-in-Err-Data-clause-enough
-returns-in-Err-Data-clause-enough c = λ room wants. c.cannot_make.ensures.enough (wants_room _ wants)
+returns-in-Err-Data-clause-enough c = λ room wants.
+    c.cannot_make.ensures.enough (wants_room _ wants)
 
 pub returns-in-Err-Duplicate-clause-names : goal.returns-in-Err-Duplicate-clause-names
 returns-in-Err-Duplicate-clause-names c =

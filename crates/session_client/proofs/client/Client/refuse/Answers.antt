@@ -23,13 +23,13 @@ use Rattle.session_client.proofs.client.Client.refuse.Goals as goal
 pub returns-clause-stands : goal.returns-clause-stands
 returns-clause-stands c = λ k held made x.
     c.follow.ensures.stands k held c.args.now c.args.self.now.router
-    (events.NotApplied (Some c.code.result.0)) tt x c.step-action.ensures.steps
+    (events.NotApplied (Some c.code.result)) tt x c.step-action.ensures.steps
 
 pub returns-clause-did : goal.returns-clause-did
 returns-clause-did c =
     let s = c.args.self.now in
     said c.args.now s.router [] s.router c.step-action.new.self c.follow.new.self.router
-    (events.NotApplied (Some c.code.result.0)) c.step-action.result _ _ s.unsent s.unsent
+    (events.NotApplied (Some c.code.result)) c.step-action.result _ _ s.unsent s.unsent
     c.put.new.unsent c.follow.new.self.unsent c.args.output.now c.put.new.output
     (kept_none s.router) c.step-action.ensures.steps c.put.ensures.puts refl
     c.follow.ensures.unsent c.follow.ensures.router
@@ -42,13 +42,13 @@ returns-clause-step c =
     (subst (λ (r : Router). InPhase r.phase (follows action s.holding))
     (sym c.follow.ensures.router)
     (step_itself s.router c.step-action.new.self c.args.now
-    (events.NotApplied (Some c.code.result.0)) action s.holding tt c.step-action.ensures.steps.rule
+    (events.NotApplied (Some c.code.result)) action s.holding tt c.step-action.ensures.steps.rule
     c.requires.step))
 
 pub returns-clause-ends : goal.returns-clause-ends
 returns-clause-ends c =
     let s = c.args.self.now in
-    let event = events.NotApplied (Some c.code.result.0) in
+    let event = events.NotApplied (Some c.code.result) in
     let action = c.step-action.result in
     gave_up_turns s c.follow.new.self c.args.input.now c.follow.new.input c.args.now event action
     (record {
@@ -66,7 +66,7 @@ returns-clause-ends c =
       opened = c.follow.ensures.same.opened;
       closed = c.follow.ensures.same.closed;
     }) c.requires.whole
-    (refused_ends s.router c.step-action.new.self c.args.now (Some c.code.result.0) action
+    (refused_ends s.router c.step-action.new.self c.args.now (Some c.code.result) action
     (answer_applying s.router.phase s.holding c.requires.step c.requires.whole)
     c.step-action.ensures.steps.rule)
 
@@ -83,35 +83,33 @@ returns-clause-names c = λ held since size places due refused.
     let least : c.min.result ≡ min c.args.offset s.filled = omega (arith, c.min.ensures) in
     let about_is = c.part-about.ensures ∙ ap (λ n. drop n (take s.filled input)) least
     ∙ min_dropped c.args.offset s.filled input in
-    let steps = subst (λ n. IsStep s.router now (events.NotApplied (Some n)) action mid)
-    c.code.ensures c.step-action.ensures.steps in
+    let event = events.NotApplied (Some (record { 0 = refusal_code refusal })) in
+    let steps = subst (λ n. IsStep s.router now (events.NotApplied (Some (record { 0 = n })))
+    action mid) c.code.ensures c.step-action.ensures.steps in
     record {
       ends = λ x is.
           ends_over now s.router mid after.router s.holding s.kept s.filled s.shown input held
           s.unsent s.unsent c.put.new.unsent after.unsent output c.put.new.output action
           (Some refusal) c.args.offset (drop c.args.offset (take s.filled input)) x is
           (over_change size since refusal c.args.offset places due refused
-          (subst (λ a. IsStep s.router now (events.NotApplied (Some (refusal_code refusal))) a mid)
-          is steps))
+          (subst (λ a. IsStep s.router now event a mid) is steps))
           (subst (λ b. PutsBehind (bytes_of mid.version action (Some refusal) b)
           (left_at action s.unsent) c.put.new.unsent output c.put.new.output) about_is
           c.put.ensures.puts)
           refl c.follow.ensures.unsent c.follow.ensures.router;
-      none = λ is. absurd (none_itself s.router mid now
-          (events.NotApplied (Some (refusal_code refusal))) tt
-          (subst (λ a. IsStep s.router now (events.NotApplied (Some (refusal_code refusal))) a mid)
-          is steps).rule);
+      none = λ is. absurd (none_itself s.router mid now event tt
+          (subst (λ a. IsStep s.router now event a mid) is steps).rule);
     }
 
 pub returns-clause-counts : goal.returns-clause-counts
 returns-clause-counts c =
     c.follow.ensures.counts c.args.now c.args.self.now.router
-    (events.NotApplied (Some c.code.result.0)) c.step-action.ensures.steps
+    (events.NotApplied (Some c.code.result)) c.step-action.ensures.steps
 
 pub returns-clause-takes : goal.returns-clause-takes
 returns-clause-takes c = λ held made.
     let s = c.args.self.now in
-    let event = events.NotApplied (Some c.code.result.0) in
+    let event = events.NotApplied (Some c.code.result) in
     let action = c.step-action.result in
     let after = c.follow.new.self in (
       record {
@@ -122,7 +120,7 @@ returns-clause-takes c = λ held made.
           subst (λ r. IsStep s.router c.args.now event action r) (sym c.follow.ensures.router)
               c.step-action.ensures.steps,
           leaves_ended action (untold s c.args.input.now) (untold after c.follow.new.input)
-              (refused_ends s.router c.step-action.new.self c.args.now (Some c.code.result.0) action
+              (refused_ends s.router c.step-action.new.self c.args.now (Some c.code.result) action
               (answer_applying s.router.phase s.holding c.requires.step c.requires.whole)
               c.step-action.ensures.steps.rule) c.follow.ensures.ends,
         );
@@ -135,12 +133,12 @@ returns-clause-takes c = λ held made.
             c.follow.ensures.has k h held c.args.now s.router event tt
             c.step-action.ensures.steps x;
       },
-      ap (λ n. events.NotApplied (Some n)) c.code.ensures,
+      ap (λ n. events.NotApplied (Some (record { 0 = n }))) c.code.ensures,
     )
 
 pub returns-clause-shows : goal.returns-clause-shows
 returns-clause-shows c =
-    no_show c.args.self.now.router c.args.now (events.NotApplied (Some c.code.result.0))
+    no_show c.args.self.now.router c.args.now (events.NotApplied (Some c.code.result))
     c.step-action.result c.step-action.new.self (λ e. cc) c.step-action.ensures.steps.rule
 
 pub returns-clause-acts : goal.returns-clause-acts
