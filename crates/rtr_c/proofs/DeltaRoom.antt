@@ -3,12 +3,13 @@ use Rattle.std.proofs.Common.{◌≡◌, ◌≢◌, ◌+◌, ◌≤◌, ℕ, Lis
 use Rattle.std.proofs.Common.{◌∙◌, arith}
 use Rattle.unit_views.specs.declared.fault.ViewFault.{ViewFault}
 use Rattle.unit_views.specs.declared.fault.ViewFault.TheVariants as faults
-use Rattle.data_slices.specs.Delta.{Deltas}
+use Rattle.data_slices.specs.Delta.{ChangesBetween, Deltas}
 use Rattle.data_slices.specs.declared.fault.DeltaFault.{DeltaFault}
 use Rattle.data_slices.specs.declared.fault.DeltaFault.TheVariants.{Old, New, UnitVersion, Session}
 use Rattle.data_slices.specs.declared.fault.DeltaFault.TheVariants.{NoRoom}
 use Rattle.data_slices.specs.declared.fault.Reason.{Reason}
 use Rattle.data_slices.specs.declared.fault.Reason.TheVariants.{Refused, NotCanonical}
+use Rattle.data_slices.proofs.AnyVersions as versions
 use Rattle.data_slices.proofs.DeltaRoom as deltas
 use Rattle.rtr_c.specs.Answers.{fault_status}
 use Rattle.rtr_c.specs.DataAnswers.{delta_told, reason_status}
@@ -44,4 +45,11 @@ pub enough_room : (r : Result ℕ DeltaFault) (old new before after : List ℕ) 
     a.status ≢ 9
 enough_room r old new before after a w told enough =
     λ i. told_room r (deltas.enough_room r old new before after w enough)
+    (sym (ap (λ (b : RtrDataAnswer). b.status) told) ∙ i)
+
+pub enough_between : (r : Result ℕ DeltaFault) (old new before after : List ℕ)
+    (a : RtrDataAnswer) → ChangesBetween r old new before after → a ≡ delta_told r →
+    length old + length new ≤ length before → a.status ≢ 9
+enough_between r old new before after a w told enough =
+    λ i. told_room r (versions.enough_room r old new before after w enough)
     (sym (ap (λ (b : RtrDataAnswer). b.status) told) ∙ i)

@@ -27,3 +27,5 @@ mod LoadRoom
 mod Links
 mod LinksTold
 mod StoresTold
+mod Quoting
+mod DataEnds

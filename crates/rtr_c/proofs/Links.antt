@@ -148,9 +148,9 @@ pub suits_both : (p : Phase) (m : Holding) (n h : ℕ) → n ≡ phase_number p 
 suits_both p m n h e f i = rw e (rw f (suits p m i))
 
 -- more that was read leaves it begun
-pub begun_more : (l : RtrLink) (n : ℕ) → is_begun l ≡ true → l.filled ≤ n →
-    is_begun (record l { filled = n }) ≡ true
-begun_more l n e more =
+pub begun_more : (l : RtrLink) (n m : ℕ) → is_begun l ≡ true → l.filled ≤ n →
+    is_begun (record l { filled = n; received = m }) ≡ true
+begun_more l n m e more =
     let parts : (((l.mark == 1280461387) && suits_phase l.phase l.holding) ≡ true)
     × ((nat_le (l.kept + l.end_size) l.filled && has_flags l) ≡ true) =
     and_parts ((l.mark == 1280461387) && suits_phase l.phase l.holding)

@@ -4,18 +4,22 @@ use Rattle.session_router.specs.Pace.{wakes_at}
 use Rattle.session_client.specs.Holding.{Fits}
 use Rattle.session_client.specs.declared.client.Client.{Client}
 use Rattle.session_client.specs.declared.next.Todo.{Todo}
-use Rattle.rtr_c.specs.LinkTodos.{TellsTodo, todo_told}
-use Rattle.rtr_c.specs.Links.{client_of, is_begun}
+use Rattle.rtr_c.specs.LinkTodos.{TellsTodo, received_after, todo_told}
+use Rattle.rtr_c.specs.Links.{came_before, client_of, is_begun}
 use Rattle.rtr_c.specs.declared.link.RtrLink.{RtrLink}
 use Rattle.rtr_c.specs.declared.link_todo.RtrTodo.{RtrTodo}
 
-pub tells : (now : ℕ) (l : RtrLink) (k : Client) (input output : List ℕ) (a : RtrTodo) (t : Todo) →
-    client_of l ≡ k → a ≡ todo_told t k.second (wakes_at k.router) → l.latest ≡ now →
-    is_begun l ≡ true → Fits k input → k.unsent ≤ length output → TellsTodo now l input output a t
-tells now l k input output a t e told latest begun fits room = record {
+pub tells : (now : ℕ) (was l : RtrLink) (k : Client) (input output : List ℕ) (a : RtrTodo)
+    (t : Todo) →
+    client_of l ≡ k → a ≡ todo_told t k.second (came_before was) (wakes_at k.router) →
+    l.latest ≡ now → l.received ≡ received_after t was.received → is_begun l ≡ true →
+    Fits k input → k.unsent ≤ length output → TellsTodo now was l input output a t
+tells now was l k input output a t e told latest received begun fits room = record {
   told =
-      subst (λ (k : Client). a ≡ todo_told t k.second (wakes_at k.router)) (sym e) told;
+      subst (λ (k : Client). a ≡ todo_told t k.second (came_before was) (wakes_at k.router))
+      (sym e) told;
   latest = latest;
+  received = received;
   begun = begun;
   fits = subst (λ (k : Client). Fits k input) (sym e) fits;
   room = subst (λ (k : Client). k.unsent ≤ length output) (sym e) room;

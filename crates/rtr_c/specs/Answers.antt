@@ -144,7 +144,7 @@ run_detail (Err f) = stop_detail f
 abbrev pub wanted : List ℕ → ℕ
 wanted b = if nat_lt (length b) 8 then 8 else length_field b
 
--- so many bytes are wanted of a unit of which these are there: more than these, first those of a
+-- this many bytes are wanted of a unit of which these are there: more than these, first those of a
 -- header, and never more than any unit has (RFC 8210 section 5.1; 65535 as in the Rust crate)
 pub record IsWanted (b : List ℕ) (n : ℕ) : Type 0 where
   pub more : length b < n

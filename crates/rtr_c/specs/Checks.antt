@@ -85,7 +85,7 @@ numbered_rule n value begun =
 abbrev pub numbered_finding : RtrFinding → Option Finding
 numbered_finding f = numbered_rule f.rule f.value f.begun
 
--- the line of a finding at a unit that stands after so many bytes; of none nothing
+-- the line of a finding at a unit that stands after this many bytes; of none nothing
 abbrev pub told_line : ℕ → Option Finding → List ℕ
 told_line offset (Some finding) = finding_line offset finding
 told_line offset None = []

@@ -65,7 +65,7 @@ stop_compared i a = record {
   same = false;
 }
 
--- of the input that the answer names, so many bytes are wanted from its offset on
+-- of the input that the answer names, this many bytes are wanted from its offset on
 abbrev pub WantsMore : (left right : List ℕ) → RtrComparison → Type 0
 WantsMore left right c =
     ((c.side ≡ rtr_left) × IsWanted (drop c.offset left) c.wanted)

@@ -17,7 +17,7 @@ use Rattle.rtr_c.specs.Answers.{rtr_ok, rtr_unit_version, rtr_no_room, rtr_not_c
 use Rattle.rtr_c.specs.Answers.{rtr_other_session, fault_status, fault_detail}
 use Rattle.rtr_c.specs.declared.data_answer.RtrDataAnswer.{RtrDataAnswer}
 
--- so many bytes were written
+-- this many bytes were written
 abbrev pub written_told : ℕ → RtrDataAnswer
 written_told n = record { written = n; offset = 0; status = rtr_ok; side = 0; detail = 0 }
 

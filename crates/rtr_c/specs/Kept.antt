@@ -52,7 +52,7 @@ key_kept u = record none {
   key_identifier = u.key_identifier;
 }
 
--- an ASPA, whose providers, of so many bytes, follow 12 bytes
+-- an ASPA, whose providers, of this many bytes, follow 12 bytes
 abbrev pub aspa_kept : (bytes : ℕ) → RtrUnit → RtrUnit
 aspa_kept n u = record none {
   size = 12 + n;

@@ -29,6 +29,8 @@ pub mod Texts
 pub mod Links
 pub mod LinkTodos
 pub mod LinkStates
+pub mod Failures
 pub mod Stores
 pub mod StoresAnswers
 pub mod StoresCalls
+pub mod DataEnds

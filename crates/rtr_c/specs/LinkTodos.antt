@@ -1,11 +1,13 @@
 -- What a caller of the calls for a router's end has to do next, as C is told (this library's own).
-use Rattle.std.specs.Prelude.{◌≡◌, ℕ, ◌+◌, ◌≤◌, ◌<◌, Bool, true, false, length}
+use Rattle.std.specs.Prelude.{◌≡◌, ℕ, ◌+◌, ◌-◌, ◌^◌, ◌≤◌, ◌<◌, Bool, true, false, length, min}
 use Rattle.std.specs.Prelude.{Option, Some, None, if◌then◌else◌}
 use Rattle.std.specs.Option.{is_some, unwrap_or}
 use Rattle.rtr_payload.specs.declared.pdu.prefix_rule.PrefixRule.{PrefixRule}
 use Rattle.session_router.specs.Pace.{wakes_at}
 use Rattle.session_router.specs.Step.{IsStep}
 use Rattle.session_router.specs.declared.event.Action.{Action}
+use Rattle.session_router.specs.declared.event.Cause.{Cause}
+use Rattle.session_router.specs.declared.event.Cause.TheVariants as causes
 use Rattle.session_router.specs.declared.event.Ending.{Ending}
 use Rattle.session_router.specs.declared.event.Event.TheVariants as events
 use Rattle.session_router.specs.declared.settings.Settings.{Settings}
@@ -29,7 +31,7 @@ use Rattle.session_client.specs.declared.next.Todo.TheVariants as todos
 use Rattle.rtr_c.specs.Answers.{rtr_duplicate, rtr_empty_providers, rtr_prefix, rtr_short}
 use Rattle.rtr_c.specs.Answers.{rtr_too_long, rtr_unit_length, rtr_unit_type, rtr_unit_version}
 use Rattle.rtr_c.specs.Answers.{rtr_ok, rtr_unknown, rule_number}
-use Rattle.rtr_c.specs.Links.{client_of, is_begun}
+use Rattle.rtr_c.specs.Links.{came_before, client_of, is_begun}
 use Rattle.rtr_c.specs.RouterActions.{cause_number}
 use Rattle.rtr_c.specs.declared.link.RtrLink.{RtrLink}
 use Rattle.rtr_c.specs.declared.link_todo.RtrTodo.{RtrTodo}
@@ -105,6 +107,7 @@ detail_of_refusal _ = 0
 abbrev pub plain_todo : (kind wakes : ℕ) → RtrTodo
 plain_todo kind wakes = record {
   wakes = wakes;
+  position = 0;
   room = 0;
   offset = 0;
   code = 0;
@@ -119,10 +122,11 @@ plain_todo kind wakes = record {
 abbrev pub room_todo : (kind room wakes : ℕ) → RtrTodo
 room_todo kind room wakes = record (plain_todo kind wakes) { room = room }
 
-abbrev pub close_todo : Ending → Option Refusal → (offset wakes : ℕ) → RtrTodo
-close_todo x refusal offset wakes = record (plain_todo todo_close wakes) {
+abbrev pub close_todo : Ending → Option Refusal → (offset position wakes : ℕ) → RtrTodo
+close_todo x refusal offset position wakes = record (plain_todo todo_close wakes) {
+  position = position;
   offset = offset;
-  code = unwrap_or x.report 0;
+  code = (unwrap_or x.report (record { 0 = 0 })).0;
   cause = cause_number x.cause;
   status = status_of_refusal refusal;
   detail = detail_of_refusal refusal;
@@ -130,22 +134,36 @@ close_todo x refusal offset wakes = record (plain_todo todo_close wakes) {
   reports = is_some x.report;
 }
 
--- What a caller has to do next, where the data are in the second buffer or not, and the machine
--- is to be called again at this time.
-abbrev pub todo_told : Todo → (second : Bool) → (wakes : ℕ) → RtrTodo
-todo_told todos.Go second wakes = plain_todo todo_go wakes
-todo_told todos.Wait second wakes = plain_todo todo_wait wakes
-todo_told todos.Connect second wakes = plain_todo todo_connect wakes
-todo_told (todos.Close x refusal offset) second wakes = close_todo x refusal offset wakes
-todo_told todos.Data second wakes = plain_todo todo_data wakes
-todo_told todos.Dropped second wakes = plain_todo todo_dropped wakes
-todo_told (todos.NoData offset) second wakes =
-    record (plain_todo todo_no_data wakes) { offset = offset }
-todo_told (todos.InputRoom n) second wakes = room_todo todo_input_room n wakes
-todo_told (todos.DataRoom n) second wakes =
+-- the offset of a unit in all bytes of the connection, of which `before` came before the input's
+abbrev pub position_after : (before offset : ℕ) → ℕ
+position_after before offset = min (before + offset) (2 ^ 64 - 1)
+
+-- a change that isn't applied has its offset in the answer
+abbrev pub position_told : Cause → (offset before : ℕ) → ℕ
+position_told causes.NotApplied offset before = offset
+position_told _ offset before = position_after before offset
+
+-- What a caller has to do next, where the data are in the second buffer or not, `before` bytes of
+-- the connection came before those of the input, and the machine is to be called again at this
+-- time.
+abbrev pub todo_told : Todo → (second : Bool) → (before wakes : ℕ) → RtrTodo
+todo_told todos.Go second before wakes = plain_todo todo_go wakes
+todo_told todos.Wait second before wakes = plain_todo todo_wait wakes
+todo_told todos.Connect second before wakes = plain_todo todo_connect wakes
+todo_told (todos.Close x refusal offset) second before wakes =
+    close_todo x refusal offset (position_told x.cause offset before) wakes
+todo_told todos.Data second before wakes = plain_todo todo_data wakes
+todo_told todos.Dropped second before wakes = plain_todo todo_dropped wakes
+todo_told (todos.NoData offset) second before wakes =
+    record (plain_todo todo_no_data wakes) {
+      position = position_after before offset;
+      offset = offset;
+    }
+todo_told (todos.InputRoom n) second before wakes = room_todo todo_input_room n wakes
+todo_told (todos.DataRoom n) second before wakes =
     room_todo (if second then todo_first_room else todo_second_room) n wakes
-todo_told (todos.IndexRoom n) second wakes = room_todo todo_index_room n wakes
-todo_told (todos.OutputRoom n) second wakes = room_todo todo_output_room n wakes
+todo_told (todos.IndexRoom n) second before wakes = room_todo todo_index_room n wakes
+todo_told (todos.OutputRoom n) second before wakes = room_todo todo_output_room n wakes
 
 -- a refused call leaves nothing to do
 abbrev pub refused_todo : RtrTodo
@@ -153,12 +171,19 @@ refused_todo = plain_todo todo_nothing 0
 
 -- ---- the calls
 
--- After a call at this time the struct stands for a client whose offsets are in the buffers, and
--- this is to be done.
-pub record TellsTodo (now : ℕ) (l : RtrLink) (input output : Octets) (a : RtrTodo) (t : Todo) :
+-- a new connection has no bytes yet
+abbrev pub received_after : Todo → (received : ℕ) → ℕ
+received_after todos.Connect n = 0
+received_after _ n = n
+
+-- After a call at this time the struct, which was `was`, stands for a client whose offsets are in
+-- the buffers, and this is to be done.
+pub record TellsTodo (now : ℕ) (was l : RtrLink) (input output : Octets) (a : RtrTodo) (t : Todo) :
     Type 0 where
-  pub told : a ≡ todo_told t (client_of l).second (wakes_at (client_of l).router)
+  pub told :
+      a ≡ todo_told t (client_of l).second (came_before was) (wakes_at (client_of l).router)
   pub latest : l.latest ≡ now
+  pub received : l.received ≡ received_after t was.received
   pub begun : is_begun l ≡ true
   pub fits : Fits (client_of l) input
   pub room : l.unsent ≤ length output
@@ -199,8 +224,8 @@ pub record TakesTurn (now : ℕ) (k : Client) (input first second : Octets) (pla
       → ShowsMade k.holding k.kept k.shown input (data_in k.second first second) places
       (data_in k.second second first) (data_in k.second second' first') k'.shown
 
--- What `Client::ask_now` and `Client::give_up` promise, but for the event. Before it so many bytes
--- were still to be sent.
+-- What `Client::ask_now` and `Client::give_up` promise, but for the event. Before it this many
+-- bytes were still to be sent.
 pub record TakesEvent (now : ℕ) (k : Client) (input output : Octets) (k' : Client)
     (input' output' : Octets) (t : Todo) : Type 0 where
   pub serves :

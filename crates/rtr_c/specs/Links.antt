@@ -1,5 +1,5 @@
 -- The struct of C as a router's end with its bytes and its data (this library's own).
-use Rattle.std.specs.Prelude.{ℕ, ◌+◌, ◌^◌, ◌==◌, ◌&&◌, ◌||◌, Bool, not, nat_le, nat_lt}
+use Rattle.std.specs.Prelude.{ℕ, ◌+◌, ◌-◌, ◌^◌, ◌==◌, ◌&&◌, ◌||◌, Bool, not, nat_le, nat_lt, min}
 use Rattle.std.specs.Prelude.{Some, None, if◌then◌else◌}
 use Rattle.session_client.specs.declared.client.Client.{Client}
 use Rattle.session_client.specs.declared.client.Holding.{Holding}
@@ -66,6 +66,14 @@ client_of l = record {
   opened = flag_set l.opened;
   closed = flag_set l.closed;
 }
+
+-- how many bytes of the connection came before those of the input
+abbrev pub came_before : RtrLink → ℕ
+came_before l = l.received - l.filled
+
+-- the number of bytes of the connection after `size` more
+abbrev pub more_received : (received size : ℕ) → ℕ
+more_received n size = min (n + size) (2 ^ 64 - 1)
 
 -- ---- structs that calls make
 
@@ -168,7 +176,7 @@ abbrev pub is_linked : RtrLink → Bool
 is_linked l =
     (nat_le 2 l.phase || ((l.phase == 1) && flag_set l.opened)) && not (flag_set l.closed)
 
--- of so many bytes that were read into an input of this length
+-- of this many bytes that were read into an input of this length
 abbrev pub received_status : RtrLink → (input size : ℕ) → ℕ
 received_status l input size =
     if not (is_begun l) then link_not_begun
@@ -177,7 +185,7 @@ received_status l input size =
     else if nat_lt input (l.filled + size) then link_too_long
     else link_ok
 
--- of so many bytes that were sent of an output of this length
+-- of this many bytes that were sent of an output of this length
 abbrev pub sent_status : RtrLink → (output size : ℕ) → ℕ
 sent_status l output size =
     if not (is_begun l) then link_not_begun

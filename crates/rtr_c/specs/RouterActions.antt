@@ -82,7 +82,7 @@ numbered_cause n =
 
 abbrev pub ending_told : Ending → (version : ℕ) → RtrAction
 ending_told x v = record (plain_action 9) {
-  code = unwrap_or x.report 0;
+  code = (unwrap_or x.report (record { 0 = 0 })).0;
   version = v;
   cause = cause_number x.cause;
   drops = x.drop;
@@ -139,7 +139,7 @@ query_of a = record {
 abbrev pub ending_of : RtrAction → Ending
 ending_of a = record {
   drop = a.drops;
-  report = if a.reports then Some a.code else None;
+  report = if a.reports then Some (record { 0 = a.code }) else None;
   cause = numbered_cause a.cause;
 }
 

@@ -65,7 +65,7 @@ numbered_reason n =
 abbrev owed_told : Option OwedReport → (reason : ℕ) → RtrServing
 owed_told None reason = record (bare_serving 6 0) { reason = reason }
 owed_told (Some owed) reason = record (bare_serving 6 owed.version) {
-  code = owed.code;
+  code = owed.code.0;
   reason = reason;
   reports = true;
 }
@@ -106,7 +106,8 @@ pub record IsServingStep (c : RtrCache) (n : ℕ) (p : RtrPresent) (e : CacheEve
 abbrev pub closing_of : RtrServing → Closing
 closing_of a = record {
   report =
-      if a.reports then Some (record { version = a.version; code = a.code }) else None;
+      if a.reports then Some (record { version = a.version; code = record { 0 = a.code } })
+      else None;
   reason = numbered_reason a.reason;
 }
 

@@ -46,7 +46,7 @@ room_number Output = room_output
 
 -- ---- answers
 
--- so many bytes were written
+-- this many bytes were written
 abbrev pub wrote_answer : ℕ → RtrStoresAnswer
 wrote_answer n = record {
   length = n;

@@ -11,12 +11,14 @@ use Rattle.data_history.specs.Serials.{IsShortForSerials, ListsSerials}
 use Rattle.data_history.specs.Since.{IsShortForAnswer, WritesChangesSince}
 use Rattle.data_history.specs.Snapshots.{HoldsHistory, Snapshot, snapshot_at}
 use Rattle.data_history.specs.Store.{HoldsStore, left_sessions}
-use Rattle.data_history.specs.Stores.{IsFlawOfNew, IsShortForTaking, TakesData, after_call}
+use Rattle.data_history.specs.Stores.{ChecksNewFirst, IsShortForTaking, IsStoreFrom, TakesData}
+use Rattle.data_history.specs.Stores.{after_call}
 use Rattle.data_history.specs.Stores.{after_giving_up, after_saved, fresh_stores, held_of}
 use Rattle.data_history.specs.Stores.{numbers_of, other_of, served_store, size_of, taken_store}
 use Rattle.data_history.specs.declared.check.CheckFault.{CheckFault}
 use Rattle.data_history.specs.declared.check.CheckFault.TheVariants.{Malformed}
 use Rattle.data_history.specs.declared.newer.Untaken.{Untaken}
+use Rattle.data_history.specs.declared.newer.Untaken.TheVariants.{Waits}
 use Rattle.data_history.specs.declared.since.SinceFault.{SinceFault}
 use Rattle.data_history.specs.declared.stores.Stores.{Stores}
 use Rattle.rtr_c.specs.Stores.{has_stores, stores_in}
@@ -50,15 +52,20 @@ TellsStart (Err fault) s s' a = (s' ≡ s) × (a ≡ check_told fault)
 
 -- ---- newer data
 
--- What `Stores::take` promises of the stores before and after, where the buffers had f and s
--- before, and have f' and s' after, and the other two have these lengths.
-pub record TakesNew (since most : ℕ) (new : List ℕ) (buffer spare : ℕ) (m m' : Stores)
+-- What `Stores::take` promises of the stores before and after, at this time and with these limits,
+-- where the buffers had f and s before, and have f' and s' after, and the other two have these
+-- lengths.
+pub record TakesNew (now since most : ℕ) (new : List ℕ) (buffer spare : ℕ) (m m' : Stores)
     (f s f' s' : List ℕ) (r : Result ℕ Untaken) : Type 0 where
   pub after : m' ≡ after_call r m
   pub held : held_of (numbers_of m).second f' s' ≡ held_of (numbers_of m).second f s
   pub takes : (z : Snapshot) → HoldsData new z.payloads z.end →
       TakesData since most r m (served_store m f s) z (other_of (numbers_of m).second f' s')
-  pub flaw : IfErr r (IsFlawOfNew new)
+  pub waits : IsSome (numbers_of m).taken → (r ≡ Err Waits) × (f' ≡ f) × (s' ≡ s)
+  pub form : IfOk r (λ n. (z : Snapshot) → HoldsData new z.payloads z.end →
+      IsStoreFrom now since most (served_store m f s) z new
+      (take n (other_of (numbers_of m).second f' s')))
+  pub flaw : ChecksNewFirst (numbers_of m).taken r new
   pub rooms : IsShortForTaking r (size_of (served_store m f s) + length new) buffer spare
       (length (other_of (numbers_of m).second f s))
   pub serves : (numbers_of m).unsaved ≡ None → served_store m' f' s' ≡ served_store m f s

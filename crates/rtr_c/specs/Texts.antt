@@ -2,7 +2,7 @@
 -- and refusals the same as in reports, and the others are this library's own. The names of error
 -- codes are those of RFC 8210 section 12.
 use Rattle.std.specs.Prelude.{◌≡◌, ℕ, List, [], ◌++◌, length, codes, decimal, Option, Some, None}
-use Rattle.std.specs.Prelude.{◌==◌, nat_lt, if◌then◌else◌}
+use Rattle.std.specs.Prelude.{◌==◌, ◌&&◌, nat_le, nat_lt, if◌then◌else◌, map, take}
 use Rattle.rtr_base.specs.PlainTexts.{code_name}
 use Rattle.session_router.specs.Texts.{cause_text}
 use Rattle.session_cache.specs.ReasonTexts.{reason_text}
@@ -64,6 +64,10 @@ refused_or None s = name_or (status_name s) (codes "unknown status ") s
 abbrev pub status_said : (status detail : ℕ) → List ℕ
 status_said s d = refused_or (refusal_at s d) s
 
+-- of the unit at this offset: invalid unit length, at byte 20
+abbrev pub said_at : (status detail offset : ℕ) → List ℕ
+said_at s d n = status_said s d ++ (codes ", at byte " ++ decimal n)
+
 -- ---- names
 
 unfoldable pub type_name : ℕ → Option (List ℕ)
@@ -87,6 +91,9 @@ cause_name n = if nat_lt n 16 then Some (cause_text (numbered_cause n)) else Non
 abbrev pub reason_name : ℕ → Option (List ℕ)
 reason_name n = if nat_lt n 10 then Some (reason_text (numbered_reason n)) else None
 
+abbrev pub code_said : ℕ → List ℕ
+code_said n = name_or (code_name n) (codes "error code ") n
+
 -- the name of this number: of a status, a kind, a cause, a reason or an error code, or the text of
 -- a rule on times
 abbrev pub name_said : (named number : ℕ) → List ℕ
@@ -95,9 +102,28 @@ name_said named n =
     else if named == 1 then name_or (type_name n) (codes "type ") n
     else if named == 2 then name_or (cause_name n) (codes "unknown cause ") n
     else if named == 3 then name_or (reason_name n) (codes "unknown reason ") n
-    else if named == 4 then name_or (code_name n) (codes "error code ") n
+    else if named == 4 then code_said n
     else if named == 5 then name_or (time_rule_name n) (codes "unknown time rule ") n
     else []
+
+-- ---- error reports of a peer
+
+-- printable ASCII stays as it is, and any other byte is a question mark
+abbrev pub quoted_byte : ℕ → ℕ
+quoted_byte b = if nat_le 32 b && nat_le b 126 then b else 63
+
+-- the first bytes of a text
+abbrev pub quoted : List ℕ → List ℕ
+quoted text = map quoted_byte (take 100 text)
+
+-- these in quotes; nothing of an empty text
+abbrev pub quotation : List ℕ → List ℕ
+quotation text =
+    if length text == 0 then [] else codes ", \"" ++ (quoted text ++ codes "\"")
+
+-- the name of the code, and the text: No Data Available, "later"
+abbrev pub reported_text : (code : ℕ) → List ℕ → List ℕ
+reported_text c text = code_said c ++ quotation text
 
 -- ---- what is answered
 

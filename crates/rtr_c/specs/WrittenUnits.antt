@@ -22,7 +22,7 @@ use Rattle.rtr_c.specs.Answers.{rtr_unit_length, rtr_empty_providers, rtr_prefix
 use Rattle.rtr_c.specs.Answers.{rtr_no_form}
 use Rattle.rtr_c.specs.declared.unit.RtrUnit.{RtrUnit}
 
--- so many bytes of the input from this place on, where they lie in it
+-- this many bytes of the input from this place on, where they lie in it
 abbrev pub piece_said : (start size : ℕ) → List ℕ → Option (List ℕ)
 piece_said start size input =
     if nat_le (start + size) (length input) then Some (take size (drop start input)) else None

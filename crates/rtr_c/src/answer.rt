@@ -1,4 +1,4 @@
-//! How a call ended, in numbers.
+//! The result of a call, in numbers.
 
 ghost use Rattle.std.specs.Prelude.{◌≡◌};
 ghost use Rattle.rtr_c.specs.Answers.{rule_number, fault_status, fault_detail};
@@ -15,31 +15,31 @@ pub(crate) const SHORT: u8 = 1;
 pub(crate) const UNIT_TYPE: u8 = 2;
 /// A unit of this protocol version is not allowed here.
 pub(crate) const UNIT_VERSION: u8 = 3;
-/// The length field of a router key or an ASPA unit is above 65535.
+/// The length field of a router key, an ASPA unit or an error report is above 65535.
 pub(crate) const TOO_LONG: u8 = 4;
-/// The length field does not suit the type of the unit.
+/// The length field doesn't fit the type of the unit.
 pub(crate) const UNIT_LENGTH: u8 = 5;
 /// An ASPA is announced without providers.
 pub(crate) const EMPTY_PROVIDERS: u8 = 6;
 /// The lengths of a prefix break their rule.
 pub(crate) const PREFIX: u8 = 7;
-/// As many units as were allowed were taken.
+/// The limit of units was reached.
 pub(crate) const TOO_MANY: u8 = 8;
 /// The output is too short for what comes next.
 pub(crate) const NO_ROOM: u8 = 9;
 /// No unit has these fields.
 pub(crate) const NO_FORM: u8 = 10;
-/// A unit or an end of data may not stand where it does in data or changes in canonical form.
+/// A unit or an end of data isn't allowed at this point of data or changes in canonical form.
 pub(crate) const NOT_CANONICAL: u8 = 12;
 /// The second input is of another session than the first.
 pub(crate) const OTHER_SESSION: u8 = 13;
-/// A payload is announced that is there already.
+/// A payload is announced that is already present.
 pub(crate) const DUPLICATE: u8 = 14;
-/// A payload is withdrawn that isn't there.
+/// A payload is withdrawn that is absent.
 pub(crate) const UNKNOWN: u8 = 15;
-/// What the changes of an ASPA's customer come to depends on the data.
+/// The net effect of the changes of an ASPA's customer depends on the data.
 pub(crate) const UNDECIDED: u8 = 16;
-/// The index has fewer places than there are payload units.
+/// The index has fewer elements than there are payload units.
 pub(crate) const NO_INDEX: u8 = 17;
 /// A group would have more than 16 members.
 pub(crate) const TOO_MANY_MEMBERS: u8 = 18;
@@ -47,14 +47,14 @@ pub(crate) const TOO_MANY_MEMBERS: u8 = 18;
 pub(crate) const OTHER_VERSION: u8 = 19;
 /// The serial number of an answer comes before that of the data that it changes.
 pub(crate) const OLD_SERIAL: u8 = 20;
-/// A cache reset stands inside an answer.
+/// A cache reset comes inside an answer.
 pub(crate) const RESET_INSIDE: u8 = 21;
-/// An error report stands inside an answer.
+/// An error report comes inside an answer.
 pub(crate) const REPORT_INSIDE: u8 = 22;
-/// A reader or a writer failed; none here does.
+/// A reader or a writer failed; none of these calls uses one that fails.
 pub(crate) const WRITER: u8 = 255;
 
-/// How a call that writes ended.
+/// The result of a call that writes.
 #[repr(C)]
 #[derive(Drop)]
 pub struct RtrAnswer {
@@ -119,7 +119,7 @@ pub(crate) fn fault_detail(fault: &ViewFault) -> u8
     }
 }
 
-/// The status of why a run stopped.
+/// The status for why a run stopped.
 pub(crate) fn stop_status(stop: &IntoFault) -> u8
     ensures { result ≡ stop_status stop.now }
 {

@@ -1,4 +1,4 @@
-//! What changes make of data.
+//! Applying changes to data.
 
 ghost use Rattle.std.specs.Prelude.{◌≡◌, ◌≢◌, ◌+◌, ◌≤◌, ℕ, Result, length};
 ghost use Rattle.data_slices.specs.Apply.{AppliesChanges};
@@ -31,7 +31,7 @@ pub extern "C" fn rtr_apply_nonnull(
     answer.status
 }
 
-/// The answer if the changes aren't made.
+/// The answer if the changes aren't applied.
 fn answer_of(fault: &ApplyFault) -> RtrDataAnswer
     ensures { result ≡ apply_told (Err fault.now) }
 {

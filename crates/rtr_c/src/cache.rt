@@ -7,7 +7,7 @@ use session_cache::cache::Cache;
 use session_cache::event::Present;
 use session_cache::settings::CacheSettings;
 
-/// What names the newest data of a cache: as `session_cache::event::Present`.
+/// The identity of the newest data of a cache: as `session_cache::event::Present`.
 #[repr(C)]
 #[derive(Clone, Copy)]
 pub struct RtrPresent {
@@ -22,7 +22,7 @@ pub struct RtrPresent {
 // The fields stand one after the other, and one byte is left at the end.
 const _: () = prove!(size_of::<RtrPresent>() == 8);
 
-/// What a caller sets: as `session_cache::settings::CacheSettings`.
+/// The settings of a cache's end: as `session_cache::settings::CacheSettings`.
 #[repr(C)]
 #[derive(Clone, Copy)]
 pub struct RtrCacheSettings {
@@ -62,7 +62,7 @@ pub struct RtrCache {
 // The fields stand one after the other, and five bytes are left at the end.
 const _: () = prove!(size_of::<RtrCache>() == 48);
 
-/// The data that the struct names.
+/// The data of the struct.
 pub(crate) fn present_from(present: &RtrPresent) -> Present
     ensures { result ≡ present_of present.now }
 {
@@ -73,7 +73,7 @@ pub(crate) fn present_from(present: &RtrPresent) -> Present
     }
 }
 
-/// The settings that the struct stands for.
+/// The settings of the struct.
 pub(crate) fn cache_settings_from(settings: &RtrCacheSettings) -> CacheSettings
     ensures { result ≡ cache_settings_of settings.now }
 {
@@ -85,7 +85,7 @@ pub(crate) fn cache_settings_from(settings: &RtrCacheSettings) -> CacheSettings
     }
 }
 
-/// The struct that stands for settings.
+/// The struct for settings.
 pub(crate) fn cache_settings_to(settings: &CacheSettings) -> RtrCacheSettings
     ensures { cache_settings_of result ≡ settings.now }
 {
@@ -97,7 +97,7 @@ pub(crate) fn cache_settings_to(settings: &CacheSettings) -> RtrCacheSettings
     }
 }
 
-/// The machine that the struct stands for.
+/// The machine of the struct.
 pub(crate) fn cache_from(cache: &RtrCache) -> Cache
     ensures { result ≡ cache_of cache.now }
 {
@@ -115,7 +115,7 @@ pub(crate) fn cache_from(cache: &RtrCache) -> Cache
     }
 }
 
-/// The struct that stands for a machine.
+/// The struct for a machine.
 pub(crate) fn cache_to(cache: &Cache) -> RtrCache
     ensures { cache_of result ≡ cache.now }
 {

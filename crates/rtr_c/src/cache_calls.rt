@@ -1,4 +1,4 @@
-//! A cache's machine: one call for each thing that happens, and what it wants sent.
+//! A cache's machine: one call for each event, and for what it sends.
 
 ghost use Rattle.std.specs.Prelude.{◌≡◌, ◌+◌, ℕ, Option, true, false};
 ghost use Rattle.std.specs.Option.{unwrap_or};
@@ -25,7 +25,7 @@ use session_cache::cache::Cache;
 use session_cache::event::{CacheEvent, Present};
 use session_cache::settings::CacheSettings;
 
-/// The usual settings, as `session_cache::settings::CacheSettings::usual`.
+/// The default settings, as `session_cache::settings::CacheSettings::usual`.
 #[unsafe(no_mangle)]
 pub extern "C" fn rtr_cache_settings_usual(settings: &mut RtrCacheSettings)
     ensures first_limit { settings.new.first_limit ≡ 30000 }
@@ -54,7 +54,7 @@ pub extern "C" fn rtr_cache_init(cache: &mut RtrCache, now: u64, settings: &RtrC
     *cache = cache_to(&Cache::new(clock(now), cache_settings_from(settings)));
 }
 
-/// When to call `rtr_cache_tick`, where these are the newest data, if nothing comes before.
+/// When to call `rtr_cache_tick`, given the newest data, if nothing comes before.
 #[unsafe(no_mangle)]
 pub extern "C" fn rtr_cache_wakes(cache: &RtrCache, present: &RtrPresent) -> u64
     ensures { result ≡ cache_wakes_at (cache_of cache.now) (present_of present.now) }
@@ -62,7 +62,7 @@ pub extern "C" fn rtr_cache_wakes(cache: &RtrCache, present: &RtrPresent) -> u64
     cache_from(cache).wakes(present_from(present))
 }
 
-/// A step of the machine.
+/// Takes a step of the machine.
 fn step(cache: &mut RtrCache, now: u64, present: &RtrPresent, event: CacheEvent) -> RtrServing
     ensures { IsServingStep cache.old (clock now) present.now event result cache.new }
 {
@@ -112,7 +112,7 @@ pub extern "C" fn rtr_cache_lost(
     *serving = step(cache, now, present, CacheEvent::Lost);
 }
 
-/// Tells the cache of the unit that the input begins with, as `session_bytes::serve`.
+/// Tells the cache of the unit at the front of the input, as `session_bytes::serve`.
 #[unsafe(no_mangle)]
 pub extern "C" fn rtr_cache_read_nonnull(
     cache: &mut RtrCache,
@@ -135,7 +135,7 @@ pub extern "C" fn rtr_cache_read_nonnull(
     *serving = served_to(&came, input, machine.version, &present);
 }
 
-/// What came of the unit that an input begins with, in numbers.
+/// The result for the unit at the front of an input, in numbers.
 fn served_to(came: &Served, input: &[u8], version: u8, present: &Present) -> RtrServing
     ensures { result ≡ unit_told came.now input.now version present.now }
 {
@@ -157,7 +157,7 @@ fn served_to(came: &Served, input: &[u8], version: u8, present: &Present) -> Rtr
 }
 
 /// Writes the unit that an answer begins with, as `session_bytes::place_opening`. Returns its
-/// length in bytes, 8 or 12, or 0 if it begins with none or the output is shorter.
+/// length in bytes, 8 or 12, or 0 if it begins with none or the output is too short.
 #[unsafe(no_mangle)]
 pub extern "C" fn rtr_cache_unit_nonnull(serving: &RtrServing, output: &mut [u8]) -> usize
     ensures { (n : Option ℕ)
@@ -168,8 +168,8 @@ pub extern "C" fn rtr_cache_unit_nonnull(serving: &RtrServing, output: &mut [u8]
     place_opening(serving.version, &answer, &state_from(serving), output).unwrap_or(0)
 }
 
-/// Writes the report that an answer owes about the unit that the input begins with, as
-/// `session_bytes::place_owed`. Reports whether it is written.
+/// Writes the report that an answer owes about the unit at the front of the input, as
+/// `session_bytes::place_owed`. Reports whether it was written.
 #[unsafe(no_mangle)]
 pub extern "C" fn rtr_cache_report_nonnull(
     serving: &RtrServing,

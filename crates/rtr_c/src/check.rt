@@ -1,4 +1,4 @@
-//! What is known of a sequence and what a unit breaks in it, in numbers.
+//! The state of a sequence and the rules that a unit breaks in it, in numbers.
 
 ghost use Rattle.std.specs.Prelude.{◌≡◌, map};
 ghost use Rattle.rtr_c.specs.Checks.{no_checked, no_named, numbered_finding, numbered_stage};
@@ -7,8 +7,8 @@ ghost use Rattle.rtr_c.specs.Checks.{numbered_layout, numbered_time_rule, check_
 use session_times::TimeRule;
 use text_findings::{Finding, Layout, SequenceState, Stage};
 
-/// What is known of the sequence that is read: as `text_findings::SequenceState`. All zero before
-/// the first unit.
+/// The state of the sequence that is read: as `text_findings::SequenceState`. All zero before the
+/// first unit.
 #[repr(C)]
 #[derive(Clone, Copy)]
 pub struct RtrCheck {
@@ -37,7 +37,7 @@ pub struct RtrFinding {
 // The fields stand one after the other, and one byte is left at the end.
 const _: () = prove!(size_of::<RtrFinding>() == 6);
 
-/// What a unit breaks.
+/// The rules that a unit breaks.
 #[repr(C)]
 #[derive(Drop)]
 pub struct RtrChecked {
@@ -56,7 +56,7 @@ pub struct RtrChecked {
 // The fields stand one after the other, and four bytes are left at the end.
 const _: () = prove!(size_of::<RtrChecked>() == 64);
 
-/// Which payload a unit announces or withdraws.
+/// The payload that a unit announces or withdraws.
 #[repr(C)]
 #[derive(Drop)]
 pub struct RtrNaming {
@@ -112,7 +112,7 @@ pub(crate) fn none_named(status: u8, detail: u8, wanted: usize) -> RtrNaming
     }
 }
 
-/// The state that the struct stands for.
+/// The state of the struct.
 pub(crate) fn check_from(check: &RtrCheck) -> SequenceState
     ensures { result ≡ check_state check.now }
 {
@@ -131,7 +131,7 @@ pub(crate) fn check_from(check: &RtrCheck) -> SequenceState
     }
 }
 
-/// The struct that stands for a state.
+/// The struct for a state.
 pub(crate) fn check_to(state: &SequenceState) -> RtrCheck
     ensures { check_state result ≡ state.now }
 {
@@ -219,7 +219,7 @@ fn numbers(rule: u8, value: u16, begun: u16) -> RtrFinding
     RtrFinding { value, begun, rule }
 }
 
-/// The finding that the numbers stand for; none for a rule that there isn't.
+/// The finding of the numbers; none for an unknown rule.
 pub(crate) fn finding_from(finding: &RtrFinding) -> Option<Finding>
     ensures { result ≡ numbered_finding finding.now }
 {

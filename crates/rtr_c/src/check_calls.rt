@@ -1,4 +1,4 @@
-//! The rules that units break, for callers that keep the names of the payloads that are announced.
+//! Checking units against rules, for callers that keep the names of the announced payloads.
 
 ghost use Rattle.std.specs.Prelude.{◌≡◌, ℕ, List, Result};
 ghost use Rattle.unit_any.specs.AnyFields.{AnyFields};
@@ -18,11 +18,11 @@ use crate::lines::{first_unit, room_status};
 use text_findings::{announces, begins, describe_finding, lay_name};
 use text_lines::listed_unit;
 
-/// Which payload the unit announces or withdraws that the input begins with, as
+/// The payload that the unit at the front of the input announces or withdraws, as
 /// `text_findings::lay_name`, and what the caller does with its name.
 ///
-/// Statuses: those of `rtr_unit_size`, `SHORT` if not all of the unit is there, and `NO_ROOM` if
-/// the output is too short.
+/// Statuses: those of `rtr_unit_size`, `SHORT` if the unit is incomplete, and `NO_ROOM` if the
+/// output is too short.
 #[unsafe(no_mangle)]
 pub extern "C" fn rtr_check_name_nonnull(
     input: &[u8],
@@ -55,9 +55,10 @@ pub extern "C" fn rtr_check_name_nonnull(
     status
 }
 
-/// What the unit breaks that the input begins with, as `text_findings::SequenceState::check`, where
-/// the caller says whether the name of its payload was in its set. Statuses: as
-/// `rtr_check_name_nonnull`, but `NO_ROOM`; with one the state stays.
+/// The rules that the unit at the front of the input breaks, as
+/// `text_findings::SequenceState::check`; the caller passes whether the name of its payload was in
+/// its set. Statuses are those of `rtr_check_name_nonnull`, except `NO_ROOM`; after any of them the
+/// state is unchanged.
 #[unsafe(no_mangle)]
 pub extern "C" fn rtr_check_unit_nonnull(
     check: &mut RtrCheck,
@@ -89,7 +90,7 @@ pub extern "C" fn rtr_check_unit_nonnull(
     ACCEPTED
 }
 
-/// What is missing where the input ends, as `text_findings::SequenceState::missing`.
+/// The finding at the end of the input, as `text_findings::SequenceState::missing`.
 #[unsafe(no_mangle)]
 pub extern "C" fn rtr_check_end(check: &RtrCheck, finding: &mut RtrFinding)
     ensures { (history : List AnyFields) → check_state check.now ≡ known_after history →

@@ -11,7 +11,7 @@ use crate::next::wanted;
 use rtr_wire::pdu::ViewFault;
 use rtr_wire::{ComparisonFault, Side, compare_meanings};
 
-/// How a comparison ended.
+/// The result of a comparison.
 #[repr(C)]
 #[derive(Drop)]
 pub struct RtrComparison {
@@ -54,7 +54,7 @@ pub extern "C" fn rtr_same_meaning_nonnull(
     answer.status
 }
 
-/// The answer where both inputs are accepted.
+/// The answer if both inputs are accepted.
 fn accepted(same: bool) -> RtrComparison
     ensures { result ≡ same_told same }
 {
@@ -68,7 +68,7 @@ fn accepted(same: bool) -> RtrComparison
     }
 }
 
-/// The answer where this input is refused, for the unit at this offset.
+/// The answer if this input is refused, for the unit at this offset.
 fn refused(side: u8, offset: usize, fault: &ViewFault, input: &[u8]) -> RtrComparison
     requires { offset ≤ length input.now }
     ensures { result ≡ unit_refused side offset fault.now input.now }

@@ -1,9 +1,9 @@
-//! A connection of a server, in numbers: what its host does next, and when a limit ends it.
+//! A connection of a server, in numbers: its host's next action, and when a limit ends it.
 
 ghost use Rattle.std.specs.Prelude.{◌≡◌, ◌≤◌, ◌<◌, true, false};
-ghost use Rattle.session_server.specs.Paces.{answered, closed_by, connection_wakes_at, input_taken};
-ghost use Rattle.session_server.specs.Paces.{is_free, new_connection, next_at, once_received};
-ghost use Rattle.session_server.specs.Paces.{report_begun, sent};
+ghost use Rattle.session_server.specs.Paces.{answered, broken_off, closed_by, connection_wakes_at};
+ghost use Rattle.session_server.specs.Paces.{input_taken, is_free, new_connection, next_at};
+ghost use Rattle.session_server.specs.Paces.{once_received, reads_now, report_begun, sent};
 ghost use Rattle.rtr_c.specs.Caches.{cache_of, present_of};
 ghost use Rattle.rtr_c.specs.ServerConnections.{connection_of, cut_number, cut_told};
 ghost use Rattle.rtr_c.specs.ServerConnections.{numbered_state, state_number, step_number};
@@ -33,7 +33,7 @@ pub struct RtrConnection {
     pub filled: usize,
     /// The bytes of the answer, or of the last report, that weren't sent.
     pub unsent: usize,
-    /// 0 if it is served, 1 if it ended with a report, 2 if it ended without one.
+    /// 0 if it is served, 1 if it ended with a report, 2 if it ended without one or broke.
     pub state: u8,
     /// Whether there may be a whole unit among the unheard bytes.
     pub fresh: bool,
@@ -65,7 +65,7 @@ fn state_to(phase: Phase) -> u8
     }
 }
 
-/// The connection that the struct stands for.
+/// The connection of the struct.
 fn connection_from(connection: &RtrConnection) -> Connection
     ensures { result ≡ connection_of connection.now }
 {
@@ -83,7 +83,7 @@ fn connection_from(connection: &RtrConnection) -> Connection
     }
 }
 
-/// The struct that stands for a connection.
+/// The struct for a connection.
 fn connection_to(connection: &Connection) -> RtrConnection
     ensures { connection_of result ≡ connection.now }
 {
@@ -101,7 +101,7 @@ fn connection_to(connection: &Connection) -> RtrConnection
     }
 }
 
-/// The number of what to do next.
+/// The number of the next action.
 fn step_to(next: Next) -> u8
     ensures { result ≡ step_number next }
 {
@@ -152,7 +152,7 @@ pub extern "C" fn rtr_connection_received(connection: &mut RtrConnection, now: u
     *connection = connection_to(&found);
 }
 
-/// The router closed the connection.
+/// Reports that the router closed the connection.
 #[unsafe(no_mangle)]
 pub extern "C" fn rtr_connection_closed(connection: &mut RtrConnection)
     ensures { connection_of connection.new ≡ closed_by (connection_of connection.old) }
@@ -160,6 +160,24 @@ pub extern "C" fn rtr_connection_closed(connection: &mut RtrConnection)
     let mut found = connection_from(connection);
     found.closed();
     *connection = connection_to(&found);
+}
+
+/// The connection broke: nothing can be sent on it any more.
+#[unsafe(no_mangle)]
+pub extern "C" fn rtr_connection_broke(connection: &mut RtrConnection)
+    ensures { connection_of connection.new ≡ broken_off (connection_of connection.old) }
+{
+    let mut found = connection_from(connection);
+    found.broke();
+    *connection = connection_to(&found);
+}
+
+/// Whether the host reads from the connection now.
+#[unsafe(no_mangle)]
+pub extern "C" fn rtr_connection_reads(connection: &RtrConnection) -> bool
+    ensures { result ≡ reads_now (connection_of connection.now) }
+{
+    connection_from(connection).reads()
 }
 
 /// Reports that the machine took `size` bytes of the input.
@@ -216,7 +234,7 @@ pub extern "C" fn rtr_connection_sent(connection: &mut RtrConnection, now: u64, 
     within
 }
 
-/// What the host does next, and the limit that ends the connection, if one does.
+/// The host's next action, and the limit that ends the connection, if one does.
 #[unsafe(no_mangle)]
 pub extern "C" fn rtr_connection_next(
     connection: &RtrConnection,

@@ -1,4 +1,4 @@
-//! How a call on data and changes ended, in numbers.
+//! The result of a call on data and changes, in numbers.
 
 ghost use Rattle.std.specs.Prelude.{◌≡◌};
 ghost use Rattle.rtr_c.specs.DataAnswers.{flaw_told, reason_detail, reason_status, refused_told};
@@ -11,10 +11,10 @@ use data_slices::{Flaw, Reason};
 pub(crate) const FIRST: u8 = 1;
 /// The second of two inputs.
 pub(crate) const SECOND: u8 = 2;
-/// No input alone.
+/// Neither input alone.
 pub(crate) const NEITHER: u8 = 0;
 
-/// How a call on data and changes ended.
+/// The result of a call on data and changes.
 #[repr(C)]
 #[derive(Drop)]
 pub struct RtrDataAnswer {
@@ -55,7 +55,7 @@ impl RtrDataAnswer {
         RtrDataAnswer::refused_at(NEITHER, 0, status, detail)
     }
 
-    /// The call was refused for what stands at this offset of an input.
+    /// The call was refused for the unit at this offset of an input.
     pub(crate) fn refused_at(side: u8, offset: usize, status: u8, detail: u8) -> Self
         ensures { result ≡ side_told side offset status detail }
     {
@@ -82,7 +82,7 @@ impl RtrDataAnswer {
     }
 }
 
-/// The status of what is wrong at a place.
+/// The status for the reason of a flaw.
 pub(crate) fn reason_status(reason: &Reason) -> u8
     ensures { result ≡ reason_status reason.now }
 {

@@ -31,8 +31,8 @@ pub extern "C" fn rtr_delta_nonnull(
     answer.status
 }
 
-/// The answer where there is no delta.
-fn answer_of(fault: &DeltaFault) -> RtrDataAnswer
+/// The answer if there is no delta.
+pub(crate) fn answer_of(fault: &DeltaFault) -> RtrDataAnswer
     ensures { result ≡ delta_told (Err fault.now) }
 {
     match fault {

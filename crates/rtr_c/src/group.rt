@@ -8,7 +8,7 @@ use session_group::event::{Answer, Shown};
 use session_group::group::Group;
 use session_group::settings::Settings;
 
-/// What a caller sets for a group: as `session_group::settings::Settings`.
+/// The settings of a group: as `session_group::settings::Settings`.
 #[repr(C)]
 #[derive(Clone, Copy)]
 pub struct RtrGroupSettings {
@@ -44,8 +44,8 @@ pub struct RtrGroup {
 // The fields stand one after the other, and seven bytes are left at the end.
 const _: () = prove!(size_of::<RtrGroup>() == 56);
 
-/// What its caller does: as `session_group::event::Answer`. Fields that an answer doesn't have are
-/// 0.
+/// The caller's next actions: as `session_group::event::Answer`. Fields that an answer doesn't have
+/// are 0.
 #[repr(C)]
 #[derive(Clone, Copy)]
 pub struct RtrGroupAnswer {
@@ -66,7 +66,7 @@ pub struct RtrGroupAnswer {
 // The fields stand one after the other, and five bytes are left at the end.
 const _: () = prove!(size_of::<RtrGroupAnswer>() == 32);
 
-/// The settings that the struct stands for.
+/// The settings of the struct.
 pub(crate) fn group_settings_from(settings: &RtrGroupSettings) -> Settings
     ensures { result ≡ group_settings_of settings.now }
 {
@@ -76,7 +76,7 @@ pub(crate) fn group_settings_from(settings: &RtrGroupSettings) -> Settings
     }
 }
 
-/// The struct that stands for settings.
+/// The struct for settings.
 pub(crate) fn group_settings_to(settings: &Settings) -> RtrGroupSettings
     ensures { group_settings_of result ≡ settings.now }
 {
@@ -86,7 +86,7 @@ pub(crate) fn group_settings_to(settings: &Settings) -> RtrGroupSettings
     }
 }
 
-/// The group that the struct stands for.
+/// The group of the struct.
 pub(crate) fn group_from(group: &RtrGroup) -> Group
     ensures { result ≡ group_of group.now }
 {
@@ -100,7 +100,7 @@ pub(crate) fn group_from(group: &RtrGroup) -> Group
     }
 }
 
-/// The struct that stands for a group.
+/// The struct for a group.
 pub(crate) fn group_to(group: &Group) -> RtrGroup
     ensures { group_of result ≡ group.now }
 {

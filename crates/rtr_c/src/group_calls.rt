@@ -1,5 +1,4 @@
-//! A group of caches by preference: one call for each thing that happens to a member, and one for
-//! time.
+//! A group of caches by preference: one call for each event of a member, and one for time.
 
 ghost use Rattle.std.specs.Prelude.{◌≡◌, false, is_some};
 ghost use Rattle.std.specs.Option.{unwrap_or};
@@ -19,7 +18,7 @@ use session_group::event::Event;
 use session_group::group::{Group, GroupError};
 use session_group::settings::Settings;
 
-/// The usual settings, as `session_group::settings::Settings::usual`.
+/// The default settings, as `session_group::settings::Settings::usual`.
 #[unsafe(no_mangle)]
 pub extern "C" fn rtr_group_usual(settings: &mut RtrGroupSettings)
     ensures patience { settings.new.patience ≡ 5000 }
@@ -29,8 +28,8 @@ pub extern "C" fn rtr_group_usual(settings: &mut RtrGroupSettings)
 }
 
 /// Begins a group of this number of members, whatever the struct holds, as
-/// `session_group::group::Group::new`. For more than 16 it returns `TOO_MANY_MEMBERS`, and the group
-/// has no members.
+/// `session_group::group::Group::new`. For more than 16 it returns `TOO_MANY_MEMBERS`, and the
+/// group has no members.
 #[unsafe(no_mangle)]
 pub extern "C" fn rtr_group_init(
     group: &mut RtrGroup,
@@ -100,7 +99,7 @@ pub extern "C" fn rtr_group_tick(group: &mut RtrGroup, now: u64, answer: &mut Rt
     *answer = group_answer_to(&told);
 }
 
-/// A step of the machine.
+/// Takes a step of the machine.
 fn step(group: &mut RtrGroup, now: u64, member: usize, event: Event) -> RtrGroupAnswer
     ensures { IsGroupStep group.old (clock now) member event result group.new }
 {
@@ -110,7 +109,7 @@ fn step(group: &mut RtrGroup, now: u64, member: usize, event: Event) -> RtrGroup
     group_answer_to(&answer)
 }
 
-/// It shows data of a whole answer, with this number of payloads.
+/// Reports that the member shows data of a whole answer, with this number of payloads.
 #[unsafe(no_mangle)]
 pub extern "C" fn rtr_group_shows(
     group: &mut RtrGroup,
@@ -125,7 +124,7 @@ pub extern "C" fn rtr_group_shows(
     *answer = step(group, now, member, Event::Shows(payloads));
 }
 
-/// It has no data any more.
+/// Reports that the member has no data any more.
 #[unsafe(no_mangle)]
 pub extern "C" fn rtr_group_drops(
     group: &mut RtrGroup,
@@ -138,7 +137,7 @@ pub extern "C" fn rtr_group_drops(
     *answer = step(group, now, member, Event::Drops);
 }
 
-/// It failed, and its data stay.
+/// Reports that the member failed, and keeps its data.
 #[unsafe(no_mangle)]
 pub extern "C" fn rtr_group_fails(
     group: &mut RtrGroup,

@@ -1,4 +1,4 @@
-//! A client as a member of a group: what the group is told of what the client has to do next.
+//! A client as a member of a group: reports the client's next action to the group as an event.
 
 ghost use Rattle.std.specs.Prelude.{◌≡◌, ◌≢◌, ℕ, Bool, true, Option};
 ghost use Rattle.session_client.specs.Next.{IsTodoOf};
@@ -18,9 +18,9 @@ use crate::router_action::cause_from;
 use session_group::event::{Answer, Event, Shown};
 use session_router::event::Cause;
 
-/// The group was told, if this is an event of a group.
+/// The event, if there is one, was reported to the group.
 const TOLD: u8 = 0;
-/// No call for a router's end leaves this todo, but a refused one.
+/// No call that succeeded returns this todo.
 const NO_TODO: u8 = 1;
 /// The group has no such member.
 const NO_MEMBER: u8 = 2;
@@ -28,9 +28,9 @@ const NO_MEMBER: u8 = 2;
 /// The greatest number of a cause.
 const LAST_CAUSE: u8 = 15;
 
-/// Tells the group what a member has to do next, as `session_client::Client` said it: with the
-/// number of the payloads of its data. That is at most one event. For a todo of a refused call, and
-/// for no member, nothing happens, and the status says why.
+/// Reports a member's todo to the group, as `session_client::Client` returned it, with the number
+/// of the payloads of its data. That is at most one event. For a todo of a refused call, or a
+/// member that the group doesn't have, nothing happens, and the status is the reason.
 #[unsafe(no_mangle)]
 pub extern "C" fn rtr_group_tell(
     group: &mut RtrGroup,
@@ -68,14 +68,14 @@ fn status_of(group: &RtrGroup, member: usize, todo: &RtrTodo) -> u8
     }
 }
 
-/// Reports whether a call for a client that wasn't refused may leave this.
+/// Reports whether a call for a client that succeeded may return this.
 fn is_known(todo: &RtrTodo) -> bool
     ensures { result ≡ is_known_todo todo.now }
 {
     GO <= todo.kind && todo.kind <= OUTPUT_ROOM && (todo.kind != CLOSE || todo.cause <= LAST_CAUSE)
 }
 
-/// The event of the group that this is, if it is one.
+/// The event of the group for this todo, if there is one.
 fn event_of(todo: &RtrTodo, payloads: usize) -> Option<Event>
     ensures { result ≡ event_of_todo payloads todo.now }
 {
@@ -88,7 +88,7 @@ fn event_of(todo: &RtrTodo, payloads: usize) -> Option<Event>
     }
 }
 
-/// The event of the group that the end of a connection is, if it is one.
+/// The event of the group for the end of a connection, if there is one.
 fn event_of_end(drops: bool, cause: Cause) -> Option<Event>
     ensures { result ≡ tells_at_end drops cause }
 {
@@ -101,7 +101,7 @@ fn event_of_end(drops: bool, cause: Cause) -> Option<Event>
     }
 }
 
-/// A step of the group, if there is an event.
+/// Takes a step of the group, if there is an event.
 fn tell(group: &mut RtrGroup, now: u64, member: usize, event: Option<Event>) -> RtrGroupAnswer
     ensures { IsGroupTold group.old (clock now) member event result group.new }
 {
@@ -116,7 +116,7 @@ fn tell(group: &mut RtrGroup, now: u64, member: usize, event: Option<Event>) -> 
     }
 }
 
-/// The caller has nothing to do.
+/// An answer without any action.
 fn nothing() -> RtrGroupAnswer
     ensures { result ≡ no_group_answer }
 {
@@ -127,12 +127,12 @@ fn nothing() -> RtrGroupAnswer
     })
 }
 
-/// What a group is told of a client's todo is what it is told of the action of the client's
+/// The event that a group is told for a client's todo is that of the action of the client's
 /// machine, as in the laws of `session_group`; and no such todo is refused.
 pub fn todos_tell_actions()
-    ensures event { (action : Option Action) (t : Todo) (second : Bool) (wakes p : ℕ)
+    ensures event { (action : Option Action) (t : Todo) (second : Bool) (before wakes p : ℕ)
         → IsTodoOf action t
-        → event_of_todo p (todo_told t second wakes) ≡ action_tells p action }
-    ensures known { (t : Todo) (second : Bool) (wakes : ℕ)
-        → is_known_todo (todo_told t second wakes) ≡ true }
+        → event_of_todo p (todo_told t second before wakes) ≡ action_tells p action }
+    ensures known { (t : Todo) (second : Bool) (before wakes : ℕ)
+        → is_known_todo (todo_told t second before wakes) ≡ true }
 {}

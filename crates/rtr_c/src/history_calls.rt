@@ -1,8 +1,9 @@
-//! The answers to serial queries, and the heads of saved files.
+//! Answers to serial queries, and heads of saved files.
 
 ghost use Rattle.std.specs.Prelude.{◌≡◌, ◌++◌, ◌↔◌, ℕ, IsSome, IsTrue, List, Result, drop, length};
-ghost use Rattle.std.specs.Prelude.{take};
+ghost use Rattle.std.specs.Prelude.{false, take};
 ghost use Rattle.data_slices.specs.Canonical.{HoldsData};
+ghost use Rattle.data_history.specs.Parts.{HasPart, part_size};
 ghost use Rattle.data_history.specs.Seal.{seal};
 ghost use Rattle.data_history.specs.Snapshots.{HoldsHistory, Snapshot, snapshot_at};
 ghost use Rattle.data_history.specs.declared.since.SinceFault.{SinceFault};
@@ -16,7 +17,7 @@ use data_history::{
 };
 use rtr_base::state::Serial;
 
-/// The head of a file that has a store behind it.
+/// The head of a file with a store after it.
 #[repr(C)]
 #[derive(Clone, Copy)]
 pub struct RtrStoreHead {
@@ -49,8 +50,7 @@ pub extern "C" fn rtr_history_since_nonnull(
     answer.status
 }
 
-/// Where the present data of a history stand in it, as `data_history::data_at`: their offset and
-/// their length, or 0.
+/// The offset and the length of the present data in a history, as `data_history::data_at`, or 0.
 #[unsafe(no_mangle)]
 pub extern "C" fn rtr_history_data_nonnull(
     history: &[u8],
@@ -60,8 +60,10 @@ pub extern "C" fn rtr_history_data_nonnull(
     ensures holds { IsTrue result → (x : Snapshot) (ys : List Snapshot) →
         HoldsHistory history.now x ys →
         HoldsData (take length.new (drop offset.new history.now)) x.payloads x.end }
-    ensures finds { (x : Snapshot) (ys : List Snapshot) → HoldsHistory history.now x ys →
-        IsTrue result }
+    ensures at { IsTrue result → HasPart history.now × (offset.new ≡ 16)
+        × (length.new ≡ part_size history.now) }
+    ensures finds { HasPart history.now → IsTrue result }
+    ensures none { result ≡ false → (offset.new ≡ 0) × (length.new ≡ 0) }
 {
     match data_at(history) {
         Some(at) => {
@@ -103,7 +105,7 @@ pub extern "C" fn rtr_history_serials_nonnull(
     answer.status
 }
 
-/// Writes the head of a file that has a store behind it, as `data_history::seal_head`.
+/// Writes the head of a file with a store after it, as `data_history::seal_head`.
 #[unsafe(no_mangle)]
 pub extern "C" fn rtr_store_seal_nonnull(store: &[u8], head: &mut RtrStoreHead)
     ensures { head.new.bytes ≡ seal store.now }
@@ -113,7 +115,7 @@ pub extern "C" fn rtr_store_seal_nonnull(store: &[u8], head: &mut RtrStoreHead)
     };
 }
 
-/// Reports whether a file's head is that of the bytes behind it, as `data_history::open_saved`.
+/// Reports whether a file's head matches the bytes after it, as `data_history::open_saved`.
 #[unsafe(no_mangle)]
 pub extern "C" fn rtr_store_open_nonnull(file: &[u8]) -> bool
     ensures opens { IsTrue result → file.now ≡ seal (drop 24 file.now) ++ drop 24 file.now }
@@ -125,7 +127,7 @@ pub extern "C" fn rtr_store_open_nonnull(file: &[u8]) -> bool
     }
 }
 
-/// Writes the store of a file of the form `rtrkept1`, as `data_history::old_store_into`.
+/// Writes the store of a file of the format `rtrkept1`, as `data_history::old_store_into`.
 #[unsafe(no_mangle)]
 pub extern "C" fn rtr_store_open_old_nonnull(
     file: &[u8],

@@ -1,4 +1,4 @@
-//! What changes make of data, in the order in which they came.
+//! Applying changes to data in the order in which they came.
 
 ghost use Rattle.std.specs.Prelude.{◌≡◌, ◌≢◌, ◌+◌, ◌≤◌, ℕ, Result, length};
 ghost use Rattle.data_slices.specs.InOrder.{AppliesInOrder};
@@ -32,7 +32,7 @@ pub extern "C" fn rtr_apply_in_order_nonnull(
     answer.status
 }
 
-/// The answer if the changes aren't made.
+/// The answer if the changes aren't applied.
 fn answer_of(fault: &InOrderFault) -> RtrDataAnswer
     ensures { result ≡ in_order_told (Err fault.now) }
 {

@@ -44,8 +44,8 @@ ghost use Rattle.rtr_c.specs.declared.validation.RtrCovering.{RtrCovering};
 
 use crate::unit::RtrUnit;
 
-/// A call that normalises and goes on where another stopped, over the rest of the input and of the
-/// output and with its own limit, is one call with it.
+/// If a call that normalises stops, and a second call with its own limit continues over the rest of
+/// the input and of the output, both together are one call.
 pub fn two_calls_are_one()
     ensures { (what : Output) (first limit : ℕ) (input before mid after : List ℕ)
         (a b : RtrAnswer) (code other : ℕ) →
@@ -57,23 +57,23 @@ pub fn two_calls_are_one()
     rtr_wire::laws::resumed();
 }
 
-/// What is shown of a unit is written as its form: of a payload unit that of what it means, with 0
-/// where a reset query and a cache reset have no session, and else its bytes. So is a report whose
-/// inner lengths fit.
+/// A unit that is shown is written as its form: a payload unit as that of its meaning, a reset
+/// query and a cache reset with 0 in the session field, and any other unit as its bytes. So is a
+/// report whose inner lengths fit.
 pub fn shown_and_written()
     ensures { (input b rest : List ℕ) (f : AnyFields) (u : RtrUnit) →
         input ≡ b ++ rest → HasAnyFields b f → IsWrittenAgain b f → CallShows b f u →
         said u input ≡ Ok (session_form f) }
 {}
 
-/// What is written of a unit is one unit of at most 65535 bytes, with the fields of its kind as
-/// they were given (RFC 8210 sections 5.2 to 5.11): just these are shown of it, whatever follows
-/// it, and its key info, its providers, or the unit and the text of a report are the bytes that
-/// were given.
+/// A unit that is written is one unit of at most 65535 bytes, with the given fields of its kind
+/// (RFC 8210 sections 5.2 to 5.11): exactly these are shown of it, whatever follows it, and its key
+/// info, its providers, or the unit and the text of a report are the given bytes.
 ///
-/// Not kept are what its kind doesn't have, the bits of an address after the prefix length, the
-/// providers of a withdrawn ASPA, the timings of an end of data in version 0, and the places of the
-/// key info, the providers and the parts of a report, which are now those in the unit itself.
+/// Not kept are fields that its kind doesn't have, the bits of an address after the prefix length,
+/// the providers of a withdrawn ASPA, the timings of an end of data in version 0, and the offsets
+/// of the key info, the providers and the parts of a report, which are now those in the unit
+/// itself.
 pub fn written_and_shown(unit: &RtrUnit, input: &[u8])
     ensures { (b : List ℕ) → said unit.now input.now ≡ Ok b → IsShownAgain unit.now input.now b }
 {
@@ -111,9 +111,9 @@ fn are_bytes(bytes: &[u8])
     ensures { IsBytes bytes.now }
 {}
 
-/// `rtr_same_meaning` tells of the left input what `rtr_normalise_slice` tells of it, if that is
-/// refused, and else of the right one, with the same limit and enough room: the status, the detail,
-/// the offset, and how many bytes are wanted.
+/// If `rtr_same_meaning` refuses the left input, its result is that of `rtr_normalise_slice` on
+/// that input, and otherwise on the right one, with the same limit and an output that is long
+/// enough: the status, the detail, the offset, and how many bytes are wanted.
 pub fn faults_of_two()
     ensures left { (limit : ℕ) (r : Result Bool ComparisonFault)
         (left right before after : List ℕ) (c : RtrComparison) (a : RtrAnswer) (status code : ℕ) →
@@ -131,8 +131,8 @@ pub fn faults_of_two()
         (status ≡ code) × (code ≢ rtr_ok → c ≡ stop_compared rtr_right b) }
 {}
 
-/// If an input is too short, as many bytes are wanted from where the call stopped on as a header
-/// has, or as a unit may have, and more than are there.
+/// If an input is too short, the number of bytes wanted from where the call stopped is that of a
+/// header, or a possible length of a unit, and more than there are.
 pub fn bounded_wants()
     ensures next { (r : Result (List ℕ × AnyFields) ViewFault) (input : List ℕ) (u : RtrUnit)
         (code : ℕ) → ShowsFirst r input u code → code ≡ rtr_short → IsWanted input u.wanted }
@@ -145,8 +145,8 @@ pub fn bounded_wants()
         WantsMore left right c }
 {}
 
-/// The error code of a status is that of each fault which is told as it: of `ViewFault::code`, with
-/// what is owed of it as of `ViewFault::owed_code`, and of `ChangeError::code`.
+/// The error code of a status is that of each fault with this status, as `ViewFault::code` returns
+/// it, with the owed code as that of `ViewFault::owed_code`, and as `ChangeError::code` returns it.
 pub fn codes_of_faults()
     ensures code { (e : ViewFault) (report : List ℕ) →
         status_code (fault_status e) ≡ code_of (read_fault report e) }
@@ -157,7 +157,7 @@ pub fn codes_of_faults()
     ensures unknown { status_code rtr_unknown ≡ change_code refusals.Unknown }
 {}
 
-/// No ASPA that is announced without providers is looked at for rules and names: its header is
+/// An ASPA that is announced without providers is never checked for rules and names: its header is
 /// refused.
 pub fn looked_at_are_units()
     ensures { (input unit : List ℕ) → LooksAt input (Ok unit) → is_bare_aspa unit ≡ false }
@@ -172,9 +172,9 @@ pub fn bounded_texts()
         f.begun < 2 ^ 16 → length (told_line offset (numbered_finding f)) ≤ 128 }
 {}
 
-/// What `rtr_validate_nonnull` and `rtr_covering_nonnull` return by data that
-/// `rtr_check_data_nonnull` accepted, with the lookup that it made, is what origin validation by
-/// these data says. A lookup that it refused is of no bytes.
+/// With data that `rtr_check_data_nonnull` accepted, and the lookup that it made,
+/// `rtr_validate_nonnull` and `rtr_covering_nonnull` return the result of origin validation by
+/// these data. A lookup for refused bytes has length 0.
 pub fn checked_data()
     ensures validity { (input : List ℕ) (l : RtrLookup) (d : List Payload) (e : EndMeaning)
         (p : PrefixParts) (asn code : ℕ) → IsLookup input l → HoldsData input d e →

@@ -1,25 +1,29 @@
-//! What programs in C, Go and Rust call: units and sequences in memory. Nothing allocates.
+//! The calls for programs in C, Go and Rust: units and sequences in memory. Nothing allocates.
 //!
-//! Each call reads and writes the slices that it is given, and nothing else. Its answers are
-//! numbers; `bindings/c/rtr.h` says what each means.
+//! Each call reads and writes only the slices that it is given. Its results are numbers;
+//! `bindings/c/rtr.h` documents what each means.
 #![tactic(auto)]
 
 mod answer;
 mod apply;
 mod cache;
 mod cache_calls;
+mod changes;
 mod check;
 mod check_calls;
 mod closing;
 mod compare;
 mod connection_calls;
 mod data_answer;
+mod data_end;
 mod delta;
+mod failure;
 mod group;
 mod group_calls;
 mod group_telling;
 mod history_calls;
 mod in_order;
+mod keeping;
 mod laws;
 mod lines;
 mod link;

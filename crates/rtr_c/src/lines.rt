@@ -15,7 +15,7 @@ use rtr_units::header::HEADER_SIZE;
 use text_lines::{describe, describe_change, describe_change_json, describe_json, listed_unit};
 use unit_any::length::unit_length;
 
-/// How a call that writes a line or an object ended.
+/// The result of a call that writes a line or an object.
 #[repr(C)]
 #[derive(Drop)]
 pub struct RtrLine {
@@ -34,12 +34,12 @@ pub struct RtrLine {
 // The fields stand one after the other, and six bytes are left at the end.
 const _: () = prove!(size_of::<RtrLine>() == 32);
 
-/// Writes the line that `rtr_list` prints of the first unit of the input if it stands at `offset`,
-/// without its newline, to the front of the output as far as that has room. If the line is longer,
+/// Writes the line that `rtr_list` prints of the first unit of the input, which is at `offset`,
+/// without its newline, to the front of the output, as much of it as fits. If the line is longer,
 /// the status is `NO_ROOM`; `length` is the length of the line.
 ///
-/// Statuses before it, with nothing written: those of `rtr_unit_size`, and `SHORT` if not all of
-/// the unit is there.
+/// Statuses before it, with nothing written: those of `rtr_unit_size`, and `SHORT` if the unit is
+/// incomplete.
 #[unsafe(no_mangle)]
 pub extern "C" fn rtr_line_nonnull(
     input: &[u8],
@@ -63,8 +63,8 @@ pub extern "C" fn rtr_line_nonnull(
     answer.status
 }
 
-/// Writes the JSON object that `rtr_list --json` prints of the first unit of the input if it stands
-/// at `offset`, without its newline. Otherwise as `rtr_line_nonnull`.
+/// Writes the JSON object that `rtr_list --json` prints of the first unit of the input, which is at
+/// `offset`, without its newline. Otherwise as `rtr_line_nonnull`.
 #[unsafe(no_mangle)]
 pub extern "C" fn rtr_json_nonnull(
     input: &[u8],
@@ -88,8 +88,8 @@ pub extern "C" fn rtr_json_nonnull(
     answer.status
 }
 
-/// The line of the change that the unit makes that the input begins with, as `rtr_diff` prints it,
-/// without its end; of a unit without a payload nothing. Otherwise as `rtr_line_nonnull`.
+/// Writes the line of the change of the unit at the front of the input, as `rtr_diff` prints it,
+/// without its newline; nothing for a unit without a payload. Otherwise as `rtr_line_nonnull`.
 #[unsafe(no_mangle)]
 pub extern "C" fn rtr_change_line_nonnull(
     input: &[u8],
@@ -112,9 +112,8 @@ pub extern "C" fn rtr_change_line_nonnull(
     answer.status
 }
 
-/// The JSON object of the change that the unit makes that the input begins with, as
-/// `rtr_diff --json` prints it; of a unit without a payload nothing. Otherwise as
-/// `rtr_line_nonnull`.
+/// Writes the JSON object of the change of the unit at the front of the input, as `rtr_diff --json`
+/// prints it; nothing for a unit without a payload. Otherwise as `rtr_line_nonnull`.
 #[unsafe(no_mangle)]
 pub extern "C" fn rtr_change_json_nonnull(
     input: &[u8],
@@ -137,7 +136,7 @@ pub extern "C" fn rtr_change_json_nonnull(
     answer.status
 }
 
-/// The unit that the input begins with, or the answer if there is none.
+/// The unit at the front of the input, or the answer if there is none.
 pub(crate) fn first_unit(input: &[u8]) -> Result<&[u8], RtrLine>
     ensures unit { IfOk result (λ u. IsUnitOf input.now u.now) }
     ensures refusal { IfErr result (TellsRefusal input.now) }
@@ -167,7 +166,7 @@ pub(crate) fn refused(status: u8, detail: u8, wanted: usize) -> RtrLine
     }
 }
 
-/// The answer of a line of this length, of a unit of this size, in an output with so much room.
+/// The answer for a line of this length, of a unit of this size, in an output of this length.
 fn written(size: usize, length: usize, room: usize) -> RtrLine
     ensures { result ≡ record {
       size = size;
@@ -186,7 +185,7 @@ fn written(size: usize, length: usize, room: usize) -> RtrLine
     }
 }
 
-/// Whether a text of this length fits the room that is left in the output.
+/// The status of a text of this length in an output of this length.
 pub(crate) fn room_status(length: usize, room: usize) -> u8
     ensures { result ≡ line_status length room }
 {

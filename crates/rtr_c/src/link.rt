@@ -3,17 +3,18 @@
 ghost use Rattle.std.specs.Prelude.{◌≡◌, ◌≤◌, ◌+◌, true};
 ghost use Rattle.session_client.specs.Holding.{due_size};
 ghost use Rattle.session_client.specs.Turning.{IsInStep, flag};
-ghost use Rattle.rtr_c.specs.Links.{are_flags, client_of, flag_set, has_flags, holding_number};
+ghost use Rattle.rtr_c.specs.Links.{are_flags, came_before, client_of, flag_set, has_flags};
+ghost use Rattle.rtr_c.specs.Links.{holding_number};
 ghost use Rattle.rtr_c.specs.Links.{is_begun, link_router, numbered_holding, suits_phase};
 ghost use Rattle.rtr_c.specs.Routers.{router_of};
 
 use crate::router::{RtrKnown, RtrRouter, RtrSettings, router_from, router_to};
 use session_client::client::{Client, Holding};
 
-/// The mark of a struct that was begun.
+/// The mark of a struct that a call initialised.
 const MARK: u32 = 1_280_461_387;
 
-/// The numbers of what the first bytes of the input are.
+/// The numbers of the contents of the front of the input.
 const NOTHING: u8 = 0;
 
 const UNITS: u8 = 1;
@@ -35,6 +36,8 @@ pub struct RtrLink {
     pub bytes: u64,
     /// The latest time that was passed.
     pub latest: u64,
+    /// How many bytes came on the connection.
+    pub received: u64,
     /// The length of the payload units at the front of the input.
     pub kept: usize,
     /// The length of the end of data behind them, in a whole answer, or 0.
@@ -79,7 +82,7 @@ pub struct RtrLink {
 }
 
 // The fields stand one after the other, and one byte is left at the end.
-const _: () = prove!(size_of::<RtrLink>() == 224);
+const _: () = prove!(size_of::<RtrLink>() == 232);
 
 /// Whether a flag is set.
 pub(crate) fn flag_from(number: u8) -> bool
@@ -131,7 +134,7 @@ fn router_in(link: &RtrLink) -> RtrRouter
     }
 }
 
-/// What the first bytes of the input are.
+/// The contents of the front of the input.
 fn holding_from(number: u8, size: usize, since: bool) -> Holding
     ensures { result ≡ numbered_holding number size since }
 {
@@ -142,7 +145,7 @@ fn holding_from(number: u8, size: usize, since: bool) -> Holding
     }
 }
 
-/// The client that the struct stands for.
+/// The client of the struct.
 pub(crate) fn client_from(link: &RtrLink) -> Client
     ensures client { result ≡ client_of link.now }
     ensures step { is_begun link.now ≡ true → IsInStep result }
@@ -166,8 +169,8 @@ pub(crate) fn client_from(link: &RtrLink) -> Client
     }
 }
 
-/// The number of what the first bytes of the input are, the length of the end of data of a whole
-/// answer, and whether that is changes of the data.
+/// The number of the contents of the front of the input, the length of the end of data of a whole
+/// answer, and whether that answer changes the data.
 fn holding_to(holding: Holding) -> (u8, usize, u8)
     ensures number { result.0 ≡ holding_number holding }
     ensures same { numbered_holding result.0 result.1 (flag_set result.2) ≡ holding }
@@ -181,10 +184,11 @@ fn holding_to(holding: Holding) -> (u8, usize, u8)
     }
 }
 
-/// The struct that stands for a client, after it was told this time.
-pub(crate) fn link_to(client: &Client, latest: u64) -> RtrLink
+/// The struct for a client, after it was told this time and received this many bytes.
+pub(crate) fn link_to(client: &Client, latest: u64, received: u64) -> RtrLink
     ensures client { client_of result ≡ client.now }
     ensures latest { result.latest ≡ latest }
+    ensures received { result.received ≡ received }
     ensures begun { IsInStep client.now
         → client.now.kept + due_size client.now.holding ≤ client.now.filled
         → is_begun result ≡ true }
@@ -201,6 +205,7 @@ pub(crate) fn link_to(client: &Client, latest: u64) -> RtrLink
         rises: router.rises,
         bytes: router.bytes,
         latest,
+        received,
         kept: client.kept,
         end_size,
         filled: client.filled,
@@ -234,7 +239,14 @@ pub(crate) fn link_to(client: &Client, latest: u64) -> RtrLink
     }
 }
 
-/// Whether the first bytes of the input are what they are in this phase.
+/// The number of bytes of the connection that came before those of the input.
+pub(crate) fn came_before(link: &RtrLink) -> u64
+    ensures { result ≡ came_before link.now }
+{
+    link.received.saturating_sub(link.filled as u64)
+}
+
+/// Whether the contents of the front of the input are possible in this phase.
 fn suits_phase(phase: u8, holding: u8) -> bool
     ensures { result ≡ suits_phase phase holding }
 {
@@ -245,14 +257,14 @@ fn suits_phase(phase: u8, holding: u8) -> bool
     }
 }
 
-/// Whether these are flags.
+/// Whether these are valid flags.
 pub(crate) fn are_flags(a: u8, b: u8, c: u8, d: u8) -> bool
     ensures { result ≡ are_flags a b c d }
 {
     a <= 1 && b <= 1 && c <= 1 && d <= 1
 }
 
-/// Whether all flags are flags.
+/// Whether all flags are valid.
 fn has_flags(link: &RtrLink) -> bool
     ensures { result ≡ has_flags link.now }
 {

@@ -1,4 +1,4 @@
-//! What the buffers of a router's end hold, in numbers.
+//! The contents of the buffers of a router's end, in numbers.
 
 ghost use Rattle.std.specs.Prelude.{◌≡◌, ◌≢◌, ◌≤◌};
 ghost use Rattle.rtr_c.specs.LinkStates.{no_state, state_told};
@@ -8,7 +8,7 @@ use crate::link::{RtrLink, client_from};
 use crate::link_status::{OK, next_status};
 use session_client::client::Client;
 
-/// What the buffers hold at a time.
+/// The contents of the buffers at a time.
 #[repr(C)]
 #[derive(Clone, Copy)]
 pub struct RtrLinkState {
@@ -36,7 +36,7 @@ pub struct RtrLinkState {
 // The fields stand one after the other, and four bytes are left at the end.
 const _: () = prove!(size_of::<RtrLinkState>() == 48);
 
-/// What the client says of its buffers at this time.
+/// The state of the client's buffers at this time.
 fn state_of(client: &Client, now: u64) -> RtrLinkState
     ensures { result ≡ state_told client.now now }
 {
@@ -76,7 +76,7 @@ fn none() -> RtrLinkState
     }
 }
 
-/// What buffers of these lengths hold.
+/// The contents of buffers of these lengths.
 #[unsafe(no_mangle)]
 pub extern "C" fn rtr_link_state_of(
     link: &RtrLink,

@@ -1,4 +1,4 @@
-//! How a call for a router's end ends, in numbers.
+//! The statuses of calls for a router's end.
 
 ghost use Rattle.std.specs.Prelude.{◌≡◌, ◌≤◌, ◌<◌, ◌+◌, ◌^◌, true, List, length, ℕ};
 ghost use Rattle.session_client.specs.Holding.{Fits};
@@ -12,38 +12,38 @@ use crate::link::{RtrLink, flag_from, is_begun};
 
 /// The call succeeded.
 pub(crate) const OK: u8 = 0;
-/// The fields of the struct aren't those that a call leaves.
+/// The fields of the struct aren't those of any state that a call leaves.
 pub(crate) const NOT_BEGUN: u8 = 1;
-/// A buffer is shorter than what it holds, or an output shorter than a report.
+/// A buffer is shorter than its contents, or an output shorter than a report.
 pub(crate) const SHORT_BUFFER: u8 = 2;
 /// The time is before the latest one, or not below 2^63.
 pub(crate) const BAD_TIME: u8 = 3;
-/// There is no connection that this could happen to.
+/// No connection is there, or being opened, to which this can happen now.
 pub(crate) const OUT_OF_TURN: u8 = 4;
-/// More bytes than there is room for, or than are unsent.
+/// More bytes than the buffer can hold, or than are unsent.
 pub(crate) const TOO_LONG: u8 = 5;
 
 /// The length of the longest report.
 const REPORT: usize = 65_535;
 
-/// The latest time that may be passed.
+/// The latest time that is allowed.
 const LAST: u64 = u64::MAX / 2;
 
-/// Whether this time may be passed: not before the latest one, and below 2^63.
+/// Whether this time is allowed: not before the latest one, and below 2^63.
 fn suits_time(link: &RtrLink, now: u64) -> bool
     ensures { result ≡ suits_time link.now now }
 {
     link.latest <= now && now <= LAST
 }
 
-/// How many bytes of data there are.
+/// The number of bytes of data.
 fn shown_size(link: &RtrLink) -> usize
     ensures { result ≡ shown_size link.now }
 {
     if flag_from(link.shows) { link.shown } else { 0 }
 }
 
-/// The length of the buffer that the data are in.
+/// The length of the buffer with the data.
 fn data_length(link: &RtrLink, first: usize, second: usize) -> usize
     ensures { result ≡ data_length link.now first second }
 {
@@ -54,7 +54,7 @@ fn data_length(link: &RtrLink, first: usize, second: usize) -> usize
     }
 }
 
-/// The status of a call that is given an input and an output of these lengths.
+/// The status of a call with an input and an output of these lengths.
 pub(crate) fn telling_status(link: &RtrLink, now: u64, input: usize, output: usize) -> u8
     ensures status { result ≡ telling_status link.now now input output }
     ensures begun { result ≡ link_ok → is_begun link.now ≡ true }
@@ -73,7 +73,7 @@ pub(crate) fn telling_status(link: &RtrLink, now: u64, input: usize, output: usi
     }
 }
 
-/// The status of a call that is given data buffers too.
+/// The status of a call that also has data buffers.
 pub(crate) fn next_status(
     link: &RtrLink,
     now: u64,
@@ -98,7 +98,7 @@ pub(crate) fn next_status(
     }
 }
 
-/// The status of a call that needs room for a report.
+/// The status of a call that may write a report.
 pub(crate) fn giving_up_status(link: &RtrLink, now: u64, input: usize, output: usize) -> u8
     ensures status { result ≡ giving_up_status link.now now input output }
     ensures begun { result ≡ link_ok → is_begun link.now ≡ true }
@@ -115,7 +115,7 @@ pub(crate) fn giving_up_status(link: &RtrLink, now: u64, input: usize, output: u
     }
 }
 
-/// The status of a call that begins anew.
+/// The status of a call that begins a client again.
 pub(crate) fn again_status(link: &RtrLink) -> u8
     ensures status { result ≡ again_status link.now }
     ensures begun { result ≡ link_ok → is_begun link.now ≡ true }
@@ -123,7 +123,7 @@ pub(crate) fn again_status(link: &RtrLink) -> u8
     if is_begun(link) { OK } else { NOT_BEGUN }
 }
 
-/// The status where a connection was opened.
+/// The status of reporting that a connection was opened.
 pub(crate) fn opened_status(link: &RtrLink) -> u8
     ensures { result ≡ opened_status link.now }
 {
@@ -136,7 +136,7 @@ pub(crate) fn opened_status(link: &RtrLink) -> u8
     }
 }
 
-/// The status where a connection was lost.
+/// The status of reporting that a connection was lost.
 pub(crate) fn lost_status(link: &RtrLink) -> u8
     ensures { result ≡ lost_status link.now }
 {

@@ -1,17 +1,19 @@
-//! What a caller of the calls for a router's end has to do next, in numbers.
+//! The next action of a caller of the calls for a router's end, in numbers.
 
 ghost use Rattle.std.specs.Prelude.{◌≡◌};
 ghost use Rattle.rtr_c.specs.LinkTodos.{close_todo, detail_of_refusal, plain_todo, refused_todo};
-ghost use Rattle.rtr_c.specs.LinkTodos.{room_todo, status_of_refusal, todo_told};
+ghost use Rattle.rtr_c.specs.LinkTodos.{position_told, received_after, room_todo};
+ghost use Rattle.rtr_c.specs.LinkTodos.{status_of_refusal, todo_told};
 
 use crate::answer::{
     ACCEPTED, DUPLICATE, EMPTY_PROVIDERS, PREFIX, SHORT, TOO_LONG, UNIT_LENGTH, UNIT_TYPE,
     UNIT_VERSION, UNKNOWN, rule_number,
 };
 use crate::router_action::cause_to;
+use rtr_base::error_code::ErrorCode;
 use session_bytes::Refusal;
 use session_client::next::Todo;
-use session_router::event::Ending;
+use session_router::event::{Cause, Ending};
 
 const NOTHING: u8 = 0;
 
@@ -39,15 +41,20 @@ const INDEX_ROOM: u8 = 11;
 
 pub(crate) const OUTPUT_ROOM: u8 = 12;
 
-/// What a caller has to do next: as `session_client::Todo`. Fields that it doesn't have are zero.
+/// The caller's next action: as `session_client::Todo`. Fields that it doesn't have are zero, but
+/// `position` at each end of a connection and `no data`.
 #[repr(C)]
 #[derive(Clone, Copy)]
 pub struct RtrTodo {
     /// When to call rtr_link_next, if nothing comes before. It may have passed.
     pub wakes: u64,
+    /// The offset of the unit that it is about, in all bytes of the connection; of a change that
+    /// doesn't apply, that in the payload units of the answer; at an end that is about no unit, the
+    /// number of bytes that came before those of the input.
+    pub position: u64,
     /// The length that a buffer needs: in bytes, of the index in entries.
     pub room: usize,
-    /// The offset in the input of the unit that it is about.
+    /// The offset of that unit in the input.
     pub offset: usize,
     /// The error code of the report that the output ends with.
     pub code: u16,
@@ -66,14 +73,15 @@ pub struct RtrTodo {
 }
 
 // The fields stand one after the other.
-const _: () = prove!(size_of::<RtrTodo>() == 32);
+const _: () = prove!(size_of::<RtrTodo>() == 40);
 
-/// Something without further fields.
+/// An action without further fields.
 fn plain(kind: u8, wakes: u64) -> RtrTodo
     ensures { result ≡ plain_todo kind wakes }
 {
     RtrTodo {
         wakes,
+        position: 0,
         room: 0,
         offset: 0,
         code: 0,
@@ -86,7 +94,7 @@ fn plain(kind: u8, wakes: u64) -> RtrTodo
     }
 }
 
-/// Nothing, since the call was refused.
+/// No action, since the call was refused.
 pub(crate) fn refused() -> RtrTodo
     ensures { result ≡ refused_todo }
 {
@@ -103,10 +111,10 @@ fn room(kind: u8, room: usize, wakes: u64) -> RtrTodo
     }
 }
 
-/// What a caller has to do next, in numbers: whether the data are in the second buffer, and when to
-/// call again.
-pub(crate) fn todo_to(todo: &Todo, second: bool, wakes: u64) -> RtrTodo
-    ensures { result ≡ todo_told todo.now second wakes }
+/// The caller's next action in numbers, with whether the data are in the second buffer, how many
+/// bytes of the connection came before those of the input, and when to call again.
+pub(crate) fn todo_to(todo: &Todo, second: bool, before: u64, wakes: u64) -> RtrTodo
+    ensures { result ≡ todo_told todo.now second before wakes }
 {
     match todo {
         Todo::Go => plain(GO, wakes),
@@ -118,6 +126,7 @@ pub(crate) fn todo_to(todo: &Todo, second: bool, wakes: u64) -> RtrTodo
             offset,
         } => RtrTodo {
             offset: *offset,
+            position: position_of(ending.cause, *offset, before),
             wakes,
             ..close_to(ending, *refusal)
         },
@@ -125,6 +134,7 @@ pub(crate) fn todo_to(todo: &Todo, second: bool, wakes: u64) -> RtrTodo
         Todo::Dropped => plain(DROPPED, wakes),
         Todo::NoData { offset } => RtrTodo {
             offset: *offset,
+            position: before.saturating_add(*offset as u64),
             ..plain(NO_DATA, wakes)
         },
         Todo::InputRoom(size) => room(INPUT_ROOM, *size, wakes),
@@ -139,16 +149,37 @@ pub(crate) fn todo_to(todo: &Todo, second: bool, wakes: u64) -> RtrTodo
 
 /// The end of a connection in numbers.
 fn close_to(ending: &Ending, refusal: Option<Refusal>) -> RtrTodo
-    ensures { result ≡ close_todo ending.now refusal 0 0 }
+    ensures { result ≡ close_todo ending.now refusal 0 0 0 }
 {
     RtrTodo {
-        code: ending.report.unwrap_or(0),
+        code: ending.report.unwrap_or(ErrorCode(0)).0,
         cause: cause_to(ending.cause),
         status: status_of_refusal(refusal),
         detail: detail_of_refusal(refusal),
         drops: ending.drop,
         reports: ending.report.is_some(),
         ..plain(CLOSE, 0)
+    }
+}
+
+/// The offset of a unit in all bytes of the connection; of a change that doesn't apply, its offset
+/// in the answer.
+fn position_of(cause: Cause, offset: usize, before: u64) -> u64
+    ensures { result ≡ position_told cause offset before }
+{
+    match cause {
+        Cause::NotApplied => offset as u64,
+        _ => before.saturating_add(offset as u64),
+    }
+}
+
+/// How many bytes came on the connection after this: a new one has none.
+pub(crate) fn received_after(todo: &Todo, received: u64) -> u64
+    ensures { result ≡ received_after todo.now received }
+{
+    match todo {
+        Todo::Connect => 0,
+        _ => received,
     }
 }
 

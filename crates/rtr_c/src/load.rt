@@ -1,4 +1,4 @@
-//! A recording or a list, loaded as data.
+//! Loading a recording or a list as data.
 
 ghost use Rattle.std.specs.Prelude.{◌≡◌, ◌≢◌, ◌≤◌, ◌/◌, ℕ, Result, length, min};
 ghost use Rattle.data_loading.specs.Loading.{LoadsFrom, RefusesLoad};
@@ -20,7 +20,7 @@ use data_memory::ChangeError;
 use data_recordings::Refusal;
 use rtr_wire::pdu::ViewFault;
 
-/// What was loaded, or why nothing was.
+/// The loaded data, or why none were loaded.
 #[repr(C)]
 #[derive(Drop)]
 pub struct RtrLoaded {
@@ -141,7 +141,7 @@ impl RtrLoaded {
     }
 }
 
-/// The status of what is wrong with a unit.
+/// The status for what is wrong with a unit.
 fn reason_status(reason: &LoadReason) -> u8
     ensures { result ≡ load_fault_status reason.now }
 {
@@ -152,7 +152,7 @@ fn reason_status(reason: &LoadReason) -> u8
     }
 }
 
-/// The status of a unit that a recording can't have there.
+/// The status for a unit that isn't allowed at that point of a recording.
 fn refusal_status(refusal: Refusal) -> u8
     ensures { result ≡ recorded_status refusal }
 {
@@ -165,7 +165,7 @@ fn refusal_status(refusal: Refusal) -> u8
     }
 }
 
-/// The status of a change that isn't made.
+/// The status for a change that isn't allowed.
 fn change_status(error: ChangeError) -> u8
     ensures { result ≡ change_status error }
 {
@@ -189,7 +189,8 @@ fn reason_detail(reason: &LoadReason) -> u8
     }
 }
 
-/// How many bytes are needed at least of a unit that is cut off, where the input has these, or 0.
+/// The least number of bytes needed of a unit that is cut off, given these bytes of the input, or
+/// 0.
 fn reason_wanted(reason: &LoadReason, left: &[u8]) -> usize
     ensures { result ≡ load_fault_wanted reason.now left.now }
 {

@@ -1,4 +1,4 @@
-//! What lookups of routes need of data: made of data that are checked.
+//! Lookup tables for routes, made from data that were checked.
 
 ghost use Rattle.std.specs.Prelude.{◌≡◌, Option};
 ghost use Rattle.data_slices.specs.declared.fault.Flaw.{Flaw};
@@ -8,13 +8,13 @@ use crate::data_answer::{FIRST, RtrDataAnswer};
 use data_slices::check_data;
 use data_validation::Tables;
 
-/// Where the prefixes of data lie that were checked. One that no check filled isn't sealed.
+/// Tables of data that were checked. A lookup that no check filled isn't sealed.
 #[repr(C)]
 #[derive(Clone, Copy)]
 pub struct RtrLookup {
-    /// How many bytes the data are of, or 0.
+    /// The length of the data in bytes, or 0.
     pub length: usize,
-    /// What this length is below the greatest number.
+    /// The greatest number minus this length.
     pub seal: usize,
     /// The tables of the data.
     pub tables: Tables,
@@ -35,7 +35,7 @@ impl RtrLookup {
         }
     }
 
-    /// Whether it was made of data of this length.
+    /// Whether it was made from data of this length.
     #[inline(always)]
     pub(crate) fn is_of(&self, data: &[u8]) -> bool
         ensures { result ≡ is_sealed «data».now self.now }
@@ -44,8 +44,8 @@ impl RtrLookup {
     }
 }
 
-/// As `data_slices::check_data`: where the input begins with data, the lookup is theirs, and else
-/// it is of none.
+/// As `data_slices::check_data`: if the input begins with data, the lookup is made from these;
+/// otherwise its length is 0.
 #[unsafe(no_mangle)]
 pub extern "C" fn rtr_check_data_nonnull(
     data: &[u8],

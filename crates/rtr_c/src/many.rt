@@ -6,8 +6,8 @@ use crate::answer::ACCEPTED;
 use crate::next::rtr_next_nonnull;
 use crate::unit::RtrUnit;
 
-/// The units that the input begins with, each as `rtr_next_nonnull` shows it, until all places are
-/// filled or one isn't shown.
+/// Shows the units at the front of the input, each as `rtr_next_nonnull` does, until the output is
+/// full or a unit can't be shown.
 #[unsafe(no_mangle)]
 pub extern "C" fn rtr_next_many_nonnull(
     input: &[u8],

@@ -23,12 +23,12 @@ use rtr_wire::pdu::{
 };
 use unit_any::{ReportView, SessionFault, SessionView};
 
-/// The bytes of a report beside its parts: a header and two lengths.
+/// The number of bytes of a report beside its parts: a header and two lengths.
 pub(crate) const REPORT_FIXED: usize = 16;
-/// Where the unit begins that a report is about.
+/// The offset of the unit that a report is about.
 const PART_OF_REPORT: usize = 12;
 
-/// The unit that the input begins with, as `unit_any::SessionView::first`.
+/// The unit at the front of the input, as `unit_any::SessionView::first`.
 #[unsafe(no_mangle)]
 pub extern "C" fn rtr_next_nonnull(input: &[u8], unit: &mut RtrUnit) -> u8
     ensures { (r : Result (List ℕ × AnyFields) ViewFault) ×
@@ -50,8 +50,8 @@ pub extern "C" fn rtr_next_nonnull(input: &[u8], unit: &mut RtrUnit) -> u8
     }
 }
 
-/// Shows the unit that the input begins with, of one type or of any other: the type is named so
-/// that each has code of its own, in which the compiler knows the kind of the view.
+/// Shows the unit at the front of the input, of one type or of any other: the type is a parameter
+/// so that each has code of its own, in which the compiler knows the kind of the view.
 #[inline(always)]
 fn show_first<const TYPE: u8>(input: &[u8], unit: &mut RtrUnit) -> u8
     ensures { (r : Result (List ℕ × AnyFields) ViewFault) ×
@@ -70,7 +70,7 @@ fn show_first<const TYPE: u8>(input: &[u8], unit: &mut RtrUnit) -> u8
     }
 }
 
-/// Shows why no unit is shown.
+/// Shows why a unit can't be shown.
 #[inline(always)]
 fn refuse(refusal: &SessionFault, input: &[u8], unit: &mut RtrUnit) -> u8
     requires { IsSessionFault input.now refusal.now.fault refusal.now.size }
@@ -84,8 +84,8 @@ fn refuse(refusal: &SessionFault, input: &[u8], unit: &mut RtrUnit) -> u8
     fault_status(&refusal.fault)
 }
 
-/// How many bytes are needed at least of a unit that isn't all in the input: those of a header,
-/// and then as many as it says.
+/// The least number of bytes needed of a unit that is incomplete: those of a header, and then the
+/// length in it.
 #[inline(always)]
 pub(crate) fn wanted(input: &[u8]) -> usize
     ensures { result ≡ wanted input.now }
@@ -96,7 +96,7 @@ pub(crate) fn wanted(input: &[u8]) -> usize
     u32_at(input, 4) as usize
 }
 
-/// Puts a view of this size into a unit of no kind.
+/// Writes a view of this size to a unit of no kind.
 #[inline(always)]
 fn show(view: &SessionView<'_>, size: usize, unit: &mut RtrUnit)
     requires { IsOfSize view.now size }
@@ -125,7 +125,7 @@ fn show_serial<const TYPE: u8>(view: &FixedUnit<TYPE, 12>, size: usize, unit: &m
     unit.version = view.version();
 }
 
-/// Shows a unit that is a header alone, with its session, or 0 if it has none.
+/// Shows a unit that is only a header, with its session, or 0 if it has none.
 #[inline(always)]
 fn show_bare<const TYPE: u8>(
     view: &FixedUnit<TYPE, 8>,

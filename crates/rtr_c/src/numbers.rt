@@ -1,4 +1,4 @@
-//! What numbers of the protocol say: error codes, serial numbers, versions.
+//! Numbers of the protocol: error codes, serial numbers, versions.
 
 ghost use Rattle.std.specs.Prelude.{◌≡◌};
 ghost use Rattle.std.specs.Option.{option_map};
@@ -12,14 +12,13 @@ use rtr_wire::pdu::{Error, ErrorCode};
 use rtr_wire::state::Serial;
 use std::cmp::Ordering;
 
-/// The version of this library, 100 times 100 times the first number of it, 100 times the second,
-/// and the third.
+/// The version of this library, X.Y.Z, as 10000 X + 100 Y + Z.
 const WIRE_VERSION: u32 = 300;
 
-/// The last time that a machine is told.
+/// The latest time that machines are told.
 const LAST: u64 = u64::MAX / 2;
 
-/// The time that a machine is told.
+/// Limits a time to the latest one.
 pub(crate) fn clock(now: u64) -> u64
     ensures { result ≡ clock now }
 {
@@ -35,7 +34,7 @@ pub extern "C" fn rtr_wire_version() -> u32
 }
 
 /// The order of two serial numbers (RFC 1982 section 3.2): 0 if they are equal, 1 if the left one
-/// is less, 2 if it is greater, 3 if they are half the circle apart and so have no order.
+/// is less, 2 if it is greater, 3 if they have no order, because they are half the circle apart.
 #[unsafe(no_mangle)]
 pub extern "C" fn rtr_serial_order(left: u32, right: u32) -> u8
     ensures { result ≡ order_number (serial_cmp left right) }
@@ -62,9 +61,9 @@ pub extern "C" fn rtr_version_has(version: u8, kind: u8) -> bool
     first <= version && version <= LAST_VERSION
 }
 
-/// Whether a report is owed to the peer for this status of the unit that the input begins with, as
-/// `unit_views::fault::owed_code`: none for an error report. The error code is put into `code`, or
-/// 0 if none is owed.
+/// Whether a report is owed to the peer for this status of the unit at the front of the input, as
+/// `unit_views::fault::owed_code`: none is owed for an error report. Writes the error code to
+/// `code`, or 0 if none is owed.
 #[unsafe(no_mangle)]
 pub extern "C" fn rtr_error_code_nonnull(status: u8, input: &[u8], code: &mut u16) -> bool
     ensures { TellsCode (code_owed status input.now) code.new result }
@@ -84,7 +83,8 @@ pub extern "C" fn rtr_error_code_nonnull(status: u8, input: &[u8], code: &mut u1
 
 /// The error code of a status (RFC 8210 section 12), as `Refusal::code` of session_bytes.
 pub(crate) fn code_of(status: u8) -> Option<ErrorCode>
-    ensures { option_map (λ c. c.0) result ≡ status_code status }
+    ensures number { option_map (λ c. c.0) result ≡ status_code status }
+    ensures code { result ≡ option_map (λ n. record { 0 = n }) (status_code status) }
 {
     match refusal_from(status, 0) {
         Some(refusal) => Some(refusal.code()),

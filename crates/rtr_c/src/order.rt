@@ -1,4 +1,4 @@
-//! Changes put in canonical form.
+//! Putting changes in canonical form.
 
 ghost use Rattle.std.specs.Prelude.{◌≡◌, ◌≢◌, ◌≤◌, ℕ, Result, length};
 ghost use Rattle.data_slices.specs.Order.{Orders};
@@ -30,7 +30,7 @@ pub extern "C" fn rtr_order_nonnull(
     answer.status
 }
 
-/// The answer if the changes aren't put in order.
+/// The answer if the changes can't be put in canonical form.
 fn answer_of(fault: &OrderFault) -> RtrDataAnswer
     ensures { result ≡ order_told (Err fault.now) }
 {

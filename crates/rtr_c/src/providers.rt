@@ -8,8 +8,8 @@ use crate::write::part_of;
 use rtr_units::numbers::u32_at;
 use rtr_wire::pdu::Aspa;
 
-/// Whether the unit is an ASPA that has a provider of this index, from 0 on, in the input. It is
-/// put into `provider`, or 0 if there is none.
+/// Whether the unit is an ASPA that has a provider of this index, from 0, in the input. Writes the
+/// provider to `provider`, or 0 if there is none.
 #[unsafe(no_mangle)]
 pub extern "C" fn rtr_provider_nonnull(
     unit: &RtrUnit,

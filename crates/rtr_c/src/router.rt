@@ -7,7 +7,7 @@ use session_router::head::Known;
 use session_router::router::{Phase, Router};
 use session_router::settings::Settings;
 
-/// What a caller sets: as `session_router::settings::Settings`.
+/// The settings of a router: as `session_router::settings::Settings`.
 #[repr(C)]
 #[derive(Clone, Copy)]
 pub struct RtrSettings {
@@ -36,7 +36,7 @@ pub struct RtrSettings {
 // The fields stand one after the other, and one byte is left at the end.
 const _: () = prove!(size_of::<RtrSettings>() == 40);
 
-/// What names data, and their times in seconds: as `session_router::head::Known`.
+/// The identity of data, and their times in seconds: as `session_router::head::Known`.
 #[repr(C)]
 #[derive(Clone, Copy)]
 pub struct RtrKnown {
@@ -95,7 +95,7 @@ pub struct RtrRouter {
 // The fields stand one after the other, and three bytes are left at the end.
 const _: () = prove!(size_of::<RtrRouter>() == 168);
 
-/// The settings that the struct stands for.
+/// The settings of the struct.
 pub(crate) fn settings_from(settings: &RtrSettings) -> Settings
     ensures { result ≡ settings_of settings.now }
 {
@@ -113,7 +113,7 @@ pub(crate) fn settings_from(settings: &RtrSettings) -> Settings
     }
 }
 
-/// The struct that stands for settings.
+/// The struct for settings.
 pub(crate) fn settings_to(settings: &Settings) -> RtrSettings
     ensures { settings_of result ≡ settings.now }
 {
@@ -184,7 +184,7 @@ fn phase_to(phase: Phase) -> u8
     }
 }
 
-/// The machine that the struct stands for.
+/// The machine of the struct.
 pub(crate) fn router_from(router: &RtrRouter) -> Router
     ensures { result ≡ router_of router.now }
 {
@@ -218,7 +218,7 @@ pub(crate) fn router_from(router: &RtrRouter) -> Router
     }
 }
 
-/// The struct that stands for a machine.
+/// The struct for a machine.
 pub(crate) fn router_to(router: &Router) -> RtrRouter
     ensures router { router_of result ≡ router.now }
     ensures phase { result.phase ≡ phase_number router.now.phase }

@@ -1,4 +1,4 @@
-//! What a router's machine wants done, in numbers.
+//! The action that a router's machine returns, in numbers.
 
 ghost use Rattle.std.specs.Prelude.{◌≡◌};
 ghost use Rattle.rtr_c.specs.RouterActions.{action_told, cause_number, numbered_cause, ending_of};
@@ -9,6 +9,7 @@ use crate::answer::{
     DUPLICATE, EMPTY_PROVIDERS, PREFIX, SHORT, TOO_LONG, UNIT_LENGTH, UNIT_TYPE, UNIT_VERSION,
     UNKNOWN,
 };
+use rtr_base::error_code::ErrorCode;
 use rtr_wire::pdu::PrefixRule;
 use session_bytes::Refusal;
 use session_router::event::{Action, Cause, Ending};
@@ -37,8 +38,8 @@ const END: u8 = 9;
 /// The number of the cause that the data have expired.
 const EXPIRED: u8 = 13;
 
-/// What the machine wants done: as `session_router::event::Action`, and where in the input the unit
-/// lies that it is about. Fields that an action doesn't have are zero.
+/// The action that the machine returns: as `session_router::event::Action`, and the offset in the
+/// input of the unit that it is about. Fields that an action doesn't have are zero.
 #[repr(C)]
 #[derive(Clone, Copy)]
 pub struct RtrAction {
@@ -100,7 +101,7 @@ pub(crate) fn plain(kind: u8) -> RtrAction
     }
 }
 
-/// An action in numbers. After it the machine has this version.
+/// An action in numbers. The machine has this version after it.
 pub(crate) fn action_to(action: Action, version: u8) -> RtrAction
     ensures { result ≡ action_told action version }
 {
@@ -128,7 +129,7 @@ pub(crate) fn action_to(action: Action, version: u8) -> RtrAction
             ..plain(DROP)
         },
         Action::End(ending) => RtrAction {
-            code: ending.report.unwrap_or(0),
+            code: ending.report.unwrap_or(ErrorCode(0)).0,
             version,
             cause: cause_to(ending.cause),
             drops: ending.drop,
@@ -162,7 +163,7 @@ pub(crate) fn cause_to(cause: Cause) -> u8
     }
 }
 
-/// The cause of a number; of a number that is none, that the connection is gone.
+/// The cause of a number; for any other number, that the connection is gone.
 pub(crate) fn cause_from(cause: u8) -> Cause
     ensures { result ≡ numbered_cause cause }
 {
@@ -186,14 +187,14 @@ pub(crate) fn cause_from(cause: u8) -> Cause
     }
 }
 
-/// The ending that an action tells of.
+/// The ending in an action.
 pub(crate) fn ending_from(action: &RtrAction) -> Ending
     ensures { result ≡ ending_of action.now }
 {
     Ending {
         drop: action.drops,
         report: if action.reports {
-            Some(action.code)
+            Some(ErrorCode(action.code))
         } else {
             None
         },
@@ -201,7 +202,7 @@ pub(crate) fn ending_from(action: &RtrAction) -> Ending
     }
 }
 
-/// The query that an action tells of.
+/// The query in an action.
 pub(crate) fn query_from(action: &RtrAction) -> Query
     ensures { result ≡ query_of action.now }
 {
@@ -213,8 +214,8 @@ pub(crate) fn query_from(action: &RtrAction) -> Query
     }
 }
 
-/// The refusal of a unit or a change that has this status and this detail; none where that is no
-/// fault of the peer's.
+/// The refusal of a unit or a change with this status and this detail; none if the peer isn't at
+/// fault.
 pub(crate) fn refusal_from(status: u8, detail: u8) -> Option<Refusal>
     ensures { result ≡ refusal_at status detail }
 {
@@ -232,7 +233,7 @@ pub(crate) fn refusal_from(status: u8, detail: u8) -> Option<Refusal>
     }
 }
 
-/// The part of the rule on the lengths of a prefix that has this number, if one has it.
+/// The part of the rule on the lengths of a prefix with this number, if there is one.
 fn rule_from(detail: u8) -> Option<PrefixRule>
     ensures { result ≡ numbered_prefix_rule detail }
 {

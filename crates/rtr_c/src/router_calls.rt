@@ -1,7 +1,7 @@
-//! A router's machine: one call for each thing that happens, and what it wants sent.
+//! A router's machine: one call for each event, and for what it sends.
 
 ghost use Rattle.std.specs.Prelude.{◌≡◌, ℕ, Option, min};
-ghost use Rattle.std.specs.Option.{unwrap_or};
+ghost use Rattle.std.specs.Option.{option_map, unwrap_or};
 ghost use Rattle.unit_views.specs.Placing.{Places};
 ghost use Rattle.session_router.specs.After.{has_data_at, new_router};
 ghost use Rattle.session_router.specs.Pace.{wakes_at};
@@ -27,7 +27,7 @@ use session_router::event::Event;
 use session_router::router::Router;
 use session_router::settings::Settings;
 
-/// The usual settings, as `session_router::settings::Settings::usual`.
+/// The default settings, as `session_router::settings::Settings::usual`.
 #[unsafe(no_mangle)]
 pub extern "C" fn rtr_settings_usual(settings: &mut RtrSettings, highest: u8)
     ensures highest { settings.new.highest ≡ min highest 2 }
@@ -52,7 +52,7 @@ pub extern "C" fn rtr_router_init(router: &mut RtrRouter, settings: &RtrSettings
     *router = router_to(&Router::new(settings_from(settings)));
 }
 
-/// Begins a router without data again, which goes on with its cache, as
+/// Begins a router without data again, which continues with its cache, as
 /// `session_router::router::Router::again`.
 #[unsafe(no_mangle)]
 pub extern "C" fn rtr_router_again(router: &mut RtrRouter)
@@ -78,7 +78,7 @@ pub extern "C" fn rtr_router_wakes(router: &RtrRouter) -> u64
     router_from(router).wakes()
 }
 
-/// A step of the machine.
+/// Takes a step of the machine.
 fn step(router: &mut RtrRouter, now: u64, event: Event) -> RtrAction
     ensures { IsRouterStep router.old (clock now) event result router.new }
 {
@@ -96,7 +96,7 @@ pub extern "C" fn rtr_router_tick(router: &mut RtrRouter, now: u64, action: &mut
     *action = step(router, now, Event::Tick);
 }
 
-/// The caller wants the present data.
+/// Requests the present data.
 #[unsafe(no_mangle)]
 pub extern "C" fn rtr_router_asked(router: &mut RtrRouter, now: u64, action: &mut RtrAction)
     ensures { IsRouterStep router.old (clock now) events.Asked action.new router.new }
@@ -104,7 +104,7 @@ pub extern "C" fn rtr_router_asked(router: &mut RtrRouter, now: u64, action: &mu
     *action = step(router, now, Event::Asked);
 }
 
-/// A connection was opened.
+/// Reports that a connection was opened.
 #[unsafe(no_mangle)]
 pub extern "C" fn rtr_router_connected(router: &mut RtrRouter, now: u64, action: &mut RtrAction)
     ensures { IsRouterStep router.old (clock now) events.Connected action.new router.new }
@@ -112,7 +112,7 @@ pub extern "C" fn rtr_router_connected(router: &mut RtrRouter, now: u64, action:
     *action = step(router, now, Event::Connected);
 }
 
-/// No connection could be opened, or it was lost, and all input was read.
+/// Reports that no connection could be opened, or that it was lost, and all input was read.
 #[unsafe(no_mangle)]
 pub extern "C" fn rtr_router_lost(router: &mut RtrRouter, now: u64, action: &mut RtrAction)
     ensures { IsRouterStep router.old (clock now) events.Lost action.new router.new }
@@ -120,7 +120,7 @@ pub extern "C" fn rtr_router_lost(router: &mut RtrRouter, now: u64, action: &mut
     *action = step(router, now, Event::Lost);
 }
 
-/// All changes of the response were made.
+/// Reports that all changes of the response were applied.
 #[unsafe(no_mangle)]
 pub extern "C" fn rtr_router_applied(router: &mut RtrRouter, now: u64, action: &mut RtrAction)
     ensures { IsRouterStep router.old (clock now) events.Applied action.new router.new }
@@ -128,7 +128,7 @@ pub extern "C" fn rtr_router_applied(router: &mut RtrRouter, now: u64, action: &
     *action = step(router, now, Event::Applied);
 }
 
-/// No change was made: one was refused with this status, or there was no memory.
+/// Reports that no change was applied: one was refused with this status, or memory ran out.
 #[unsafe(no_mangle)]
 pub extern "C" fn rtr_router_not_applied(
     router: &mut RtrRouter,
@@ -137,20 +137,17 @@ pub extern "C" fn rtr_router_not_applied(
     action: &mut RtrAction,
 )
     ensures { (told : RtrAction) × (action.new ≡ with_status told status)
-        × IsRouterStep router.old (clock now) (events.NotApplied (status_code status)) told
+        × IsRouterStep router.old (clock now)
+        (events.NotApplied (option_map (λ c. record { 0 = c }) (status_code status))) told
         router.new }
 {
-    let code = match code_of(status) {
-        Some(code) => Some(code.0),
-        None => None,
-    };
     *action = RtrAction {
         status,
-        ..step(router, now, Event::NotApplied(code))
+        ..step(router, now, Event::NotApplied(code_of(status)))
     };
 }
 
-/// Tells the router of the units that the input begins with, as `session_bytes::tell`.
+/// Tells the router of the units at the front of the input, as `session_bytes::tell`.
 #[unsafe(no_mangle)]
 pub extern "C" fn rtr_router_read_nonnull(
     router: &mut RtrRouter,
@@ -169,7 +166,7 @@ pub extern "C" fn rtr_router_read_nonnull(
     *action = told_to(&told, input, machine.version);
 }
 
-/// What came of the units of an input, in numbers.
+/// The result for the units of an input, in numbers.
 fn told_to(told: &Told, input: &[u8], version: u8) -> RtrAction
     ensures { result ≡ read_told told.now input.now version }
 {
@@ -196,7 +193,7 @@ fn told_to(told: &Told, input: &[u8], version: u8) -> RtrAction
 }
 
 /// Writes the query of an action, as `session_bytes::place_query`. Returns its length in bytes, 8
-/// or 12, or 0 if the output is shorter.
+/// or 12, or 0 if the output is too short.
 #[unsafe(no_mangle)]
 pub extern "C" fn rtr_router_query_nonnull(action: &RtrAction, output: &mut [u8]) -> usize
     ensures { (n : Option ℕ) × Places n (query_bytes (query_of action.now)) output.old output.new
@@ -205,8 +202,8 @@ pub extern "C" fn rtr_router_query_nonnull(action: &RtrAction, output: &mut [u8]
     place_query(&query_from(action), output).unwrap_or(0)
 }
 
-/// Writes the report that an action owes about the unit that the input begins with, as
-/// `session_bytes::place_ending`. Reports whether it is written.
+/// Writes the report that an action owes about the unit at the front of the input, as
+/// `session_bytes::place_ending`. Reports whether it was written.
 #[unsafe(no_mangle)]
 pub extern "C" fn rtr_router_report_nonnull(
     action: &RtrAction,

@@ -13,8 +13,8 @@ use crate::next::wanted;
 use rtr_wire::pdu::ViewFault;
 use rtr_wire::{IntoFault, Progress, normalise_for_into, normalise_into};
 
-/// As `rtr_wire::normalise_into`. `taken` counts whole units: of the unit that a call stops at no
-/// byte, where `rtr_wire::normalise` has taken some from its reader, as its header.
+/// As `rtr_wire::normalise_into`. `taken` counts whole units: no byte of the unit at which a call
+/// stops, whereas `rtr_wire::normalise` has consumed some of its reader, such as the header.
 #[unsafe(no_mangle)]
 pub extern "C" fn rtr_normalise_slice_nonnull(
     input: &[u8],
@@ -88,7 +88,7 @@ fn answer_of(input: &[u8], progress: Progress, end: Result<(), IntoFault>) -> Rt
     }
 }
 
-/// How many bytes are needed at least from here on, if a run stopped because they are too few.
+/// The least number of bytes needed from here on, if a run stopped because there are too few.
 #[inline(always)]
 fn stop_wanted(stop: &IntoFault, input: &[u8], taken: usize) -> usize
     requires { taken ≤ length input.now }

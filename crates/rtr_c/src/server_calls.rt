@@ -52,7 +52,7 @@ pub struct RtrDoor {
 // The fields stand one after the other.
 const _: () = prove!(size_of::<RtrDoor>() == 16);
 
-/// The settings that the struct stands for.
+/// The settings of the struct.
 pub(crate) fn server_settings_from(settings: &RtrServerSettings) -> ServerSettings
     ensures { result ≡ server_settings_of settings.now }
 {
@@ -70,7 +70,7 @@ pub(crate) fn server_settings_from(settings: &RtrServerSettings) -> ServerSettin
     }
 }
 
-/// The struct that stands for settings.
+/// The struct for settings.
 pub(crate) fn server_settings_to(settings: &ServerSettings) -> RtrServerSettings
     ensures { server_settings_of result ≡ settings.now }
 {
@@ -88,7 +88,7 @@ pub(crate) fn server_settings_to(settings: &ServerSettings) -> RtrServerSettings
     }
 }
 
-/// The door that the struct stands for.
+/// The door of the struct.
 fn door_from(door: &RtrDoor) -> Door
     ensures { result ≡ door_of door.now }
 {
@@ -100,7 +100,7 @@ fn door_from(door: &RtrDoor) -> Door
     }
 }
 
-/// The struct that stands for a door.
+/// The struct for a door.
 fn door_to(door: &Door) -> RtrDoor
     ensures { door_of result ≡ door.now }
 {
@@ -123,7 +123,7 @@ fn entry_to(entry: Entry) -> u8
     }
 }
 
-/// What has this number: `Wait` has all above it.
+/// The entry of this number; `Wait` for all greater numbers.
 fn entry_from(number: u8) -> Entry
     ensures { result ≡ numbered_entry number }
 {
@@ -159,7 +159,7 @@ pub extern "C" fn rtr_door_next(door: &RtrDoor, spare: bool) -> u8
     entry_to(door_from(door).next(spare))
 }
 
-/// A connection was accepted, as `session_server::door::Door::enter`.
+/// Counts a connection that was accepted, as `session_server::door::Door::enter`.
 #[unsafe(no_mangle)]
 pub extern "C" fn rtr_door_enter(door: &mut RtrDoor, spare: bool) -> u8
     ensures entry { result ≡ entry_number (entry_at (door_of door.old) spare) }
@@ -172,7 +172,7 @@ pub extern "C" fn rtr_door_enter(door: &mut RtrDoor, spare: bool) -> u8
     entry_to(entry)
 }
 
-/// A connection that got this was closed, as `session_server::door::Door::leave`.
+/// Counts that a connection with this entry was closed, as `session_server::door::Door::leave`.
 #[unsafe(no_mangle)]
 pub extern "C" fn rtr_door_leave(door: &mut RtrDoor, entry: u8) -> bool
     ensures counted { result ≡ has_inside (door_of door.old) (numbered_entry entry) }

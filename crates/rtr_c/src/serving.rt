@@ -1,9 +1,10 @@
-//! What a cache's machine answers, in numbers.
+//! The answer of a cache's machine, in numbers.
 
 ghost use Rattle.std.specs.Prelude.{◌≡◌};
 ghost use Rattle.rtr_c.specs.Servings.{answer_told, bare_serving, closing_of, closing_told};
 ghost use Rattle.rtr_c.specs.Servings.{numbered_reason, reason_number, served_of, state_of};
 
+use rtr_base::error_code::ErrorCode;
 use session_cache::event::{Answer, Closing, OwedReport, Present, Reason};
 
 const WAIT: u8 = 0;
@@ -20,11 +21,8 @@ const NOTIFY: u8 = 5;
 
 const END: u8 = 6;
 
-/// The code of the report "No Data Available" (RFC 8210 section 12).
-const NO_DATA_CODE: u16 = 2;
-
-/// What the machine answers: as `session_cache::event::Answer`, with what is needed to send it.
-/// Fields that an answer doesn't have are zero.
+/// The machine's answer: as `session_cache::event::Answer`, with what is needed to send it. Fields
+/// that an answer doesn't have are 0.
 #[repr(C)]
 #[derive(Clone, Copy)]
 pub struct RtrServing {
@@ -84,8 +82,7 @@ pub(crate) fn waiting() -> RtrServing
     bare(WAIT, 0)
 }
 
-/// An answer in numbers, of a machine that has this version after it, where these are the newest
-/// data.
+/// An answer in numbers, given the version of the machine after it, and the newest data.
 pub(crate) fn serving_to(answer: &Answer, version: u8, present: &Present) -> RtrServing
     ensures { result ≡ answer_told answer.now version present.now }
 {
@@ -103,7 +100,7 @@ pub(crate) fn serving_to(answer: &Answer, version: u8, present: &Present) -> Rtr
         },
         Answer::Reset => bare(RESET, version),
         Answer::NoData => RtrServing {
-            code: NO_DATA_CODE,
+            code: ErrorCode::NO_DATA_AVAILABLE.0,
             reports: true,
             ..bare(NO_DATA, version)
         },
@@ -127,7 +124,7 @@ fn closing_to(closing: &Closing) -> RtrServing
             ..bare(END, 0)
         },
         Some(OwedReport { version, code }) => RtrServing {
-            code,
+            code: code.0,
             reason,
             reports: true,
             ..bare(END, version)
@@ -171,7 +168,7 @@ pub(crate) fn reason_from(reason: u8) -> Reason
     }
 }
 
-/// The answer that the struct tells of.
+/// The answer in the struct.
 pub(crate) fn answer_from(serving: &RtrServing) -> Answer
     ensures { result ≡ served_of serving.now }
 {
@@ -186,7 +183,7 @@ pub(crate) fn answer_from(serving: &RtrServing) -> Answer
     }
 }
 
-/// The end of a connection that the struct tells of.
+/// The end of a connection in the struct.
 fn closing_from(serving: &RtrServing) -> Closing
     ensures { result ≡ closing_of serving.now }
 {
@@ -194,7 +191,7 @@ fn closing_from(serving: &RtrServing) -> Closing
         report: if serving.reports {
             Some(OwedReport {
                 version: serving.version,
-                code: serving.code,
+                code: ErrorCode(serving.code),
             })
         } else {
             None
@@ -203,7 +200,7 @@ fn closing_from(serving: &RtrServing) -> Closing
     }
 }
 
-/// What the struct says of the data that are sent.
+/// The state of the data in the struct that are sent.
 pub(crate) fn state_from(serving: &RtrServing) -> Present
     ensures { result ≡ state_of serving.now }
 {

@@ -1,4 +1,4 @@
-//! How long a unit is, by its header alone.
+//! The length of a unit, by its header alone.
 
 ghost use Rattle.std.specs.Prelude.{◌≡◌, ℕ, Option, Result};
 ghost use Rattle.rtr_units.specs.Header.{version_field, type_field};
@@ -10,8 +10,8 @@ use crate::answer::{ACCEPTED, SHORT, fault_detail, fault_status};
 use rtr_units::header::HEADER_SIZE;
 use unit_any::length::unit_length;
 
-/// As `unit_any::length::unit_length`. If fewer bytes than a header's are there, `size` is how
-/// many are wanted.
+/// As `unit_any::length::unit_length`. If there are fewer bytes than those of a header, `size` is
+/// the number that is wanted.
 #[unsafe(no_mangle)]
 pub extern "C" fn rtr_unit_size_nonnull(input: &[u8], size: &mut usize, detail: &mut u8) -> u8
     ensures says { (r : Result (Option ℕ) ViewFault) × SaysLength input.now r

@@ -1,4 +1,4 @@
-//! What a cache serves, and what it took and has to save first, in numbers.
+//! The data that a cache serves, and those that are pending until they are saved, in numbers.
 
 ghost use Rattle.std.specs.Prelude.{◌≡◌, true, IfOk};
 ghost use Rattle.data_history.specs.Stores.{are_of_stores, numbers_of};
@@ -13,7 +13,7 @@ const MARK: u32 = 1_398_034_258;
 
 /// The call succeeded.
 pub(crate) const OK: u8 = 0;
-/// No call leaves the struct like this.
+/// The fields of the struct aren't those of any state that a call leaves.
 pub(crate) const NOT_MADE: u8 = 1;
 /// A buffer is shorter than the store in it.
 pub(crate) const SHORT_BUFFER: u8 = 2;
@@ -43,7 +43,7 @@ pub struct RtrStores {
 // The fields stand one after the other, and six bytes are left at the end.
 const _: () = prove!(size_of::<RtrStores>() == 32);
 
-/// The numbers that the struct has.
+/// The numbers in the struct.
 fn numbers_from(stores: &RtrStores) -> Numbers
     ensures { result ≡ numbers_in stores.now }
 {
@@ -67,7 +67,7 @@ fn numbers_from(stores: &RtrStores) -> Numbers
     }
 }
 
-/// The stores that the struct stands for, or none if no call made it.
+/// The stores of the struct, or none if no call made it.
 pub(crate) fn stores_from(stores: &RtrStores) -> Option<Stores>
     ensures { result ≡ made_stores stores.now }
 {
@@ -80,7 +80,7 @@ pub(crate) fn stores_from(stores: &RtrStores) -> Option<Stores>
     Stores::of_numbers(&numbers_from(stores))
 }
 
-/// The struct that stands for these stores.
+/// The struct for these stores.
 pub(crate) fn stores_to(stores: &Stores) -> RtrStores
     ensures stores { stores_in result ≡ stores.now }
     ensures made { are_of_stores (numbers_of stores.now) ≡ true → has_stores result ≡ true }
@@ -98,7 +98,7 @@ pub(crate) fn stores_to(stores: &Stores) -> RtrStores
     }
 }
 
-/// Whether buffers of these lengths have the stores in them.
+/// Whether buffers of these lengths can hold the stores.
 fn fits_buffers(stores: &RtrStores, first: usize, second: usize) -> bool
     ensures { result ≡ fits_buffers stores.now first second }
 {
@@ -111,8 +111,8 @@ fn fits_buffers(stores: &RtrStores, first: usize, second: usize) -> bool
         && (!flag_from(stores.waits) || stores.taken <= other)
 }
 
-/// The stores that the struct stands for, if a call made it and buffers of these lengths have them,
-/// or the status of what is wrong.
+/// The stores of the struct, if a call made it and buffers of these lengths can hold them;
+/// otherwise the status of what is wrong.
 pub(crate) fn stores_within(stores: &RtrStores, first: usize, second: usize) -> Result<Stores, u8>
     ensures is { result ≡ stores_within stores.now first second }
     ensures numbered { IfOk result (λ m. are_of_stores (numbers_of m) ≡ true) }

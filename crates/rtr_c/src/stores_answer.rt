@@ -1,4 +1,4 @@
-//! How a call on the stores of a cache ended, in numbers.
+//! The result of a call on the stores of a cache, in numbers.
 
 ghost use Rattle.std.specs.Prelude.{◌≡◌, Err};
 ghost use Rattle.rtr_c.specs.StoresAnswers.{check_told, flaw_answer, no_room_answer};
@@ -10,13 +10,13 @@ use crate::stores::OK;
 use data_history::{CheckFault, Refused, Room, SinceFault, Untaken};
 use data_slices::Flaw;
 
-/// A store waits to be saved.
+/// A store is pending until it is saved.
 const WAITS: u8 = 3;
 /// The data aren't in canonical form.
 const FLAW: u8 = 4;
 /// The cache doesn't save, and the data are of another session than that of its start.
 const OTHER_SESSION: u8 = 5;
-/// The cache left the session of the data before.
+/// The cache has already left the session of the data.
 const SESSION_LEFT: u8 = 6;
 /// The data are of another protocol version than those before.
 const OTHER_VERSION: u8 = 7;
@@ -48,7 +48,7 @@ const FIRST: u8 = 5;
 
 const SECOND: u8 = 6;
 
-/// How a call on the stores of a cache ended.
+/// The result of a call on the stores of a cache.
 #[repr(C)]
 #[derive(Drop)]
 pub struct RtrStoresAnswer {
@@ -134,8 +134,7 @@ impl RtrStoresAnswer {
         }
     }
 
-    /// Data were taken, or why they weren't, where the store that is served is in the second buffer
-    /// or not.
+    /// The result of taking data, given whether the served store is in the second buffer.
     pub(crate) fn of_taking(taken: &Result<usize, Untaken>, second: bool) -> Self
         ensures { result ≡ taking_told second taken.now }
     {
@@ -152,7 +151,7 @@ impl RtrStoresAnswer {
         }
     }
 
-    /// Why data make no history after the one before. It is written to the spare buffer.
+    /// Why data can't follow the previous ones in a history, which is written to the spare buffer.
     fn of_refused(why: &Refused) -> Self
         ensures { result ≡ untaken_answer why.now }
     {
@@ -176,7 +175,7 @@ impl RtrStoresAnswer {
         }
     }
 
-    /// Changes were written, or why they weren't.
+    /// The result of writing changes.
     pub(crate) fn of_since(written: &Result<usize, SinceFault>) -> Self
         ensures { result ≡ since_told written.now }
     {
@@ -191,7 +190,7 @@ impl RtrStoresAnswer {
         }
     }
 
-    /// So much was written, or why nothing was.
+    /// The result of writing this number of bytes, or why nothing was written.
     pub(crate) fn of_written(written: &Result<usize, CheckFault>) -> Self
         ensures { result ≡ checked_told written.now }
     {
@@ -201,7 +200,7 @@ impl RtrStoresAnswer {
         }
     }
 
-    /// Why a store wasn't started from.
+    /// Why starting from a store failed.
     pub(crate) fn of_check(fault: &CheckFault) -> Self
         ensures { result ≡ check_told fault.now }
     {

@@ -1,5 +1,5 @@
-//! What a cache serves, and what it took and has to save first: one call for each thing that
-//! happens. Each call takes any bytes as its struct.
+//! The data that a cache serves, and those that are pending until they are saved: one call for each
+//! event. Each call accepts any bytes as its struct.
 
 ghost use Rattle.std.specs.Prelude.{◌≡◌, ◌-◌, ◌<◌, ◌≤◌, ℕ, List, [], None, Some, Result, Ok, Err};
 ghost use Rattle.std.specs.Prelude.{length, true};
@@ -20,7 +20,7 @@ use crate::stores::{NOT_MADE, OK, RtrStores, SHORT_BUFFER, stores_from, stores_t
 use crate::stores_answer::RtrStoresAnswer;
 use data_history::{Limits, Stores};
 
-/// Limits of the steps back that a history keeps: as `data_history::Limits`.
+/// Limits on the steps back that a history keeps: as `data_history::Limits`.
 #[repr(C)]
 #[derive(Clone, Copy)]
 pub struct RtrHistoryLimits {
@@ -33,7 +33,7 @@ pub struct RtrHistoryLimits {
 // The fields stand one after the other.
 const _: () = prove!(size_of::<RtrHistoryLimits>() == 16);
 
-/// The same limits.
+/// The limits of the struct.
 fn limits_from(limits: &RtrHistoryLimits) -> Limits
     ensures time { result.time ≡ limits.now.time }
     ensures bytes { result.bytes ≡ limits.now.bytes }
@@ -56,7 +56,7 @@ pub extern "C" fn rtr_stores_new(stores: &mut RtrStores)
     *stores = stores_to(&Stores::new());
 }
 
-/// Those of a cache that doesn't save, at a start, as `data_history::Stores::unsaved`.
+/// The stores of a cache that doesn't save, at a start, as `data_history::Stores::unsaved`.
 #[unsafe(no_mangle)]
 pub extern "C" fn rtr_stores_unsaved(stores: &mut RtrStores, session: u16)
     ensures stores { stores_in stores.new ≡ fresh_stores None (Some session) }
@@ -65,8 +65,8 @@ pub extern "C" fn rtr_stores_unsaved(stores: &mut RtrStores, session: u16)
     *stores = stores_to(&Stores::unsaved(session));
 }
 
-/// Those of a cache that saves, at a start, as `data_history::Stores::start`. If it is refused, the
-/// struct stays as it was.
+/// The stores of a cache that saves, at a start, as `data_history::Stores::start`. If that is
+/// refused, the struct is unchanged.
 #[unsafe(no_mangle)]
 pub extern "C" fn rtr_stores_start_nonnull(
     stores: &mut RtrStores,
@@ -134,7 +134,7 @@ pub extern "C" fn rtr_stores_take_nonnull(
         stores_within stores.old (length first.old) (length second.old) ≡ Ok m →
         (r : Result ℕ Untaken) × (answer.new ≡ taking_told (numbers_of m).second r)
         × (has_stores stores.new ≡ true)
-        × TakesNew (now - limits.now.time) limits.now.bytes new.now (length buffer.old)
+        × TakesNew now (now - limits.now.time) limits.now.bytes new.now (length buffer.old)
         (length spare.old) m (stores_in stores.new) first.old second.old first.new second.new r }
 {
     *answer = match stores_within(stores, first.len(), second.len()) {
@@ -146,7 +146,7 @@ pub extern "C" fn rtr_stores_take_nonnull(
     answer.status
 }
 
-/// Takes newer data, where the struct stands for these stores.
+/// Takes newer data, given the stores of the struct.
 fn take(
     found: Stores,
     stores: &mut RtrStores,
@@ -161,7 +161,7 @@ fn take(
     requires { are_of_stores (numbers_of found) ≡ true }
     ensures { (r : Result ℕ Untaken) × (result ≡ taking_told (numbers_of found).second r)
         × (has_stores stores.new ≡ true)
-        × TakesNew (now - limits.now.time) limits.now.bytes new.now (length buffer.old)
+        × TakesNew now (now - limits.now.time) limits.now.bytes new.now (length buffer.old)
         (length spare.old) found (stores_in stores.new) first.old second.old first.new second.new
         r }
 {
@@ -172,7 +172,7 @@ fn take(
     RtrStoresAnswer::of_taking(&taken, found.numbers().second)
 }
 
-/// Reports that the store that was taken is saved, as `data_history::Stores::saved`.
+/// Reports that the pending store is saved, as `data_history::Stores::saved`.
 #[unsafe(no_mangle)]
 pub extern "C" fn rtr_stores_saved(stores: &mut RtrStores) -> u8
     ensures refused { made_stores stores.old ≡ None →
@@ -192,7 +192,7 @@ pub extern "C" fn rtr_stores_saved(stores: &mut RtrStores) -> u8
     }
 }
 
-/// Gives up the store that was taken, as `data_history::Stores::give_up`.
+/// Drops the pending store, as `data_history::Stores::give_up`.
 #[unsafe(no_mangle)]
 pub extern "C" fn rtr_stores_give_up(stores: &mut RtrStores) -> u8
     ensures refused { made_stores stores.old ≡ None →

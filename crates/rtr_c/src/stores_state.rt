@@ -1,4 +1,4 @@
-//! What the buffers of a cache's stores have, in numbers.
+//! The contents of the buffers of a cache's stores, in numbers.
 
 ghost use Rattle.std.specs.Prelude.{◌≡◌, ℕ, Ok, Err, length};
 ghost use Rattle.data_history.specs.declared.stores.Stores.{Stores};
@@ -8,7 +8,7 @@ ghost use Rattle.rtr_c.specs.StoresCalls.{StatesStores, no_stores_state};
 use crate::stores::{OK, RtrStores, stores_within};
 use data_history::Stores;
 
-/// What the buffers have.
+/// The contents of the buffers.
 #[repr(C)]
 #[derive(Clone, Copy)]
 pub struct RtrStoresState {
@@ -29,7 +29,7 @@ pub struct RtrStoresState {
 // The fields stand one after the other, and five bytes are left at the end.
 const _: () = prove!(size_of::<RtrStoresState>() == 32);
 
-/// What the buffers of these stores have.
+/// The contents of the buffers of these stores.
 fn state_of(stores: &Stores, first: &[u8], second: &[u8]) -> RtrStoresState
     ensures { StatesStores stores.now first.now second.now result }
 {
@@ -60,8 +60,8 @@ fn none() -> RtrStoresState
     }
 }
 
-/// Where the history that is served stands, as `data_history::Stores::history_at`, and how long the
-/// store to save is, as `data_history::Stores::to_save`.
+/// The offset and the length of the served history, as `data_history::Stores::history_at`, and the
+/// length of the store to save, as `data_history::Stores::to_save`.
 #[unsafe(no_mangle)]
 pub extern "C" fn rtr_stores_state_nonnull(
     stores: &RtrStores,

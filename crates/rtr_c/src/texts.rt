@@ -1,12 +1,14 @@
-//! The texts of statuses and of rules on times, and the names of kinds, causes, reasons and error
-//! codes.
+//! The texts of statuses, of a peer's error reports and of rules on times, and the names of kinds,
+//! causes, reasons and error codes.
 
-ghost use Rattle.std.specs.Prelude.{◌≡◌, codes};
+ghost use Rattle.std.specs.Prelude.{◌≡◌, ◌∷◌, [], codes, map, take};
 ghost use Rattle.std.specs.Option.{option_copied};
 ghost use Rattle.rtr_base.specs.PlainTexts.{code_name};
 ghost use Rattle.text_lines.specs.Laying.{Lays};
-ghost use Rattle.rtr_c.specs.Texts.{AnswersText, cause_name, name_or, name_said, type_name};
-ghost use Rattle.rtr_c.specs.Texts.{reason_name, status_name, status_said};
+ghost use Rattle.rtr_c.specs.Texts.{AnswersText, cause_name, code_said, name_or, name_said};
+ghost use Rattle.rtr_c.specs.Texts.{type_name, quotation, quoted};
+ghost use Rattle.rtr_c.specs.Texts.{quoted_byte, reason_name, reported_text};
+ghost use Rattle.rtr_c.specs.Texts.{said_at, status_name, status_said};
 
 use crate::answer::{
     ACCEPTED, DUPLICATE, EMPTY_PROVIDERS, NO_FORM, NO_INDEX, NO_ROOM, NOT_CANONICAL, OLD_SERIAL,
@@ -21,7 +23,7 @@ use rtr_base::error_code::ErrorCode;
 use session_bytes::Refusal;
 use text_lines::laying;
 
-/// How a call ended.
+/// The result of a call.
 const STATUS: u8 = 0;
 /// A kind of unit.
 const KIND: u8 = 1;
@@ -31,17 +33,20 @@ const CAUSE: u8 = 2;
 const REASON: u8 = 3;
 /// The code of an error report.
 const CODE: u8 = 4;
-/// A rule on the times that a cache names.
+/// A rule on the times of a cache.
 const TIME_RULE: u8 = 5;
 
-/// How many causes there are.
+/// The number of causes.
 const CAUSES: u16 = 16;
 
-/// How many reasons there are.
+/// The number of reasons.
 const REASONS: u16 = 10;
 
-/// The text of a status with its detail. It is laid over the front of the output as far as that has
-/// room, and if it has not, the answer is `NO_ROOM` and the length says how many bytes are wanted.
+/// The most bytes of a report's text that are quoted.
+const MOST_QUOTED: usize = 100;
+
+/// Writes the text of a status with its detail to the front of the output, as much of it as fits.
+/// If it doesn't fit, the status is `NO_ROOM` and the length is the number of bytes wanted.
 #[unsafe(no_mangle)]
 pub extern "C" fn rtr_text_nonnull(
     status: u8,
@@ -57,8 +62,45 @@ pub extern "C" fn rtr_text_nonnull(
     room_status(end, room)
 }
 
+/// Writes the text of a status with its detail, and the offset of the unit, as by
+/// `rtr_text_nonnull`.
+#[unsafe(no_mangle)]
+pub extern "C" fn rtr_text_at_nonnull(
+    status: u8,
+    detail: u8,
+    offset: u64,
+    output: &mut [u8],
+    text_length: &mut usize,
+) -> u8
+    ensures { AnswersText (said_at status detail offset) output.old output.new text_length.new
+        result }
+{
+    let room = output.len();
+    let end = lay_said_at(output, status, detail, offset);
+    *text_length = end;
+    room_status(end, room)
+}
+
+/// Writes the name of an error report's code, and the first bytes of its text in quotes, as by
+/// `rtr_text_nonnull`. Any byte that isn't printable ASCII is quoted as a question mark.
+#[unsafe(no_mangle)]
+pub extern "C" fn rtr_report_text_nonnull(
+    code: u16,
+    reported: &[u8],
+    output: &mut [u8],
+    text_length: &mut usize,
+) -> u8
+    ensures { AnswersText (reported_text code reported.now) output.old output.new text_length.new
+        result }
+{
+    let room = output.len();
+    let end = lay_report(output, code, reported);
+    *text_length = end;
+    room_status(end, room)
+}
+
 /// The name of a status (`named` is 0), a kind (1), a cause (2), a reason (3) or an error code (4),
-/// or the text of a rule on times (5); of another `named` nothing. It is laid as by
+/// or the text of a rule on times (5); nothing for any other `named`. It is written as by
 /// `rtr_text_nonnull`.
 #[unsafe(no_mangle)]
 pub extern "C" fn rtr_name_nonnull(
@@ -75,7 +117,7 @@ pub extern "C" fn rtr_name_nonnull(
     room_status(end, room)
 }
 
-/// Lays the text of a status with its detail.
+/// Writes the text of a status with its detail.
 fn lay_status(output: &mut [u8], status: u8, detail: u8) -> usize
     ensures { Lays (status_said status detail) 0 output.old result output.new }
 {
@@ -90,7 +132,79 @@ fn lay_status(output: &mut [u8], status: u8, detail: u8) -> usize
     }
 }
 
-/// Lays a name where there is one, and else a label and the number.
+/// Writes the text of a status with its detail, and then an offset.
+fn lay_said_at(output: &mut [u8], status: u8, detail: u8, offset: u64) -> usize
+    ensures { Lays (said_at status detail offset) 0 output.old result output.new }
+{
+    let at = lay_status(output, status, detail);
+    laying::labelled(output, at, ", at byte ", offset)
+}
+
+/// Writes the name of a report's code, and then its text.
+fn lay_report(output: &mut [u8], code: u16, text: &[u8]) -> usize
+    ensures { Lays (reported_text code text.now) 0 output.old result output.new }
+{
+    let at = lay_code(output, code);
+    lay_quotation(output, at, text)
+}
+
+/// Writes the first bytes of a text in quotes; nothing if the text is empty.
+fn lay_quotation(output: &mut [u8], at: usize, text: &[u8]) -> usize
+    ensures { Lays (quotation text.now) at output.old result output.new }
+{
+    if text.len() == 0 {
+        return laying::text(output, at, "");
+    }
+    let begun = laying::text(output, at, ", \"");
+    let end = lay_quoted(output, begun, quoted_front(text));
+    laying::text(output, end, "\"")
+}
+
+/// The bytes of a text that are quoted.
+fn quoted_front(text: &[u8]) -> &[u8]
+    ensures { result.now ≡ take 100 text.now }
+{
+    if text.len() <= MOST_QUOTED {
+        text
+    } else {
+        &text[..MOST_QUOTED]
+    }
+}
+
+/// Writes these bytes as they are quoted.
+fn lay_quoted(output: &mut [u8], at: usize, text: &[u8]) -> usize
+    ensures { Lays (map quoted_byte text.now) at output.old result output.new }
+{
+    let mut end = at;
+    let mut left = text;
+    'each: while let Some((first, others)) = left.split_first() {
+        let next = lay_byte(output, end, *first);
+        end = next;
+        left = others;
+    }
+    end
+}
+
+/// Writes a byte as it is quoted.
+fn lay_byte(output: &mut [u8], at: usize, byte: u8) -> usize
+    ensures { Lays (quoted_byte byte ∷ []) at output.old result output.new }
+{
+    let shown = if byte >= b' ' && byte <= b'~' {
+        byte
+    } else {
+        b'?'
+    };
+    laying::bytes(output, at, &[shown])
+}
+
+/// Writes the name of an error code.
+fn lay_code(output: &mut [u8], code: u16) -> usize
+    ensures { Lays (code_said code) 0 output.old result output.new }
+{
+    lay_or(output, ErrorCode(code).name(), "error code ", code)
+}
+
+/// Writes a name if there is one, and otherwise a label and the number.
 fn lay_or(output: &mut [u8], name: Option<&str>, label: &str, number: u16) -> usize
     ensures { Lays (name_or (option_copied name.entry) label.now number) 0
         output.old result output.new }
@@ -143,7 +257,7 @@ fn text_of_status(status: u8) -> Option<&'static str>
     }
 }
 
-/// Lays the name of a number.
+/// Writes the name of a number.
 fn lay_name(output: &mut [u8], named: u8, number: u16) -> usize
     ensures { Lays (name_said named number) 0 output.old result output.new }
 {
@@ -152,7 +266,7 @@ fn lay_name(output: &mut [u8], named: u8, number: u16) -> usize
         KIND => lay_or(output, kind(number), "type ", number),
         CAUSE => lay_or(output, cause(number), "unknown cause ", number),
         REASON => lay_or(output, reason(number), "unknown reason ", number),
-        CODE => lay_or(output, ErrorCode(number).name(), "error code ", number),
+        CODE => lay_code(output, number),
         TIME_RULE => lay_or(output, time_rule(number), "unknown time rule ", number),
         _ => laying::text(output, 0, ""),
     }

@@ -1,9 +1,9 @@
-//! The rules on the times that a cache names, in numbers.
+//! The rules on the times of a cache, in numbers.
 
 ghost use Rattle.std.specs.Prelude.{◌≡◌};
 ghost use Rattle.std.specs.Option.{option_copied};
 ghost use Rattle.session_times.specs.AllowedTimes.{broken_time_rule};
-ghost use Rattle.rtr_c.specs.TimeRules.{time_rule_name, time_rule_number};
+ghost use Rattle.rtr_c.specs.TimeRules.{end_rule, time_rule_name, time_rule_number};
 
 use rtr_base::timing::Timing;
 use session_times::{TimeRule, broken_time_rule};
@@ -32,7 +32,24 @@ pub extern "C" fn rtr_times_rule(refresh: u32, retry: u32, expire: u32) -> u8
     }
 }
 
-/// What the rule of a number asks for.
+/// Returns the first rule that the times of an end of data of this version break, as
+/// `rtr_times_rule`; 0 for version 0, which has no times.
+#[unsafe(no_mangle)]
+pub extern "C" fn rtr_end_rule(version: u8, refresh: u32, retry: u32, expire: u32) -> u8
+    ensures { result ≡ end_rule version (record {
+      refresh = refresh;
+      retry = retry;
+      expire = expire;
+    }) }
+{
+    if version == 0 {
+        0
+    } else {
+        rtr_times_rule(refresh, retry, expire)
+    }
+}
+
+/// The text of the rule with this number.
 pub(crate) fn time_rule(number: u16) -> Option<&'static str>
     ensures { option_copied result ≡ time_rule_name number }
 {

@@ -11,16 +11,16 @@ use data_validation::{CoveringVrp, Mismatch, Route, Tables, Validity, first_cove
 use rtr_units::numbers::{u32_at, u128_at};
 use rtr_wire::base::{Asn, Prefix};
 
-/// The family or the prefix length of a route is none.
+/// The family or the prefix length of a route is invalid.
 pub(crate) const NO_ROUTE: u8 = 3;
 /// The data weren't checked.
 pub(crate) const UNCHECKED: u8 = 4;
 
 /// No VRP covers the route.
 const COVERS_NONE: u8 = 0;
-/// One covers it.
+/// A VRP covers the route.
 const COVERS_ONE: u8 = 1;
-/// The family or the prefix length of a route is none.
+/// The family or the prefix length of a route is invalid.
 const COVERS_NO_ROUTE: u8 = 2;
 /// The data weren't checked.
 const COVERS_UNCHECKED: u8 = 3;
@@ -63,8 +63,8 @@ pub struct RtrCovering {
 // The fields stand one after the other, and a byte is left at the end.
 const _: () = prove!(size_of::<RtrCovering>() == 16);
 
-/// As `data_validation::validate`: 0 not found, 1 valid, 2 invalid; 3 where the family or the
-/// prefix length is none; 4 where these aren't the data that the lookup was made of.
+/// As `data_validation::validate`: 0 not found, 1 valid, 2 invalid; 3 if the family or the prefix
+/// length is invalid; 4 if the lookup wasn't made from these data.
 #[unsafe(no_mangle)]
 pub extern "C" fn rtr_validate_nonnull(data: &[u8], lookup: &RtrLookup, route: &RtrRoute) -> u8
     ensures { TellsValidity (is_sealed «data».now lookup.now) (route_prefix route.now) «data».now
@@ -76,7 +76,7 @@ pub extern "C" fn rtr_validate_nonnull(data: &[u8], lookup: &RtrLookup, route: &
     checked_validity(data, &lookup.tables, route)
 }
 
-/// The same of data that were checked.
+/// The validity by data that were checked.
 #[inline(always)]
 fn checked_validity(data: &[u8], tables: &Tables, route: &RtrRoute) -> u8
     ensures { TellsValidity true (route_prefix route.now) «data».now tables.now route.now.asn
@@ -88,9 +88,9 @@ fn checked_validity(data: &[u8], tables: &Tables, route: &RtrRoute) -> u8
     }
 }
 
-/// As `data_validation::first_covering`: 0 none, 1 one; 2 where the family or the prefix length is
-/// none; 3 where these aren't the data that the lookup was made of. Without one all of `covering`
-/// is 0.
+/// As `data_validation::first_covering`: 0 none, 1 one; 2 if the family or the prefix length is
+/// invalid; 3 if the lookup wasn't made from these data. Unless there is one, all of `covering` is
+/// 0.
 #[unsafe(no_mangle)]
 pub extern "C" fn rtr_covering_nonnull(
     data: &[u8],
@@ -108,7 +108,7 @@ pub extern "C" fn rtr_covering_nonnull(
     checked_covering(data, &lookup.tables, route, from, covering)
 }
 
-/// The same of data that were checked.
+/// The first covering VRP of data that were checked.
 #[inline(always)]
 fn checked_covering(
     data: &[u8],
@@ -129,7 +129,7 @@ fn checked_covering(
     }
 }
 
-/// Puts the VRP that is shown.
+/// Writes the VRP that is shown.
 #[inline(always)]
 fn show_one(shown: RtrCovering, covering: &mut RtrCovering) -> u8
     ensures { ShowsOne shown covering.new result }
@@ -138,7 +138,7 @@ fn show_one(shown: RtrCovering, covering: &mut RtrCovering) -> u8
     COVERS_ONE
 }
 
-/// Puts 0 in all of it, and returns this code.
+/// Writes 0 to all of it, and returns this code.
 #[inline(always)]
 fn show_none(code: u8, covering: &mut RtrCovering) -> u8
     ensures { ShowsNone code covering.new result }
@@ -153,7 +153,7 @@ fn show_none(code: u8, covering: &mut RtrCovering) -> u8
     code
 }
 
-/// The route, unless its family or its prefix length is none.
+/// The route, unless its family or its prefix length is invalid.
 #[inline(always)]
 pub(crate) fn route_of(route: &RtrRoute) -> Option<Route>
     ensures { result ≡ option_map (λ p. record { prefix = p; asn = route.now.asn })
@@ -171,7 +171,7 @@ pub(crate) fn route_of(route: &RtrRoute) -> Option<Route>
     }
 }
 
-/// The number of an answer.
+/// The number of a validity.
 #[inline(always)]
 pub(crate) fn validity_number(validity: Validity) -> u8
     ensures { result ≡ validity_number validity }
@@ -196,7 +196,7 @@ fn mismatch_number(mismatch: Option<Mismatch>) -> u8
     }
 }
 
-/// What is shown of a VRP that covers a route.
+/// The fields that are shown of a VRP that covers a route.
 #[inline(always)]
 fn shown(found: &CoveringVrp, route: &Route) -> RtrCovering
     ensures { ShowsCovering found.now route.now.prefix route.now.asn result }

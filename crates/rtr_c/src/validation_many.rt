@@ -10,7 +10,7 @@ use crate::validation::{NO_ROUTE, RtrRoute, UNCHECKED, route_of, validity_number
 use data_validation::Pass;
 
 /// As `rtr_validate_nonnull` for each route, in one pass of `data_validation::Pass`. Returns how
-/// many are validated: all routes, or as many as there are places.
+/// many were validated: all routes, or as many as fit into the output.
 #[unsafe(no_mangle)]
 pub extern "C" fn rtr_validate_many_nonnull(
     data: &[u8],

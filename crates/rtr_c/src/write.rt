@@ -28,20 +28,22 @@ use rtr_wire::state::{Serial, State};
 use unit_any::placing::place_report;
 use unit_views::placing::place;
 
-/// The most bytes of key info in a router key that is read.
+/// The greatest number of bytes of key info in a router key that is read.
 const MAX_KEY_INFO: usize = MAX_SIZE as usize - RouterKey::FIXED;
-/// The most bytes of an error report beside its fixed fields: those of its unit and its text.
+/// The greatest number of bytes of an error report beside its fixed fields: those of its unit and
+/// its text.
 const MAX_REPORTED: usize = MAX_SIZE as usize - REPORT_FIXED;
-/// The most bytes of providers in an ASPA unit.
+/// The greatest number of bytes of providers in an ASPA unit.
 const MAX_PROVIDERS: usize = 4 * ProviderAsns::MAX_COUNT;
 
-/// Writes the written form of the unit to the front of the output. Key info, providers, and the
-/// unit and the text of an error report are in the input, at the places that the unit says.
+/// Writes the form of the unit to the front of the output. Key info, providers, and the unit and
+/// the text of an error report are in the input, at the offsets in the unit.
 ///
 /// Statuses, in this order, with nothing written:
 /// - `UNIT_TYPE` for an unknown kind of unit;
-/// - `NO_FORM` for an action above 1, or above 0 for what has no payload, a family that isn't that
-///   of the kind, or key info, providers, or the unit or the text of a report outside the input;
+/// - `NO_FORM` for an action above 1, or above 0 for a unit without a payload, a family that isn't
+///   that of the kind, or key info, providers, or the unit or the text of a report outside the
+///   input;
 /// - `PREFIX`;
 /// - `TOO_LONG` for more than 65503 bytes of key info, 65519 of unit and text of a report or,
 ///   announced, 65520 of providers;
@@ -78,7 +80,7 @@ pub extern "C" fn rtr_write_unit_nonnull(
     }
 }
 
-/// Writes the form of a unit that is no payload unit and no end of data, and answers its length.
+/// Writes the form of a unit that isn't a payload unit or an end of data, and returns its length.
 #[tactic(auto, unfolding(crate::specs::WrittenUnits::session_said))]
 fn write_session(unit: &RtrUnit, input: &[u8], output: &mut [u8]) -> Result<usize, u8>
     ensures { Writes (session_said unit.now input.now) result output.old output.new }
@@ -95,7 +97,7 @@ fn write_session(unit: &RtrUnit, input: &[u8], output: &mut [u8]) -> Result<usiz
     }
 }
 
-/// Writes the form of a unit that has no payload, and answers its length.
+/// Writes the form of a unit that has no payload, and returns its length.
 fn write_plain<U: Unit>(unit: &RtrUnit, form: &U, output: &mut [u8]) -> Result<usize, u8>
     ensures { Writes (plain_said unit.now (U.bytes form.now)) result output.old output.new }
 {
@@ -112,7 +114,7 @@ fn state_of(unit: &RtrUnit) -> State
     State::from_parts(unit.session, Serial(unit.serial))
 }
 
-/// Writes an error report, and answers its length.
+/// Writes an error report, and returns its length.
 fn write_report(unit: &RtrUnit, input: &[u8], output: &mut [u8]) -> Result<usize, u8>
     ensures { Writes (report_said unit.now (part_said unit.now input.now)
         (text_said unit.now input.now)) result output.old output.new }
@@ -143,7 +145,7 @@ fn placed_report(unit: &RtrUnit, pdu: &[u8], text: &[u8], output: &mut [u8]) -> 
     }
 }
 
-/// Writes the form of a prefix of the family of this number, and answers its length.
+/// Writes the form of a prefix of the family of this number, and returns its length.
 fn write_prefix<U: PrefixUnit>(unit: &RtrUnit, family: u8, output: &mut [u8]) -> Result<usize, u8>
     requires { family ≡ ip_version U.family }
     ensures { Writes (prefix_said U.family unit.now) result output.old output.new }
@@ -159,7 +161,7 @@ fn write_prefix<U: PrefixUnit>(unit: &RtrUnit, family: u8, output: &mut [u8]) ->
     placed(form.as_ref(), &[], output)
 }
 
-/// Writes an end of data, and answers its length.
+/// Writes an end of data, and returns its length.
 fn write_end(unit: &RtrUnit, output: &mut [u8]) -> Result<usize, u8>
     ensures { Writes (end_said unit.now) result output.old output.new }
 {
@@ -178,7 +180,7 @@ fn write_end(unit: &RtrUnit, output: &mut [u8]) -> Result<usize, u8>
     placed(end.as_ref(), &[], output)
 }
 
-/// Writes the form of a router key, and answers its length.
+/// Writes the form of a router key, and returns its length.
 fn write_key(unit: &RtrUnit, input: &[u8], output: &mut [u8]) -> Result<usize, u8>
     ensures { Writes (key_said unit.now (part_said unit.now input.now)) result
         output.old output.new }
@@ -199,7 +201,7 @@ fn write_key(unit: &RtrUnit, input: &[u8], output: &mut [u8]) -> Result<usize, u
     )
 }
 
-/// What comes before the key info in the form of a router key of this size.
+/// The bytes before the key info in the form of a router key of this size.
 fn key_front(unit: &RtrUnit, size: u32) -> [u8; RouterKey::FIXED]
     ensures { result ≡ (unit.now.version ∷ 9 ∷ unit.now.action ∷ 0 ∷ be size 4)
         ++ (unit.now.key_identifier ++ be unit.now.asn 4) }
@@ -212,7 +214,7 @@ fn key_front(unit: &RtrUnit, size: u32) -> [u8; RouterKey::FIXED]
     front
 }
 
-/// Writes the form of an ASPA unit, and answers its length.
+/// Writes the form of an ASPA unit, and returns its length.
 fn write_aspa(unit: &RtrUnit, input: &[u8], output: &mut [u8]) -> Result<usize, u8>
     ensures { Writes (aspa_said unit.now (part_said unit.now input.now)) result
         output.old output.new }
@@ -242,7 +244,7 @@ fn write_aspa(unit: &RtrUnit, input: &[u8], output: &mut [u8]) -> Result<usize, 
     )
 }
 
-/// What comes before the providers in the form of an ASPA unit of this size.
+/// The bytes before the providers in the form of an ASPA unit of this size.
 fn aspa_front(unit: &RtrUnit, size: u32) -> [u8; Aspa::FIXED]
     ensures { result ≡ unit.now.version ∷ 11 ∷ unit.now.action ∷ 0 ∷ be size 4
         ++ be unit.now.customer 4 }
@@ -254,7 +256,7 @@ fn aspa_front(unit: &RtrUnit, size: u32) -> [u8; Aspa::FIXED]
     front
 }
 
-/// The key info, the providers or the unit that a report is about, if they lie in the input.
+/// The key info, the providers or the unit that a report is about, if they are in the input.
 #[inline(always)]
 pub(crate) fn part_of<'a>(unit: &RtrUnit, input: &'a [u8]) -> Option<&'a [u8]>
     ensures part { option_copied result ≡ part_said unit.now input.now }
@@ -263,7 +265,7 @@ pub(crate) fn part_of<'a>(unit: &RtrUnit, input: &'a [u8]) -> Option<&'a [u8]>
     piece_of(unit.part_start, unit.part_length, input)
 }
 
-/// The bytes of the input from this offset on, of this number, if they lie in it.
+/// This number of bytes of the input from this offset on, if they are in it.
 #[inline(always)]
 fn piece_of(start: usize, size: usize, input: &[u8]) -> Option<&[u8]>
     ensures piece { option_copied result ≡ piece_said start size input.now }
@@ -275,7 +277,7 @@ fn piece_of(start: usize, size: usize, input: &[u8]) -> Option<&[u8]>
     Some(&input[start..start + size])
 }
 
-/// Writes the two pieces, or nothing if there is no room for both.
+/// Writes the two pieces, or nothing if they don't both fit.
 #[inline(always)]
 fn placed(front: &[u8], back: &[u8], output: &mut [u8]) -> Result<usize, u8>
     ensures { Writes (Ok (front.now ++ back.now)) result output.old output.new }

@@ -19,6 +19,7 @@ returns-clause-begun c = λ step within.
       rises = c.router_to-router.result.rises;
       bytes = c.router_to-router.result.bytes;
       latest = c.args.latest;
+      received = c.args.received;
       kept = k.kept;
       end_size = c.holding_to-holding.result.1;
       filled = k.filled;

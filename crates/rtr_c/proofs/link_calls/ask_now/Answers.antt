@@ -12,12 +12,16 @@ returns c =
     let k' = c.ask_now-todo.new.self in
     let l = c.args.link.now in
     let l' = c.link_to.result in
-    let told = c.todo_to.ensures ∙ ap (todo_told t k'.second) c.wakes.ensures in
+    let told =
+    c.todo_to.ensures
+    ∙ (λ i. todo_told t k'.second (c.came_before-before.ensures i) (c.wakes.ensures i)) in
+    let received = c.link_to.ensures.received ∙ c.received_after-received.ensures in
     let begun =
     c.link_to.ensures.begun c.ask_now-todo.ensures.step c.ask_now-todo.ensures.fits.due in (
       t,
-      tells c.args.now l' k' c.ask_now-todo.new.input c.ask_now-todo.new.output c.todo_to.result t
-          c.link_to.ensures.client told c.link_to.ensures.latest begun c.ask_now-todo.ensures.fits
+      tells c.args.now l l' k' c.ask_now-todo.new.input c.ask_now-todo.new.output c.todo_to.result t
+          c.link_to.ensures.client told c.link_to.ensures.latest received begun
+          c.ask_now-todo.ensures.fits
           c.ask_now-todo.ensures.room,
       both_of
           (λ (k k' : Client). AsksNow c.args.now k c.args.input.now c.args.output.now k'

@@ -11,4 +11,4 @@ returns-then-status-eq-OK-clause-begun c = λ e.
     let was_filled = ap (λ (k : Client). k.filled) c.client_from-client.ensures.client in
     let more : l.filled ≤ c.received.new.self.filled =
     omega (arith, now_filled, was_filled) in
-    begun_more l c.received.new.self.filled e more
+    begun_more l c.received.new.self.filled 0 e more

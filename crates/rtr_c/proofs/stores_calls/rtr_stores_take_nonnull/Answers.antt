@@ -22,9 +22,9 @@ returns-clause-takes c = λ m e.
           (λ (k : Stores) (a : RtrStoresAnswer) (p : RtrStores) (f s : List ℕ).
           (x : Result ℕ Untaken) × (a ≡ taking_told (numbers_of k).second x)
           × (has_stores p ≡ true)
-          × TakesNew (c.args.now - c.args.limits.now.time) c.args.limits.now.bytes c.args.new.now
-          (length c.args.buffer.now) (length c.args.spare.now) k (stores_in p) c.args.first.now
-          c.args.second.now f s x)
+          × TakesNew c.args.now (c.args.now - c.args.limits.now.time) c.args.limits.now.bytes
+          c.args.new.now (length c.args.buffer.now) (length c.args.spare.now) k (stores_in p)
+          c.args.first.now c.args.second.now f s x)
           w.in-Ok.found m w.take.result c.match-stores_within.answer w.take.new.stores
           c.match-stores_within.stores w.take.new.first c.match-stores_within.first
           w.take.new.second c.match-stores_within.second
