@@ -1,4 +1,4 @@
-//! One part of data beside the same part of other data.
+//! Comparing one part of data with the same part of other data.
 
 ghost use Rattle.std.specs.Prelude.{◌≡◌, [], ◌∷◌};
 ghost use Rattle.std.specs.Map.Iter.{TakesFirst};
@@ -10,19 +10,20 @@ use crate::part::Part;
 use rtr_base::action::Action;
 use std::cmp::Ordering;
 
-/// A part of data and the same part of other data, in one pass over both, which are in one order.
+/// A part of data and the same part of other data, compared in one pass over both, which are in the
+/// same order.
 #[derive(Drop)]
 pub struct Beside<P: Part> {
-    /// The payloads that are still to come.
+    /// The payloads that are left.
     pub members: P,
-    /// The first of the other payloads that isn't passed.
+    /// The first of the other payloads that is left.
     pub other: Option<P::Lent>,
     /// The other payloads after it.
     pub others: P,
 }
 
 impl<P: Part> Beside<P> {
-    /// Both parts from their beginnings.
+    /// Starts a pass over both parts.
     pub fn new(members: P, mut others: P) -> Beside<P>
         ensures members { P.left result.members ≡ P.left members }
         ensures others { behind P.meant result.other (P.left result.others) ≡ P.left others }
@@ -35,7 +36,7 @@ impl<P: Part> Beside<P> {
         }
     }
 
-    /// Takes the next payload that makes a change by this action.
+    /// Takes the next payload that makes a change of this action.
     pub fn next_changed(&mut self, action: Action) -> Option<P::Lent>
         requires members { IsData (P.left self.old.members) }
         requires others { IsData (behind P.meant self.old.other (P.left self.old.others)) }
@@ -72,7 +73,7 @@ impl<P: Part> Beside<P> {
     }
 }
 
-/// Reports whether a payload makes a change by this action although the other data has this one of
+/// Reports whether a payload makes a change of this action although the other data have this one of
 /// its name.
 fn is_replaced<P: Part>(action: Action, one: P::Lent, other: P::Lent) -> bool
     requires { name_cmp (P.meant one) (P.meant other) ≡ Equal }

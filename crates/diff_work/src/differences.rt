@@ -1,4 +1,4 @@
-//! The changes from old data to new, printed one after the other.
+//! Printing the changes from old data to new.
 
 ghost use Rattle.std.specs.Prelude.{◌≡◌};
 ghost use Rattle.data_memory.specs.Changes.{changes};
@@ -31,8 +31,8 @@ pub fn print_changes<W: Sink>(
     Ok(announced | withdrawn)
 }
 
-/// Prints the changes that announce what other data hasn't, or that withdraw what it has nothing of
-/// the name of, and reports whether there is one.
+/// Prints either the announcements of payloads that the other data lack, or the withdrawals of
+/// payloads whose names the other data lack, and reports whether there is one.
 fn print_made<W: Sink>(
     printer: &mut Printer,
     action: Action,

@@ -1,4 +1,4 @@
-//! Laws of what the program prints and ends with.
+//! Laws of the output and the status of the program.
 
 ghost use Rattle.std.specs.Prelude.{◌≡◌, ◌≢◌, ◌++◌, ◌<◌, ℕ, List, ⊤, codes};
 ghost use Rattle.rtr_units.specs.StopCauses.{ReaderState, WriterState};
@@ -28,9 +28,9 @@ pub fn lines_are_those_of_units()
         change_piece Json v (unit_change f) ≡ payload_json (meant_fields f) ++ codes "\n" }
 {}
 
-/// What follows from the contract of `run`, whatever it says of lines on standard error: with
-/// status 0 both inputs hold data without a difference, with status 1 they hold data with one and
-/// all was printed, and any other is 3.
+/// What follows from the contract of `run`, whatever it reports on standard error: with status 0
+/// both inputs hold data without a difference, with status 1 they hold different data and all
+/// changes were printed, and any other status is 3.
 pub fn statuses()
     ensures same { (form : Form) (old old_left new new_left : ReaderState)
         (before after : WriterState) →

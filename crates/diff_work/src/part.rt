@@ -1,4 +1,4 @@
-//! The parts of data, each of which is gone over in the same way.
+//! The parts of data, over all of which the same code iterates.
 
 ghost use Rattle.std.specs.Prelude.{◌≡◌, [], ◌∷◌, List, map, IfOk};
 ghost use Rattle.std.specs.Map.Iter.{TakesFirst};
@@ -18,22 +18,22 @@ use std::alloc::AllocError;
 use std::cmp::Ordering;
 use std::collections::{btree_map, btree_set};
 
-/// A part of data that is gone over: its origins, its router keys or its ASPAs.
+/// A part of data to iterate over: its origins, its router keys or its ASPAs.
 pub trait Part: Drop {
-    /// A payload that the data lends.
+    /// A payload, borrowed from the data.
     type Lent: Copy;
 
-    /// What such a payload means.
+    /// The meaning of such a payload.
     ghost meant: { Self.Lent → Payload };
 
-    /// The payloads that are still to come.
+    /// The payloads that are left.
     ghost left: { Self → List Payload };
 
     /// Takes the next payload.
     fn next_lent(&mut self) -> Option<Self::Lent>
         ensures { TakesFirst meant (left self.old) result (left self.new) };
 
-    /// Compares the names of two payloads: of ASPAs the customers.
+    /// Compares the names of two payloads: the name of an ASPA is its customer.
     fn compare_names(one: Self::Lent, other: Self::Lent) -> Ordering
         ensures { result ≡ name_cmp (meant one) (meant other) };
 
@@ -43,8 +43,8 @@ pub trait Part: Drop {
         requires { name_cmp (meant one) (meant other) ≡ Equal }
         ensures { result ≡ is_changed Announce (meant other ∷ []) (meant one) };
 
-    /// The payload by itself, whose bytes are shared, so nothing is allocated; `AllocError` comes
-    /// if the count of handles is at its maximum.
+    /// The payload as an owned value that shares the bytes, so nothing is allocated; it returns
+    /// `AllocError` if the count of handles is at its maximum.
     fn payload(lent: Self::Lent) -> Result<payload::Payload, AllocError>
         ensures { IfOk result (λ p. payload_of p ≡ meant lent) };
 }

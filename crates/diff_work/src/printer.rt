@@ -1,4 +1,4 @@
-//! Prints changes.
+//! Printing changes.
 
 ghost use Rattle.std.specs.Prelude.{◌≡◌, ◌++◌, IfOk, OnOk, codes};
 ghost use Rattle.rtr_base.specs.Actions.{flags_of};
@@ -23,10 +23,10 @@ use rtr_units::piece::put;
 use rtr_units::source::Sink;
 use std::alloc::{AllocError, Global};
 
-/// The version of the units whose words are printed. The words don't name it.
+/// The version of the units whose text is printed. The text doesn't contain it.
 const WORDS_VERSION: u8 = 0;
 
-/// Prints changes, in memory that it uses again for each.
+/// Prints changes, in memory that is reused for each.
 #[derive(Drop)]
 pub struct Printer {
     alloc: Global,
@@ -37,7 +37,7 @@ pub struct Printer {
 }
 
 impl Printer {
-    /// A printer of changes in this form, as units of this version.
+    /// A printer of changes in this form, and with this version of units.
     pub fn new(alloc: Global, form: Form, version: u8) -> Printer
         ensures form { result.form ≡ form }
         ensures version { result.version ≡ version }
@@ -50,7 +50,7 @@ impl Printer {
         }
     }
 
-    /// Prints the change that announces or withdraws the payload, of a withdrawn ASPA only its
+    /// Prints the change that announces or withdraws the payload; of a withdrawn ASPA only its
     /// customer. Faults: `Memory` and `Writer`.
     pub fn print<W: Sink>(
         &mut self,
@@ -114,7 +114,7 @@ impl Printer {
         }
     }
 
-    /// Writes the unit that makes the change, where the version has one.
+    /// Writes the unit of the change, if the version has such units.
     fn print_unit<W: Sink>(
         &mut self,
         action: Action,
@@ -136,7 +136,7 @@ impl Printer {
     }
 }
 
-/// The payload as the change names it: of an ASPA that is withdrawn only the customer.
+/// The payload as the change contains it: of a withdrawn ASPA only the customer.
 fn named(alloc: Global, action: Action, payload: Payload) -> Result<Payload, AllocError>
     ensures { IfOk result (λ p. record { action = action; payload = payload_of p } ≡
         change_by action (payload_of payload)) }
@@ -161,7 +161,7 @@ fn sign(action: Action) -> &'static str
     }
 }
 
-/// Adds the line of the change that the unit makes.
+/// Adds the line of the unit's change.
 fn text_line(line: &mut Line, action: Action, unit: &pdu::Payload) -> Result<(), AllocError>
     ensures { OnOk result (line.new ≡ line.old ++ (sign_of action
         ++ payload_said (unit_fields unit.now) ++ codes "\n")) }
@@ -171,7 +171,7 @@ fn text_line(line: &mut Line, action: Action, unit: &pdu::Payload) -> Result<(),
     line.text("\n")
 }
 
-/// Adds the line of JSON of the change that the unit makes.
+/// Adds the line of JSON of the unit's change.
 fn json_line(line: &mut Line, unit: &pdu::Payload) -> Result<(), AllocError>
     ensures { OnOk result (line.new ≡ line.old ++ (payload_json (unit_fields unit.now)
         ++ codes "\n")) }

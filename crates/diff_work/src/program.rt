@@ -20,17 +20,17 @@ use std::alloc::Global;
 use std::io;
 use std::io::Write;
 
-/// The status where something differs.
+/// The status if something differs.
 const DIFFERENT: u8 = REFUSED;
 
-/// What comparing two files told.
+/// The result of comparing two files.
 #[derive(Clone, Copy, Debug)]
 pub struct Compared {
     /// Whether something differs.
     pub differs: bool,
-    /// Whether an answer of the first file was left out, since the next one cut it off.
+    /// Whether an incomplete answer of the first file was dropped because the next one cut it off.
     pub old_cut: bool,
-    /// The same of the second file.
+    /// The same for the second file.
     pub new_cut: bool,
 }
 
@@ -39,14 +39,14 @@ pub struct Compared {
 pub enum Trouble {
     /// The first file couldn't be read.
     Old(Stop),
-    /// The second file couldn't.
+    /// The second file couldn't be read.
     New(Stop),
-    /// The changes weren't all printed: `Writer` or `Memory`.
+    /// Printing the changes failed: `Writer` or `Memory`.
     Output(Fault),
 }
 
 /// Reads both files, the old first, and prints the changes from the data of the first to that of
-/// the second. Reports whether there is one, and whether an answer was left out.
+/// the second. Reports whether there is one, and whether an answer was dropped.
 pub fn compare<O: Source, N: Source, W: Sink>(
     alloc: Global,
     form: Form,
@@ -76,8 +76,9 @@ pub fn compare<O: Source, N: Source, W: Sink>(
     }
 }
 
-/// Prints the changes from the data of the first file to that of the second, after units the end of
-/// data of the second. Reports whether there is a change. Its faults are `Memory` and `Writer`.
+/// Prints the changes from the data of the first file to that of the second, and after units the
+/// end of data of the second. Reports whether there is a change. Its faults are `Memory` and
+/// `Writer`.
 pub fn print_differences<W: Sink>(
     alloc: Global,
     form: Form,
@@ -96,7 +97,7 @@ pub fn print_differences<W: Sink>(
     Ok(any)
 }
 
-/// Writes the end of data, where units are asked for.
+/// Writes the end of data, if units are requested.
 fn print_end<W: Sink>(form: Form, end: &EndOfData, output: &mut W) -> Result<(), Fault>
     ensures { Puts result (W.state output.old) (W.state output.new)
         (last_piece form (end_bytes end.now)) }
@@ -107,14 +108,14 @@ fn print_end<W: Sink>(form: Form, end: &EndOfData, output: &mut W) -> Result<(),
     }
 }
 
-/// Prints the changes that are asked for, flushes the output once, and returns the exit status:
+/// Prints the requested changes, flushes the output once, and returns the exit status:
 /// - 0 if nothing differs;
 /// - 1 if something does;
 /// - 3 if a file can't be read or holds no recording, or if writing, flushing or memory failed.
 ///
-/// Status 3 comes with a line on `faults`, and the others with one for each file in which an answer
-/// was left out; each begins with the program's name. A broken pipe is not reported. If a line
-/// can't be written, nothing else changes.
+/// Status 3 comes with a line on `faults`, and the others with one for each file of which an answer
+/// was dropped; each begins with the program's name. A broken pipe is not reported. If a line can't
+/// be written, nothing else changes.
 pub fn run<O: Source, N: Source, W: Sink, F: Write>(
     alloc: Global,
     name: &str,
@@ -133,7 +134,7 @@ pub fn run<O: Source, N: Source, W: Sink, F: Write>(
     tell(name, request, answer, flushed, faults)
 }
 
-/// Says what stopped the run, if something did, and returns the exit status.
+/// Reports what stopped the run, if something did, and returns the exit status.
 fn tell<F: Write>(
     name: &str,
     request: Request<'_>,
@@ -164,7 +165,7 @@ fn tell<F: Write>(
     }
 }
 
-/// Says that an answer of this file was left out, if one was.
+/// Reports that an answer of this file was dropped, if one was.
 fn tell_cut<F: Write>(name: &str, file: &str, has_cut: bool, faults: &mut F)
     ensures { has_cut ≡ false → faults.new ≡ faults.old }
 {
@@ -177,7 +178,7 @@ fn tell_cut<F: Write>(name: &str, file: &str, has_cut: bool, faults: &mut F)
     }
 }
 
-/// Says what stopped the run.
+/// Reports what stopped the run.
 fn tell_trouble<F: Write>(name: &str, request: Request<'_>, trouble: &Trouble, faults: &mut F) {
     match trouble {
         Trouble::Old(stop) => tell_stop(name, request.old, stop, faults),
@@ -186,7 +187,7 @@ fn tell_trouble<F: Write>(name: &str, request: Request<'_>, trouble: &Trouble, f
     }
 }
 
-/// Says why a file stopped, and where, unless that is the system's doing.
+/// Reports why a file couldn't be read, and where, unless the system is at fault.
 fn tell_stop<F: Write>(name: &str, file: &str, stop: &Stop, faults: &mut F) {
     let file = Escaped(file);
     match &stop.cause {
@@ -201,7 +202,7 @@ fn tell_stop<F: Write>(name: &str, file: &str, stop: &Stop, faults: &mut F) {
     }
 }
 
-/// Whether the fault is none of the input's.
+/// Whether the fault isn't the input's.
 fn is_of_system(fault: &Fault) -> bool {
     matches!(
         fault,

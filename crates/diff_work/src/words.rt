@@ -1,4 +1,4 @@
-//! What the program is asked for.
+//! The arguments of the program.
 
 ghost use Rattle.std.specs.Prelude.{◌≡◌, option_map};
 ghost use Rattle.diff_work.specs.DiffWords.{asked_by_words, asked_for, form_by_word};
@@ -7,31 +7,30 @@ ghost use Rattle.diff_work.specs.DiffWords.{is_file_name, is_standard_input, two
 /// The name that stands for standard input.
 const STANDARD_INPUT: &str = "-";
 
-/// In which form changes are printed.
+/// The form in which changes are printed.
 #[derive(Clone, Copy)]
 pub enum Form {
-    /// A line for people of each.
+    /// A line for people of each change.
     Text,
-    /// A JSON object of each.
+    /// A JSON object of each change.
     Json,
     /// The units of a delta, and the end of data of the second file.
     Units,
 }
 
-/// What a run is asked for: a form, and the names of the two files.
+/// The result of parsing the arguments: a form, and the names of the two files.
 #[derive(Clone, Copy)]
 pub struct Request<'a> {
     /// The form.
     pub form: Form,
-    /// The file whose data is the old.
+    /// The file with the old data.
     pub old: &'a str,
-    /// The file whose data is the new.
+    /// The file with the new data.
     pub new: &'a str,
 }
 
-/// What the words after the program's name ask for, if they ask for something: two files, after
-/// `--json` or `--units` in that form. One of them may be `-`, standard input. No other name begins
-/// with `-`.
+/// Parses the words after the program's name, if they are valid: two files, after `--json` or
+/// `--units` in that form. One of them may be `-`, standard input. No other name begins with `-`.
 pub fn asked(words: &[String]) -> Option<Request<'_>>
     ensures { option_map asked_for result ≡ asked_by_words words.now }
 {
@@ -42,7 +41,7 @@ pub fn asked(words: &[String]) -> Option<Request<'_>>
     }
 }
 
-/// The form that the word asks for.
+/// The form of this option.
 fn form_named(word: &str) -> Option<Form>
     ensures { result ≡ form_by_word word.now }
 {
@@ -53,7 +52,7 @@ fn form_named(word: &str) -> Option<Form>
     }
 }
 
-/// The two files of these names in the form, where both are names and only one is standard input.
+/// The two files of these names in the form, if both are names and at most one is standard input.
 fn two_named<'a>(form: Form, old: &'a str, new: &'a str) -> Option<Request<'a>>
     ensures { option_map asked_for result ≡ two_files form old.now new.now }
 {

@@ -60,7 +60,7 @@ IsNextExpiry (Some t) times = SomeIs (λ u. u ≡ t) times × AllByRecursion (λ
 
 -- ---- leaving out what has expired
 
--- just the items that stay are left, so many are gone, and the next time is that of those
+-- just the items that stay are left, this many are gone, and the next time is that of those
 pub record LeavesUnexpired (now : ℕ) (old new : List Item) (e : Expired) : Type 0 where
   pub clear : first_expiry_fault old ≡ None
   pub left : new ≡ filter (stays now) old

@@ -54,8 +54,8 @@ pub record HoldsJust (d ps : List Payload) : Type 0 where
   pub in_order : IsData d
   pub members : (p : Payload) → has d p ≡ has ps p
 
--- the data holds just the payloads of the items, none of which is refused; so many of the payloads
--- the version lacks, or 2^64 - 1 where there are more
+-- the data holds just the payloads of the items, none of which is refused; this many of the
+-- payloads the version lacks, or 2^64 - 1 where there are more
 pub record GathersAll (v : ℕ) (leaves_out : Bool) (items : List Item) (d : List Payload)
     (left_out : ℕ) : Type 0 where
   pub payloads : HoldsJust d (map item_payload items)

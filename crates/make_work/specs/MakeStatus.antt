@@ -41,13 +41,13 @@ make_status (Err (Output f)) flushed = 3
 abbrev pub line_end : List ℕ
 line_end = 10 ∷ []
 
--- so many that the version lacks, if there are some
+-- this many that the version lacks, if there are some
 abbrev pub lacking_line : (version left_out : ℕ) → List ℕ
 lacking_line v n = if n == 0 then [] else
     codes "rtr_make: left out " ++ (decimal n ++ (codes " that version " ++ (decimal v
     ++ (codes " lacks" ++ line_end))))
 
--- so many that have expired, and when the next does
+-- this many that have expired, and when the next does
 abbrev pub next_words : Option ℕ → List ℕ
 next_words None = codes "none of the others will" ++ line_end
 next_words (Some t) = codes "the next expires at " ++ (decimal t ++ line_end)

@@ -37,8 +37,8 @@ all_digits (c ∷ cs) = is_digit c 10 && all_digits cs
 abbrev pub is_decimal : List ℕ → Bool
 is_decimal text = nat_lt 0 (length text) && all_digits text
 
--- The number of so many bits that a text is, as Rust's `from_str` reads it: an optional plus, then
--- decimal digits. Zeros may lead.
+-- The number of this many bits that a text is, as Rust's `from_str` reads it: an optional plus,
+-- then decimal digits. Zeros may lead.
 abbrev pub number_of : ℕ → List ℕ → Option ℕ
 number_of bits text =
     let digits : List ℕ = without_leading_plus text in

@@ -1,4 +1,4 @@
-//! Which field of a row is which part of an origin.
+//! The columns of the parts of an origin.
 
 ghost use Rattle.std.specs.Prelude.{◌≡◌, codes};
 ghost use Rattle.csv.specs.Records.{fields_of};
@@ -9,32 +9,32 @@ ghost use Rattle.make_work.specs.CsvColumns.{plain_columns};
 use crate::json_names::Part;
 use csv::StringRecord;
 
-/// Which field of each row is which part. The ASN is always the first.
+/// The indexes of the parts' fields. The ASN is always the first.
 #[derive(Clone, Copy, Debug, PartialEq, Eq)]
 pub struct Columns {
-    /// That of the prefix: how many fields come before it.
+    /// The index of the prefix.
     pub prefix: usize,
-    /// That of the max length.
+    /// The index of the max length.
     pub max_length: usize,
-    /// That of the time at which the origin expires, if there is one.
+    /// The index of the expiry, if there is one.
     pub expires: Option<usize>,
-    /// How many fields each row has at least.
+    /// The number of fields that each row must have at least.
     pub width: usize,
 }
 
-/// Where a header has a part.
+/// The position of a part in a header.
 #[derive(Clone, Copy)]
 enum Column {
-    /// No field names it.
+    /// No field has its name.
     Missing,
-    /// The field at this index names it.
+    /// The field at this index has its name.
     At(usize),
-    /// Two fields name it.
+    /// Two fields have its name.
     Twice,
 }
 
-/// The columns of rows without a header: the prefix and, if there is one, the max length follow the
-/// ASN.
+/// The columns of rows without a header: the prefix and then the max length, if there is one, after
+/// the ASN.
 pub fn plain_columns() -> Columns
     ensures { result ≡ plain_columns }
 {
@@ -53,8 +53,8 @@ pub fn is_header(row: &StringRecord) -> bool
     Part::Asn.is_named(field(row, 0))
 }
 
-/// The columns that a header names: the ASN, the prefix and the max length once each, and the time
-/// once at most. None if it doesn't.
+/// The columns of a header that names the ASN, the prefix and the max length once each, and the
+/// expiry at most once; none for any other header.
 pub fn columns_named(row: &StringRecord) -> Option<Columns>
     ensures { result ≡ columns_named (fields_of row.now) }
 {
@@ -91,7 +91,7 @@ fn at_most_one(column: Column) -> Option<Option<usize>>
     }
 }
 
-/// Where the header has this part.
+/// The position of this part in the header.
 fn column_of(part: Part, row: &StringRecord) -> Column
     ensures { result ≡ column_of part (fields_of row.now) }
 {
@@ -104,7 +104,7 @@ fn column_of(part: Part, row: &StringRecord) -> Column
     column
 }
 
-/// Where a part is that was found at one more index.
+/// The position of a part that was found at one more index.
 fn found_again(column: Column, index: usize) -> Column
     ensures { result ≡ found_again column index }
 {

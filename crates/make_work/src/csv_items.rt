@@ -27,17 +27,16 @@ use std::alloc::Global;
 /// its max length, if it has one. Further fields and empty lines are ignored.
 ///
 /// A first line whose first field is `ASN` is a header: it names the columns of the prefix and the
-/// max length, each once, and may name one `Expires`, as rpki-client does, which is when each
-/// origin expires, in seconds since 1970. Names are those of `Part::is_named`. No line has fewer
-/// fields than the header.
+/// max length, each once, and may name one `Expires`, as rpki-client does, with the time at which
+/// each origin expires, in seconds since 1970. Names are those of `Part::is_named`. No line has
+/// fewer fields than the header.
 ///
-/// The last line has to have its line end, so that a text that was cut off isn't read, unless
+/// The last line must have its line end, so that a text that was cut off isn't accepted, unless
 /// `takes_unended`.
 ///
-/// The first quote at fault decides, as `check_quotes` has it; else the first line that is
-/// something else, with the reasons `NotText`, `Header`, `FewFields`, `Plus`, `UriColumn`, `Asn`,
-/// `Prefix`, `MaxLength` and `MaxLengthRule`, in this order; else `Unended`; `Memory` ends reading,
-/// too.
+/// The first quote at fault decides, as in `check_quotes`; else the first line that is refused,
+/// with the reasons `NotText`, `Header`, `FewFields`, `Plus`, `UriColumn`, `Asn`, `Prefix`,
+/// `MaxLength` and `MaxLengthRule`, in this order; else `Unended`; `Memory` stops reading, too.
 pub fn read_csv<'a>(
     alloc: Global,
     text: &'a [u8],
@@ -54,7 +53,7 @@ pub fn read_csv<'a>(
     }
 }
 
-/// Reads the rows of a text whose quotes stand where they may, and checks that the last one ends.
+/// Reads the rows of a text whose quotes are correct, and checks that the last one is ended.
 fn read_whole<'a>(
     alloc: Global,
     text: &'a [u8],
@@ -99,7 +98,7 @@ fn unended<'a>(text: &[u8]) -> Refusal<'a>
     }
 }
 
-/// Reads the rows of a text whose quotes stand where they may.
+/// Reads the rows of a text whose quotes are correct.
 fn read_rows<'a>(
     alloc: Global,
     text: &'a [u8],
@@ -130,7 +129,7 @@ fn read_rows<'a>(
     Err(out_of_memory())
 }
 
-/// The columns of the rows that follow, after one row more: the first may name them.
+/// The columns of the rows after this one: the first row may name them.
 fn columns_from(first: bool, columns: Columns, row: &StringRecord) -> Columns
     ensures { result ≡ columns_from first columns (fields_of row.now) }
 {
@@ -144,8 +143,8 @@ fn columns_from(first: bool, columns: Columns, row: &StringRecord) -> Columns
     }
 }
 
-/// Takes the origin that a row is, with its time where there is a column of times. The first row
-/// may be a header, which is no origin.
+/// Takes the origin of a row, with its expiry if there is a column for it. The first row may be a
+/// header, which isn't an origin.
 fn take_row<'a>(
     first: bool,
     columns: Columns,
@@ -192,7 +191,7 @@ fn item<'a>(place: Place<'a>, payload: Payload, expiry: Expiry) -> Item<'a>
     }
 }
 
-/// When the row expires.
+/// The expiry of the row.
 fn expiry(columns: Columns, row: &StringRecord) -> Expiry
     ensures { result ≡ row_expiry columns (fields_of row.now) }
 {
@@ -211,7 +210,7 @@ fn out_of_memory<'a>() -> Refusal<'a>
     }
 }
 
-/// The refusal for what stopped the reader of lines.
+/// The refusal for the fault of the reader of lines.
 fn refusal<'a>(text: &[u8], error: &Error) -> Refusal<'a>
     ensures { result.reason ≡ reason_of (error_kind error.now) }
 {
@@ -235,8 +234,8 @@ fn line_of(text: &[u8], row: &StringRecord) -> u64 {
     }
 }
 
-/// The line of the row that was read from this position on. The reader's own is that in which it
-/// began to look for the row: it then passed over the rest of a line's end, and empty lines.
+/// The line of the row that was read from this offset on. The line number of the reader is where it
+/// began to look for the row, before it skipped the rest of a line's end, and empty lines.
 fn line_at(text: &[u8], position: Position) -> u64 {
     let mut line = position.line();
     for byte in read_from(text, position.byte()) {
@@ -249,7 +248,7 @@ fn line_at(text: &[u8], position: Position) -> u64 {
     line
 }
 
-/// The text from this byte on, without a mark of its byte order at its start.
+/// The text from this offset on, without a byte order mark at its start.
 fn read_from(text: &[u8], start: u64) -> &[u8] {
     if start == 0 {
         return without_mark(text);
@@ -257,7 +256,7 @@ fn read_from(text: &[u8], start: u64) -> &[u8] {
     text.get(start as usize..).unwrap_or(&[])
 }
 
-/// The origin that the row is.
+/// The origin of the row.
 fn origin(columns: Columns, row: &StringRecord) -> Result<Payload, Reason>
     ensures { ReadsRow columns (fields_of row.now) result }
 {
@@ -285,7 +284,7 @@ fn origin(columns: Columns, row: &StringRecord) -> Result<Payload, Reason>
     }
 }
 
-/// Whether a plus stands in a field that is a part of an origin, as no validator prints it.
+/// Whether a part of an origin has a plus sign, which no validator prints.
 fn some_plus(columns: Columns, row: &StringRecord) -> bool
     ensures { result ≡ some_plus columns (fields_of row.now) }
 {
@@ -294,7 +293,7 @@ fn some_plus(columns: Columns, row: &StringRecord) -> bool
         || has_plus(field(row, columns.max_length))
 }
 
-/// Why the field is no ASN.
+/// Why the field isn't an ASN.
 fn no_asn(text: &str) -> Reason
     ensures { result ≡ (if is_uri text.now then Reason.UriColumn else Reason.Asn) }
 {
@@ -305,7 +304,7 @@ fn no_asn(text: &str) -> Reason
     }
 }
 
-/// The max length that the field is: none if it is empty.
+/// The max length in the field; none if the field is empty.
 fn max_length(text: &str) -> Result<Option<u8>, Reason>
     ensures { ReadsMaxLength text.now result }
 {

@@ -1,4 +1,4 @@
-//! What has expired of items that come one after the other.
+//! Leaving out items that have expired.
 
 ghost use Rattle.std.specs.Prelude.{◌≡◌, MatchResult};
 ghost use Rattle.make_work.specs.Expiries.{expiry_fault, lasts};
@@ -11,27 +11,27 @@ use crate::json_names::Part;
 /// What was left out of items at a time.
 #[derive(Clone, Copy, Debug)]
 pub struct Expired {
-    /// How many items had expired.
+    /// The number of items that had expired.
     pub left_out: usize,
-    /// When the next of the others expires, if one does.
+    /// When the next of the other items expires, if any does.
     pub next: Option<u64>,
 }
 
-/// The times of items that were looked at.
+/// The state of checking the expiry of items.
 #[derive(Drop)]
 pub(crate) struct Times<'a> {
-    /// The time that is asked for, if one is.
+    /// The time for which expiry is checked, if one is given.
     asked: Option<u64>,
-    /// How many items had expired at it.
+    /// The number of items that had expired at that time.
     left_out: usize,
-    /// When the next of the others expires, if one does.
+    /// When the next of the other items expires, if any does.
     next: Option<u64>,
-    /// The first item whose expiry has no meaning.
+    /// The first item whose expiry is invalid.
     refused: Option<Refusal<'a>>,
 }
 
 impl<'a> Times<'a> {
-    /// Those of no items, to be looked at for this time.
+    /// The state before the first item, for this time.
     pub(crate) fn new(asked: Option<u64>) -> Times<'a>
         ensures { AreNewTimes asked result }
     {
@@ -43,11 +43,11 @@ impl<'a> Times<'a> {
         }
     }
 
-    /// Looks at one item more, and reports whether it stays: one that expires at the requested
-    /// time, or before it, doesn't. Fails where there are more than can be counted.
+    /// Checks one more item, and reports whether it stays: an item that expires at the requested
+    /// time, or before it, doesn't. Fails if there are more than can be counted.
     ///
-    /// An item whose expiry is no number of seconds, or is given twice, is refused, with `Time` or
-    /// `Twice`. Then no other is looked at.
+    /// An item whose expiry isn't a number of seconds, or is given twice, is refused, with `Time`
+    /// or `Twice`. Then no further items are checked.
     pub(crate) fn look(&mut self, item: &Item<'a>) -> Result<bool, Reason>
         ensures { MatchResult result (λ stays. LooksAtTime item.now stays self.old self.new)
             (λ r. r ≡ Reason.Memory) }
@@ -74,7 +74,7 @@ impl<'a> Times<'a> {
         Ok(false)
     }
 
-    /// What has expired of the items, where a time is given, or the first that is refused.
+    /// The result for the items, if a time is given, or the first refused item.
     pub(crate) fn answer(self) -> Result<Option<Expired>, Refusal<'a>>
         ensures { result ≡ times_answer self.entry }
     {
@@ -89,7 +89,7 @@ impl<'a> Times<'a> {
     }
 }
 
-/// What is wrong with an expiry, if something is.
+/// What is wrong with an expiry, if anything.
 fn expiry_fault(expiry: Expiry) -> Option<Reason>
     ensures { result ≡ expiry_fault expiry }
 {
@@ -100,7 +100,7 @@ fn expiry_fault(expiry: Expiry) -> Option<Reason>
     }
 }
 
-/// Where the time of an item stands.
+/// The place of an item's expiry.
 fn time_place<'a>(place: Place<'a>) -> Place<'a> {
     match place {
         Place::Item(array, index) => Place::Member(array, index, Part::Expires.usual_name()),
@@ -108,7 +108,7 @@ fn time_place<'a>(place: Place<'a>) -> Place<'a> {
     }
 }
 
-/// Whether what has this expiry stays at a time.
+/// Whether an item with this expiry stays at a time.
 fn lasts(now: u64, expiry: Expiry) -> bool
     ensures { result ≡ lasts now expiry }
 {

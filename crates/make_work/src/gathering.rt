@@ -1,4 +1,4 @@
-//! The payloads of items that come one after the other as data: each once, in their order.
+//! Gathering the payloads of items as data: each once, in their order.
 
 ghost use Rattle.std.specs.Prelude.{◌≡◌, ◌∷◌, [], ◌^◌, ◌+◌, ◌-◌, MatchResult, length, min, nat_eq};
 ghost use Rattle.std.specs.Prelude.{None, if◌then◌else◌};
@@ -26,41 +26,42 @@ use std::alloc::Global;
 /// The payloads of items.
 #[derive(Drop)]
 pub struct Gathered {
-    /// All of them, each once.
+    /// The payloads, each once.
     pub payloads: Data,
-    /// How many of them the version lacks.
+    /// The number of payloads left out because the version lacks them.
     pub left_out: usize,
 }
 
 /// The items that stay at the requested time.
 #[derive(Drop)]
 pub struct Left<'a> {
-    /// What has expired of them, where a time is given.
+    /// How many of them have expired, and when the next one does, if a time is given.
     pub expired: Option<Expired>,
-    /// The payloads of the others, or the first item that is refused.
+    /// The payloads of the other items, or the first refused item.
     pub gathered: Result<Gathered, Refusal<'a>>,
 }
 
-/// Items that were taken one after the other. It keeps their payloads, each once, and no item.
+/// A gathering of items, one after the other. It keeps their payloads, each once, but not the
+/// items.
 #[derive(Drop)]
 pub struct Gathering<'a> {
     /// The version of the protocol.
     version: u8,
-    /// Whether payloads that it lacks are left out.
+    /// Whether payloads that the version lacks are left out.
     leaves_out: bool,
-    /// What has expired.
+    /// The state of checking expiry.
     times: Times<'a>,
-    /// The payloads of the others.
+    /// The payloads of the items that stay.
     payloads: Data,
-    /// The first of the others that is refused.
+    /// The first of these items that is refused.
     refused: Option<Refusal<'a>>,
     /// The filters and assertions of SLURM files.
     slurm: Option<&'a Slurm>,
 }
 
 impl<'a> Gathering<'a> {
-    /// Gathers items for this version. If a time is given, those are left out that have expired at
-    /// it.
+    /// Gathers items for this version. If a time is given, items that have expired at it are left
+    /// out.
     pub fn new(alloc: Global, version: u8, leaves_out: bool, asked: Option<u64>) -> Gathering<'a>
         ensures settings { IsFor version leaves_out asked result }
         ensures none { HasTaken [] result }
@@ -76,7 +77,7 @@ impl<'a> Gathering<'a> {
         }
     }
 
-    /// Gathers items as `new`, but for those whose payloads the filters of these SLURM files
+    /// Gathers items as `new` does, except those whose payloads the filters of these SLURM files
     /// remove. `take_assertions` adds the payloads that the files assert.
     pub fn with_slurm(
         alloc: Global,
@@ -99,7 +100,7 @@ impl<'a> Gathering<'a> {
         }
     }
 
-    /// Takes one item more, unless a filter removes it. `finish` says whether one was refused.
+    /// Takes one more item, unless a filter removes it. `finish` returns whether one was refused.
     /// Fails only with `Memory`.
     #[inline(always)]
     pub fn take(&mut self, item: Item<'a>) -> Result<(), Reason>
@@ -112,7 +113,7 @@ impl<'a> Gathering<'a> {
         self.keep(item)
     }
 
-    /// Takes the payloads that the SLURM files assert, which no filter removes and which never
+    /// Takes the payloads that the SLURM files assert; filters don't apply to them, and they never
     /// expire. Fails only with `Memory`.
     pub fn take_assertions(&mut self) -> Result<(), Reason>
         ensures { MatchResult result
@@ -151,7 +152,7 @@ impl<'a> Gathering<'a> {
         }
     }
 
-    /// Takes one item more, whatever the filters say.
+    /// Takes one more item, without applying filters.
     #[inline(always)]
     fn keep(&mut self, item: Item<'a>) -> Result<(), Reason>
         ensures { MatchResult result (λ _. KeepsItems (item.entry ∷ []) self.old self.new)
@@ -190,10 +191,10 @@ impl<'a> Gathering<'a> {
     /// Returns the items that stay. The first item whose expiry has no meaning is refused, with
     /// `Time` or `Twice`, if a time is given.
     ///
-    /// A payload that comes again is ignored. A payload that the version lacks is refused, unless
-    /// such payloads are to be left out: then they are counted. The first item that is refused
-    /// decides, with the reason `Version`, `OtherProviders`, or `Change` with `KeyTooLong` or
-    /// `NoProviders`, whether the version has it or not.
+    /// A repeated payload is ignored. A payload that the version lacks is refused, unless such
+    /// payloads are left out, and then counted. The first refused item decides, with the reason
+    /// `Version`, `OtherProviders`, or `Change` with `KeyTooLong` or `NoProviders`, whether the
+    /// version has it or not.
     pub fn finish(self) -> Result<Left<'a>, Refusal<'a>>
         ensures { EndsTaking self.entry result }
     {
@@ -207,7 +208,7 @@ impl<'a> Gathering<'a> {
     }
 }
 
-/// The SLURM files, unless they have no entries: then no item is compared with them.
+/// The SLURM files, or none if they have no entries, so that no item is compared with them.
 fn if_any(slurm: &Slurm) -> Option<&Slurm>
     ensures { entries_asked result ≡ slurm.now.entries.items }
 {
@@ -259,7 +260,7 @@ fn all_gathered<'a>(
     }
 }
 
-/// How many of the payloads the version lacks, or 2^64 - 1 where there are more.
+/// The number of payloads that the version lacks; it saturates at 2^64 - 1.
 fn count_lacking(version: u8, payloads: &Data) -> usize
     ensures count { result ≡ min (length (lacked version payloads.now)) (2 ^ 64 - 1) }
     ensures fit { AreFit payloads.now }
@@ -281,7 +282,7 @@ pub fn has_none(version: u8, payloads: &Data) -> bool
     )
 }
 
-/// The count, or 0 where it doesn't count.
+/// The count if `counts`, otherwise 0.
 fn if_counted(counts: bool, count: usize) -> usize
     ensures { result ≡ (if counts then count else 0) }
 {

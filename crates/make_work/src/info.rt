@@ -9,10 +9,10 @@ use rtr_units::piece::put;
 use rtr_units::source::Sink;
 use std::io::Write;
 
-/// What the program is asked to say of itself.
+/// A question about the program itself.
 #[derive(Clone, Copy, Debug, PartialEq, Eq)]
 pub enum Info {
-    /// What it does, and what each word means.
+    /// Its help: what it does, and what each argument means.
     Help,
     /// Its version.
     Version,
@@ -21,16 +21,16 @@ pub enum Info {
 /// Its name.
 pub const NAME: &str = "rtr_make";
 
-/// Its name and version, in a line.
+/// Its name and version, on one line.
 const VERSION: &str = "rtr_make 0.3.0\n";
 
-/// How it is called, in a line.
+/// Its usage, on one line.
 pub const SYNOPSIS: &str =
     "usage: rtr_make --csv | --json [--version 0|1|2] [--session N] [--serial N] \
 [--refresh N] [--retry N] [--expire N] [--drop] [--empty] [--unended] [--ignore NAME] [--at N] \
 [--slurm FILE] [FILE]";
 
-/// What the program does, and what each word means.
+/// What the program does, and what each argument means.
 const HELP: &str = "rtr_make - write the RTR sequence of validated payloads
 
 It reads what a validator prints from FILE, or from standard input if FILE is -
@@ -58,8 +58,7 @@ standard output.
 Alone: --help prints this, and --version the program's version.
 ";
 
-/// What the words after the program's name ask it to say of itself, if they are `--help` or
-/// `--version` alone.
+/// The question in the words after the program's name, if they are `--help` or `--version` alone.
 pub fn info_asked(words: &[String]) -> Option<Info>
     ensures { result ≡ info_by_words words.now }
 {
@@ -79,8 +78,8 @@ fn info_named(word: &str) -> Option<Info>
     }
 }
 
-/// Writes what is asked for, flushes it once, and returns the exit status: 0 if that succeeded, and
-/// else 3 with a line on `faults`.
+/// Writes the text that is asked for, flushes it once, and returns the exit status: 0 if that
+/// succeeded, otherwise 3, with a line on `faults`.
 pub fn tell_info<W: Sink, F: Write>(info: Info, output: &mut W, faults: &mut F) -> u8
     ensures { TellsText result (W.state output.old) (W.state output.new) }
 {

@@ -1,4 +1,4 @@
-//! Payloads that were read, and why something isn't one.
+//! Payloads that were read, and why an item isn't a payload.
 
 use data_memory::ChangeError;
 use rtr_base::addr::MaxLenError;
@@ -6,7 +6,7 @@ use rtr_base::parse::{ParseKeyIdentifierError, ParsePrefixError};
 use rtr_payload::payload::Payload;
 use std::fmt;
 
-/// A payload, and where it stood.
+/// A payload, and its place in the input.
 #[derive(Drop)]
 pub struct Item<'a> {
     /// The line of CSV, or the item of an array in JSON.
@@ -20,34 +20,34 @@ pub struct Item<'a> {
 /// When a payload expires, by `expires` of its object or the column `Expires` of its line.
 #[derive(Clone, Copy, Debug, PartialEq, Eq)]
 pub enum Expiry {
-    /// The item says nothing of it.
+    /// The item has no expiry.
     Never,
     /// This number of seconds after the epoch, the first second of 1970.
     At(u64),
-    /// The text is no number of 64 bits.
+    /// The text isn't a number of 64 bits.
     Invalid,
-    /// It says it twice.
+    /// The expiry is given twice.
     Twice,
 }
 
-/// Where something stands in the input.
+/// A place in the input.
 #[derive(Clone, Copy, Debug)]
 pub enum Place<'a> {
-    /// In the input as a whole.
+    /// The input as a whole.
     Input,
-    /// After this many bytes.
+    /// This offset, in bytes.
     Offset(u64),
-    /// In the line of this number, of which the first is 1.
+    /// The line of this number, of which the first is 1.
     Line(u64),
-    /// In what the object at the top has under this name.
+    /// The value of this name in the top object.
     Array(&'a str),
-    /// In what the object at the top has under a name that isn't known.
+    /// The value of this unknown name in the top object.
     Unknown(&'a str),
-    /// In the item at this index of this array.
+    /// The item at this index of this array.
     Item(&'a str, u64),
-    /// In what this item has under this name.
+    /// The value of this name in that item.
     Member(&'a str, u64, &'a str),
-    /// In what the object of this name has under this other name.
+    /// The value of the second name in the object of the first name.
     Entry(&'a str, &'a str),
 }
 
@@ -66,19 +66,19 @@ impl fmt::Display for Place<'_> {
     }
 }
 
-/// Why the input is refused, and where.
+/// Why the input is refused, and at which place.
 #[derive(Debug, Drop)]
 pub struct Refusal<'a> {
-    /// Where.
+    /// The place.
     pub place: Place<'a>,
-    /// What.
+    /// The reason.
     pub reason: Reason,
 }
 
-/// Why something is refused.
+/// Why an item or an input is refused.
 #[derive(Debug, Drop, thiserror::Error)]
 pub enum Reason {
-    /// The text is no JSON.
+    /// The text isn't JSON.
     #[error("no JSON")]
     NotJson,
     /// The text ends in the middle of JSON.
@@ -87,13 +87,13 @@ pub enum Reason {
     /// Arrays and objects nest too deep.
     #[error("nested deeper than 128")]
     TooDeep,
-    /// A field begins with a quote, and no quote ends it.
+    /// A field begins with a quote that is never closed.
     #[error("a quote is not closed")]
     OpenQuote,
-    /// A quote stands in a field that doesn't begin with one.
+    /// A quote is in a field that doesn't begin with one.
     #[error("a quote inside a field")]
     QuoteInside,
-    /// Text stands between the quote that ends a field and the end of the field.
+    /// There is text between the closing quote of a field and the end of the field.
     #[error("text after a closing quote")]
     TextAfterQuote,
     /// The text isn't UTF-8.
@@ -108,16 +108,16 @@ pub enum Reason {
     /// There is no array of payloads.
     #[error("no array of payloads")]
     NoArray,
-    /// Payloads under a name that isn't known.
+    /// The value of an unknown name looks like payloads.
     #[error("payloads under an unknown name")]
     UnknownName,
-    /// There is no payload, and none were asked for.
+    /// There is no payload, and an empty sequence wasn't requested.
     #[error("no payloads: give --empty if that is meant")]
     NoPayloads,
-    /// It is missing.
+    /// A required value is missing.
     #[error("missing")]
     Missing,
-    /// The same name, or another that means the same, comes twice.
+    /// The same name, or another with the same meaning, comes twice.
     #[error("given twice")]
     Twice,
     /// The first line names the columns, but not the prefix and the max length once each.
@@ -129,13 +129,13 @@ pub enum Reason {
     /// The last line has no line end.
     #[error("no line end: the list may be cut off (`rtr_make --unended` reads it)")]
     Unended,
-    /// A plus stands before a number.
+    /// There is a plus sign before a number.
     #[error("a plus before a number")]
     Plus,
     /// It isn't the number of an autonomous system.
     #[error("invalid AS number")]
     Asn,
-    /// A URI stands where the number of an autonomous system has to.
+    /// There is a URI instead of the number of an autonomous system.
     #[error("a column of URIs before the AS numbers is not read: leave it out")]
     UriColumn,
     /// A text was expected.
@@ -147,7 +147,7 @@ pub enum Reason {
     /// It isn't a number of at most 255.
     #[error("invalid max-length")]
     MaxLength,
-    /// The max length doesn't go with the prefix.
+    /// The max length is out of range for the prefix.
     #[error("{0}")]
     MaxLengthRule(MaxLenError),
     /// It isn't the identifier of a key.
@@ -159,10 +159,10 @@ pub enum Reason {
     /// It isn't a time: a number of seconds, of at most 64 bits.
     #[error("invalid time")]
     Time,
-    /// An ASPA has more providers than its unit has room for.
+    /// An ASPA has more providers than fit into its unit.
     #[error("more than 16380 providers")]
     TooManyProviders,
-    /// No announcement of it would be accepted.
+    /// No reader accepts an announcement of it.
     #[error("{0}")]
     Change(ChangeError),
     /// Another ASPA of this customer came before, with other providers.
@@ -171,7 +171,7 @@ pub enum Reason {
     /// The version of the protocol has no such payload.
     #[error("protocol version {0} has no such payload")]
     Version(u8),
-    /// Memory ran out.
+    /// An allocation failed.
     #[error("out of memory")]
     Memory,
 }

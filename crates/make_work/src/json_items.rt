@@ -51,12 +51,12 @@ use std::alloc::Global;
 ///   with `customer_asid` or `customer`, and `providers`; or the providers of each under its
 ///   customer. Providers are sorted, and each is taken once.
 ///
-/// An ASN is a number, or a text with or without `AS` before it. `metadata` is ignored, and what
-/// stands under a name that the words ignore. What stands under other names is ignored unless it
-/// is, or has in it at any depth, what looks like payloads (`has_payloads`).
+/// An ASN is a number, or a text with or without `AS` before it. `metadata` is ignored, and so are
+/// the values of names given by `--ignore`. The values of other names are ignored unless they are,
+/// or contain at any depth, what looks like payloads (`has_payloads`).
 ///
-/// The first place at which that can't go on decides. `scratch` keeps the texts with escapes. A
-/// mark of the byte order at the start is ignored.
+/// The first fault decides. `scratch` keeps the texts with escapes. A byte order mark at the start
+/// is ignored.
 pub fn read_json<'a>(
     alloc: Global,
     text: &'a [u8],
@@ -83,7 +83,7 @@ pub fn read_json<'a>(
 }
 
 /// The refusal of a text that ends an input of this length, if `found` was found in it before all
-/// of it was read: that it is no JSON comes first.
+/// of it was read. That the text isn't JSON comes first.
 fn told<'a>(alloc: Global, length: usize, text: &str, found: Refusal<'a>) -> Refusal<'a>
     ensures { TellsFound (document text.now) found.entry.reason result.reason }
 {
@@ -101,7 +101,7 @@ fn refusal(place: Place<'_>, reason: Reason) -> Refusal<'_>
     Refusal { place, reason }
 }
 
-/// The refusal of a text that ends an input of this length, and is no JSON or nests too deep.
+/// The refusal of a text that ends an input of this length, and isn't JSON or nests too deep.
 fn not_json<'a>(alloc: Global, length: usize, text: &str) -> Refusal<'a>
     ensures { OrMemory IsNoDocument result.reason }
 {
@@ -123,8 +123,8 @@ fn not_json<'a>(alloc: Global, length: usize, text: &str) -> Refusal<'a>
     refusal(Place::Offset(offset as u64), reason)
 }
 
-/// Whether a text that is no JSON from this offset on may be the beginning of one: nothing is left
-/// there, or a text or a word that doesn't end.
+/// Whether a text that isn't JSON from this offset on may be cut off: nothing is left there, or a
+/// string or a word that doesn't end.
 fn ends_early(text: &[u8], offset: usize) -> bool {
     match text.get(offset..) {
         Some([]) => offset > 0,
@@ -136,7 +136,7 @@ fn ends_early(text: &[u8], offset: usize) -> bool {
     }
 }
 
-/// Whether a quote stands in the text.
+/// Whether the text contains a quote.
 fn has_quote(text: &[u8]) -> bool {
     for byte in text {
         if *byte == b'"' {
@@ -151,8 +151,7 @@ fn is_start(text: &[u8], word: &[u8]) -> bool {
     word.starts_with(text)
 }
 
-/// Whether more arrays and objects stand open at some place than may nest, if there is memory to
-/// say so.
+/// Whether arrays and objects nest deeper than allowed, if there is memory to find out.
 fn is_too_deep(alloc: Global, text: &str) -> Option<bool> {
     let mut scratch = Scratch::new(alloc);
     let Ok(mut reader) = Reader::new(text, &mut scratch) else {
@@ -174,7 +173,7 @@ fn is_too_deep(alloc: Global, text: &str) -> Option<bool> {
     Some(false)
 }
 
-/// Takes the items of the object that the document must be. What stands after a refusal isn't read.
+/// Takes the items of the object that the document must be. What follows a refusal isn't read.
 fn read_document<'a>(
     alloc: Global,
     words: &[String],
@@ -232,8 +231,8 @@ fn is_begin_object(token: Token<'_>) -> bool
     }
 }
 
-/// Reads the members of the object at the top to its end. Reports whether one has payloads by its
-/// name.
+/// Reads the members of the top object to its end. Reports whether the name of one is known for
+/// payloads.
 fn read_members<'a>(
     alloc: Global,
     words: &[String],
@@ -264,8 +263,8 @@ fn read_members<'a>(
     }
 }
 
-/// Adds the payloads of the next value, which is that of a member of the object at the top, unless
-/// its name is to be ignored.
+/// Adds the payloads of the next value, that of a member of the top object, unless its name is
+/// ignored.
 fn read_member<'a>(
     alloc: Global,
     words: &[String],
@@ -289,8 +288,8 @@ fn read_member<'a>(
     }
 }
 
-/// The kind of the payloads that a member of this name lists one after the other, if it does. ASPAs
-/// may stand under the names of their customers instead.
+/// The kind of the payloads that a member of this name lists, if it does. ASPAs may be listed under
+/// the names of their customers instead.
 fn listed_kind(words: &[String], name: &str) -> Option<Kind>
     ensures { IfSome result (λ kind. (kind ≢ Kind.Aspas)
         × (is_one_of (ignored_by_words words.now) name.now ≡ false)
@@ -306,8 +305,8 @@ fn listed_kind(words: &[String], name: &str) -> Option<Kind>
     }
 }
 
-/// Adds the payloads of the next value, which is an array, or `null`, as stayrtr writes it where it
-/// has none.
+/// Adds the payloads of the next value, which is an array, or `null`, as stayrtr writes it for no
+/// payloads.
 fn read_payloads<'a>(
     alloc: Global,
     array: &'a str,
@@ -352,8 +351,8 @@ fn is_null(token: Token<'_>) -> bool
     }
 }
 
-/// Adds the payloads of the items of an array to its end, each of which is dropped before the next
-/// is read.
+/// Adds the payloads of the items of an array to its end. Each item is dropped before the next is
+/// read.
 fn read_list<'a>(
     alloc: Global,
     array: &'a str,
@@ -395,7 +394,7 @@ fn read_item<'a>(
     add_item(alloc, spot, kind, &item, gathering)
 }
 
-/// The next value. Arrays and objects may nest this deep.
+/// The next value. Arrays and objects may nest to this depth.
 fn read_value<'a>(
     alloc: Global,
     reader: &mut Reader<'a>,
@@ -428,7 +427,7 @@ fn holds_payloads(holding: Option<Holding>) -> bool
     }
 }
 
-/// Adds the payloads of a member of the object at the top, unless its name is to be ignored.
+/// Adds the payloads of a member of the top object, unless its name is ignored.
 fn add_member<'a>(
     alloc: Global,
     words: &[String],
@@ -465,7 +464,7 @@ fn check_unknown<'a>(place: Place<'a>, value: &Value<'_>) -> Result<(), Refusal<
     Ok(())
 }
 
-/// Adds the ASPAs that are listed for each family of addresses.
+/// Adds the ASPAs that are listed for each address family.
 fn add_authorizations<'a>(
     alloc: Global,
     array: &'a str,
@@ -524,7 +523,7 @@ fn add_family<'a>(
     }
 }
 
-/// Adds the payloads of an array, for which stayrtr writes `null` where it has none, or ASPAs by
+/// Adds the payloads of an array, for which stayrtr writes `null` if there are none, or ASPAs by
 /// their customers, as FORT writes them.
 fn add_payloads<'a>(
     alloc: Global,
@@ -571,7 +570,7 @@ fn add_list<'a>(
     Ok(())
 }
 
-/// Adds the payload that an item of an array is.
+/// Adds the payload of an item of an array.
 fn add_item<'a>(
     alloc: Global,
     spot: Spot<'a>,
@@ -589,7 +588,7 @@ fn add_item<'a>(
     }
 }
 
-/// When an item of an array expires.
+/// The expiry of an item of an array.
 fn expiry_of<'a>(spot: Spot<'a>, item: &Value<'a>) -> Expiry
     ensures { result ≡ item_expiry (value_view item.now) }
 {
@@ -599,7 +598,7 @@ fn expiry_of<'a>(spot: Spot<'a>, item: &Value<'a>) -> Expiry
     }
 }
 
-/// The payload that an item of an array is.
+/// The payload of an item of an array.
 fn payload_of<'a>(
     alloc: Global,
     spot: Spot<'a>,
@@ -636,7 +635,7 @@ fn take<'a>(
     }
 }
 
-/// Adds the ASPAs whose customers are the names of the members, and whose providers the values.
+/// Adds the ASPAs of an object whose names are customers, and whose values are their providers.
 fn add_customers<'a>(
     alloc: Global,
     array: &'a str,
@@ -658,7 +657,7 @@ fn add_customers<'a>(
     Ok(())
 }
 
-/// Adds the ASPA of the customer that the name is.
+/// Adds the ASPA of the customer in the name.
 fn add_customer<'a>(
     alloc: Global,
     array: &'a str,
@@ -678,7 +677,7 @@ fn add_customer<'a>(
     }
 }
 
-/// The ASPA of the customer that the name is, with the providers in the value.
+/// The ASPA of the customer in the name, with the providers in the value.
 fn aspa_of(alloc: Global, name: &str, value: &Value<'_>) -> Result<Payload, Reason>
     ensures { MatchResult result (IsCustomerAspa name.now (value_view value.now))
         (OrMemory (RefusesCustomer (name.now, value_view value.now))) }

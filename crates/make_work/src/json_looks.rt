@@ -1,4 +1,4 @@
-//! Whether what stands under a name that isn't known looks like payloads.
+//! Whether the value of an unknown name looks like payloads.
 
 ghost use Rattle.std.specs.Prelude.{◌≡◌, ◌&&◌, ◌||◌, ◌⊎◌, ℕ, true, Decides};
 ghost use Rattle.std.specs.List.{AllByRecursion};
@@ -17,7 +17,7 @@ use json::Value;
 use rtr_base::addr::Prefix;
 use rtr_base::asn::Asn;
 
-/// Whether a value is, or has in it at any depth, what looks like payloads that would be lost:
+/// Whether a value is, or contains at any depth, what looks like payloads that would be lost:
 /// - an object with an ASN and a prefix, with an ASN and a key or its identifier, or with a
 ///   customer and providers;
 /// - an array with the text of a prefix and an ASN among its items;
@@ -33,7 +33,7 @@ pub fn has_payloads(value: &Value<'_>) -> bool
     }
 }
 
-/// The same of an array with these items.
+/// The same for an array with these items.
 #[cycle(looks)]
 fn array_has_payloads(list: &[Value<'_>]) -> bool
     ensures { Decides result (IsLikeTuple (items_list (items_view list.now))
@@ -42,7 +42,7 @@ fn array_has_payloads(list: &[Value<'_>]) -> bool
     is_like_tuple(list) || some_have_payloads(list)
 }
 
-/// The same of an object with these members.
+/// The same for an object with these members.
 #[cycle(looks)]
 fn object_has_payloads(members: &[(&str, Value<'_>)]) -> bool
     ensures { Decides result
@@ -77,7 +77,7 @@ fn members_have_payloads(members: &[(&str, Value<'_>)]) -> bool
     false
 }
 
-/// Whether an array has what an origin has: the text of a prefix, and an ASN beside it.
+/// Whether an array has the parts of an origin: the text of a prefix, and an ASN beside it.
 fn is_like_tuple(list: &[Value<'_>]) -> bool
     ensures { Decides result (IsLikeTuple (items_list (items_view list.now))) }
 {
@@ -139,7 +139,7 @@ fn is_asn_number(text: &str) -> bool
     asn_of_number(text).is_ok()
 }
 
-/// Whether an object lists ASPAs by their customers, and not none.
+/// Whether an object lists ASPAs by their customers, and isn't empty.
 fn is_like_customers(members: &[(&str, Value<'_>)]) -> bool
     ensures { Decides result (IsLikeCustomers (members_list (members_view members.now))) }
 {
@@ -191,7 +191,7 @@ fn are_asns(list: &[Value<'_>]) -> bool
     true
 }
 
-/// Whether an object has what a payload has: an ASN and a prefix, an ASN and a key or its
+/// Whether an object has the parts of a payload: an ASN and a prefix, an ASN and a key or its
 /// identifier, or a customer and providers.
 fn is_like_payload(members: &[(&str, Value<'_>)]) -> bool
     ensures { result ≡ is_like_payload (members_list (members_view members.now)) }

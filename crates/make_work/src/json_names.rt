@@ -1,11 +1,11 @@
-//! The names that validators give to arrays and parts of payloads.
+//! The names that validators use for arrays and parts of payloads.
 
 ghost use Rattle.std.specs.Prelude.{◌≡◌, ◌==◌, bytes_eq, is_some, option_map};
 ghost use Rattle.make_work.specs.JsonNames.{holding_named, is_family, is_joiner, is_part};
 ghost use Rattle.make_work.specs.JsonNames.{is_plainly_one_of, key_names, plain, usual_name};
 ghost use Rattle.make_work.specs.PrivateJson.{after_byte};
 
-/// What the payloads of an array are.
+/// The kind of the payloads of an array.
 #[derive(Clone, Copy, Debug, PartialEq, Eq)]
 pub enum Kind {
     /// Route origins.
@@ -16,14 +16,14 @@ pub enum Kind {
     Aspas,
 }
 
-/// What stands under a name of the object at the top.
+/// The contents of a member of the top object.
 #[derive(Clone, Copy, Debug, PartialEq, Eq)]
 pub enum Holding {
     /// Payloads of one kind.
     Payloads(Kind),
-    /// ASPAs for each family of addresses.
+    /// ASPAs for each address family.
     Authorizations,
-    /// What the validator says of itself.
+    /// Metadata of the validator.
     Metadata,
 }
 
@@ -65,7 +65,7 @@ impl Part {
         }
     }
 
-    /// The name by which a refusal calls it where it is missing.
+    /// The name by which a refusal calls the part if it is missing.
     pub fn usual_name(self) -> &'static str
         ensures { result.now ≡ usual_name self }
     {
@@ -103,7 +103,7 @@ fn is_key_info(name: &str) -> bool
     is_plainly(name, "pubkey") || is_plainly(name, "routerpublickey") || is_plainly(name, "spki")
 }
 
-/// What stands under this name of the object at the top, if the name is known.
+/// The contents of a member of this name of the top object, if the name is known.
 pub fn holding_named(name: &str) -> Option<Holding>
     ensures { result ≡ holding_named name.now }
 {
@@ -128,7 +128,7 @@ fn holds_keys(name: &str) -> bool
     is_plainly(name, "bgpseckeys") || is_plainly(name, "routerkeys")
 }
 
-/// What a refusal calls the ASPAs for the family of addresses of this name, if it is one.
+/// The name by which a refusal calls the ASPAs of this address family, if it is one.
 pub fn family_named(name: &str) -> Option<&'static str>
     ensures { is_some result ≡ is_family name.now }
 {
@@ -158,7 +158,7 @@ fn is_plainly(name: &str, known: &str) -> bool
     left.is_empty()
 }
 
-/// The bytes after the first, if that is this one.
+/// The bytes after the first, if the first is this byte.
 fn after_first(bytes: &[u8], byte: u8) -> Option<&[u8]>
     ensures { option_map (λ rest. rest.now) result ≡ after_byte bytes.now byte }
 {

@@ -23,7 +23,7 @@ use rtr_base::asn::Asn;
 use rtr_payload::payload::Payload;
 use std::alloc::Global;
 
-/// A value, and the name that it stands under.
+/// A value, and its name.
 #[derive(Clone, Copy)]
 struct Member<'v, 'a> {
     name: &'a str,
@@ -35,20 +35,20 @@ struct Member<'v, 'a> {
 pub struct Spot<'a> {
     /// The name of its array.
     pub array: &'a str,
-    /// How many items of the array come before it.
+    /// Its index in the array.
     pub index: u64,
 }
 
 impl<'a> Spot<'a> {
-    /// Where the item as a whole stands.
+    /// The place of the item as a whole.
     pub fn place(self) -> Place<'a>
         ensures { result ≡ Place.Item self.entry.array self.entry.index }
     {
         Place::Item(self.array, self.index)
     }
 
-    /// The payload of this kind that an object of these members is. The first part that is missing
-    /// or wrong decides:
+    /// The payload of this kind in an object with these members. The first part that is missing or
+    /// wrong decides:
     /// - of an origin the prefix, the max length, the ASN, and the rule between the two lengths;
     /// - of a router key the ASN, the identifier, and the key;
     /// - of an ASPA the customer, and the providers.
@@ -70,7 +70,7 @@ impl<'a> Spot<'a> {
         }
     }
 
-    /// When an item of these members expires.
+    /// The expiry of an item with these members.
     pub fn expiry(self, members: &[(&'a str, Value<'a>)]) -> Expiry
         ensures { result ≡ object_expiry (members_list (members_view members.now)) }
     {
@@ -134,7 +134,7 @@ impl<'a> Spot<'a> {
         }
     }
 
-    /// Its prefix.
+    /// The prefix.
     fn prefix(self, members: &[(&'a str, Value<'a>)]) -> Result<Prefix, Refusal<'a>>
         ensures { MatchResult result
             (Has Part.Prefix IsPrefixValue (members_list (members_view members.now)))
@@ -148,7 +148,7 @@ impl<'a> Spot<'a> {
         }
     }
 
-    /// Its max length, if it has one.
+    /// The max length, if there is one.
     fn max_length(self, members: &[(&'a str, Value<'a>)]) -> Result<Option<u8>, Refusal<'a>>
         ensures { MatchResult result
             (MayHave Part.MaxLength IsMaxLengthValue (members_list (members_view members.now)))
@@ -164,7 +164,7 @@ impl<'a> Spot<'a> {
         }
     }
 
-    /// The ASN that is this part.
+    /// The ASN of this part.
     fn asn(self, part: Part, members: &[(&'a str, Value<'a>)]) -> Result<Asn, Refusal<'a>>
         ensures { MatchResult result
             (Has part IsAsnValue (members_list (members_view members.now)))
@@ -177,7 +177,7 @@ impl<'a> Spot<'a> {
         }
     }
 
-    /// The member that is this part. `Missing` where there is none.
+    /// The member of this part. `Missing` if there is none.
     fn needed<'v>(
         self,
         part: Part,
@@ -194,7 +194,7 @@ impl<'a> Spot<'a> {
         }
     }
 
-    /// The member that is this part, if there is one. `Twice` where there are more.
+    /// The member of this part, if there is one. `Twice` if there are more.
     fn part<'v>(
         self,
         part: Part,
@@ -220,7 +220,7 @@ impl<'a> Spot<'a> {
         Ok(found)
     }
 
-    /// The refusal of its member of this name.
+    /// The refusal of the member of this name.
     fn refusal_of(self, name: &'a str, reason: Reason) -> Refusal<'a>
         ensures { result.reason ≡ reason }
     {

@@ -1,4 +1,4 @@
-//! What values of JSON mean as parts of payloads.
+//! Values of JSON as parts of payloads.
 
 ghost use Rattle.std.specs.Prelude.{◌≡◌, ℕ, MatchResult, Ok, length};
 ghost use Rattle.base64.specs.Engines.{url_safe_pad_indifferent};
@@ -47,7 +47,7 @@ pub fn asn_of(value: &Value<'_>) -> Result<Asn, Reason>
     }
 }
 
-/// The ASN that a number is.
+/// The ASN in a number.
 pub fn asn_of_number(text: &str) -> Result<Asn, Reason>
     ensures { MatchResult result (λ n. IsSerialText text.now n)
         (λ why. (why ≡ Reason.Asn) × ((n : ℕ) → ¬ IsSerialText text.now n)) }
@@ -58,7 +58,7 @@ pub fn asn_of_number(text: &str) -> Result<Asn, Reason>
     }
 }
 
-/// The ASN that a text is.
+/// The ASN in a text.
 pub fn asn_of_text(text: &str) -> Result<Asn, Reason>
     ensures { MatchResult result (λ n. IsAsnString text.now n)
         (λ why. (why ≡ Reason.Asn) × ((n : ℕ) → ¬ IsAsnString text.now n)) }
@@ -80,7 +80,7 @@ pub fn prefix_of(value: &Value<'_>) -> Result<Prefix, Reason>
     prefix_of_text(text_of(value)?)
 }
 
-/// The prefix that a text is.
+/// The prefix in a text.
 fn prefix_of_text(text: &str) -> Result<Prefix, Reason>
     ensures { MatchResult result (λ p. IsPrefixString text.now p)
         (RefusesPrefixString text.now) }
@@ -105,7 +105,7 @@ pub fn max_length_of(value: &Value<'_>) -> Result<u8, Reason>
     }
 }
 
-/// The max length that a number is.
+/// The max length in a number.
 fn length_of_number(text: &str) -> Result<u8, Reason>
     ensures { MatchResult result (λ n. IsLenText text.now n)
         (λ why. (why ≡ Reason.MaxLength) × ((n : ℕ) → ¬ IsLenText text.now n)) }
@@ -116,7 +116,7 @@ fn length_of_number(text: &str) -> Result<u8, Reason>
     }
 }
 
-/// When something expires for which this value is given: at a number of seconds.
+/// The expiry in this value: a number of seconds.
 pub fn expiry_of(value: &Value<'_>) -> Expiry
     ensures { result ≡ expiry_of_value (value_view value.now) }
 {
@@ -126,7 +126,7 @@ pub fn expiry_of(value: &Value<'_>) -> Expiry
     }
 }
 
-/// The expiry of an item for which this text of a number is given.
+/// The expiry in this text of a number.
 pub fn expiry_of_number(text: &str) -> Expiry
     ensures { result ≡ expiry_by_number (number_of 64 text.now) }
 {
@@ -158,8 +158,8 @@ pub fn key_identifier_of(alloc: Global, value: &Value<'_>) -> Result<KeyIdentifi
     }
 }
 
-/// The key identifier of 20 bytes in base64. Another text is refused as if it were hex digits,
-/// except one of that length.
+/// The key identifier of 20 bytes in base64. A text of another length is refused as if it were hex
+/// digits.
 fn key_identifier_of_base64(
     alloc: Global,
     text: &str,
@@ -242,7 +242,7 @@ pub fn providers_of(alloc: Global, value: &Value<'_>) -> Result<ProviderAsns, Re
     }
 }
 
-/// The ASNs of the items.
+/// The ASNs in the items.
 fn asns_of(alloc: Global, list: &[Value<'_>]) -> Result<Vec<Asn>, Reason>
     ensures { MatchResult result (λ v. AreAsnValues (items_list (items_view list.now)) v.items)
         (OrMemory (RefusesFirst IsSomeAsn RefusesAsn (items_list (items_view list.now)))) }

@@ -1,4 +1,4 @@
-//! Laws of what is read.
+//! Laws of reading.
 
 ghost use Rattle.std.specs.Prelude.{ℕ, List};
 ghost use Rattle.make_work.specs.JsonPayloads.{IsJsonOf};
@@ -6,8 +6,8 @@ ghost use Rattle.make_work.specs.JsonRefusals.{RefusesJson};
 ghost use Rattle.make_work.specs.declared.item.Item.{Item};
 ghost use Rattle.make_work.specs.declared.item.Reason.{Reason};
 
-/// A document of JSON that has items isn't refused, and one that is refused has none: the contract
-/// of `read_json` leaves one of both for each text, unless memory runs out.
+/// A JSON document that has items isn't refused, and a refused one has none: the contract of
+/// `read_json` allows exactly one of both for each text, unless memory runs out.
 pub fn refused_json_has_no_items()
     ensures { (ignored : List (List ℕ)) (text : List ℕ) (items : List Item) (why : Reason) →
         IsJsonOf ignored text items → RefusesJson ignored text why → ⊥ }

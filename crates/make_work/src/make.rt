@@ -34,10 +34,10 @@ use std::io;
 use std::io::{ErrorKind, Read, Write};
 use std::process::ExitCode;
 
-/// Runs the program with the words that it was started with, its name first, and returns the code
-/// to end with, which is the status of `run`. If there are no words, since they can't be had as
-/// texts, it prints the usage. `now` is the time of the clock, in seconds after the epoch. The
-/// filters of `slurm` remove payloads, and then its assertions are added (RFC 8416).
+/// Runs the program with the words that it was started with, its name first, and returns the exit
+/// status, which is that of `run`. If there are no words, because they aren't text, it prints the
+/// usage. `now` is the time of the clock, in seconds after the epoch. The filters of `slurm` remove
+/// payloads, and then its assertions are added (RFC 8416).
 pub fn program<N: Display, R: Read, W: Sink, F: Write>(
     alloc: Global,
     now: u64,
@@ -83,8 +83,7 @@ pub fn program<N: Display, R: Read, W: Sink, F: Write>(
     ExitCode::from(status)
 }
 
-/// Says what the words after the program's name ask it to say of itself, or runs what else they ask
-/// for.
+/// Answers the question about the program in the words after its name, or else runs with them.
 fn run_words<N: Display, R: Read, W: Sink, F: Write>(
     alloc: Global,
     now: u64,
@@ -111,7 +110,7 @@ fn run_words<N: Display, R: Read, W: Sink, F: Write>(
     }
 }
 
-/// Runs what the words after the program's name ask for, or says what is wrong with them.
+/// Runs with the words after the program's name, or reports what is wrong with them.
 fn run_asked<N: Display, R: Read, W: Sink, F: Write>(
     alloc: Global,
     now: u64,
@@ -142,10 +141,10 @@ fn run_asked<N: Display, R: Read, W: Sink, F: Write>(
 }
 
 /// Reads all of the input, writes the sequence of its payloads, flushes the output once, and
-/// returns the exit status. What JSON has under a name that stands after an `--ignore` of the words
-/// is ignored. What has expired at the requested time, or else `now`, is left out. The status is
+/// returns the exit status. The values in JSON of names that follow an `--ignore` are ignored.
+/// Items that have expired at the requested time, or else at `now`, are left out. The status is
 /// - 0 if that succeeded, with a line on `faults` if payloads were left out that the version lacks,
-///   and one on those that have expired, if there are some or a time is given;
+///   and one about expired items, if there are any or a time is given;
 /// - 1 if the input was refused;
 /// - 3 if reading, writing, flushing or memory failed, or one of these lines.
 ///
@@ -189,7 +188,7 @@ fn tell_unread<N: Display, F: Write>(name: &N, error: &io::Error, faults: &mut F
     FAILED
 }
 
-/// Writes the sequence of what stands in CSV.
+/// Writes the sequence of the items in CSV.
 fn make_of_csv<'a, N: Display, W: Sink, F: Write>(
     alloc: Global,
     now: u64,
@@ -210,7 +209,7 @@ fn make_of_csv<'a, N: Display, W: Sink, F: Write>(
     }
 }
 
-/// Writes the sequence of what stands in JSON.
+/// Writes the sequence of the items in JSON.
 fn make_of_json<'a, N: Display, W: Sink, F: Write>(
     alloc: Global,
     now: u64,
@@ -234,7 +233,7 @@ fn make_of_json<'a, N: Display, W: Sink, F: Write>(
     }
 }
 
-/// Gathers items as the request asks.
+/// Starts gathering items as the request asks.
 fn gathering_for<'a>(alloc: Global, now: u64, asked: &Request, slurm: &'a Slurm) -> Gathering<'a>
     ensures settings { IsAskedFor now asked.now result }
     ensures none { HasTaken [] result }
@@ -245,7 +244,7 @@ fn gathering_for<'a>(alloc: Global, now: u64, asked: &Request, slurm: &'a Slurm)
     Gathering::with_slurm(alloc, version, asked.leaves_out, at, slurm)
 }
 
-/// The time that is asked for, or else that of the clock.
+/// The time of the request, or else that of the clock.
 fn time_asked(now: u64, asked: &Request) -> Option<u64>
     ensures { result ≡ time_asked now asked.now }
 {
@@ -352,7 +351,7 @@ fn tell_left_out<F: Write>(
     }
 }
 
-/// Prints how many payloads were left out that the version lacks, if there are some.
+/// Prints how many payloads were left out that the version lacks, if any.
 fn tell_lacking<F: Write>(version: u8, left_out: usize, faults: &mut F) -> io::Result<()>
     ensures { OnOk result (Appends (F.contents faults.old) (F.contents faults.new)
         (lacking_line version left_out)) }
@@ -366,7 +365,7 @@ fn tell_lacking<F: Write>(version: u8, left_out: usize, faults: &mut F) -> io::R
     )
 }
 
-/// Prints how many items had expired, if some had or a time is given.
+/// Prints how many items had expired, if any had or a time is given.
 fn tell_expired<F: Write>(
     is_asked: bool,
     expired: Option<Expired>,
@@ -381,7 +380,7 @@ fn tell_expired<F: Write>(
     }
 }
 
-/// Prints how many items had expired, and when the next of the others does.
+/// Prints how many items had expired, and when the next of the others expires.
 fn put_expired<F: Write>(expired: Expired, faults: &mut F) -> io::Result<()>
     ensures { OnOk result (Appends (F.contents faults.old) (F.contents faults.new)
         (expired_line expired)) }
@@ -413,7 +412,7 @@ fn tell_refusal<N: Display, F: Write>(name: &N, refusal: &Refusal<'_>, faults: &
     REFUSED
 }
 
-/// Prints the rule that the timings break, and answers status 2.
+/// Prints the rule that the timings break, and returns status 2.
 fn tell_times<F: Write>(rule: TimeRule, faults: &mut F) -> u8
     ensures { result ≡ 2 }
 {

@@ -1,4 +1,4 @@
-//! Where quotes may stand in comma-separated values, by RFC 4180 section 2.
+//! Where quotes are allowed in comma-separated values, by RFC 4180 section 2.
 
 ghost use Rattle.std.specs.Prelude.{◌≡◌, ◌==◌, ◌||◌, IfErr, OnOk, not, if◌then◌else◌};
 ghost use Rattle.csv.specs.Reading.{strip_bom};
@@ -26,7 +26,7 @@ pub fn check_quotes<'a>(text: &[u8]) -> Result<(), Refusal<'a>>
     check_bytes(without_mark(text))
 }
 
-/// The same of a text without a mark.
+/// Checks a text without a byte order mark.
 fn check_bytes<'a>(text: &[u8]) -> Result<(), Refusal<'a>>
     ensures fine { OnOk result (AreQuotesWell text.now) }
     ensures refused { IfErr result (λ r. RefusesQuotes text.now r.reason) }
@@ -54,7 +54,7 @@ fn check_bytes<'a>(text: &[u8]) -> Result<(), Refusal<'a>>
     }
 }
 
-/// Whether no field in quotes is open after the byte, where none, or one, was before it.
+/// Whether no quoted field is open after the byte, given whether none was open before it.
 #[inline(always)]
 fn closed_after(closed: bool, byte: u8) -> bool
     ensures { result ≡ (if byte == quote then not closed else closed) }
@@ -62,7 +62,7 @@ fn closed_after(closed: bool, byte: u8) -> bool
     if byte == QUOTE { !closed } else { closed }
 }
 
-/// The text without a mark of its byte order at the start.
+/// The text without a byte order mark at its start.
 pub fn without_mark(text: &[u8]) -> &[u8]
     ensures { result.now ≡ strip_bom text.now }
 {
@@ -76,7 +76,7 @@ fn has_mark(text: &[u8]) -> bool
     text.len() >= 3 && text[0] == 0xef && text[1] == 0xbb && text[2] == 0xbf
 }
 
-/// Whether the byte may follow the one before it, where a field in quotes is open or none is.
+/// Whether the byte may follow the one before it, given whether no quoted field is open.
 #[inline(always)]
 fn is_fine(closed: bool, before: u8, byte: u8) -> bool
     ensures { result ≡ (not closed || fits_after before byte) }
@@ -84,7 +84,7 @@ fn is_fine(closed: bool, before: u8, byte: u8) -> bool
     (before != QUOTE && byte != QUOTE) || !closed || may_follow(before, byte)
 }
 
-/// Whether the byte may follow the one before it where no field in quotes is open.
+/// Whether the byte may follow the one before it if no quoted field is open.
 #[inline(always)]
 fn may_follow(before: u8, byte: u8) -> bool
     ensures { result ≡ fits_after before byte }
@@ -96,7 +96,7 @@ fn may_follow(before: u8, byte: u8) -> bool
     }
 }
 
-/// Whether the byte stands between fields.
+/// Whether the byte separates fields.
 #[inline(always)]
 fn is_separator(byte: u8) -> bool
     ensures { result ≡ is_separator byte }

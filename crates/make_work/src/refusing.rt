@@ -1,4 +1,4 @@
-//! What is said of wrong words.
+//! Reports of wrong arguments.
 
 ghost use Rattle.std.specs.Prelude.{◌≡◌};
 
@@ -7,7 +7,7 @@ use crate::words::misplaced;
 use program_frame::{Setting, Syntax, USAGE, Value, Wrong, refuse};
 use std::io::Write;
 
-/// The words that the program takes, except for those that stand alone.
+/// The arguments that the program takes, except for those that must stand alone.
 pub const SYNTAX: Syntax = Syntax {
     forms: &["--csv", "--json"],
     switches: &["--drop", "--empty", "--unended"],
@@ -61,8 +61,8 @@ pub const SYNTAX: Syntax = Syntax {
     operands: 1,
 };
 
-/// Says which of the words after the program's name is wrong, or if none is, how the program is
-/// called, and returns the status for that.
+/// Reports which of the words after the program's name is wrong, or if none is, the usage, and
+/// returns the status for that.
 pub(crate) fn refuse_words<F: Write>(words: &[String], faults: &mut F) -> u8
     ensures { result ≡ 2 }
 {
@@ -80,7 +80,7 @@ fn wrong_word(words: &[String]) -> Option<Wrong<'_>> {
     }
 }
 
-/// Prints how the program is called, and returns the status for wrong words.
+/// Prints the usage, and returns the status for wrong arguments.
 pub(crate) fn usage<F: Write>(faults: &mut F) -> u8
     ensures { result ≡ 2 }
 {

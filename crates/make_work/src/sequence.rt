@@ -1,4 +1,4 @@
-//! The sequence that is made of items that were gathered.
+//! Writing the sequence of the gathered items.
 
 ghost use Rattle.std.specs.Prelude.{◌≡◌, ◌&&◌, not, ◌≤◌, ◌<◌, ◌^◌, ◌++◌};
 ghost use Rattle.rtr_units.specs.AnyEnd.{end_bytes};
@@ -27,9 +27,9 @@ pub enum Trouble<'a> {
 }
 
 /// Writes the units that announce the payloads that were gathered for the request, each once and in
-/// order, and an end of data, as the request has them. Returns how many payloads were left out. On
-/// a refusal nothing is written: the first item that is refused, or `NoPayloads` if there would be
-/// none and the request takes no empty sequence.
+/// order, and the end of data of the request. Returns how many payloads were left out. On a refusal
+/// nothing is written: the reason is that of the first refused item, or `NoPayloads` if there would
+/// be no payloads and the request doesn't allow an empty sequence.
 pub fn write_sequence<'a, W: Sink>(
     asked: &Request,
     gathered: Result<Gathered, Refusal<'a>>,
@@ -53,7 +53,7 @@ pub fn write_sequence<'a, W: Sink>(
     }
 }
 
-/// Whether payloads are wanted and there are none.
+/// Whether payloads are required and there are none.
 fn lacks_payloads(takes_empty: bool, has_none: bool) -> bool
     ensures { result ≡ (not takes_empty && has_none) }
 {
@@ -70,7 +70,7 @@ fn no_payloads<'a>() -> Refusal<'a>
     }
 }
 
-/// The end of data that is asked for.
+/// The end of data of the request.
 fn end_of(asked: &Request) -> EndOfData
     ensures bytes { end_bytes result ≡ end_list (asked_end asked.now) }
     ensures fits { IsEndMeaning (asked_end asked.now) }

@@ -1,4 +1,4 @@
-//! What the program is asked for.
+//! The arguments of the program.
 
 ghost use Rattle.std.specs.Prelude.{◌≡◌, ◌&&◌, map, string_bytes};
 ghost use Rattle.make_work.specs.MakeWords.{broken_by_words, has_timing, ignored_by_words};
@@ -16,7 +16,7 @@ use rtr_base::state::{Serial, State};
 use rtr_base::timing::Timing;
 use session_times::{TimeRule, broken_time_rule};
 
-/// In which format the payloads are given.
+/// The format of the payloads.
 #[derive(Clone, Copy, Debug, PartialEq, Eq)]
 pub enum Format {
     /// Comma-separated values.
@@ -28,16 +28,16 @@ pub enum Format {
 /// A version of the protocol.
 #[derive(Clone, Copy, Debug, PartialEq, Eq)]
 pub enum Version {
-    /// That of RFC 6810.
+    /// The version of RFC 6810.
     V0,
-    /// That of RFC 8210.
+    /// The version of RFC 8210.
     V1,
     /// The version with ASPAs.
     V2,
 }
 
 impl Version {
-    /// Its number.
+    /// The number of the version.
     pub fn number(self) -> u8
         ensures { result ≡ version_number self }
     {
@@ -49,7 +49,7 @@ impl Version {
     }
 }
 
-/// What a run is asked for.
+/// The result of parsing the arguments.
 #[derive(Clone, Copy, Debug)]
 pub struct Request {
     /// The format of the input.
@@ -58,20 +58,20 @@ pub struct Request {
     pub version: Version,
     /// The session and the serial number of the end of data.
     pub state: State,
-    /// Its timings, which version 0 lacks.
+    /// Its timings; version 0 has none.
     pub timing: Timing,
     /// Whether payloads that the version lacks are left out. Otherwise they are refused.
     pub leaves_out: bool,
     /// Whether a sequence without payloads is written. Otherwise it is refused.
     pub takes_empty: bool,
-    /// Whether CSV is read whose last line has no line end. Otherwise it is refused.
+    /// Whether CSV without a line end on its last line is accepted. Otherwise it is refused.
     pub takes_unended: bool,
-    /// The time at which items must be good, in the place of the present one: seconds after the
-    /// epoch, the first second of 1970.
+    /// The time for which expiry is checked instead of the present: seconds after the epoch, the
+    /// first second of 1970.
     pub at: Option<u64>,
 }
 
-/// An option that a text follows.
+/// An option with a value.
 #[derive(Clone, Copy)]
 enum Setting {
     Ignore,
@@ -84,7 +84,7 @@ enum Setting {
     At,
 }
 
-/// What the words said so far.
+/// The state after the words so far.
 #[derive(Clone, Copy)]
 struct Said {
     format: Option<Format>,
@@ -101,12 +101,12 @@ struct Said {
     ignores: bool,
 }
 
-/// The request of the words after the program's name, if they are one: `--csv` or `--json`, and
-/// each of the options at most once, in any order, except `--ignore`, which goes only with `--json`
-/// and may come again; `--unended` goes only with `--csv`. Without `--version` it is 2. The session
-/// is 0, the serial number 1, and the timings are those of RFC 8210 section 6, if they aren't
-/// given. Version 0 has no timings: none may be given with it. Timings must be in the ranges of
-/// that section, and expire above the others.
+/// Parses the words after the program's name, if they are valid: `--csv` or `--json`, and each of
+/// the options at most once, in any order, except `--ignore`, which is allowed only with `--json`,
+/// any number of times; `--unended` is allowed only with `--csv`. The defaults are version 2,
+/// session 0, serial number 1, and the timings of RFC 8210 section 6. Version 0 has no timings:
+/// none may be given with it. Timings must be in the ranges of that section, and the expire time
+/// above the others.
 pub fn asked(words: &[String]) -> Option<Request>
     ensures { result ≡ request_by_words words.now }
 {
@@ -116,7 +116,7 @@ pub fn asked(words: &[String]) -> Option<Request>
     }
 }
 
-/// The first rule that the timings break that the words say, if they break one.
+/// The first rule that the timings in the words break, if any.
 pub fn broken_timing(words: &[String]) -> Option<TimeRule>
     ensures { result ≡ broken_by_words words.now }
 {
@@ -126,8 +126,8 @@ pub fn broken_timing(words: &[String]) -> Option<TimeRule>
     }
 }
 
-/// The first option that doesn't go with another one, where that is what is wrong with the words.
-/// The last one of them may name a file.
+/// The first option that can't be combined with another one, if that is what is wrong with the
+/// words. The last one of them may name a file.
 pub fn misplaced(words: &[String]) -> Option<Wrong<'static>> {
     match said_by(words) {
         Some(said) => said.misplaced(),
@@ -138,7 +138,7 @@ pub fn misplaced(words: &[String]) -> Option<Wrong<'static>> {
     }
 }
 
-/// What the words say, in any order, if they say something.
+/// Parses the words, in any order, if they are valid.
 fn said_by(words: &[String]) -> Option<Said>
     ensures { result ≡ said_by (map string_bytes words.now) nothing_said }
 {
@@ -153,7 +153,7 @@ fn said_by(words: &[String]) -> Option<Said>
     }
 }
 
-/// Whether the words after the program's name have this name after an `--ignore`.
+/// Whether the words after the program's name have an `--ignore` with this name.
 pub fn is_ignored(words: &[String], name: &str) -> bool
     ensures { result ≡ is_one_of (ignored_by_words words.now) name.now }
 {
@@ -184,7 +184,7 @@ fn once<T: Copy>(place: Option<T>, value: T) -> Option<T>
     }
 }
 
-/// The option of this name that a text has to follow.
+/// The option of this name that requires a value.
 fn setting_named(word: &str) -> Option<Setting>
     ensures { result ≡ setting_named word.now }
 {
@@ -213,7 +213,7 @@ fn version_of(text: &str) -> Option<Version>
     }
 }
 
-/// The number of 16 bits that the text is.
+/// The number of 16 bits in the text.
 fn short_number(text: &str) -> Option<u16>
     ensures { result ≡ number_of 16 text.now }
 {
@@ -223,7 +223,7 @@ fn short_number(text: &str) -> Option<u16>
     }
 }
 
-/// The number of 32 bits that the text is.
+/// The number of 32 bits in the text.
 fn number(text: &str) -> Option<u32>
     ensures { result ≡ number_of 32 text.now }
 {
@@ -233,7 +233,7 @@ fn number(text: &str) -> Option<u32>
     }
 }
 
-/// The number of 64 bits that the text is.
+/// The number of 64 bits in the text.
 pub fn long_number(text: &str) -> Option<u64>
     ensures { result ≡ number_of 64 text.now }
 {
@@ -244,7 +244,7 @@ pub fn long_number(text: &str) -> Option<u64>
 }
 
 impl Said {
-    /// What no words say.
+    /// The state before the first word.
     fn nothing() -> Self
         ensures { result ≡ nothing_said }
     {
@@ -264,8 +264,8 @@ impl Said {
         }
     }
 
-    /// What was said with one more word, and the option that the next has to follow. The word
-    /// follows an open option itself, if there is one.
+    /// The state after one more word, and the option whose value the next word must be. The word is
+    /// the value of an open option, if there is one.
     fn after(self, before: Option<Setting>, word: &str) -> Option<(Said, Option<Setting>)>
         ensures { result ≡ word_taken before word.now self }
     {
@@ -294,7 +294,7 @@ impl Said {
         Some(said)
     }
 
-    /// Takes the text that follows an option.
+    /// Takes the value of an option.
     fn setting(self, setting: Setting, text: &str) -> Option<Said>
         ensures { result ≡ said_with setting text.now self }
     {
@@ -312,15 +312,15 @@ impl Said {
         Some(said)
     }
 
-    /// Whether a timing was said.
+    /// Whether a timing was given.
     fn has_timing(&self) -> bool
         ensures { result ≡ has_timing self.now }
     {
         self.refresh.is_some() || self.retry.is_some() || self.expire.is_some()
     }
 
-    /// Whether a word was said that doesn't go with this format: names to ignore stand in JSON, and
-    /// lines in CSV.
+    /// Whether an option was given that isn't allowed with this format: names to ignore with CSV,
+    /// or unended lines with JSON.
     fn is_misplaced(&self, format: Format) -> bool
         ensures { result ≡ is_misplaced self.now format }
     {
@@ -330,7 +330,7 @@ impl Said {
         }
     }
 
-    /// The first option that doesn't go with another one.
+    /// The first option that can't be combined with another one.
     fn misplaced(&self) -> Option<Wrong<'static>> {
         match self.format {
             Some(Format::Csv) if self.ignores => Some(Wrong::Needs("--ignore", "--json")),
@@ -341,7 +341,7 @@ impl Said {
         }
     }
 
-    /// The first timing of version 0, which has none.
+    /// The first timing that was given for version 0, which has none.
     fn untimely(&self) -> Option<Wrong<'static>> {
         if self.version != Some(Version::V0) {
             return None;
@@ -358,7 +358,7 @@ impl Said {
         Some(Wrong::Excluded(name, "--version 0"))
     }
 
-    /// The timings that were said, and for the others the recommended ones.
+    /// The timings that were given, with the recommended ones for the others.
     fn timing(&self) -> Timing
         ensures { result ≡ timing_asked self.now }
     {
@@ -370,7 +370,7 @@ impl Said {
         }
     }
 
-    /// What all words ask for.
+    /// The request of all words.
     fn request(self) -> Option<Request>
         ensures { result ≡ request_of self }
     {

@@ -7,7 +7,7 @@ use std::io;
 use std::io::{Read, Write};
 
 /// The entries of these SLURM files (RFC 8416), in their order. If a file can't be read, is refused
-/// or overlaps another one, says so and fails with the status to end with: 1 if it is refused or
+/// or overlaps another one, reports that and fails with the exit status: 1 if it is refused or
 /// overlaps, 3 if reading or memory failed.
 pub fn read_files<F: Write>(
     rt: &HostRuntime,

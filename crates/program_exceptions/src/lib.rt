@@ -1,5 +1,5 @@
-//! Words that name files, each after an option, and the local exceptions of the SLURM files that a
-//! program is given (RFC 8416).
+//! Arguments that name files, each after an option, and the local exceptions in the SLURM files
+//! that a program is given (RFC 8416).
 #![tactic(auto)]
 
 mod files;

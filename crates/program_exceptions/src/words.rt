@@ -5,7 +5,7 @@ ghost use Rattle.program_exceptions.specs.Splitting.{words_split};
 
 use std::alloc::Global;
 
-/// What words say: the files after each use of an option, and the other words.
+/// The result of splitting words: the files after each use of an option, and the other words.
 #[derive(Drop)]
 pub struct Split {
     /// The other words, in their order.
@@ -15,7 +15,7 @@ pub struct Split {
 }
 
 /// Splits words into the files after each `option` and the others. The word after `valued`, another
-/// option, is its value, whatever it says. None if no file follows an `option`, or memory runs out.
+/// option, is its value, whatever it is. None if no file follows an `option`, or memory runs out.
 pub fn split_words(alloc: Global, words: Vec<String>, option: &str, valued: &str) -> Option<Split>
     ensures { IfSome result (λ split. words_split option.now valued.now words.items ≡
         Some (split.words.items, split.files.items)) }

@@ -6,10 +6,11 @@ ghost use Rattle.std.specs.Io.Buffered.{reader_inner};
 use std::io;
 use std::io::{BufReader, BufWriter, Read, Stdout};
 
-/// How many bytes of an input are read at once, and of output written at once.
+/// The number of bytes of an input that are read at once, and of an output that are written at
+/// once.
 pub const BUFFER_SIZE: usize = 65536;
 
-/// Standard output behind a buffer, unbuffered if there is no memory for one.
+/// Standard output with a buffer, or unbuffered if there is no memory for a buffer.
 pub fn buffered_output(rt: &HostRuntime) -> BufWriter<Stdout> {
     match BufWriter::with_capacity(rt.alloc(), BUFFER_SIZE, rt.stdout()) {
         Ok(writer) => writer,
@@ -17,8 +18,8 @@ pub fn buffered_output(rt: &HostRuntime) -> BufWriter<Stdout> {
     }
 }
 
-/// The reader behind a buffer. If there is no memory for one, the spare reader of the same input,
-/// unbuffered.
+/// The reader with a buffer. If there is no memory for a buffer, the spare reader of the same
+/// input, unbuffered.
 pub fn buffered_input<R: Read + Drop>(
     rt: &HostRuntime,
     reader: R,

@@ -8,14 +8,14 @@ ghost use Rattle.program_frame.specs.Colours.{piece_colour};
 /// The colour of a line on a terminal.
 #[derive(Clone, Copy)]
 pub(crate) enum Colour {
-    /// Of an announcement.
+    /// The colour of an announcement.
     Green,
-    /// Of a withdrawal.
+    /// The colour of a withdrawal.
     Red,
 }
 
 impl Colour {
-    /// The sequence that begins the colour (ECMA-48, SGR).
+    /// The escape sequence that starts the colour (ECMA-48, SGR).
     pub(crate) fn sequence(self) -> &'static [u8]
         ensures { result.now ≡ colour_sequence self }
     {
@@ -26,7 +26,7 @@ impl Colour {
     }
 }
 
-/// The colour of the piece, if it has one: if it is a whole line, where a line begins at its front.
+/// The colour of the piece, if it has one: if it is a whole line, and a line begins at its front.
 #[tactic(auto, unfolding(crate::specs::Colours::piece_colour))]
 pub(crate) fn piece_colour(begins: bool, piece: &[u8]) -> Option<Colour>
     ensures colour { result ≡ piece_colour begins piece.now }
@@ -40,7 +40,7 @@ pub(crate) fn piece_colour(begins: bool, piece: &[u8]) -> Option<Colour>
     }
 }
 
-/// The piece without its last byte, which is a line's line feed.
+/// The piece without its last byte, which is a line feed.
 pub(crate) fn line_text(piece: &[u8]) -> &[u8]
     ensures { result.now ≡ line_text piece.now }
 {
@@ -50,7 +50,7 @@ pub(crate) fn line_text(piece: &[u8]) -> &[u8]
     }
 }
 
-/// Whether a line begins after the piece, where one does at its front or doesn't.
+/// Whether a line begins after the piece, given whether one begins at its front.
 pub(crate) fn begins_after(begins: bool, piece: &[u8]) -> bool
     ensures { result ≡ begins_after begins piece.now }
 {
@@ -60,7 +60,7 @@ pub(crate) fn begins_after(begins: bool, piece: &[u8]) -> bool
     }
 }
 
-/// Whether the piece is a whole line: whether its last byte is a line feed, and no other is.
+/// Whether the piece is a whole line: its last byte is a line feed, and no other is.
 #[tactic(auto, unfolding(crate::specs::Colours::is_line))]
 fn is_line(piece: &[u8]) -> bool
     ensures line { result ≡ is_line piece.now }
@@ -72,7 +72,7 @@ fn is_line(piece: &[u8]) -> bool
     }
 }
 
-/// The colour of the line, if it tells of an announcement or of a withdrawal.
+/// The colour of the line, if it is about an announcement or a withdrawal.
 fn colour_of(line: &[u8]) -> Option<Colour>
     ensures { result ≡ colour_of line.now }
 {
@@ -83,8 +83,8 @@ fn colour_of(line: &[u8]) -> Option<Colour>
     }
 }
 
-/// The colour of the line of a listing: by the word after its offset, its version and its kind,
-/// which is a word or two.
+/// The colour of a line of a listing, by the word after its offset, its version and its kind, which
+/// has one or two words.
 #[tactic(auto, unfolding(crate::specs::Colours::listed_colour))]
 fn listed_colour(line: &[u8]) -> Option<Colour>
     ensures { result ≡ listed_colour line.now }
@@ -93,7 +93,7 @@ fn listed_colour(line: &[u8]) -> Option<Colour>
     action_colour(after_one).or(action_colour(after_space(after_one)))
 }
 
-/// The colour by the word that the text begins with.
+/// The colour for the first word of the text.
 #[tactic(auto, unfolding(crate::specs::Colours::action_colour))]
 fn action_colour(text: &[u8]) -> Option<Colour>
     ensures { result ≡ action_colour text.now }

@@ -1,4 +1,4 @@
-//! Lines about what failed.
+//! Lines that report failures.
 
 ghost use Rattle.std.specs.Prelude.{◌≡◌};
 
@@ -8,7 +8,7 @@ use rtr_units::fault::Fault;
 use std::io::{ErrorKind, Write};
 use std::{fmt, io};
 
-/// A fault with the reason of the system, where it has one.
+/// A fault with the reason of the system, if it has one.
 #[derive(Clone, Copy)]
 pub struct Failed<'a>(pub &'a Fault);
 
@@ -22,8 +22,8 @@ impl fmt::Display for Failed<'_> {
     }
 }
 
-/// A text with an escape such as `\n` or `\x1b` for each byte that isn't ASCII that prints, as
-/// texts in lines of units are written.
+/// A text with an escape such as `\n` or `\x1b` for each byte that isn't printable ASCII, as texts
+/// in lines of units are written.
 #[derive(Clone, Copy)]
 pub struct Escaped<'a>(pub &'a str);
 
@@ -38,7 +38,7 @@ impl fmt::Display for Escaped<'_> {
     }
 }
 
-/// What a line about a failure begins with: the program's name, and the name of a file if the line
+/// The beginning of a line about a failure: the program's name, and the name of a file if the line
 /// is about one.
 #[derive(Clone, Copy)]
 pub struct Subject<'a> {
@@ -57,7 +57,7 @@ impl<'a> Subject<'a> {
         }
     }
 
-    /// Reports why it can't be read, and returns the status for that.
+    /// Reports why the input can't be read, and returns the status for that.
     pub fn report_unread<F: Write>(self, error: &io::Error, faults: &mut F) -> u8
         ensures { result ≡ 3 }
     {
@@ -65,7 +65,7 @@ impl<'a> Subject<'a> {
         FAILED
     }
 
-    /// Reports what failed, as `report` does, and of a failed read also the file.
+    /// Reports the failure, as `report` does, and if a read failed also the file.
     pub fn report<F: Write>(self, fault: &Fault, faults: &mut F) {
         match fault {
             Fault::Reader(_) => {
@@ -101,7 +101,7 @@ pub fn report_closed<F: Write>(program: &str, faults: &mut F) -> u8
     FAILED
 }
 
-/// Whether the output is a pipe that nobody reads any more, of which there is no word to say.
+/// Whether the fault is a broken pipe on the output, which isn't reported.
 pub fn is_closed_pipe(fault: &Fault) -> bool {
     match fault {
         Fault::Writer(error) => error.kind() == ErrorKind::BrokenPipe,
@@ -109,8 +109,7 @@ pub fn is_closed_pipe(fault: &Fault) -> bool {
     }
 }
 
-/// Says what failed, after the name of the program. Of a pipe that nobody reads any more it says
-/// nothing.
+/// Reports the failure, after the name of the program. A broken pipe isn't reported.
 pub fn report<F: Write>(name: &str, fault: &Fault, faults: &mut F) {
     if !is_closed_pipe(fault) {
         let failed = Failed(fault);

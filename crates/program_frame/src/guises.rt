@@ -1,4 +1,4 @@
-//! What an input looks like that isn't units.
+//! Guesses what an input is that doesn't hold units.
 
 ghost use Rattle.std.specs.Prelude.{◌≡◌};
 ghost use Rattle.program_frame.specs.Guises.{guise_of};
@@ -7,10 +7,10 @@ use crate::failures::Escaped;
 use std::fmt;
 use std::io::Write;
 
-/// How many bytes of an input are looked at.
+/// The number of bytes of an input that are looked at.
 const FRONT_SIZE: u8 = 4;
 
-/// What an input looks like that isn't units.
+/// What an input seems to be that doesn't hold units.
 #[derive(Clone, Copy)]
 pub enum Guise {
     /// JSON, as validators print it: it begins with `{` or `[` (RFC 8259 section 2).
@@ -19,7 +19,7 @@ pub enum Guise {
     Capture,
 }
 
-/// What an input looks like, if not units: by the number that its first four bytes make.
+/// What an input seems to be if it doesn't hold units, by the number of its first four bytes.
 fn guise_of(front: u32) -> Option<Guise>
     ensures { result ≡ guise_of front }
 {
@@ -32,17 +32,17 @@ fn guise_of(front: u32) -> Option<Guise>
     }
 }
 
-/// The first bytes of an input, as far as it was read.
+/// The first bytes of an input, those that were read so far.
 #[derive(Clone, Copy)]
 pub struct Front {
-    /// The number that they make.
+    /// The number that they form.
     number: u32,
-    /// How many they are.
+    /// The number of bytes.
     count: u8,
 }
 
 impl Front {
-    /// Before anything was read.
+    /// The state before anything was read.
     pub fn new() -> Front {
         Front {
             number: 0,
@@ -50,7 +50,7 @@ impl Front {
         }
     }
 
-    /// The same after these bytes were read.
+    /// The state after these bytes were read.
     #[must_use]
     pub fn with(self, bytes: &[u8]) -> Front {
         let mut front = self;
@@ -67,7 +67,7 @@ impl Front {
         front
     }
 
-    /// What the input looks like, if not units.
+    /// What the input seems to be, if it doesn't hold units.
     pub fn guise(self) -> Option<Guise> {
         let mut front = self;
         for _ in self.count..FRONT_SIZE {
@@ -77,7 +77,7 @@ impl Front {
     }
 }
 
-/// What it is, and what reads it.
+/// Writes what it is, and which program reads it.
 impl fmt::Display for Guise {
     fn fmt<W: fmt::Write>(&self, f: &mut fmt::Formatter<W>) -> fmt::Result {
         match self {
@@ -91,8 +91,8 @@ impl fmt::Display for Guise {
     }
 }
 
-/// Says after the names of the program and of the input what the input looks like, if not units,
-/// and what reads that.
+/// Reports, after the names of the program and of the input, what the input seems to be if it
+/// doesn't hold units, and which program reads that.
 pub fn hint<F: Write>(name: &str, input: &str, front: Front, faults: &mut F) {
     if let Some(guise) = front.guise() {
         let input = Escaped(input);

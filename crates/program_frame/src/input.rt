@@ -14,7 +14,7 @@ pub const STANDARD_INPUT: &str = "-";
 /// The descriptor of standard input.
 const STANDARD_DESCRIPTOR: i32 = 0;
 
-/// What is read: a file, or standard input.
+/// An input: a file, or standard input.
 #[derive(Drop)]
 pub enum Input {
     /// A file.
@@ -42,7 +42,8 @@ impl Input {
         }
     }
 
-    /// The same. If the file can't be opened, reports why, and fails with the status for that.
+    /// Does the same. If the file can't be opened, it reports why, and fails with the status for
+    /// that.
     pub fn open_or_report<F: Write>(
         rt: &HostRuntime,
         program: &str,
@@ -66,7 +67,7 @@ impl Input {
         }
     }
 
-    /// Whether it is a file that took the descriptor of standard input, which was closed then.
+    /// Whether it is a file that got the descriptor of standard input, because that was closed.
     pub fn took_standard_input(&self) -> bool {
         match self {
             Input::Opened(file) => file.as_raw_fd() == STANDARD_DESCRIPTOR,
@@ -75,7 +76,7 @@ impl Input {
     }
 }
 
-/// The name of an input, and what lines about it call it.
+/// The name of an input, and how lines about it call it.
 #[derive(Clone, Copy)]
 pub struct InputName<'a> {
     /// The name by which it is opened.

@@ -1,6 +1,6 @@
-//! What the programs share: the words that they are started with, what they say of themselves,
-//! standard input or the file that their last word names, their buffers and clock, how they show
-//! lines on a terminal, their lines about what failed, and their statuses.
+//! The common parts of the programs: arguments, help and version, standard input or the file that
+//! the last argument names, buffers and clock, how lines are shown on a terminal, lines that report
+//! failures, and statuses.
 #![tactic(auto)]
 
 mod buffers;

@@ -7,11 +7,11 @@ ghost use Rattle.program_frame.specs.FileNames.{AsksForNone, NamesFile, names_fi
 
 use crate::words::words_after_name;
 
-/// What an option begins with, and alone the name of standard input.
+/// The first byte of an option, and alone the name of standard input.
 const HYPHEN: u8 = b'-';
 
-/// The last word and the words before it, if the last word can name a file: if it doesn't begin
-/// with a hyphen, as options do, or is a hyphen alone. The words before it come first.
+/// Splits off the last word, if it can name a file: if it doesn't begin with a hyphen, as options
+/// do, or is a hyphen alone. Returns the words before it, and the last word.
 pub fn file_after(words: &[String]) -> Option<(&[String], &str)>
     ensures { NamesFile words.now result }
 {
@@ -24,8 +24,8 @@ pub fn file_after(words: &[String]) -> Option<(&[String], &str)>
     }
 }
 
-/// Takes the last word off and returns it, if it can name a file and the words before it, without
-/// the program's name, ask for an input.
+/// Takes the last word off and returns it, if it can name a file and `reads_input` holds for the
+/// words before it, without the program's name.
 pub fn take_file<F: FnOnce(&[String]) -> bool>(
     words: &mut Vec<String>,
     reads_input: F,

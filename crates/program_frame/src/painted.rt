@@ -13,13 +13,13 @@ use rtr_units::piece::write_all;
 use rtr_units::source::Sink;
 use std::io;
 
-/// The sequence that ends a colour, and then the line.
+/// The escape sequence that ends a colour, and then the line.
 const COLOUR_END: &[u8] = b"\x1b[0m\n";
 
-/// A writer that puts each line that tells of an announcement or of a withdrawal in its colour,
-/// where colours are wanted. Where they aren't it is the writer below.
+/// A writer that shows each line about an announcement or a withdrawal in its colour, if colours
+/// are wanted. If they aren't, it writes as the inner writer does.
 ///
-/// Only a line that is written whole, in one piece, has a colour. So no sequence stands inside a
+/// Only a line that is written whole, in one piece, has a colour. So no escape sequence is inside a
 /// line. After an error there are none up to the next line feed.
 #[derive(Drop)]
 pub struct Painted<W> {
@@ -61,7 +61,7 @@ impl<W: Sink> Painted<W> {
         }
     }
 
-    /// The same, and keeps whether the next byte begins a line.
+    /// Does the same, and records whether the next byte begins a line.
     #[cold]
     #[inline(never)]
     fn paint(&mut self, piece: &[u8]) -> io::Result<()>
@@ -76,8 +76,8 @@ impl<W: Sink> Painted<W> {
         written
     }
 
-    /// The same, with the result built again: the slot for it is this function's, and the path
-    /// without colours has none.
+    /// Does the same and rebuilds the result: the slot for it belongs to this function, so that the
+    /// path without colours has none.
     #[inline(always)]
     fn paint_apart(&mut self, piece: &[u8]) -> io::Result<usize>
         ensures below { WritesAll W.Sink result self.old.output self.new.output
@@ -101,7 +101,7 @@ impl<W: Sink> Sink for Painted<W> {
 
     ghost stalls = { λ p. W.stalls p.output };
 
-    /// Writes as the writer below. Where colours are wanted it writes the whole piece, in its
+    /// Writes as the inner writer does. If colours are wanted it writes the whole piece, in its
     /// colour if it has one; or at an error a part of that.
     #[inline(always)]
     fn write(&mut self, piece: &[u8]) -> io::Result<usize>

@@ -1,4 +1,4 @@
-//! Readers that do something beside, and a writer that such a reader flushes.
+//! Readers with a side effect, and a writer that such a reader flushes.
 
 use crate::guises::Front;
 use std::cell::{Cell, RefCell};
@@ -29,9 +29,8 @@ impl<R: Read> Read for Watched<'_, R> {
     }
 }
 
-/// The same, of a reader that flushes the output before each read. Behind a buffer it is only read
-/// where the buffer is used up, so what was written comes out before the program waits for more
-/// input.
+/// The same for a reader that flushes the output before each read. Behind a buffer it is read only
+/// when the buffer is used up, so the output is flushed before the program waits for more input.
 #[derive(Drop)]
 pub struct Prompt<'a, R, W: Write + Drop> {
     input: Watched<'a, R>,

@@ -1,4 +1,4 @@
-//! What a program says of itself.
+//! Help and version of a program.
 
 ghost use Rattle.std.specs.Prelude.{◌≡◌, ◌≢◌, None, IfSome};
 ghost use Rattle.program_frame.specs.Questions.{WritesText, asked_of, manual_text};
@@ -11,31 +11,32 @@ use rtr_units::piece::put;
 use rtr_units::source::Sink;
 use std::io::Write;
 
-/// What a program says of itself, where each text ends with a line feed, and which words it takes.
+/// The texts of a program about itself, each of which ends with a line feed, and the arguments that
+/// it takes.
 #[derive(Clone, Copy)]
 pub struct Manual {
     /// Its name.
     pub name: &'static str,
-    /// Its name and its version, on a line.
+    /// Its name and its version, on one line.
     pub version: &'static str,
-    /// How it is called, on a line.
+    /// Its usage, on one line.
     pub usage: &'static str,
-    /// What it does, and what each of its words does.
+    /// Its help: what it does, and what each of its arguments does.
     pub help: &'static str,
-    /// The words that it takes, except for those that stand alone.
+    /// The arguments that it takes, except for those that must stand alone.
     pub syntax: Syntax,
 }
 
-/// What a program is asked about itself.
+/// A question about the program itself.
 #[derive(Clone, Copy)]
 pub enum Question {
-    /// What it does, by `--help`.
+    /// Its help, with `--help`.
     Help,
-    /// Its version, by `--version`.
+    /// Its version, with `--version`.
     Version,
 }
 
-/// What the words after the program's name ask about it: one of the two words, alone.
+/// The question in the words after the program's name: one of the two options, alone.
 fn asked(words: &[String]) -> Option<Question>
     ensures { result ≡ asked_of words.now }
 {
@@ -49,8 +50,8 @@ fn asked(words: &[String]) -> Option<Question>
     }
 }
 
-/// Writes what is asked for, flushes the output, and answers the exit status: 0 where both
-/// succeeded, and else the one that is given for that, with a line on `faults`.
+/// Writes the text that is asked for, flushes the output, and returns the exit status: 0 if both
+/// succeeded, otherwise the status of the failure, which it reports on `faults`.
 fn answer<W: Sink, F: Write>(
     manual: &Manual,
     question: Question,
@@ -83,9 +84,9 @@ fn answer<W: Sink, F: Write>(
     }
 }
 
-/// Answers what the words after the program's name ask about it, as `answer` does, and the exit
-/// status. Where they ask nothing it says which of them is wrong, or if none is, how the program is
-/// called, as `usage` does.
+/// If the words after the program's name ask about it, writes that text as `answer` does, and
+/// returns the exit status. Otherwise it reports which of them is wrong, or if none is, the usage,
+/// as `usage` does.
 pub fn about<W: Sink, F: Write>(
     manual: &Manual,
     words: &[String],
@@ -105,8 +106,7 @@ pub fn about<W: Sink, F: Write>(
     }
 }
 
-/// Says which word is wrong, or if none is, how the program is called, and returns the exit status
-/// for that.
+/// Reports which word is wrong, or if none is, the usage, and returns the exit status for that.
 fn refuse_words<F: Write>(manual: &Manual, words: &[String], faults: &mut F) -> u8
     ensures { result ≡ 2 }
 {
@@ -116,7 +116,7 @@ fn refuse_words<F: Write>(manual: &Manual, words: &[String], faults: &mut F) -> 
     }
 }
 
-/// Says on standard error how the program is called, and answers the exit status for that.
+/// Prints the usage on standard error, and returns the exit status for that.
 pub fn usage<F: Write>(manual: &Manual, faults: &mut F) -> u8
     ensures { result ≡ 2 }
 {

@@ -1,13 +1,13 @@
 //! The statuses that programs share.
 
-/// The status where what was asked for was done.
+/// The status if the program succeeded.
 pub const WELL: u8 = 0;
 
-/// The status where the input was refused.
+/// The status if the input is refused.
 pub const REFUSED: u8 = 1;
 
-/// The status where the words ask for nothing.
+/// The status for wrong arguments.
 pub const USAGE: u8 = 2;
 
-/// The status where opening, reading, writing or memory failed.
+/// The status if opening, reading, writing or memory failed.
 pub const FAILED: u8 = 3;

@@ -1,12 +1,12 @@
-//! The words that a program takes, and which of given words is wrong.
+//! The arguments that a program takes, and which of given arguments is wrong.
 
 use crate::names::is_file_name;
 use crate::wrong::Wrong;
 
-/// What has to follow an option.
+/// The value that an option requires.
 #[derive(Clone, Copy)]
 pub enum Value {
-    /// Any word, which lines call this.
+    /// Any word. Lines call it by this name.
     Any(&'static str),
     /// A number, at most this one.
     Number(u64),
@@ -14,32 +14,32 @@ pub enum Value {
     OneOf(&'static [&'static str]),
 }
 
-/// An option that a value follows.
+/// An option with a value.
 #[derive(Clone, Copy)]
 pub struct Setting {
     /// Its name, with the hyphens before it.
     pub name: &'static str,
-    /// What has to follow it.
+    /// The required value.
     pub value: Value,
     /// Whether it may be given more than once.
     pub repeats: bool,
 }
 
-/// The words that a program takes: options, and then words that aren't options. The options of
-/// `Question` aren't among them.
+/// The arguments that a program takes: options, and then operands. The options of `Question` aren't
+/// among them.
 #[derive(Clone, Copy)]
 pub struct Syntax {
-    /// The options of which only one may be given, and once.
+    /// The options of which at most one may be given, once.
     pub forms: &'static [&'static str],
-    /// The others without a value, each of which may be given once.
+    /// The other options without a value, each of which may be given once.
     pub switches: &'static [&'static str],
     /// The options with a value.
     pub settings: &'static [Setting],
-    /// How many words it takes after the options, at most.
+    /// The greatest number of operands after the options.
     pub operands: usize,
 }
 
-/// What an option is.
+/// The kind of an option.
 #[derive(Clone, Copy)]
 enum Flag {
     /// One of the forms.
@@ -50,16 +50,16 @@ enum Flag {
     Setting(Setting),
 }
 
-/// What the words before one are.
+/// The state after the words before a word.
 #[derive(Clone, Copy)]
 struct Before<'a> {
-    /// The last one, if it is an option that a value has to follow.
+    /// The last word, if it is an option that requires a value.
     open: Option<Setting>,
     /// The option that chooses a form.
     form: Option<&'a str>,
-    /// The first one that isn't an option.
+    /// The first operand.
     operand: Option<&'a str>,
-    /// How many aren't options.
+    /// The number of operands.
     operands: usize,
 }
 
@@ -78,8 +78,8 @@ impl Value {
 }
 
 impl Syntax {
-    /// What is wrong with the words after the program's name, at the first wrong one. None if these
-    /// rules don't refuse them: they may lack a word.
+    /// Returns what is wrong with the words after the program's name, at the first wrong one. None
+    /// if these rules don't refuse them: words may still be missing.
     pub fn wrong_word<'a>(&self, words: &'a [String]) -> Option<Wrong<'a>> {
         let mut before = Before {
             open: None,
@@ -100,7 +100,7 @@ impl Syntax {
         }
     }
 
-    /// That no value follows the option of this name, if the words end with it.
+    /// Returns the error that no value follows the option of this name, if the words end with it.
     pub fn open_option<'a>(&self, words: &'a [String], name: &str) -> Option<Wrong<'a>> {
         match self.wrong_word(words) {
             Some(Wrong::NoValue(setting)) if setting.name == name => Some(Wrong::NoValue(setting)),
@@ -108,7 +108,7 @@ impl Syntax {
         }
     }
 
-    /// What the words are with one more; or what is wrong with that one, after the `earlier` ones.
+    /// The state after one more word; or what is wrong with it, after the `earlier` ones.
     fn take<'a>(
         &self,
         before: Before<'a>,
@@ -128,7 +128,7 @@ impl Syntax {
         }
     }
 
-    /// What the words are with a word more that isn't an option.
+    /// The state after one more operand.
     fn take_operand<'a>(&self, before: Before<'a>, word: &'a str) -> Result<Before<'a>, Wrong<'a>> {
         if before.operands >= self.operands {
             return Err(Wrong::Unexpected(word));
@@ -140,7 +140,7 @@ impl Syntax {
         })
     }
 
-    /// What the words are with an option more.
+    /// The state after one more option.
     fn take_flag<'a>(
         &self,
         before: Before<'a>,
@@ -184,7 +184,7 @@ impl Syntax {
         None
     }
 
-    /// Whether the words have this option, other than as the value of one.
+    /// Whether the words have this option, other than as the value of another option.
     pub fn has_flag(&self, words: &[String], name: &str) -> bool {
         let mut is_value = false;
         for word in words {
@@ -198,7 +198,7 @@ impl Syntax {
     }
 }
 
-/// What the words are with the value of the option before it.
+/// The state after the value of the option before it.
 fn take_value<'a>(
     before: Before<'a>,
     setting: Setting,

@@ -7,14 +7,14 @@ use std::env;
 use std::env::VarError;
 use std::io::IsTerminal;
 
-/// The terminal that has no colours.
+/// The terminal type without colours.
 const DUMB: &str = "dumb";
 
-/// A variable of the environment, or why there is none.
+/// The value of an environment variable, or why there is none.
 type Variable = Result<String, VarError>;
 
-/// Whether lines are shown in colours: on a terminal, unless the environment has a `NO_COLOR` that
-/// isn't empty (no-color.org) or a terminal without colours.
+/// Whether to show lines in colours: on a terminal, unless the environment has a `NO_COLOR` that
+/// isn't empty (no-color.org) or the terminal type has no colours.
 pub fn wants_colours(rt: &HostRuntime) -> bool {
     rt.stdout().is_terminal() && allows_colours(&env::var(rt, "NO_COLOR"), &env::var(rt, "TERM"))
 }
@@ -26,7 +26,7 @@ fn allows_colours(no_color: &Variable, terminal: &Variable) -> bool
     !is_set(no_color) && !is_dumb(terminal)
 }
 
-/// Whether the variable has a value that isn't empty. One that can't be had as a text has.
+/// Whether the variable has a value that isn't empty. A value that isn't text counts as such.
 fn is_set(variable: &Variable) -> bool
     ensures { result ≡ is_set variable.now }
 {

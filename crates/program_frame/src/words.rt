@@ -1,11 +1,10 @@
-//! The words that a program is started with.
+//! The arguments of the program.
 
 ghost use Rattle.std.specs.Prelude.{◌≡◌, drop};
 
 use std::env;
 
-/// The words that the program was started with, its name first. None if they can't be had as texts,
-/// or memory runs out.
+/// The arguments of the program, its name first. None if they aren't text, or memory runs out.
 pub fn program_words(rt: &HostRuntime) -> Option<Vec<String>> {
     env::args(rt).ok()?.collect(rt.alloc()).ok()
 }

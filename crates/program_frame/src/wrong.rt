@@ -1,4 +1,4 @@
-//! What is wrong with words.
+//! What is wrong with arguments.
 
 ghost use Rattle.std.specs.Prelude.{◌≡◌};
 
@@ -13,13 +13,13 @@ use std::io::Write;
 pub enum Wrong<'a> {
     /// The program has no option of this name.
     Unknown(&'a str),
-    /// It asks the program about itself, and isn't alone.
+    /// The option for help or version isn't alone.
     NotAlone(&'a str),
     /// The option was given before.
     Twice(&'a str),
-    /// The first one doesn't go with the second one, which was given before.
+    /// The first option can't be combined with the second one, which was given before.
     Excluded(&'a str, &'a str),
-    /// The option comes after a word that isn't one.
+    /// The option comes after an operand.
     Late(&'a str, &'a str),
     /// No value follows the option.
     NoValue(Setting),
@@ -29,7 +29,7 @@ pub enum Wrong<'a> {
     NoFile(&'a str, &'a str),
     /// The program takes no further word.
     Unexpected(&'a str),
-    /// The first one is of use only with the second one.
+    /// The first option may only be used with the second one.
     Needs(&'a str, &'a str),
 }
 
@@ -90,8 +90,8 @@ fn write_choice<W: fmt::Write>(words: &[&str], f: &mut fmt::Formatter<W>) -> fmt
     Ok(())
 }
 
-/// Says what is wrong with a word, after the name of the program, and returns the exit status for
-/// that.
+/// Reports what is wrong with a word, after the name of the program, and returns the exit status
+/// for that.
 pub fn refuse<F: Write>(program: &str, wrong: Wrong<'_>, faults: &mut F) -> u8
     ensures { result ≡ 2 }
 {

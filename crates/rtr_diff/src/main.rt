@@ -1,4 +1,4 @@
-//! Prints what differs between the data of two recordings.
+//! Prints the differences between the data of two recordings.
 #![tactic(auto)]
 
 use diff_work::{Form, Request, asked, run};
@@ -41,11 +41,11 @@ prints the changes that lead from the payloads of OLD to those of NEW. The name
     },
 };
 
-/// The input behind a buffer, whose front is kept.
+/// The input with a buffer, whose first bytes are kept.
 type Buffered<'a> = BufferedSource<Watched<'a, Input>>;
 
-/// The input of this name behind a buffer. If there is no memory for one, reports that, and fails
-/// with the status.
+/// Opens the input of this name with a buffer. If there is no memory for the buffer, reports that,
+/// and fails with the status.
 fn buffered<'a>(
     rt: &HostRuntime,
     input: Input,
@@ -59,7 +59,7 @@ fn buffered<'a>(
     }
 }
 
-/// The output, whose lines for people are in colours on a terminal.
+/// The output, whose lines for people are coloured on a terminal.
 type Output = Painted<Counted<BufWriter<Stdout>>>;
 
 /// Opens both files, compares them, and returns the status. Fails with the status if a file can't

@@ -1,5 +1,5 @@
-//! Lists the units of a recorded session, one on a line, or what breaks the protocol's rules in it,
-//! or prints their summary or the payloads that it leaves.
+//! Lists the units of a recorded session, one on a line, or the rules of the protocol that they
+//! break, or prints their summary or the payloads that it leaves.
 #![tactic(auto)]
 
 use list_work::{program, reads_input};
@@ -45,13 +45,13 @@ standard input if FILE is - or isn't given.
     },
 };
 
-/// Lines that wait in a buffer.
+/// Lines in a buffer.
 type Lines = RefCell<BufWriter<Stdout>>;
 
-/// The input, which flushes the lines before it reads on, and whose front is kept.
+/// The input, which flushes the lines before it is read, and whose first bytes are kept.
 type Prompted<'a> = Prompt<'a, Input, BufWriter<Stdout>>;
 
-/// The file of this name behind a buffer, unbuffered if there is no memory for one.
+/// Opens the file of this name with a buffer, or unbuffered if there is no memory for one.
 fn open<'a>(
     rt: &HostRuntime,
     name: &str,
@@ -64,8 +64,8 @@ fn open<'a>(
     buffered_input(rt, prompt(input), spare.map(prompt))
 }
 
-/// Prints what the words ask for of this input, and returns the status. Lines for people are in
-/// colours on a terminal.
+/// Prints what the words ask for of this input, and returns the status. Lines for people are
+/// coloured on a terminal.
 fn print(rt: &HostRuntime, words: Vec<String>, input: InputName<'_>, faults: &mut Stderr) -> u8 {
     let lines = RefCell::new(buffered_output(rt));
     let front = Cell::new(Front::new());

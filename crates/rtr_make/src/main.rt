@@ -20,7 +20,7 @@ const PROGRAM: &str = "rtr_make";
 /// The option that names a SLURM file.
 const SLURM: &str = "--slurm";
 
-/// Makes what the words ask for of the file, or of standard input.
+/// Makes the requested sequence of the file, or of standard input.
 fn make(
     rt: &HostRuntime,
     words: Option<Vec<String>>,
@@ -57,7 +57,7 @@ fn main(rt: HostRuntime) -> ExitCode {
     }
 }
 
-/// Reads the SLURM files, and makes what the other words ask for.
+/// Reads the SLURM files, and makes the sequence that the other words ask for.
 fn run(rt: &HostRuntime, split: Split, faults: &mut Stderr) -> ExitCode {
     let mut words = split.words;
     let file = take_file(&mut words, |before| {
@@ -77,7 +77,7 @@ fn run(rt: &HostRuntime, split: Split, faults: &mut Stderr) -> ExitCode {
     }
 }
 
-/// Makes what the words ask for, or says why the file can't be read.
+/// Makes the sequence that the words ask for, or reports why the file can't be read.
 fn finish(
     rt: &HostRuntime,
     words: Option<Vec<String>>,

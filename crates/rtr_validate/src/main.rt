@@ -96,16 +96,16 @@ const SLURM: &str = "--slurm";
 /// The option that names the list to compare with.
 const AGAINST: &str = "--against";
 
-/// Lines that wait in a buffer.
+/// Lines in a buffer.
 type Lines = RefCell<BufWriter<Stdout>>;
 
-/// Standard input, where routes are read.
+/// Standard input, from which routes are read.
 type Routes<'a> = BufferedSource<Counting<'a, Prompt<'a, Stdin, BufWriter<Stdout>>>>;
 
-/// Who is told of what fails.
+/// The listener for refused lines.
 type Faults<'a> = Named<Shared<'a, Screen>>;
 
-/// What the runs of this program share.
+/// The inputs and outputs of a run.
 #[derive(Clone, Copy)]
 struct Ends<'a> {
     rt: &'a HostRuntime,
@@ -113,8 +113,8 @@ struct Ends<'a> {
     screen: &'a RefCell<Screen>,
 }
 
-/// Standard input, which flushes the lines before it reads on; unbuffered if there is no memory for
-/// a buffer. On a terminal where no answers are printed it says how far it is.
+/// Standard input, which flushes the lines before it is read; unbuffered if there is no memory for
+/// a buffer. On a terminal where no answers are printed it shows its progress.
 fn buffered_routes<'a>(ends: Ends<'a>, is_summary: bool, front: &'a Cell<Front>) -> Routes<'a> {
     let routes = counted(ends, is_summary, front);
     let spare = counted(ends, is_summary, front);
@@ -136,14 +136,14 @@ fn counted<'a>(
 /// The files that a run reads.
 #[derive(Drop)]
 struct Files {
-    /// The list by which routes are judged.
+    /// The list by which routes are validated.
     used: Input,
-    /// The one that it is compared with, if there is one.
+    /// The list that it is compared with, if there is one.
     other: Option<Input>,
 }
 
 impl Files {
-    /// Whether one of them took the descriptor of standard input.
+    /// Whether one of them got the descriptor of standard input.
     fn took_standard_input(&self) -> bool {
         self.used.took_standard_input()
             || match &self.other {
@@ -153,7 +153,7 @@ impl Files {
     }
 }
 
-/// Opens the lists. If one can't be opened, says so and fails with the status.
+/// Opens the lists. If one can't be opened, reports that and fails with the status.
 fn open_files(
     rt: &HostRuntime,
     file: &str,
@@ -168,7 +168,7 @@ fn open_files(
     Ok(Files { used, other })
 }
 
-/// Opens the files, returns the routes that are asked for, and returns the status.
+/// Opens the files, validates the requested routes, and returns the status.
 fn validate(
     ends: Ends<'_>,
     request: Request<'_>,
@@ -196,7 +196,7 @@ fn validate(
     status
 }
 
-/// Runs over the files that are open, of which the one to compare with has this name.
+/// Runs over the open files; `against` is the name of the list to compare with.
 fn run_over(
     ends: Ends<'_>,
     now: u64,
@@ -238,8 +238,8 @@ fn run_over(
     }
 }
 
-/// What the words ask for: the SLURM files, the lists to compare with, and the other words, the
-/// program's name first.
+/// The result of splitting the words: the SLURM files, the lists to compare with, and the other
+/// words, the program's name first.
 #[derive(Drop)]
 struct Asked {
     slurm: Vec<String>,
@@ -258,7 +258,7 @@ fn asked_words(rt: &HostRuntime, words: Vec<String>) -> Option<Asked> {
     })
 }
 
-/// Whether nothing is wrong with the words but that they ask for a summary of a route.
+/// Whether the only thing wrong with the words is that they ask for a summary of a single route.
 fn summarises_route(words: &[String]) -> bool {
     let of_many = Syntax {
         operands: 1,
@@ -269,7 +269,7 @@ fn summarises_route(words: &[String]) -> bool {
         && MANUAL.syntax.has_flag(words, "--summary")
 }
 
-/// Why the list that is asked for can't be compared with that of the file of this name.
+/// Why the requested list can't be compared with that of the file of this name.
 fn wrong_against<'a>(request: &Request<'_>, name: &'a str) -> Wrong<'a> {
     if request.route.is_some() {
         Wrong::Excluded(AGAINST, "PREFIX ASN")
@@ -278,7 +278,7 @@ fn wrong_against<'a>(request: &Request<'_>, name: &'a str) -> Wrong<'a> {
     }
 }
 
-/// That no file follows the option that the words end with, if it names one.
+/// Returns the error that no file follows the option that the words end with, if it requires one.
 fn open_option(words: &[String]) -> Option<Wrong<'_>> {
     match MANUAL.syntax.open_option(words, SLURM) {
         Some(wrong) => Some(wrong),
@@ -297,7 +297,7 @@ fn run_words(ends: Ends<'_>, words: Vec<String>, faults: &mut Faults<'_>) -> u8 
     }
 }
 
-/// Runs what the words ask for, and returns the status.
+/// Runs with the words, and returns the status.
 fn start(ends: Ends<'_>, all: &Asked, faults: &mut Faults<'_>) -> u8 {
     let words = words_after_name(&all.words);
     let Some(request) = asked(words) else {

@@ -1,18 +1,18 @@
-//! A line on a terminal that says how far a run has come.
+//! A line on a terminal that shows the progress of a run.
 
 use std::cell::RefCell;
 use std::io;
 use std::io::{Read, Stderr, Write};
 use std::time::Instant;
 
-/// How many seconds pass at least from one line to the next.
+/// The least number of seconds from one line to the next.
 const PAUSE: u64 = 1;
 
-/// What covers the longest line.
+/// Spaces that cover the longest line.
 const BLANK: &str = "\r                                        \r";
 
-/// Standard error, on which a line may stand that says how far the run has come. It is erased
-/// before anything else is written.
+/// Standard error, which may have a line that shows the progress of the run. It is erased before
+/// anything else is written.
 #[derive(Drop)]
 pub struct Screen {
     faults: Stderr,
@@ -20,7 +20,7 @@ pub struct Screen {
 }
 
 impl Screen {
-    /// The one without a line.
+    /// Standard error without a line.
     pub fn new(faults: Stderr) -> Screen {
         Screen {
             faults,
@@ -37,7 +37,7 @@ impl Screen {
         Ok(())
     }
 
-    /// Says how many lines were read, in the place of what was said before.
+    /// Shows how many lines were read, in place of the previous line.
     fn show(&mut self, program: &str, lines: u64) {
         let _ = write!(self.faults, "\r{program}: {lines} lines");
         self.has_line = true;
@@ -55,20 +55,20 @@ impl Write for Screen {
     }
 }
 
-/// A reader of lines, which says once a second how many were read, if that is wanted.
+/// A reader of lines, which shows once a second how many were read, if requested.
 #[derive(Drop)]
 pub struct Counting<'a, R> {
     input: R,
     rt: &'a HostRuntime,
     program: &'static str,
     screen: &'a RefCell<Screen>,
-    /// When it was said last, or the run began; none if it isn't wanted.
+    /// When that was last shown, or when the run began; none if it isn't requested.
     last: Option<Instant>,
     lines: u64,
 }
 
 impl<'a, R: Read> Counting<'a, R> {
-    /// The reader of this input. Without a clock nothing is said.
+    /// The reader of this input. Without a clock it shows nothing.
     pub fn new(
         rt: &'a HostRuntime,
         program: &'static str,
@@ -90,7 +90,7 @@ impl<'a, R: Read> Counting<'a, R> {
         }
     }
 
-    /// Counts the lines of a piece, and says how many there were if a second has passed.
+    /// Counts the lines of a piece, and shows their number if a second has passed.
     fn count(&mut self, last: Instant, piece: &[u8]) -> io::Result<()> {
         for byte in piece {
             if *byte == b'\n' {

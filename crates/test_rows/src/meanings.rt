@@ -1,4 +1,4 @@
-//! What payload units mean, and the units of what they mean.
+//! The meanings of payload units, and the units of meanings.
 
 use crate::answer::Answer;
 use crate::payloads::{read, tell_unit};

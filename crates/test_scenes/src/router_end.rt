@@ -249,7 +249,7 @@ impl RouterEnd {
             }
             Made::Refused(offset, refusal) => {
                 let unit = Vec::from_slice(self.alloc, self.kept.get(offset..).unwrap_or(&[]))?;
-                let action = self.step(Event::NotApplied(Some(refusal.code().0)));
+                let action = self.step(Event::NotApplied(Some(refusal.code())));
                 let about = About {
                     unit,
                     refusal: Some(refusal),

@@ -122,7 +122,7 @@ EndsAnswering strict (Err (Line number error)) f d count last left part told =
 EndsAnswering strict (Err (Fault e)) f d count last left part told =
     StopsAnswering (cause_of e) f d count last left part × (told ≡ [])
 
--- where the input ended, so many lines were refused
+-- where the input ended, this many lines were refused
 abbrev pub CountsRefused : Result ℕ Stop → List RefusedLine → Type 0
 CountsRefused (Ok n) told = n ≡ length told
 CountsRefused (Err stop) told = ⊤

@@ -56,8 +56,8 @@ AnswersLine f d number line (Err (stops.Fault e)) before after =
     WritesAnswerText (IsLineAnswer f d line) (Err (cause_of e)) before.held after.held
     × (after.failed ≡ writer_count {T = ℕ} (Err (cause_of e)) before.failed)
 
--- the same of a line that is passed over if it isn't a route, unless the run is strict; so many
--- lines were told, none or one
+-- the same of a line that is passed over if it isn't a route, unless the run is strict; the number
+-- of lines that were reported, none or one, is the result
 abbrev pub PassesLine : {T : Type 0} → (Hears : T → RefusedLine → T → Type 0) → (strict : Bool) →
     Formats → Lists → (number : ℕ) → (line : List ℕ) → Result ℕ Stop →
     WriterState → WriterState → (old new : T) → Type 0

@@ -48,7 +48,7 @@ IsNextRow es after (Some r) = Contains es (r.asn, r.states) × (is_left after r 
     × ((e : ℕ × States) → Contains es e → is_left after (row_of e) ≡ true →
     stands_before (row_of e) r ≡ false)
 
--- the rows that come after one, each the next: so many, unless there are fewer
+-- the rows that come after one, each the next: this many, unless there are fewer
 abbrev pub AreNextRows : (most : ℕ) → List (ℕ × States) → (after : Option OriginRow) →
     List OriginRow → Type 0
 AreNextRows zero es after rows = rows ≡ []

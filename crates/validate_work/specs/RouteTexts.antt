@@ -17,7 +17,7 @@ use Rattle.validate_work.specs.declared.route_text.TableRoute.{TableRoute}
 abbrev pub IsAnyAsn : List ℕ → Type 0
 IsAnyAsn text = (n : ℕ) × IsAsnText text n
 
--- numbers of ASes, with so many commas between them
+-- numbers of ASes, with this many commas between them
 abbrev pub AreAsns : (commas : ℕ) → List ℕ → Type 0
 AreAsns zero text = Lacks 44 text × IsAnyAsn text
 AreAsns (suc n) text =

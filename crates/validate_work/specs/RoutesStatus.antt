@@ -49,7 +49,7 @@ load_status (load_errors.Units stop) = recording_status stop.cause
 load_status (load_errors.Items r) = refusal_status r.reason
 load_status load_errors.Memory = 3
 
--- after answers, of which so many lines were no routes, and by whether the flush after them
+-- after answers, of which this many lines were no routes, and by whether the flush after them
 -- succeeded
 abbrev pub answer_status : Result ℕ Stop → Bool → ℕ
 answer_status (Ok n) true = if n == 0 then 0 else 1

@@ -1,4 +1,4 @@
-//! The answer on a route.
+//! The text of the answer on a route.
 
 ghost use Rattle.std.specs.Prelude.{◌≡◌, ◌++◌, OnOk, decimal};
 ghost use Rattle.rtr_base.specs.Addresses.{resolved_len};
@@ -22,7 +22,7 @@ use std::alloc::AllocError;
 
 /// Adds the answer on a route, with a line feed: the route, its validity (RFC 6811 section 2), and
 /// the VRPs that cover it, in the order of payloads, each with why it doesn't match the route. A
-/// line for people has these of an invalid route alone.
+/// line for people has the VRPs only if the route is invalid.
 pub fn add_answer(
     line: &mut Line,
     form: Form,
@@ -87,7 +87,7 @@ fn add_object(line: &mut Line, vrps: &Vrps, route: &TableRoute) -> Result<(), Al
     line.text("]}\n")
 }
 
-/// Adds the origin AS of a route, or that it has none.
+/// Adds the origin AS of a route, or text that it has none.
 pub(crate) fn add_origin(line: &mut Line, form: Form, origin: Option<Asn>) -> Result<(), AllocError>
     ensures { OnOk result (line.new ≡ line.old ++ route_origin_text form origin) }
 {
@@ -155,7 +155,7 @@ pub(crate) fn add_covers(
     Ok(())
 }
 
-/// What stands before the first VRP.
+/// The text before the first VRP.
 fn opening(form: Form) -> &'static str
     ensures { result.now ≡ opening form }
 {
@@ -165,7 +165,7 @@ fn opening(form: Form) -> &'static str
     }
 }
 
-/// What stands before each other.
+/// The text before each other VRP.
 fn separator(form: Form) -> &'static str
     ensures { result.now ≡ separator form }
 {
@@ -191,7 +191,7 @@ fn add_cover(
     }
 }
 
-/// Adds it for people.
+/// Adds a VRP for people.
 fn add_cover_words(
     line: &mut Line,
     origin: &RouteOrigin,
@@ -206,7 +206,7 @@ fn add_cover_words(
     line.text(")")
 }
 
-/// Adds it as a JSON object.
+/// Adds a VRP as a JSON object.
 fn add_cover_object(
     line: &mut Line,
     origin: &RouteOrigin,

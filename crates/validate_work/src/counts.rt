@@ -21,21 +21,21 @@ use rtr_units::source::Source;
 use std::alloc::{AllocError, Global};
 use std::collections::BTreeMap;
 
-/// How many routes have each validity, and how many lines are refused.
+/// The numbers of routes of each validity, and of refused lines.
 #[derive(Clone, Copy, Debug, PartialEq, Eq)]
 pub struct Counts {
     /// Routes that a VRP matches.
     pub valid: u64,
-    /// Routes that VRPs cover, of which none matches.
+    /// Routes that VRPs cover, but none matches.
     pub invalid: u64,
     /// Routes that no VRP covers.
     pub not_found: u64,
-    /// Lines that are no routes.
+    /// Lines that aren't routes.
     pub refused: u64,
 }
 
 impl Counts {
-    /// Those of no lines.
+    /// All counts zero.
     pub fn new() -> Counts
         ensures { result ≡ no_counts }
     {
@@ -47,7 +47,7 @@ impl Counts {
         }
     }
 
-    /// With one more route of this validity.
+    /// The counts with one more route of this validity.
     fn with(self, state: Validity) -> Counts
         requires { total_of self < 18446744073709551615 }
         ensures { result ≡ with_validity state self }
@@ -68,7 +68,7 @@ impl Counts {
         }
     }
 
-    /// With one more line that is refused.
+    /// The counts with one more refused line.
     fn with_refused(self) -> Counts
         requires { total_of self < 18446744073709551615 }
         ensures { result ≡ with_refused self }
@@ -83,16 +83,16 @@ impl Counts {
 /// The counts of a table of routes.
 #[derive(Drop)]
 pub struct Summary {
-    /// How many routes have each validity by the list in use, and how many lines are refused.
+    /// The numbers of routes of each validity by the list in use, and of refused lines.
     pub counts: Counts,
-    /// The states of routes by their origin AS; none where two lists are compared.
+    /// The numbers of routes of each validity by their origin AS; empty if two lists are compared.
     pub origins: BTreeMap<Asn, States>,
-    /// From which validity to which one routes turn where two lists are compared.
+    /// How many routes change from each validity to each other, if two lists are compared.
     pub turns: Turns,
 }
 
 impl Summary {
-    /// That of no lines.
+    /// The summary of no lines.
     pub fn new(alloc: Global) -> Summary
         ensures counts { result.counts ≡ no_counts }
         ensures origins { result.origins.entries ≡ [] }
@@ -107,10 +107,10 @@ impl Summary {
 }
 
 /// Reads routes, one on a line, up to the end of the input, and counts those of each validity, by
-/// origin AS too, or if two lists are compared how they turn. A line that is refused is reported to
-/// `refusals`, with its number, and counted; a strict run ends at the first one instead. The faults
-/// are `Reader` and `Memory`, and `TooMany` after 2^64 - 1 lines. It allocates for the longest line
-/// and for each origin AS.
+/// origin AS too, or if two lists are compared, the changes of validity. A line that is refused is
+/// reported to `refusals`, with its number, and counted; a strict run ends at the first one
+/// instead. The faults are `Reader` and `Memory`, and `TooMany` after 2^64 - 1 lines. It allocates
+/// for the longest line and for each origin AS.
 pub fn count_lines<R: Source, T: Refusals>(
     alloc: Global,
     program: &str,

@@ -20,7 +20,7 @@ use rtr_units::header::LAST_VERSION;
 use rtr_units::source::SliceSource;
 use std::alloc::Global;
 
-/// What a file is.
+/// The format of a file.
 #[derive(Clone, Copy)]
 pub enum Kind {
     /// Units of the protocol: a sequence, or a recorded session.
@@ -31,32 +31,32 @@ pub enum Kind {
     Json,
 }
 
-/// Why no VRPs are read of a file.
+/// Why a file's VRPs can't be read.
 #[derive(Debug, Drop)]
 pub enum LoadError<'a> {
     /// The recording is refused.
     Units(Stop),
-    /// What a validator printed is refused.
+    /// A list of a validator is refused.
     Items(Refusal<'a>),
-    /// Memory ran out.
+    /// An allocation failed.
     Memory,
 }
 
-/// What was read of a file.
+/// The result of reading a file.
 #[derive(Drop)]
 pub struct Loaded {
     /// The payloads.
     pub vrps: Vrps,
-    /// Whether an answer of a recording was left out, since the next one began before its end of
-    /// data.
+    /// Whether an incomplete answer of a recording was dropped because the next one began before
+    /// its end of data.
     pub has_cut: bool,
-    /// What had expired of the items of a list, if a time is given.
+    /// How many items of a list have expired, and when the next one does, if a time is given.
     pub expired: Option<Expired>,
 }
 
-/// What a file of these bytes is. A mark of the byte order at its front doesn't count. JSON begins
-/// with `{` or `[`, which white space may come before (RFC 8259 section 2), and no text with a byte
-/// below 9, as the version of a unit is.
+/// The format of a file with these bytes. A byte order mark at the front is ignored. JSON begins
+/// with `{` or `[`, possibly after white space (RFC 8259 section 2); no text begins with a byte
+/// below 9, but a unit does, with its version.
 pub fn file_kind(text: &[u8]) -> Kind
     ensures { result ≡ file_kind text.now }
 {
@@ -70,14 +70,14 @@ pub fn file_kind(text: &[u8]) -> Kind
     }
 }
 
-/// Whether no text begins so.
+/// Whether no text begins with these bytes.
 fn is_unit(text: &[u8]) -> bool
     ensures { result ≡ is_unit text.now }
 {
     text.is_empty() || text[0] < b'\t'
 }
 
-/// Whether the first byte that is no white space begins an object or an array of JSON.
+/// Whether the first byte that isn't white space begins an object or an array of JSON.
 fn opens_json(text: &[u8]) -> bool
     ensures { result ≡ opens_json text.now }
 {
@@ -103,11 +103,10 @@ fn is_white(byte: u8) -> bool
     byte == b' ' || byte == b'\t' || byte == b'\n' || byte == b'\r'
 }
 
-/// Reads the VRPs of a file of these bytes: of units by `read_recording`, of CSV and JSON by
-/// `read_csv`, `read_json` and `Gathering` of `make_work`, as `rtr_make` reads them at a time, if
-/// one is asked for: without what has expired by then. Of both, the filters of SLURM files remove
-/// payloads, and then their assertions are added (RFC 8416 section 4.1). `scratch` is memory for
-/// JSON.
+/// Reads the VRPs of a file with these bytes: units with `read_recording`, CSV and JSON with
+/// `read_csv`, `read_json` and `Gathering` of `make_work`, as `rtr_make` reads them. If a time is
+/// given, items that have expired by then are left out. The filters of SLURM files remove payloads,
+/// and then their assertions are added (RFC 8416 section 4.1). `scratch` is memory for JSON.
 pub fn load<'a>(
     alloc: Global,
     at: Option<u64>,
@@ -124,7 +123,7 @@ pub fn load<'a>(
     }
 }
 
-/// Reads those of a recording.
+/// Reads the payloads of a recording.
 fn load_units<'a>(alloc: Global, slurm: &'a Slurm, text: &'a [u8]) -> Result<Loaded, LoadError<'a>>
     ensures { LoadsUnits slurm.now.entries.items text.now result }
 {
@@ -153,7 +152,7 @@ fn load_whole<'a>(alloc: Global, recording: Recording) -> Result<Loaded, LoadErr
     }
 }
 
-/// Loads those that SLURM files leave, and those that they assert.
+/// Loads the payloads that the filters of SLURM files leave, and those that the files assert.
 fn load_kept<'a>(
     alloc: Global,
     slurm: &'a Slurm,
@@ -168,7 +167,7 @@ fn load_kept<'a>(
     }
 }
 
-/// Reads those of comma-separated values.
+/// Reads the payloads in comma-separated values.
 fn load_csv<'a>(
     alloc: Global,
     at: Option<u64>,
@@ -184,7 +183,7 @@ fn load_csv<'a>(
     }
 }
 
-/// Reads those of JSON.
+/// Reads the payloads in JSON.
 fn load_json<'a>(
     alloc: Global,
     at: Option<u64>,
@@ -201,8 +200,8 @@ fn load_json<'a>(
     }
 }
 
-/// Gathers all payloads of items that SLURM files leave, or of them those that haven't expired at a
-/// time.
+/// Gathers the items that the filters of SLURM files leave, and if a time is given, of these the
+/// ones that haven't expired.
 fn gathering_at<'a>(alloc: Global, at: Option<u64>, slurm: &'a Slurm) -> Gathering<'a>
     ensures settings { IsFor 2 false at result }
     ensures none { HasTaken [] result }
@@ -211,8 +210,8 @@ fn gathering_at<'a>(alloc: Global, at: Option<u64>, slurm: &'a Slurm) -> Gatheri
     Gathering::with_slurm(alloc, LAST_VERSION, false, at, slurm)
 }
 
-/// Takes what SLURM files assert, and loads the payloads of the items that were taken. `has_cut` is
-/// whether an answer of a recording was left out.
+/// Takes the assertions of SLURM files, and loads the payloads of the items that were taken.
+/// `has_cut` is whether an answer of a recording was dropped.
 fn load_asserted<'a>(
     alloc: Global,
     has_cut: bool,
@@ -241,7 +240,7 @@ fn load_taken<'a>(
     }
 }
 
-/// Loads the payloads that were gathered of the items that haven't expired.
+/// Loads the payloads of the gathered items that haven't expired.
 fn load_gathered<'a>(
     alloc: Global,
     has_cut: bool,
@@ -264,7 +263,7 @@ fn load_gathered<'a>(
     }
 }
 
-/// The text without a mark of its byte order at the start.
+/// The text without a byte order mark at the front.
 fn without_mark(text: &[u8]) -> &[u8]
     ensures { result.now ≡ strip_bom text.now }
 {

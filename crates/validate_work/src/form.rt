@@ -1,21 +1,21 @@
-//! In which formats routes are read, and answers printed.
+//! The formats in which routes are read and answers are printed.
 
 use crate::table::Table;
 
-/// In which form the answer on a route is printed.
+/// The form in which the answer on a route is printed.
 #[derive(Clone, Copy)]
 pub enum Form {
     /// A line for people.
     Text,
-    /// A JSON object on a line.
+    /// A JSON object on one line.
     Json,
 }
 
-/// In which format routes are read, and in which form the answers are printed.
+/// The format in which routes are read, and the form in which answers are printed.
 #[derive(Clone, Copy)]
 pub struct Formats {
-    /// That of the lines that are read.
+    /// The format of the lines that are read.
     pub table: Table,
-    /// That of the answers.
+    /// The form of the answers.
     pub form: Form,
 }

@@ -1,5 +1,5 @@
-//! What the program `rtr_validate` prints: whether routes are valid by the VRPs of a file, and
-//! which VRPs cover those that aren't, for any readers and writers.
+//! The program `rtr_validate`, for any readers and writers: it prints whether routes are valid by
+//! the VRPs of a file, and which VRPs cover those that aren't.
 #![tactic(auto)]
 
 mod answer;

@@ -1,4 +1,4 @@
-//! Routes that are read line by line, and the answers on them.
+//! Reading routes line by line, and writing the answers.
 
 ghost use Rattle.std.specs.Prelude.{◌≡◌, ◌≤◌, IfOk};
 ghost use Rattle.validate_work.specs.LinesAnswered.{AnswersLines, AnswersRoute};
@@ -31,18 +31,19 @@ pub enum Stop {
 /// How a line ends.
 #[derive(Clone, Copy, Debug, PartialEq, Eq)]
 pub(crate) enum Ending {
-    /// With a line feed.
+    /// By a line feed.
     Feed,
-    /// With the input.
+    /// By the end of the input.
     Input,
 }
 
 /// Reads routes, one on a line, up to the end of the input, and writes the answer on each, by
-/// `add_list_answer`, before the next line is read. A line without a route, as a blank one, has no
-/// answer. A line that is refused is reported to `refusals`, with its number, and skipped; returns
-/// how many were. A strict run stops at the first such line instead, with its number, after the
-/// answers on those before it. The faults are `Reader`, `Writer` and `Memory`, and `TooMany` after
-/// 2^64 - 1 lines. It allocates for the longest line, and for the longest answer.
+/// `add_list_answer`, before the next line is read. A line without a route, such as a blank one,
+/// has no answer. A refused line is reported to `refusals`, with its number, and skipped; the
+/// number of these is returned. A strict run stops at the first refused line instead, with its
+/// number, after the answers on the lines before it. The faults are `Reader`, `Writer` and
+/// `Memory`, and `TooMany` after 2^64 - 1 lines. It allocates for the longest line, and for the
+/// longest answer.
 pub fn answer_lines<R: Source, W: Sink, T: Refusals>(
     alloc: Global,
     program: &str,
@@ -174,8 +175,7 @@ fn answer_line<W: Sink>(
     }
 }
 
-/// Writes the answer on a route, in memory that is used again. The faults are `Writer` and
-/// `Memory`.
+/// Writes the answer on a route, in memory that is reused. The faults are `Writer` and `Memory`.
 pub(crate) fn answer_route<W: Sink>(
     form: Form,
     lists: Lists<'_>,

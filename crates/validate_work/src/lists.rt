@@ -1,9 +1,8 @@
-//! The lists by which routes are judged.
+//! The lists by which routes are validated.
 
 use crate::vrps::Vrps;
 
-/// The list by which routes are judged, and the one that is to come in its place, if two are
-/// compared.
+/// The list by which routes are validated, and the list that will replace it, if two are compared.
 #[derive(Clone, Copy)]
 pub struct Lists<'a> {
     /// The list in use.

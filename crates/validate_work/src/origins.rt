@@ -1,4 +1,4 @@
-//! The states of routes by their origin AS.
+//! The numbers of routes of each validity, by their origin AS.
 
 ghost use Rattle.std.specs.Prelude.{◌≡◌, ◌++◌, OnOk};
 ghost use Rattle.validate_work.specs.RouteOrigins.{AddsRows, IsNextRow, first_label, is_left};
@@ -14,7 +14,7 @@ use rtr_base::asn::Asn;
 use std::alloc::AllocError;
 use std::collections::BTreeMap;
 
-/// An origin AS, and what the routes are that it originates.
+/// An origin AS, with how many of its routes have each validity.
 #[derive(Clone, Copy, Debug, PartialEq, Eq)]
 pub struct OriginRow {
     /// The AS.
@@ -24,7 +24,7 @@ pub struct OriginRow {
 }
 
 impl OriginRow {
-    /// Whether this row stands before the other: by more invalid routes, and of as many by the
+    /// Whether this row comes before the other: more invalid routes come first, and if equal, the
     /// smaller AS.
     fn stands_before(&self, other: &OriginRow) -> bool
         ensures { result ≡ stands_before self.now other.now }
@@ -35,7 +35,7 @@ impl OriginRow {
     }
 }
 
-/// Counts a route of this origin AS. One without a single origin AS has no row.
+/// Counts a route of this origin AS. A route without a single origin AS has no row.
 pub(crate) fn count_origin(
     origins: &mut BTreeMap<Asn, States>,
     origin: Option<Asn>,
@@ -63,7 +63,7 @@ fn states_at(origins: &BTreeMap<Asn, States>, asn: Asn) -> States
     }
 }
 
-/// Adds the rows that come after one, or the first ones: so many at most.
+/// Adds the rows that come after a given one, or the first ones, at most `most` of them.
 pub(crate) fn add_rows(
     line: &mut Line,
     form: Form,
@@ -85,7 +85,7 @@ pub(crate) fn add_rows(
     }
 }
 
-/// The row that comes next after one, or the first one.
+/// The row that comes next after a given one, or the first one.
 fn next_row(origins: &BTreeMap<Asn, States>, after: &Option<OriginRow>) -> Option<OriginRow>
     ensures { IsNextRow origins.now.entries after.now result }
 {
@@ -100,7 +100,7 @@ fn next_row(origins: &BTreeMap<Asn, States>, after: &Option<OriginRow>) -> Optio
     next
 }
 
-/// The row, if it comes after the one and before the next one so far.
+/// The row, if it comes after the given one and before the next one found so far.
 fn nearer(after: &Option<OriginRow>, next: Option<OriginRow>, row: OriginRow) -> Option<OriginRow>
     ensures { result ≡ nearer after.now next row }
 {
@@ -113,7 +113,7 @@ fn nearer(after: &Option<OriginRow>, next: Option<OriginRow>, row: OriginRow) ->
     }
 }
 
-/// Whether the row comes after the one, if there is one.
+/// Whether the row comes after the given one, if there is one.
 fn is_left(after: &Option<OriginRow>, row: &OriginRow) -> bool
     ensures { result ≡ is_left after.now row.now }
 {
@@ -123,7 +123,7 @@ fn is_left(after: &Option<OriginRow>, row: &OriginRow) -> bool
     }
 }
 
-/// Adds a row, which is the first one or not.
+/// Adds a row; `is_first` is whether it is the first one.
 fn add_row(line: &mut Line, form: Form, is_first: bool, row: &OriginRow) -> Result<(), AllocError>
     ensures { OnOk result (line.new ≡ line.old ++ row_text form is_first row.now) }
 {
@@ -131,7 +131,7 @@ fn add_row(line: &mut Line, form: Form, is_first: bool, row: &OriginRow) -> Resu
     add_row_states(line, form, &row.states)
 }
 
-/// What stands before the AS of a row.
+/// The text before the AS of a row.
 fn first_label(form: Form, is_first: bool) -> &'static str
     ensures { result.now ≡ first_label form is_first }
 {
@@ -142,7 +142,7 @@ fn first_label(form: Form, is_first: bool) -> &'static str
     }
 }
 
-/// Adds what stands after it.
+/// Adds the text after the AS.
 fn add_row_states(line: &mut Line, form: Form, states: &States) -> Result<(), AllocError>
     ensures { OnOk result (line.new ≡ line.old ++ row_states_text form states.now) }
 {

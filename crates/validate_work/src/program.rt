@@ -31,14 +31,14 @@ use std::alloc::Global;
 use std::io;
 use std::io::{ErrorKind, Read, Write};
 
-/// Reads the file, of a list without items that have expired at the requested time, or else
-/// `now`: seconds after the epoch. The filters of `slurm` remove payloads, and then its assertions
-/// are added (RFC 8416). Writes the answer on the route that is asked for, or else on those that
-/// are read from `routes`, as `answer_lines` does, flushes the output once, and returns the exit
-/// status:
+/// Reads the file. Items of a list that have expired at the requested time, or else at `now`, in
+/// seconds after the epoch, are left out. The filters of `slurm` remove payloads, and then its
+/// assertions are added (RFC 8416). Writes the answer on the route of the arguments, or if there is
+/// none on those that are read from `routes`, as `answer_lines` does, flushes the output once, and
+/// returns the exit status:
 /// - 0 if all that succeeded, whatever the routes' validity;
-/// - 1 if the file is refused, or has no VRPs, or a line is no route;
-/// - 2 if the words that are given for a route are none, with nothing read;
+/// - 1 if the file is refused, or has no VRPs, or a line isn't a route;
+/// - 2 if the words for a route aren't a route, with nothing read;
 /// - 3 if reading, writing, flushing or memory failed.
 ///
 /// Statuses other than 0 come with a line on `faults`, which begins with the program's name, and so
@@ -86,9 +86,10 @@ pub fn run<I: Read, R: Source, W: Sink, F: Write + Refusals>(
 }
 
 /// Reads the file and then the other one, named `against`, both as `run` does, and compares the
-/// validity of the routes that are read by the first with that by the other: `answer_lines` tells
-/// of those that become invalid or are no longer, and a summary has from which validity to which
-/// one routes turn. The rest is as `run` has it. No route is given.
+/// validity of the routes that are read by the first with that by the other: `answer_lines` prints
+/// the routes that become invalid or were invalid and no longer are, and a summary counts the
+/// changes from each validity to each. Otherwise it does what `run` does. The arguments have no
+/// route.
 pub fn run_against<I: Read, R: Source, W: Sink, F: Write + Refusals>(
     alloc: Global,
     name: &str,
@@ -133,8 +134,8 @@ pub fn run_against<I: Read, R: Source, W: Sink, F: Write + Refusals>(
     )
 }
 
-/// Reads the VRPs of a file. If it can't be read, is refused or has none, says so and fails with
-/// the status.
+/// Reads the VRPs of a file. If it can't be read, is refused or has none, reports that and fails
+/// with the status.
 fn read_list<I: Read, F: Write>(
     alloc: Global,
     name: &str,
@@ -162,14 +163,14 @@ fn read_list<I: Read, F: Write>(
     }
 }
 
-/// The time that is asked for, or else the present one.
+/// The time of the arguments, or else the present time.
 fn time_of(options: Options, now: u64) -> Option<u64>
     ensures { result ≡ Some (unwrap_or options.at now) }
 {
     Some(options.at.unwrap_or(now))
 }
 
-/// The route that is asked for, if one is.
+/// The route of the arguments, if there is one.
 fn route_asked(words: Option<RouteWords<'_>>) -> Result<Option<TableRoute>, RouteError>
     ensures { ReadsAsked words.entry result }
 {
@@ -215,8 +216,8 @@ fn answer<R: Source, W: Sink, F: Write + Refusals>(
     tell(name, answer, flushed, faults)
 }
 
-/// Writes the answer on the route that is asked for, or else on those that are read. Returns how
-/// many lines were no routes.
+/// Writes the answer on the route of the arguments, or if there is none on those that are read.
+/// Returns how many lines weren't routes.
 fn answer_asked<R: Source, W: Sink, F: Write + Refusals>(
     alloc: Global,
     name: &str,
@@ -241,7 +242,7 @@ fn answer_asked<R: Source, W: Sink, F: Write + Refusals>(
     }
 }
 
-/// Writes the answer on each route that is read, or a summary. Returns how many lines were no
+/// Writes the answer on each route that is read, or a summary. Returns how many lines weren't
 /// routes.
 fn answer_read<R: Source, W: Sink, F: Write + Refusals>(
     alloc: Global,
@@ -271,7 +272,7 @@ fn answer_read<R: Source, W: Sink, F: Write + Refusals>(
     )
 }
 
-/// Counts the routes that are read, and writes the counts. Returns how many lines were no routes.
+/// Counts the routes that are read, and writes the counts. Returns how many lines weren't routes.
 fn summarize<R: Source, W: Sink, F: Write + Refusals>(
     alloc: Global,
     name: &str,
@@ -303,7 +304,7 @@ fn summarize<R: Source, W: Sink, F: Write + Refusals>(
     }
 }
 
-/// In which formats routes are read, and answers printed.
+/// The formats in which routes are read and answers are printed.
 fn formats_of(options: Options) -> Formats
     ensures { result ≡ formats_of options }
 {
@@ -313,9 +314,8 @@ fn formats_of(options: Options) -> Formats
     }
 }
 
-/// Says how many lines were no routes, or what stopped the answers, and returns the exit status.
-/// Where the flush failed, that is said of the output alone: reading may have failed since it
-/// flushes first.
+/// Reports how many lines weren't routes, or what stopped the answers, and returns the exit status.
+/// If the flush failed, only the output is named: reading may have failed since it flushes first.
 fn tell<F: Write>(
     name: &str,
     answer: Result<u64, Stop>,
@@ -343,7 +343,7 @@ fn tell<F: Write>(
     }
 }
 
-/// Says how many lines were no routes, and returns the status.
+/// Reports how many lines weren't routes, and returns the status.
 fn tell_refused<F: Write>(name: &str, refused: u64, faults: &mut F) -> u8
     ensures { result ≡ 1 }
 {
@@ -354,7 +354,7 @@ fn tell_refused<F: Write>(name: &str, refused: u64, faults: &mut F) -> u8
     REFUSED
 }
 
-/// Says why the words aren't a route, and returns the status.
+/// Reports why the words aren't a route, and returns the status.
 fn tell_words<F: Write>(
     name: &str,
     words: Option<RouteWords<'_>>,
@@ -371,7 +371,7 @@ fn tell_words<F: Write>(
     USAGE
 }
 
-/// Says why a file couldn't be read, and returns the status.
+/// Reports why a file couldn't be read, and returns the status.
 fn tell_file<F: Write>(name: &str, file: &str, fault: &Fault, faults: &mut F) -> u8
     ensures { result ≡ 3 }
 {
@@ -381,7 +381,7 @@ fn tell_file<F: Write>(name: &str, file: &str, fault: &Fault, faults: &mut F) ->
     FAILED
 }
 
-/// Says that a file has no VRPs, after what was left out of it, and returns the status.
+/// Reports that a file has no VRPs, after what was left out of it, and returns the status.
 fn tell_none<F: Write>(name: &str, file: &str, loaded: &Loaded, faults: &mut F) -> u8
     ensures { result ≡ 1 }
 {
@@ -425,7 +425,7 @@ fn count_expired(expired: Option<Expired>) -> usize
     }
 }
 
-/// Reports why a file of these bytes is refused, and what it looks like, and returns the status.
+/// Reports why a file with these bytes is refused, and what it looks like, and returns the status.
 fn tell_load<F: Write>(
     name: &str,
     file: &str,
@@ -459,7 +459,7 @@ fn tell_load<F: Write>(
     status
 }
 
-/// The status where no VRPs were read of a file.
+/// The status if the VRPs of a file can't be read.
 fn load_status(error: &LoadError<'_>) -> u8
     ensures { result ≡ load_status error.now }
 {
@@ -473,7 +473,7 @@ fn load_status(error: &LoadError<'_>) -> u8
     }
 }
 
-/// The status where reading a recording stopped.
+/// The status if a recording can't be read.
 fn recording_status(cause: &StopCause) -> u8
     ensures { result ≡ recording_status cause.now }
 {

@@ -1,4 +1,4 @@
-//! The payloads of data are in their ranges, as the types of their parts keep them.
+//! The payloads of data are in the ranges that the types of their parts ensure.
 
 ghost use Rattle.std.specs.Prelude.{◌≡◌, map};
 ghost use Rattle.std.specs.List.{AllByRecursion};
@@ -14,7 +14,7 @@ use rtr_payload::payload::{RouteOrigin, RouterKey};
 use rtr_payload::pdu::ProviderAsns;
 use std::collections::{btree_map, btree_set};
 
-/// Each payload is one that a unit announces, and they are in order. It has no effect.
+/// Each payload is one that a unit can announce, and they are in order. It has no effect.
 pub(crate) fn are_sendable(payloads: &Data)
     ensures sendable { AllByRecursion IsSendable payloads.now }
     ensures ordered { IsData payloads.now }

@@ -1,4 +1,4 @@
-//! Reports of lines that are no routes.
+//! Reports of lines that aren't routes.
 
 ghost use Rattle.std.specs.Prelude.{⊤};
 ghost use Rattle.validate_work.specs.RefusedLines.{RefusedLine};
@@ -7,17 +7,17 @@ use crate::route_text::RouteError;
 use std::io;
 use std::io::Write;
 
-/// A listener for lines that are no routes.
+/// A listener for lines that aren't routes.
 pub trait Refusals {
-    /// The listener after it heard of a line.
+    /// The listener after a line was reported to it.
     ghost hears: { Self → RefusedLine → Self → Type 0 };
 
-    /// Tells that the line of this number, of which the first is 1, isn't a route, and why.
+    /// Reports that the line of this number, of which the first is 1, isn't a route, and why.
     fn tell(&mut self, program: &str, number: u64, error: &RouteError)
         ensures { hears self.old (record { number = number; error = error.now }) self.new };
 }
 
-/// A writer to which the lines that are no routes are named, each on a line.
+/// A listener that reports each line that isn't a route on a line of its own to a writer.
 #[derive(Drop)]
 pub struct Named<F> {
     faults: F,

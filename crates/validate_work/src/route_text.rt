@@ -10,7 +10,7 @@ use rtr_base::asn::Asn;
 use rtr_base::parse::ParsePrefixError;
 use std::str;
 
-/// A route, as a table of routes has it.
+/// A route of a routing table.
 #[derive(Clone, Copy)]
 pub struct TableRoute {
     /// Its prefix.
@@ -51,20 +51,20 @@ pub enum RouteError {
     /// The second word isn't the number of an autonomous system, or an AS_SET.
     #[error("invalid AS number")]
     Asn,
-    /// There is a third word.
+    /// There are more than two words.
     #[error("text after the AS number")]
     More,
-    /// In a table of BIRD: it has a route to the prefix of a line above it.
+    /// In a table of BIRD, the line is a route to the prefix of an earlier line, but there is none.
     #[error("missing prefix: another route to the prefix above")]
     NoPrefix,
-    /// A program doesn't print a route so.
+    /// The line isn't in the form that the program prints.
     #[error("not a route in this format")]
     Form,
 }
 
 /// The route of a line, or none if the line is blank. A route is a prefix and the number of an AS,
-/// with or without `AS` before it, with white space between them; white space may stand around. In
-/// the place of the number an AS_SET may stand, as `{64496,64497}`: such a route has no origin AS
+/// with or without `AS` before it, with white space between them; white space around is ignored.
+/// Instead of the number there may be an AS_SET, as `{64496,64497}`: such a route has no origin AS
 /// (RFC 6811 section 2).
 pub fn read_route(line: &[u8]) -> Result<Option<TableRoute>, RouteError>
     ensures { ReadsLine line.now result }
@@ -106,7 +106,7 @@ pub fn route_of(prefix: &str, origin: &str) -> Result<TableRoute, RouteError>
     }
 }
 
-/// The AS of this number, or none for an AS_SET, if the word is one of these.
+/// The AS of this number, or none for an AS_SET, if the word is either.
 fn origin_of(word: &str) -> Option<Option<Asn>>
     ensures { ReadsOrigin word.now result }
 {
@@ -130,7 +130,7 @@ fn is_as_set(word: &str) -> bool
     }
 }
 
-/// Whether the text is numbers of ASes with commas between them.
+/// Whether the text is a list of AS numbers with commas between them.
 fn are_asns(text: &str) -> bool
     ensures { DecidesAsns text.now result }
 {

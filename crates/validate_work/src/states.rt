@@ -8,19 +8,19 @@ use data_validation::Validity;
 use list_lines::Line;
 use std::alloc::AllocError;
 
-/// How many routes have each validity (RFC 6811 section 2): 2^64 - 1 stands for more.
+/// The number of routes of each validity (RFC 6811 section 2). Each saturates at 2^64 - 1.
 #[derive(Clone, Copy, Debug, PartialEq, Eq)]
 pub struct States {
     /// Routes that a VRP matches.
     pub valid: u64,
-    /// Routes that VRPs cover, of which none matches.
+    /// Routes that VRPs cover, but none matches.
     pub invalid: u64,
     /// Routes that no VRP covers.
     pub not_found: u64,
 }
 
 impl States {
-    /// Those of no routes.
+    /// All counts zero.
     pub fn new() -> States
         ensures { result ≡ no_states }
     {
@@ -31,7 +31,7 @@ impl States {
         }
     }
 
-    /// With one more route of this validity.
+    /// The counts with one more route of this validity.
     pub fn with(self, state: Validity) -> States
         ensures { result ≡ with_state state self }
     {
@@ -52,19 +52,19 @@ impl States {
     }
 }
 
-/// How many routes turn from each validity by the list in use to each by another one.
+/// How many routes change from each validity by the list in use to each by another list.
 #[derive(Clone, Copy, Debug, PartialEq, Eq)]
 pub struct Turns {
-    /// What routes are by the other list that are valid by the one in use.
+    /// The validity by the other list of routes that are valid by the list in use.
     pub valid: States,
-    /// What those are that are invalid.
+    /// The same for routes that are invalid.
     pub invalid: States,
-    /// What those are that are not found.
+    /// The same for routes that are not found.
     pub not_found: States,
 }
 
 impl Turns {
-    /// Those of no routes.
+    /// All counts zero.
     pub fn new() -> Turns
         ensures { result ≡ no_turns }
     {
@@ -75,7 +75,8 @@ impl Turns {
         }
     }
 
-    /// With one more route of this validity, which has the next one by the other list.
+    /// The counts with one more route of this validity, which has the other validity by the other
+    /// list.
     pub fn with(self, state: Validity, next: Validity) -> Turns
         ensures { result ≡ with_turn state next self }
     {

@@ -15,11 +15,11 @@ use rtr_units::piece::put;
 use rtr_units::source::Sink;
 use std::alloc::{AllocError, Global};
 
-/// How many origin ASes are listed at most.
+/// The greatest number of origin ASes that are listed.
 const MOST_ORIGINS: u8 = 20;
 
-/// Writes the counts: by validity and origin AS, or where two lists are compared how routes turn.
-/// The faults are `Writer` and `Memory`.
+/// Writes the counts: by validity and origin AS, or if two lists are compared, the changes of
+/// validity. The faults are `Writer` and `Memory`.
 pub(crate) fn write_summary<W: Sink>(
     alloc: Global,
     form: Form,
@@ -55,7 +55,7 @@ fn add_summary(
     line.text(origins_end(form))
 }
 
-/// Adds the counts of routes: a line for each, or the front of a JSON object.
+/// Adds the counts of routes: a line for each, or the beginning of a JSON object.
 fn add_counts(line: &mut Line, form: Form, counts: &Counts) -> Result<(), AllocError>
     ensures { OnOk result (line.new ≡ line.old ++ form_counts_text form counts.now) }
 {
@@ -113,7 +113,7 @@ fn add_origins_head(line: &mut Line, form: Form, count: u64) -> Result<(), Alloc
     }
 }
 
-/// What stands after the rows of origin ASes.
+/// The text after the rows of origin ASes.
 fn origins_end(form: Form) -> &'static str
     ensures { result.now ≡ origins_end form }
 {
@@ -123,7 +123,7 @@ fn origins_end(form: Form) -> &'static str
     }
 }
 
-/// Adds how many routes turn from each validity to each.
+/// Adds how many routes change from each validity to each.
 fn add_turns(line: &mut Line, form: Form, turns: &Turns, refused: u64) -> Result<(), AllocError>
     ensures { OnOk result (line.new ≡ line.old ++ form_turns_text form turns.now refused) }
 {
@@ -133,7 +133,7 @@ fn add_turns(line: &mut Line, form: Form, turns: &Turns, refused: u64) -> Result
     }
 }
 
-/// Adds a line for each.
+/// Adds a line for each change.
 fn add_turn_lines(line: &mut Line, turns: &Turns, refused: u64) -> Result<(), AllocError>
     ensures { OnOk result (line.new ≡ line.old ++ form_turns_text Form.Text turns.now refused) }
 {

@@ -1,4 +1,4 @@
-//! Lines of tables of routes, as other programs print them.
+//! Reading lines of routing tables as other programs print them.
 
 ghost use Rattle.std.specs.Prelude.{◌≡◌, ◌<◌, option_map};
 ghost use Rattle.validate_work.specs.PrivateTexts.{both_texts, only_text};
@@ -18,27 +18,27 @@ use crate::route_text::{RouteError, TableRoute, read_route, route_of};
 use crate::words::RouteWords;
 use std::str;
 
-/// In which format routes are read.
+/// The format in which routes are read.
 #[derive(Clone, Copy, PartialEq, Eq)]
 pub enum Table {
     /// Lines with a prefix and an origin AS.
     Lines,
-    /// As a program prints its table.
+    /// The output of a program that prints its table.
     Printed(Printer),
 }
 
-/// A program that prints tables of routes.
+/// A program that prints routing tables.
 #[derive(Clone, Copy, PartialEq, Eq)]
 pub enum Printer {
     /// `bgpdump -m`, which prints dumps of tables (RFC 6396), one route on a line.
     Bgpdump,
-    /// BIRD, by `show route primary`.
+    /// BIRD, with `show route primary`.
     Bird,
-    /// FRR, by `show bgp ipv4 unicast wide`, and the same for IPv6.
+    /// FRR, with `show bgp ipv4 unicast wide`, and the same for IPv6.
     Frr,
 }
 
-/// The route of a line, or none if the line is blank or, in a printed table, says something else.
+/// The route of a line, or none if the line is blank or, in a printed table, isn't a route.
 pub fn read_table(table: Table, line: &[u8]) -> Result<Option<TableRoute>, RouteError>
     ensures { ReadsTable table line.now result }
 {
@@ -76,7 +76,7 @@ fn printed_entry(printer: Printer, line: &str) -> Result<Option<RouteWords<'_>>,
     text_entry(printer, text)
 }
 
-/// The same of a line that isn't blank.
+/// The same for a line that isn't blank.
 fn text_entry(printer: Printer, text: &str) -> Result<Option<RouteWords<'_>>, RouteError>
     ensures { words_entry result ≡ text_entry printer text.now }
 {
@@ -89,7 +89,7 @@ fn text_entry(printer: Printer, text: &str) -> Result<Option<RouteWords<'_>>, Ro
 
 // ---- parts of a text
 
-/// The text before the first `at`, an ASCII character, and the text after it.
+/// The text before and after the first `at`, an ASCII character.
 fn split_first(text: &str, at: char) -> Option<(&str, &str)>
     requires { at < 128 }
     ensures { option_map both_texts result ≡ split_first at text.now }
@@ -97,7 +97,7 @@ fn split_first(text: &str, at: char) -> Option<(&str, &str)>
     text.split_once(at)
 }
 
-/// The text before the last `at`, an ASCII character, and the text after it.
+/// The text before and after the last `at`, an ASCII character.
 fn split_last(text: &str, at: char) -> Option<(&str, &str)>
     requires { at < 128 }
     ensures { option_map both_texts result ≡ split_last at text.now }
@@ -113,7 +113,7 @@ fn after_char(text: &str, byte: char) -> Option<&str>
     text.strip_prefix(byte)
 }
 
-/// The text without `byte`, an ASCII character, at its front.
+/// The text without `byte`, an ASCII character, if it begins with it.
 fn without_byte(text: &str, byte: char) -> &str
     requires { byte < 128 }
     ensures { result.now ≡ without_byte byte text.now }
@@ -179,7 +179,7 @@ fn is_text(field: Option<&str>, text: &str) -> bool
     }
 }
 
-/// The field of this number, of which the first is 0, between bars.
+/// The field with this index, from 0, between bars.
 fn field_at(text: &str, index: usize) -> Option<&str>
     ensures { option_map only_text result ≡ field_at index text.now }
 {
@@ -228,14 +228,14 @@ fn bird_entry(text: &str) -> Result<Option<RouteWords<'_>>, RouteError>
     }
 }
 
-/// Whether a line that begins with this word stands before the routes.
+/// Whether a line that begins with this word is a heading before the routes.
 fn is_bird_heading(word: &str) -> bool
     ensures { result ≡ is_bird_heading word.now }
 {
     word == "BIRD" || word == "Table" || word == "Access"
 }
 
-/// The words for a prefix, and the origin AS that stands before a bracket.
+/// The words for a prefix, and the origin AS before a bracket.
 fn bird_origin<'a>(prefix: &'a str, bracket: &'a str) -> Result<Option<RouteWords<'a>>, RouteError>
     ensures { words_entry result ≡ bird_origin prefix.now (origin_in_brackets bracket.now) }
 {
@@ -284,7 +284,7 @@ fn frr_entry(text: &str) -> Result<Option<RouteWords<'_>>, RouteError>
     }
 }
 
-/// Whether a line that begins with this word stands before the routes, or after them.
+/// Whether a line that begins with this word is a heading before the routes, or a line after them.
 fn is_frr_heading(word: &str) -> bool
     ensures { result ≡ is_frr_heading word.now }
 {
@@ -300,7 +300,7 @@ fn is_frr_heading(word: &str) -> bool
         || word == "Total"
 }
 
-/// Whether the text is the state that FRR found, or nothing.
+/// Whether the text is empty or the RPKI state of FRR.
 fn is_frr_state(text: &str) -> bool
     ensures { result ≡ is_frr_state text.now }
 {

@@ -1,4 +1,4 @@
-//! What a change of the list turns a route into.
+//! How a change of the list changes the validity of a route.
 
 ghost use Rattle.std.specs.Prelude.{◌≡◌, ◌++◌, OnOk};
 ghost use Rattle.validate_work.specs.PrivateAnswers.{AddsListAnswer, AddsTold, AddsTurn};
@@ -16,9 +16,9 @@ use data_validation::{Route, Validity};
 use list_lines::Line;
 use std::alloc::AllocError;
 
-/// Adds the answer on a route, by `add_answer`. Where two lists are compared, adds instead from
-/// which validity to which one the route turns, if it becomes invalid or was invalid, with the VRPs
-/// of the other list that cover it; and nothing of any other route.
+/// Adds the answer on a route, by `add_answer`. If two lists are compared, adds instead the change
+/// of validity of a route that becomes invalid or was invalid, with the VRPs of the other list that
+/// cover it, and nothing for any other route.
 pub fn add_list_answer(
     line: &mut Line,
     form: Form,
@@ -34,7 +34,7 @@ pub fn add_list_answer(
     }
 }
 
-/// Adds how the route turns, if that is reported.
+/// Adds the change of validity of the route, if it is reported.
 fn add_turn(
     line: &mut Line,
     form: Form,
@@ -51,7 +51,7 @@ fn add_turn(
     add_if_reported(line, form, other, route, state, next)
 }
 
-/// Adds how a route with these validities turns, if that is reported.
+/// Adds the change between these validities of the route, if it is reported.
 fn add_if_reported(
     line: &mut Line,
     form: Form,
@@ -72,7 +72,7 @@ fn add_if_reported(
     }
 }
 
-/// Reports whether a turn of a route is printed: if it becomes invalid, or was invalid.
+/// Reports whether a change is printed: if the route becomes invalid, or was invalid.
 fn is_reported(state: Validity, next: Validity) -> bool
     ensures { result ≡ is_reported state next }
 {
@@ -136,7 +136,7 @@ fn add_head(
     add_states_between(line, form, state, next)
 }
 
-/// What stands before the prefix.
+/// The text before the prefix.
 fn before_prefix(form: Form) -> &'static str
     ensures { result.now ≡ before_prefix form }
 {
@@ -146,7 +146,7 @@ fn before_prefix(form: Form) -> &'static str
     }
 }
 
-/// What stands before the origin AS.
+/// The text before the origin AS.
 fn before_origin(form: Form) -> &'static str
     ensures { result.now ≡ before_origin form }
 {

@@ -1,4 +1,4 @@
-//! The VRPs that routes are asked of.
+//! The VRPs by which routes are validated.
 
 ghost use Rattle.std.specs.Prelude.{◌≡◌, ◌≤◌, ◌<◌, ◌+◌, ◌^◌, ◌++◌, IfOk, IfSome, length, nat_eq};
 ghost use Rattle.rtr_units.specs.AnyEnd.{end_bytes};
@@ -19,18 +19,19 @@ use rtr_base::state::{Serial, State};
 use rtr_base::timing::Timing;
 use rtr_units::end::EndOfData;
 use rtr_units::fault::Fault;
+use rtr_units::header::LAST_VERSION;
 use rtr_units::source::{Counted, Sink};
 use std::alloc::{AllocError, Global};
 use std::marker::Model;
 
-/// The version of the units in which the payloads are kept, which has all kinds.
-const KEPT_VERSION: u8 = 2;
+/// The version of the units in which the payloads are kept, which has payloads of all kinds.
+const KEPT_VERSION: u8 = LAST_VERSION;
 
-/// The version whose units are only origins.
+/// The version that has only origins.
 const VRPS_ALONE: u8 = 0;
 
-/// Payloads, whose origins are the VRPs that routes are asked of. They are kept in canonical form
-/// beside, so that an answer takes a few halvings.
+/// Payloads, whose origins are the VRPs by which routes are validated. They are also kept in
+/// canonical form, so that an answer takes a few binary searches.
 #[derive(Drop)]
 pub struct Vrps {
     payloads: Data,
@@ -55,7 +56,7 @@ impl Model for Vrps {
 }
 
 impl Vrps {
-    /// Those of these payloads. They take as much memory again as their units are long.
+    /// The VRPs of these payloads. This takes additional memory of the length of their units.
     pub fn new(alloc: Global, payloads: Data) -> Result<Vrps, AllocError>
         ensures { IfOk result (λ vrps. vrps ≡ payloads) }
     {
@@ -71,7 +72,7 @@ impl Vrps {
         })
     }
 
-    /// Whether there are none: then no route is covered.
+    /// Whether there are none, so that no route is covered.
     pub fn has_none(&self) -> bool
         ensures { result ≡ nat_eq (length (data_for 0 self.now)) 0 }
     {
@@ -85,7 +86,7 @@ impl Vrps {
         validate(&self.bytes, &self.tables, route)
     }
 
-    /// The first VRP that covers a prefix among the payloads from a place on.
+    /// The first VRP that covers a prefix among the payloads from this index on.
     pub fn first_covering(&self, prefix: Prefix, from: usize) -> Option<CoveringVrp>
         ensures first { IsFirstCovering self.now prefix from result }
         ensures within { IfSome result (λ c. c.place + 1 < 2 ^ 64) }

@@ -1,4 +1,4 @@
-//! What the program is asked for.
+//! The arguments of the program.
 
 ghost use Rattle.std.specs.Prelude.{◌≡◌, map, option_map, string_bytes};
 ghost use Rattle.validate_work.specs.RouteWords.{as_json, at_time, can_compare, flag_named};
@@ -13,7 +13,7 @@ use make_work::long_number;
 /// The name that stands for standard input.
 const STANDARD_INPUT: &str = "-";
 
-/// A route, by the words that were given.
+/// A route, in the words of the arguments.
 #[derive(Clone, Copy)]
 pub struct RouteWords<'a> {
     /// The prefix.
@@ -22,32 +22,31 @@ pub struct RouteWords<'a> {
     pub asn: &'a str,
 }
 
-/// What a run is asked for.
+/// The result of parsing the arguments.
 #[derive(Clone, Copy)]
 pub struct Request<'a> {
-    /// What its options say.
+    /// The options.
     pub options: Options,
     /// The file that has the VRPs.
     pub file: &'a str,
-    /// The route, if one was given. Else routes are read from standard input.
+    /// The route, if one was given. Otherwise routes are read from standard input.
     pub route: Option<RouteWords<'a>>,
 }
 
-/// What the options of a run say.
+/// The options of a run.
 #[derive(Clone, Copy)]
 pub struct Options {
-    /// In which form answers are printed.
+    /// The form in which answers are printed.
     pub form: Form,
     /// Whether the run ends at the first line that isn't a route.
     pub strict: bool,
     /// Whether only counts are printed.
     pub summary: bool,
-    /// The time at which items of a list must be good: seconds after the epoch, the first second of
-    /// 1970.
+    /// The time for which expiry is checked: seconds after the epoch, the first second of 1970.
     pub at: Option<u64>,
-    /// In which format routes are read.
+    /// The format in which routes are read.
     pub table: Table,
-    /// Whether that was given.
+    /// Whether that format was given.
     pub has_format: bool,
 }
 
@@ -60,16 +59,15 @@ enum Flag {
     Strict,
     /// `--summary`.
     Summary,
-    /// `--at`, which a number follows.
+    /// `--at`, followed by a number.
     At,
-    /// `--format`, which the name of a format follows.
+    /// `--format`, followed by the name of a format.
     Format,
 }
 
-/// What the words after the program's name ask for, if they ask for something: options, each at
-/// most once and in any order, then a file, and after it a prefix and the number of an AS, or
-/// nothing. The file may be `-`, standard input, where a route is given. No other name begins with
-/// `-`.
+/// Parses the words after the program's name, if they are valid: options, each at most once and in
+/// any order, then a file, and after it a prefix and the number of an AS, or nothing. The file may
+/// be `-`, standard input, if a route is given. No other name begins with `-`.
 pub fn asked(words: &[String]) -> Option<Request<'_>>
     ensures { option_map routes_asked result ≡ routes_by_words words.now }
 {
@@ -84,7 +82,7 @@ pub fn asked(words: &[String]) -> Option<Request<'_>>
     asked_after(options, words)
 }
 
-/// The same, where the options before the words said this.
+/// Does the same, after options that were already parsed.
 fn asked_after(options: Options, words: &[String]) -> Option<Request<'_>>
     ensures { option_map routes_asked result ≡
         routes_by_texts options (map string_bytes words.now) }
@@ -205,8 +203,7 @@ fn table_named(name: &str) -> Option<Table>
     }
 }
 
-/// The request for the file of this name, where it may be one, and for the route of the words after
-/// it.
+/// The request for the file of this name, if it is valid, and for the route of the words after it.
 fn named<'a>(options: Options, file: &'a str, rest: &'a [String]) -> Option<Request<'a>>
     ensures { option_map routes_asked result
         ≡ named options file.now (map string_bytes rest.now) }
@@ -232,16 +229,16 @@ fn named<'a>(options: Options, file: &'a str, rest: &'a [String]) -> Option<Requ
     })
 }
 
-/// Whether the list that is asked for can be compared with that of the file of this name: no route
-/// is given, and the name doesn't begin with `-`.
+/// Whether the list of the request can be compared with that of the file of this name: no route is
+/// given, and the name doesn't begin with `-`.
 pub fn can_compare(request: &Request<'_>, name: &str) -> bool
     ensures { result ≡ can_compare (routes_asked request.now) name.now }
 {
     request.route.is_none() && is_name(name, false)
 }
 
-/// Reports whether the word may name a file: a word that doesn't begin with `-`, or `-` if standard
-/// input isn't read for routes.
+/// Reports whether the word may name a file: a word that doesn't begin with `-`, or `-` if no
+/// routes are read from standard input.
 fn is_name(word: &str, has_route: bool) -> bool
     ensures { result ≡ is_vrps_name word.now has_route }
 {
