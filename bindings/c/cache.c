@@ -38,8 +38,8 @@
 #include "rtr_cache.h"
 
 /* Times in milliseconds: between two checks of the file, before accepting again after a failure,
- * and before saving again after a failure: the first time, and at most. */
-enum { LOOK = 250, REST = 100, FIRST_PAUSE = 1000, LONGEST_PAUSE = 60000 };
+ * and before data are taken again for which there was no memory. */
+enum { LOOK = 250, REST = 100, LATER = 1000 };
 
 /* The most listeners; events per wait; answers to a connection before the others get their turn;
  * sizes of send buffers, and of blocks that are mapped; and the longest file. */
@@ -310,8 +310,9 @@ struct watched {
     struct stamp seen;
     char failed[200]; /* why it couldn't be read, or its data couldn't be taken */
     int64_t again;    /* after a failure, when it is read again */
-    int64_t retry;    /* when data that wait are saved, `pause` after a failure */
-    int pause, spare;
+    int64_t retry;    /* when data that wait are saved, `pause` ms after a failure */
+    uint32_t pause;
+    int spare;
 };
 
 static struct stamp stamp_of(const char *path)
@@ -442,7 +443,7 @@ static bool write_kept(const struct watched *w, const struct rtr_store_head *hea
     return false;
 }
 
-/* Saves data that wait to be saved, unless it is too early to try again, and serves them. */
+/* Saves the pending data, unless it is too early to retry, and serves them. */
 static void save(struct watched *w)
 {
     struct rtr_store_head head;
@@ -452,7 +453,7 @@ static void save(struct watched *w)
         return;
     give_spare(w);
     bool written = write_kept(w, &head, store, length);
-    int error = errno, longer = w->pause ? 2 * w->pause : FIRST_PAUSE;
+    int error = errno;
     take_spare(w);
     if (written) {
         w->pause = 0;
@@ -461,9 +462,10 @@ static void save(struct watched *w)
         act_all(true);
         return;
     }
-    w->pause = longer < LONGEST_PAUSE ? longer : LONGEST_PAUSE;
+    w->pause = rtr_retry_after(w->pause);
     w->retry = now() + w->pause;
-    say("%s: %s: new data aren't served before they are saved; trying again in %d second%s",
+    say("%s: %s: new data aren't served before they are saved; trying again in %" PRIu32
+        " second%s",
         w->kept, strerror(error), w->pause / 1000, w->pause == 1000 ? "" : "s");
 }
 
@@ -506,7 +508,7 @@ static void update(struct watched *w, uint8_t *bytes, size_t length)
     enum rtr_update update = rtr_server_update(&server, time_of(CLOCK_REALTIME), bytes, length);
     free(bytes);
     if (update == RTR_UPDATE_MEMORY) {
-        w->again = now() + FIRST_PAUSE;
+        w->again = now() + LATER;
         fail(w, rtr_update_text(&server, update));
         return;
     }

@@ -106,7 +106,7 @@ static void comes(const char *hex)
     received_length += from_hex(received + received_length, sizeof received - received_length, hex);
 }
 
-/* Saves the data that wait for it, and lets the server serve them. */
+/* Saves the pending data, and lets the server serve them. */
 static void saves_all(void)
 {
     struct rtr_store_head head;
@@ -122,8 +122,8 @@ static void saves_all(void)
     rtr_server_saved(&server);
 }
 
-/* Gives the server these data. It refuses those of a session that it left: for a scene that goes
- * back to one, it forgets what it left. */
+/* Gives the server these data. It refuses data of a session that it left: if a scene returns to
+ * such a session, the server first forgets which sessions it left. */
 static void has(const char *hex)
 {
     static uint8_t bytes[1 << 17];
@@ -157,7 +157,7 @@ static void restores(const char *path)
     free((void *)kept.bytes);
 }
 
-/* Drops the changes since this serial number and those before. */
+/* Drops the changes since this serial number and since earlier ones. */
 static void forgets(uint32_t serial)
 {
     size_t index = 0;

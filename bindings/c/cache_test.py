@@ -428,7 +428,24 @@ def test_file():
         os.utime(cache.path + ".other", ns=(before.st_atime_ns, before.st_mtime_ns))
         os.replace(cache.path + ".other", cache.path)
         cache.takes(3, 1)
+        cache.process.send_signal(signal.SIGSTOP)  # the file changes in place, and its times stay
+        with open(cache.path, "r+b") as file:
+            file.write(data(4, [1]))
+        os.utime(cache.path, ns=(before.st_atime_ns, before.st_mtime_ns))
+        cache.process.send_signal(signal.SIGCONT)
+        cache.takes(4, 1)
         assert cache.lines(".*: No such file or directory") == 1
+
+
+def test_long_file():
+    """A file that is too long is logged, and closed."""
+    with started(data(1, [1])) as cache:
+        cache.takes(1, 1)
+        descriptors = f"/proc/{cache.process.pid}/fd"
+        before = len(os.listdir(descriptors))
+        os.truncate(cache.path, (1 << 28) + 1)
+        cache.says(".*: more than 268435456 bytes")
+        assert len(os.listdir(descriptors)) == before
 
 
 def test_cut_answer():
@@ -625,6 +642,26 @@ def test_refused_memory():
         cache.says(f"{re.escape(cache.path)}: no memory")
         resource.prlimit(cache.process.pid, resource.RLIMIT_AS, usual)
         cache.takes(2, 200_000)
+
+
+def test_refused_routers():
+    """Routers that there is no memory for are closed at once, and leave no descriptor."""
+    with started(data(1, [1])) as cache, contextlib.ExitStack() as stack:
+        cache.takes(1, 1)
+        descriptors = f"/proc/{cache.process.pid}/fd"
+        before = len(os.listdir(descriptors))
+        usual = resource.prlimit(cache.process.pid, resource.RLIMIT_AS)
+        resource.prlimit(cache.process.pid, resource.RLIMIT_AS, (cache.memory(0), usual[1]))
+        routers = [stack.enter_context(Router(cache)).socket for _ in range(600)]
+        refused, _, _ = select.select(routers, [], [], PATIENCE)
+        assert refused and refused[0].recv(1) == b""
+        resource.prlimit(cache.process.pid, resource.RLIMIT_AS, usual)
+        for router in routers:
+            router.close()
+        ends = time.monotonic() + PATIENCE
+        while len(os.listdir(descriptors)) > before:
+            assert time.monotonic() < ends, os.listdir(descriptors)
+            time.sleep(0.02)
 
 
 def test_memory():

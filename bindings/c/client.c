@@ -42,7 +42,6 @@ static struct member {
 static int source = NONE;
 static uint8_t *shown;
 static size_t shown_length;
-static struct rtr_unit shown_end;
 static struct rtr_group group;
 static bool once, json;
 
@@ -74,11 +73,15 @@ static size_t print_change(const uint8_t *bytes, size_t length)
     return line.size;
 }
 
-/* Prints the client's changes. Exits if that fails. */
-static void print_changes(const struct rtr_client *c)
+/* Prints these changes. Exits if there are none for want of memory, or if printing fails. */
+static void print_changes(const uint8_t *changes, size_t length)
 {
+    if (!changes) {
+        fprintf(stderr, RTR_FAILURE_NO_MEMORY "\n");
+        _exit(1);
+    }
     for (size_t at = 0, size = 1; size > 0; at += size)
-        size = print_change(c->changes + at, c->changes_length - at);
+        size = print_change(changes + at, length - at);
     if (fflush(stdout) || ferror(stdout)) {
         perror("standard output");
         _exit(1);
@@ -280,36 +283,32 @@ static void stop(struct member *m)
     m->runs = false;
 }
 
-/* Prints the changes from the data shown to those of a member, which are shown from then on. These
- * are the member's own changes if it is the source, or if there is none and it had no data
- * either. */
+/* Prints the changes from the data shown to those of a member, which are shown from then on. */
 static void show(size_t number)
 {
     struct rtr_client *c = &members[number].client;
+    size_t length, payloads = rtr_client_payloads(c);
     uint8_t *copy = malloc(c->data_length);
-    bool same = source == NONE || source == (int)number;
-    if (!copy || (!same && !rtr_client_instead(c, shown, shown_length, &shown_end))) {
-        fprintf(stderr, RTR_FAILURE_NO_MEMORY "\n");
-        _exit(1);
-    }
-    print_changes(c);
+    const uint8_t *changes = rtr_client_changes_from(c, shown, shown_length, &length);
+    print_changes(copy ? changes : NULL, length);
     fprintf(stderr, "session %u serial %" PRIu32 " version %u: %zu payload%s\n", c->end.session,
-            c->end.serial, c->end.version, c->payloads, c->payloads == 1 ? "" : "s");
+            c->end.serial, c->end.version, payloads, payloads == 1 ? "" : "s");
     free(shown);
     shown = memcpy(copy, c->data, c->data_length);
     shown_length = c->data_length;
-    shown_end = c->end;
     source = (int)number;
 }
 
 /* Carries out the group's answer to an event of a member. */
 static void obey(const struct rtr_group_answer *answer, size_t number)
 {
+    size_t length;
     uint8_t version = members[0].client.settings.highest;
     if (answer->shown == RTR_GROUP_DATA)
         show(answer->member);
     if (answer->shown == RTR_GROUP_NOTHING) {
-        print_changes(&members[number].client);
+        const uint8_t *changes = rtr_client_changes(&members[number].client, &length);
+        print_changes(changes, length);
         free(shown);
         shown = NULL;
         source = NONE;
@@ -325,7 +324,8 @@ static void tell(size_t number, enum rtr_client_event event, struct rtr_group_an
 {
     struct member *m = &members[number];
     rtr_client_tell(&m->client, &group, number, answer);
-    bool empty = event == RTR_CLIENT_DATA && !rtr_group_counts(&group, m->client.payloads);
+    bool some = rtr_end_offset(m->client.data, m->client.data_length) > 0; /* it has payloads */
+    bool empty = event == RTR_CLIENT_DATA && !rtr_group_counts(&group, some);
     if (empty)
         fprintf(stderr, "%s:%s: " RTR_FAILURE_EMPTY "\n", m->host, m->port);
     if (event >= RTR_CLIENT_DATA)

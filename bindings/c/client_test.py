@@ -617,6 +617,18 @@ def test_preference_once():
     assert [line[:2] for line in run.log] == ["0:", "1:", "2:"], run.log
 
 
+def test_unwritten():
+    """A client whose lines can't be written exits with status 1, and says why."""
+    with socket.create_server(("127.0.0.1", 0)) as listener, open("/dev/full", "wb") as full:
+        listener.settimeout(PATIENCE)
+        client = subprocess.Popen([PROGRAM, f"127.0.0.1:{listener.getsockname()[1]}"], stdout=full,
+                                  stderr=subprocess.PIPE)
+        with listener.accept()[0] as peer:
+            peer.sendall(response(1) + prefix("10.0.0.0/8", 24, 65551, version=1) + end(5, 1))
+            _, log = client.communicate(timeout=PATIENCE)
+    assert (client.returncode, log) == (1, b"standard output: No space left on device\n"), log
+
+
 def test_arguments():
     bad = [["--fd"], ["--fd", "x"], ["--fd", "-1"], ["--fd", ""], ["--fd", "3", "a:1"],
            ["a:1", "--fd", "3"], ["--fd", "3", "--fd", "4"], ["--fd", "9999999999"],

@@ -195,12 +195,13 @@ static void wait_for_all(void)
             go_on(&members[i]);
 }
 
-static void print_changes(const struct rtr_client *c)
+static void print_changes(const uint8_t *changes, size_t length)
 {
     static uint8_t text[1 << 18]; /* longer than any change's line */
     struct rtr_line line = {.size = 1};
+    must(changes != NULL, "changes");
     for (size_t at = 0; line.size > 0; at += line.size) {
-        rtr_change_line(c->changes + at, c->changes_length - at, text, sizeof text, &line);
+        rtr_change_line(changes + at, length - at, text, sizeof text, &line);
         if (line.length > 0)
             printf("%.*s\n", (int)line.length, (const char *)text);
     }
@@ -212,8 +213,10 @@ static void obey(const struct rtr_group_answer *answer)
 {
     struct rtr_client *c = &members[answer->member].client;
     if (answer->shown == RTR_GROUP_DATA && c != source) {
-        must(rtr_client_instead(c, source->data, source->data_length, &source->end), "changes");
-        print_changes(c);
+        size_t length;
+        const uint8_t *changes =
+            rtr_client_changes_from(c, source->data, source->data_length, &length);
+        print_changes(changes, length);
     }
     if (answer->shown != RTR_GROUP_SAME)
         source = answer->shown == RTR_GROUP_DATA ? c : &none;
@@ -235,8 +238,11 @@ static void act(size_t number, enum rtr_client_event event)
         hang_up(m);
     if (event >= RTR_CLIENT_NO_DATA)
         fprintf(stderr, "%s: %s\n", m->address, m->client.text);
-    if ((event == RTR_CLIENT_DATA || event == RTR_CLIENT_DROPPED) && source == &m->client)
-        print_changes(source);
+    if ((event == RTR_CLIENT_DATA || event == RTR_CLIENT_DROPPED) && source == &m->client) {
+        size_t length;
+        const uint8_t *changes = rtr_client_changes(source, &length);
+        print_changes(changes, length);
+    }
     rtr_client_tell(&m->client, &group, number, &answer);
     obey(&answer);
 }

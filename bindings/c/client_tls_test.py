@@ -109,9 +109,11 @@ class Run:
         self.process.terminate()
 
     def accept(self, cache=0):
+        """Accepts a connection, whose end has to be told by TLS, too."""
         peer, _ = self.listeners[cache].accept()
         peer.settimeout(PATIENCE)
-        return self.contexts[cache].wrap_socket(peer, server_side=True)
+        return self.contexts[cache].wrap_socket(peer, server_side=True,
+                                                suppress_ragged_eofs=False)
 
     def asked(self, query, cache=0):
         peer = self.accept(cache)
@@ -169,6 +171,29 @@ def test_large():
     run = Run(script)
     assert run.lines == [f"+ IPv4 prefix 10.1.{i // 256}.{i % 256}/32-32 AS{i}"
                          for i in range(60000)], (len(run.lines), run.log)
+
+
+def test_record_in_parts():
+    """The last TLS record of an answer doesn't fit the client's buffer of 65,535 bytes: it takes the
+    rest of it at once, not when it wakes for another reason."""
+    count, rest = 3271, 250  # of prefixes; 107 bytes are left then
+    block = [prefix(f"10.1.{i // 256}.{i % 256}/32", 32, i, version=1) for i in range(count + rest)]
+    took = []
+
+    def script(run):
+        peer = run.asked(reset_query(1))
+        peer.sendall(response(1, 4660) + b"".join(block[:count]))
+        time.sleep(0.3)  # the client takes these
+        begun = time.monotonic()
+        peer.sendall(b"".join(block[count:]) + end(1, 1) + notify(2, 1))
+        expect(peer, serial_query(1, 1))
+        took.append(time.monotonic() - begun)
+        peer.sendall(answer([], 2))
+        is_taken(peer, 2)
+
+    run = Run(script)
+    assert len(run.lines) == count + rest, (len(run.lines), run.log)
+    assert took[0] < 30, took  # a poll takes a minute
 
 
 def test_other_cache():
@@ -277,8 +302,8 @@ def test_idle():
 
 
 def test_reset():
-    """A cache that ends TLS inside a unit, which is a fault, and then resets the connection, takes
-    no report. The client connects again."""
+    """A cache that ends TLS inside a unit, which is a fault, and then resets or closes the
+    connection, takes no report. The client connects again, though its writes break a pipe."""
     def script(run):
         peer = run.accept()
         expect(peer, reset_query(1))
@@ -289,14 +314,16 @@ def test_reset():
             peer.unwrap()
         except ssl.SSLError:
             pass  # the client hasn't closed
-        peer.setsockopt(socket.SOL_SOCKET, socket.SO_LINGER, struct.pack("ii", 1, 0))
+        if resets:
+            peer.setsockopt(socket.SOL_SOCKET, socket.SO_LINGER, struct.pack("ii", 1, 0))
         peer.close()
         peer = run.asked(reset_query(1))
         peer.sendall(answer([ONE], 1))
         is_taken(peer, 1)
 
-    run = Run(script)
-    assert run.lines == ["+ " + ONE_LINE], (run.lines, run.log)
+    for resets in (True, False):
+        run = Run(script)
+        assert run.lines == ["+ " + ONE_LINE], (run.lines, run.log)
 
 
 def main():

@@ -4,7 +4,7 @@
  * usage: data_tests CASES */
 #include "testing.h"
 
-enum call { DELTA = 0, APPLY = 1, ORDER = 2, IN_ORDER = 3 };
+enum call { DELTA = 0, APPLY = 1, ORDER = 2, IN_ORDER = 3, BETWEEN = 4 };
 
 /* One case: a call and its expected result. Numbers are little-endian. */
 struct data_case {
@@ -43,6 +43,9 @@ static uint8_t called(const struct arena *arena, const struct data_case *test,
     case APPLY:
         return rtr_apply(first, test->first_length, second, test->second_length, output, capacity,
                          answer);
+    case BETWEEN:
+        return rtr_changes_between(first, test->first_length, second, test->second_length, output,
+                                   capacity, answer);
     case IN_ORDER:
         return rtr_apply_in_order(first, test->first_length, second, test->second_length, index,
                                   test->places, output, capacity, answer);
@@ -73,8 +76,8 @@ static void check_capacity(const struct arena *arena, const struct data_case *te
     CHECK(memcmp(second, test->second, test->second_length) == 0);
 }
 
-/* With an output that always suffices, with one of the exact size, and with each smaller size, or
- * some of these if it is long. */
+/* Checks a case with an output that always suffices, with one of the exact size, and with each
+ * smaller size, or with a sample of these if the output is long. */
 static void check_case(const struct arena *arena, const struct data_case *test)
 {
     const uint8_t *first = copied(arena, arena->input, test->first, test->first_length);
@@ -99,6 +102,10 @@ static void check_null(const struct arena *arena)
     CHECK(answer->side == 2 && answer->offset == 0 && answer->written == 0);
     CHECK(rtr_delta(data, sizeof end, data, sizeof end, NULL, 0, answer) == RTR_NO_ROOM);
     CHECK(answer->side == 0 && answer->offset == 0 && answer->written == 0);
+    CHECK(rtr_changes_between(NULL, 0, NULL, 0, NULL, 0, answer) == RTR_SHORT);
+    CHECK(answer->side == 2 && answer->offset == 0 && answer->written == 0);
+    CHECK(rtr_changes_between(NULL, 0, data, sizeof end, NULL, 0, answer) == RTR_NO_ROOM);
+    CHECK(answer->side == 0 && answer->offset == 0 && answer->written == 0);
     CHECK(rtr_apply(NULL, 0, data, sizeof end, NULL, 0, answer) == RTR_SHORT && answer->side == 1);
     CHECK(rtr_apply(data, sizeof end, NULL, 0, NULL, 0, answer) == RTR_SHORT && answer->side == 2);
     CHECK(rtr_order(NULL, 0, NULL, 0, NULL, 0, answer) == RTR_SHORT && answer->side == 1);
@@ -115,6 +122,28 @@ static void check_null(const struct arena *arena)
     CHECK(answer->written == sizeof end && memcmp(output, end, sizeof end) == 0);
 }
 
+/* An end of data has 12 bytes in version 0, and 24 in later ones (RFC 6810 and RFC 8210, section
+ * 5.8); the prefix before it has 20. */
+static void check_end_offset(const struct arena *arena)
+{
+    static const uint8_t prefix[] = {0, RTR_IPV4_PREFIX, 0, 0, 0, 0, 0, 20, 1, 24,
+                                     24, 0, 192, 0, 2, 0, 0, 0, 251, 240};
+    static const uint8_t end[24] = {0, RTR_END_OF_DATA, 0, 1, 0, 0, 0, 24, 0, 0, 0, 7};
+    for (uint8_t version = 0; version <= RTR_HIGHEST_VERSION; version++) {
+        uint8_t data[sizeof prefix + sizeof end], size = version ? 24 : 12;
+        memcpy(data, prefix, sizeof prefix);
+        memcpy(data + sizeof prefix, end, size);
+        data[0] = data[sizeof prefix] = version;
+        data[sizeof prefix + 7] = size;
+        const uint8_t *some = copied(arena, arena->input, data, sizeof prefix + size);
+        CHECK(rtr_end_offset(some, sizeof prefix + size) == sizeof prefix);
+        const uint8_t *none = copied(arena, arena->input, data + sizeof prefix, size);
+        CHECK(rtr_end_offset(none, size) == 0);
+        CHECK(rtr_end_offset(none, size - 1u) == 0);
+    }
+    CHECK(rtr_end_offset(NULL, 0) == 0);
+}
+
 int main(int count, char **words)
 {
     CHECK(count == 2);
@@ -123,6 +152,7 @@ int main(int count, char **words)
     for (int side = 0; side < 2; side++) {
         arena.at_end = side;
         check_null(&arena);
+        check_end_offset(&arena);
         for (const uint8_t *at = cases.bytes; at < cases.bytes + cases.length;) {
             struct data_case test = next_case(&at);
             check_case(&arena, &test);

@@ -239,7 +239,7 @@ def rtr_h():
 
 
 def placed(text, pattern, declaration):
-    """Returns the page with a declaration in the place of what the pattern finds."""
+    """Returns the page with the match of the pattern replaced by a declaration."""
     text, count = re.subn(pattern, lambda _: declaration, text, flags=re.MULTILINE | re.DOTALL)
     if count != 1:
         calls.fail(f"rtr.h has {count} declarations like: {declaration.splitlines()[0]}")

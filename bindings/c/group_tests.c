@@ -1,5 +1,5 @@
-/* Tests of the calls for a group of caches by preference: what one is told of a member, and what is
- * refused. docs/SESSIONS.md has the rules. */
+/* Tests of the calls for a group of caches by preference: which events a member's next actions are
+ * for the group, and which are refused. docs/SESSIONS.md has the rules. */
 #include "testing.h"
 
 /* A loss of data and the failure that caused it are one event of a group, also if the next member
@@ -40,7 +40,7 @@ static bool are_same(const struct rtr_group *group, const struct rtr_group_answe
            && answer->starts == answered->starts && answer->start == answered->start;
 }
 
-/* What a group is told of what a member has to do next, by the table of docs/SESSIONS.md. */
+/* The events of a group for the next actions of a member, by the table of docs/SESSIONS.md. */
 static void check_told(const struct rtr_group *group)
 {
     enum event { NO_EVENT, SHOWS, DROPS, FAILS };
@@ -105,7 +105,7 @@ static void check_untold(const struct rtr_group *group)
             }
 }
 
-/* Members of a group that are told by what they have to do. */
+/* Members of a group that report their next actions as events. */
 static void check_members(void)
 {
     struct rtr_group_settings settings;

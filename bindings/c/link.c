@@ -178,8 +178,9 @@ static void finish(void)
     hang_up();
 }
 
-/* Grows the buffer that the link asks for; without memory, gives up the answer. */
-static void grow_buffer(struct rtr_todo *todo)
+/* Grows the buffer that the link asks for; without memory, gives up the answer, and returns
+ * false. */
+static bool grow_buffer(struct rtr_todo *todo)
 {
     size_t size = todo->kind == RTR_TODO_INDEX_ROOM ? sizeof(size_t) : 1, count = todo->room;
     struct {
@@ -198,51 +199,28 @@ static void grow_buffer(struct rtr_todo *todo)
         *grown->length = count;
     } else
         must(rtr_link_give_up(&session, &buffers, now(), todo));
+    return longer != NULL;
 }
 
 /* ---- output */
 
-struct bytes {
-    uint8_t *at;
-    size_t length;
-};
-
-/* Writes data in the version and session of `end`; if there are none, only `end`. */
-static struct bytes form(const struct rtr_link_state *held, struct rtr_unit *end, uint8_t *at)
-{
-    struct bytes written = {at, 0};
-    struct rtr_answer answer = {.written = 0};
-    size_t length, size = end->version ? RTR_LONGEST_END : RTR_SHORTEST_END;
-    const uint8_t *data = rtr_link_data(&buffers, held, &length);
-    if (data)
-        rtr_normalise_for_slice(data, length, at, length + RTR_LONGEST_END, UINT64_MAX,
-                                end->version, &answer);
-    written.length = data ? answer.written : size;
-    rtr_write_unit(end, NULL, 0, at + written.length - size, size, &length);
-    return written;
-}
-
-/* Prints the changes from the data printed last to those of `held`, which have this version. */
-static void print_changes(const struct rtr_link_state *held, uint8_t version)
+/* Prints the changes from the data printed last to those of `held`, which may have none. */
+static void print_changes(const struct rtr_link_state *held)
 {
     static uint8_t text[1 << 18]; /* longer than any change's line */
-    struct rtr_unit end = {.kind = RTR_END_OF_DATA, .version = version};
-    end.refresh = RTR_USUAL_REFRESH;
-    end.retry = RTR_USUAL_RETRY;
-    end.expire = RTR_USUAL_EXPIRE;
     struct rtr_line line = {.size = 1};
     struct rtr_data_answer answer;
-    size_t most = held->shown + shown.shown + 2 * RTR_LONGEST_END;
-    uint8_t *output = malloc(2 * most);
+    size_t length, new_length;
+    const uint8_t *old = rtr_link_data(&buffers, &shown, &length);
+    const uint8_t *new = rtr_link_data(&buffers, held, &new_length);
+    uint8_t *output = malloc(length + new_length);
     if (!output) {
         fprintf(stderr, "link: no memory\n");
         exit(1);
     }
-    struct bytes old = form(&shown, &end, output);
-    struct bytes new = form(held, &end, output + old.length);
-    rtr_delta(old.at, old.length, new.at, new.length, output + most, most, &answer);
+    rtr_changes_between(old, length, new, new_length, output, length + new_length, &answer);
     for (size_t at = 0; line.size > 0; at += line.size) {
-        rtr_change_line(output + most + at, answer.written - at, text, sizeof text, &line);
+        rtr_change_line(output + at, answer.written - at, text, sizeof text, &line);
         if (line.length > 0)
             printf("%.*s\n", (int)line.length, (const char *)text);
     }
@@ -253,10 +231,8 @@ static void print_changes(const struct rtr_link_state *held, uint8_t version)
 /* Prints the changes to new data. */
 static void show(void)
 {
-    static uint8_t version;
     struct rtr_link_state held = state();
-    version = version < session.known.version ? session.known.version : version;
-    print_changes(&held, version);
+    print_changes(&held);
     fprintf(stderr, "session %u serial %" PRIu32 " version %u\n", session.known.session,
             session.known.serial, session.known.version);
     shown = held;
@@ -266,7 +242,7 @@ static void show(void)
 static void drop(void)
 {
     struct rtr_link_state none = {.shown = 0};
-    print_changes(&none, RTR_HIGHEST_VERSION);
+    print_changes(&none);
     shown = none;
 }
 
@@ -282,17 +258,20 @@ static void print_report(size_t offset, size_t filled)
     fprintf(stderr, "%s:%s: %s\n", host, port, text);
 }
 
-/* Reports why the connection ends. */
-static void explain(const struct rtr_todo *todo, size_t filled)
+/* Reports why the connection ends; `gave_up` is whether that is for want of memory. */
+static void explain(const struct rtr_todo *todo, size_t filled, bool gave_up)
 {
     uint8_t text[RTR_TEXT_ROOM];
     size_t length;
+    uint8_t failure = rtr_todo_failure(todo, gave_up);
     rtr_text(todo->status, todo->detail, text, sizeof text, &length);
-    if (todo->cause == RTR_CAUSE_REPORTED)
+    if (failure == RTR_CLIENT_REPORTED)
         print_report(todo->offset, filled);
-    else if (todo->status != RTR_OK)
+    else if (failure == RTR_CLIENT_REFUSED)
         fprintf(stderr, "%s:%s: %.*s\n", host, port, (int)length, (const char *)text);
-    else if (todo->cause != RTR_CAUSE_LOWER && todo->cause != RTR_CAUSE_HIGHER)
+    else if (failure == RTR_CLIENT_MEMORY)
+        fprintf(stderr, "%s:%s: " RTR_FAILURE_NO_MEMORY "\n", host, port);
+    else if (failure != RTR_CLIENT_NONE)
         fprintf(stderr, "%s:%s: %s\n", host, port, rtr_cause_text(todo->cause));
 }
 
@@ -303,8 +282,7 @@ static void follow(void)
     for (;;) {
         size_t filled = state().filled;
         must(rtr_link_next(&session, &buffers, now(), &todo));
-        if (todo.kind >= RTR_TODO_INPUT_ROOM)
-            grow_buffer(&todo);
+        bool gave_up = todo.kind >= RTR_TODO_INPUT_ROOM && !grow_buffer(&todo);
         if (todo.kind == RTR_TODO_WAIT)
             wait_until(todo.wakes);
         if (todo.kind == RTR_TODO_CONNECT)
@@ -314,7 +292,7 @@ static void follow(void)
         if (todo.kind == RTR_TODO_NO_DATA)
             print_report(todo.offset, filled);
         if (todo.kind == RTR_TODO_CLOSE) {
-            explain(&todo, filled);
+            explain(&todo, filled, gave_up);
             finish();
         }
         if (todo.kind == RTR_TODO_DROPPED || todo.drops)

@@ -6,6 +6,7 @@ usage: link_test.py PROGRAM [TEST..]
 Without names all tests are run. Units, caches and lines are those of client_test.py. Quiet but for
 a line if all is well.
 """
+import resource
 import sys
 
 sys.dont_write_bytecode = True
@@ -122,6 +123,33 @@ def test_large():
     assert sorted(lines[4000:]) == sorted(
         [f"-{line[1:]}" for line in plus] + [line.replace(" 10.1.", " 10.2.") for line in plus])
     assert log == [LOADED.format(1), LOADED.format(2)], log
+
+
+def test_no_memory():
+    """Without memory for an answer it says so, and connects again: the cache did nothing wrong."""
+    block = b"".join(prefix(f"10.{i // 65536}.{i // 256 % 256}.{i % 256}/32", 32, i)
+                     for i in range(100_000))
+
+    def script(run):
+        peer = run.asked(reset_query(2))
+        with open(f"/proc/{run.process.pid}/statm", encoding="ascii") as file:
+            pages = int(file.read().split()[0])
+        former = resource.prlimit(run.process.pid, resource.RLIMIT_AS)
+        resource.prlimit(run.process.pid, resource.RLIMIT_AS,
+                         (pages * resource.getpagesize(), former[1]))
+        try:
+            peer.sendall(response() + block + end(1))
+        except ConnectionError:
+            pass  # it closed before all was sent
+        peer.close()
+        peer = run.asked(reset_query(2))
+        resource.prlimit(run.process.pid, resource.RLIMIT_AS, former)
+        peer.sendall(sequence([PAYLOADS[0][0]]))
+        end_of(run, peer)
+
+    lines, log = followed(script)
+    assert lines == [f"+ {PAYLOADS[0][1]}"], (lines, log)
+    assert log == ["no memory", LOADED.format(5)], log
 
 
 def test_no_data():

@@ -237,6 +237,12 @@ static void check_session(struct end *e)
     CHECK(length > 0);
 }
 
+/* The failure of a todo, as of a call of rtr_link_give_up or of another. */
+static void fails(const struct end *e, enum rtr_client_failure failure, bool gave_up)
+{
+    CHECK(rtr_todo_failure(&e->todo, gave_up) == failure);
+}
+
 /* A cache without data, whose report is at `todo.offset` of the input. */
 static void check_no_data(struct end *e)
 {
@@ -249,13 +255,15 @@ static void check_no_data(struct end *e)
     CHECK(unit.kind == RTR_ERROR_REPORT && unit.code == RTR_CODE_NO_DATA_AVAILABLE);
     CHECK(unit.text_length == 2
           && memcmp(e->buffers.input + e->todo.offset + unit.text_start, "no", 2) == 0);
+    CHECK(e->todo.position == 0);
+    fails(e, RTR_CLIENT_REPORTED, false);
     shows(e, NULL);
     next_is(e, RTR_TODO_WAIT);
     CHECK(e->todo.wakes == 600000);
 }
 
 /* A prefix of 33 bits in an answer: `todo` has its status, and it is reported as corrupt data
- * (section 12). */
+ * (section 12). 92 bytes came before it; none before the first unit of the next connection. */
 static void check_refused(struct end *e)
 {
     loads(e);
@@ -266,13 +274,22 @@ static void check_refused(struct end *e)
     comes(e, RESPONSE OTHER "010400000000001401212100c00002000000fbf0");
     next_is(e, RTR_TODO_CLOSE);
     CHECK(e->todo.cause == RTR_CAUSE_FAULTY && e->todo.status == RTR_PREFIX);
-    CHECK(e->todo.detail == RTR_LENGTH_OVER && e->todo.offset == 20);
+    CHECK(e->todo.detail == RTR_LENGTH_OVER && e->todo.offset == 20 && e->todo.position == 92);
+    fails(e, RTR_CLIENT_REFUSED, false);
     CHECK(e->todo.reports && e->todo.code == RTR_CODE_CORRUPT_DATA && !e->todo.drops);
     sends_report(e, RTR_CODE_CORRUPT_DATA, "010400000000001401212100c00002000000fbf0",
                  "prefix length too large");
     shows(e, PREFIX END("5"));
     next_is(e, RTR_TODO_WAIT);
     CHECK(e->link.phase == RTR_PHASE_OFFLINE);
+    e->now = e->todo.wakes;
+    next_is(e, RTR_TODO_CONNECT);
+    CHECK(rtr_link_opened(&e->link) == RTR_LINK_OK);
+    next_is(e, RTR_TODO_WAIT);
+    sends(e, RESET_QUERY);
+    comes(e, "0105000000000008");
+    next_is(e, RTR_TODO_CLOSE);
+    CHECK(e->todo.status == RTR_UNIT_TYPE && e->todo.detail == 5 && e->todo.position == 0);
 }
 
 /* A withdrawal of an unknown record: `todo.offset` is that of the change. */
@@ -286,7 +303,8 @@ static void check_unknown(struct end *e)
     comes(e, RESPONSE OTHER WITHDRAWAL WITHDRAWAL END("6"));
     next_is(e, RTR_TODO_CLOSE);
     CHECK(e->todo.cause == RTR_CAUSE_NOT_APPLIED && e->todo.status == RTR_UNKNOWN);
-    CHECK(e->todo.detail == 0 && e->todo.offset == 40);
+    CHECK(e->todo.detail == 0 && e->todo.offset == 40 && e->todo.position == 40);
+    fails(e, RTR_CLIENT_REFUSED, false);
     CHECK(e->todo.reports && e->todo.code == RTR_CODE_WITHDRAWAL_OF_UNKNOWN_RECORD);
     sends_report(e, RTR_CODE_WITHDRAWAL_OF_UNKNOWN_RECORD, WITHDRAWAL,
                  "withdrawal of an unknown record");
@@ -304,11 +322,13 @@ static void check_lost(struct end *e)
     CHECK(rtr_link_received(&e->link, &e->buffers, 1) == RTR_LINK_OUT_OF_TURN);
     next_is(e, RTR_TODO_CLOSE);
     CHECK(e->todo.cause == RTR_CAUSE_FAULTY && e->todo.status == RTR_SHORT && !e->todo.drops);
+    CHECK(e->todo.offset == 0 && e->todo.position == 52);
     shows(e, PREFIX END("5"));
     e->now = 7200000;
     shows(e, NULL);
     next_is(e, RTR_TODO_DROPPED);
     CHECK(!e->todo.drops && e->todo.wakes <= e->now + 600000);
+    fails(e, RTR_CLIENT_EXPIRED, false);
     shows(e, NULL);
 }
 
@@ -365,7 +385,36 @@ static void check_give_up(struct end *e)
     CHECK(rtr_link_give_up(&e->link, &e->buffers, 5000, &e->todo) == RTR_LINK_OK);
     CHECK(e->todo.kind == RTR_TODO_CLOSE && e->todo.cause == RTR_CAUSE_NOT_APPLIED);
     CHECK(e->todo.status == RTR_OK && !e->todo.drops);
+    fails(e, RTR_CLIENT_MEMORY, true);
+    fails(e, RTR_CLIENT_MEMORY, false);
     shows(e, PREFIX END("5"));
+}
+
+/* ---- failures */
+
+/* The failure of each kind and each cause, where a unit or a change is refused; a number that is no
+ * rtr_cause is a loss. */
+static void check_failures(struct end *e)
+{
+    static const uint8_t failures[] = {
+        RTR_CLIENT_LOST,   RTR_CLIENT_SLOW,   RTR_CLIENT_REFUSED, RTR_CLIENT_REPORTED,
+        RTR_CLIENT_BREACH, RTR_CLIENT_BREACH, RTR_CLIENT_BREACH,  RTR_CLIENT_BREACH,
+        RTR_CLIENT_BREACH, RTR_CLIENT_BREACH, RTR_CLIENT_BREACH,  RTR_CLIENT_TOO_LONG,
+        RTR_CLIENT_REFUSED, RTR_CLIENT_EXPIRED, RTR_CLIENT_NONE,  RTR_CLIENT_NONE};
+    for (int kind = 0; kind < 256; kind++)
+        for (int cause = 0; cause < 256; cause++) {
+            uint8_t failure = cause <= RTR_CAUSE_HIGHER ? failures[cause] : RTR_CLIENT_LOST;
+            uint8_t starved = failure ? RTR_CLIENT_MEMORY : RTR_CLIENT_NONE;
+            memset(&e->todo, 0xa5, sizeof e->todo);
+            e->todo.kind = (uint8_t)kind;
+            e->todo.cause = (uint8_t)cause;
+            if (kind != RTR_TODO_CLOSE)
+                failure = starved = kind == RTR_TODO_DROPPED ? RTR_CLIENT_EXPIRED
+                    : kind == RTR_TODO_NO_DATA               ? RTR_CLIENT_REPORTED
+                                                             : RTR_CLIENT_NONE;
+            fails(e, failure, false);
+            fails(e, starved, true);
+        }
 }
 
 /* ---- wrong calls */
@@ -536,7 +585,8 @@ int main(int count, char **words)
 {
     static void (*const checks[])(struct end *) = {
         check_session, check_no_data, check_refused, check_unknown, check_lost, check_again,
-        check_give_up, check_turns,   check_lengths, check_times,   check_structs};
+        check_give_up, check_failures, check_turns,  check_lengths, check_times,
+        check_structs};
     static struct end e;
     long random = count > 1 ? strtol(words[1], NULL, 10) : 100000;
     for (size_t i = 0; i < 2 * (sizeof checks / sizeof checks[0]); i++) {

@@ -27,18 +27,37 @@ static inline enum rtr_client_event event(void)
     CHECK(connected == (next == RTR_CLIENT_CLOSE) || next != RTR_CLIENT_CONNECT);
     connected = next == RTR_CLIENT_CONNECT || (connected && next != RTR_CLIENT_CLOSE);
     if (next == RTR_CLIENT_DATA)
-        CHECK(rtr_delta(c.data, c.data_length, c.data, c.data_length, output, sizeof output,
-                        &answer) == RTR_OK);
+        CHECK(
+            rtr_delta(c.data, c.data_length, c.data, c.data_length, output, sizeof output, &answer)
+            == RTR_OK);
     CHECK((next == RTR_CLIENT_DROPPED) <= !c.data);
-    CHECK(c.data || (c.data_length == 0 && c.payloads == 0));
-    CHECK((c.changes == NULL) == (c.changes_length == 0));
+    CHECK(c.data || (c.data_length == 0 && rtr_client_payloads(&c) == 0));
+    CHECK(!c.changes && c.changes_length == 0); /* those of an earlier event were freed */
+    if (next != RTR_CLIENT_DATA && next != RTR_CLIENT_DROPPED)
+        CHECK(!rtr_client_changes(&c, &length) && length == 0);
     if (next == RTR_CLIENT_WAIT || next == RTR_CLIENT_CONNECT)
-        CHECK(!c.changes && c.status == RTR_OK); /* those of an earlier event were freed */
+        CHECK(c.status == RTR_OK);
     CHECK(strlen(c.text) < sizeof c.text);
     return next;
 }
 
 #define EXPECT(name) CHECK(event() == RTR_CLIENT_##name)
+
+/* Checks that the changes of the last event are exactly these bytes. */
+static inline void changes_are(const uint8_t *bytes, size_t length)
+{
+    size_t count;
+    const uint8_t *changes = rtr_client_changes(&c, &count);
+    CHECK(changes && count == length && memcmp(changes, bytes, length) == 0);
+}
+
+/* Returns the length of the changes of the last event. */
+static inline size_t changes_length(void)
+{
+    size_t length;
+    CHECK(rtr_client_changes(&c, &length) != NULL);
+    return length;
+}
 
 /* Checks that the client sends exactly these bytes. */
 static inline void sends(const struct text *expected)
@@ -118,7 +137,7 @@ static inline void has_data(uint8_t version)
     begins(version);
     comes(whole(version, 5, 1, 3)->bytes, whole(version, 5, 1, 3)->length);
     EXPECT(DATA);
-    CHECK(c.payloads == 3 && c.end.serial == 5);
+    CHECK(rtr_client_payloads(&c) == 3 && c.end.serial == 5);
     EXPECT(WAIT);
     CHECK(c.wakes == now + 3600 * 1000);
     now = c.wakes;

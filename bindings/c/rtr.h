@@ -86,18 +86,22 @@
 #define RTR_LAST_REPORT_BYTES 1048576
 
 /* Buffer sizes that suffice for what calls write; tests check them. */
-#define RTR_TEXT_ROOM 64     /* for rtr_text and rtr_name, with a 0 after the text */
-#define RTR_NAME_ROOM 65528  /* for rtr_check_name */
-#define RTR_LINE_ROOM 160    /* for rtr_line of most units: not of long keys, ASPAs and reports */
-#define RTR_FINDING_ROOM 128 /* for rtr_finding_line */
+#define RTR_TEXT_ROOM 64         /* for rtr_text and rtr_name, with a 0 after the text */
+#define RTR_TEXT_AT_ROOM 96      /* for rtr_text_at, with a 0 after the text */
+#define RTR_REPORT_TEXT_ROOM 136 /* for rtr_report_text, with a 0 after the text */
+#define RTR_NAME_ROOM 65528      /* for rtr_check_name */
+#define RTR_LINE_ROOM 160        /* for rtr_line of most units: not of long keys, ASPAs, reports */
+#define RTR_FINDING_ROOM 128     /* for rtr_finding_line */
 
 /* Texts of failures of clients and caches that no call has a text for, in all languages. A failure
- * by a peer's error report has the text of RTR_CAUSE_REPORTED or RTR_REASON_REPORTED, the name of
- * the error code, and the first bytes of the report's text, of which any but printable ASCII is a
- * question mark: `the cache reports an error: No Data Available, "later"`. */
+ * by a peer's error report has the text of RTR_CAUSE_REPORTED or RTR_REASON_REPORTED, and that of
+ * rtr_report_text: `the cache reports an error: No Data Available, "later"`. */
 #define RTR_FAILURE_NO_MEMORY "no memory"
 #define RTR_FAILURE_EMPTY "the cache has no payloads"
 #define RTR_FAILURE_STOPPED "the client was stopped"
+#define RTR_FAILURE_SLOW "the peer is too slow"
+#define RTR_FAILURE_MORE_READ "more bytes were read than there is room for"
+#define RTR_FAILURE_MORE_SENT "more bytes were sent than there are"
 #define RTR_FAILURE_BEHIND "the router is too far behind"
 #define RTR_FAILURE_CLOSED "the server is closed"
 #define RTR_FAILURE_OLD_SERIAL "the serial number isn't later than that of the present data"
@@ -105,6 +109,7 @@
 #define RTR_FAILURE_SESSION_LEFT "the cache left this session: the data need a new one"
 #define RTR_FAILURE_OTHER_SESSION "a cache that doesn't save has one session"
 #define RTR_FAILURE_UNSAVED "the cache serves data that it didn't save"
+#define RTR_FAILURE_UNSYNCED "the folder isn't synced"
 #define RTR_FAILURE_HIGHER_VERSION "the saved data are of a lower version: the data need a new session"
 #define RTR_FAILURE_DAMAGED "the saved file is damaged: the data need a new session"
 #define RTR_MOST_QUOTED 100 /* the most bytes of a report's text that a failure shows */
@@ -541,6 +546,25 @@ static inline uint8_t rtr_text(uint8_t status, uint8_t detail,
     return rtr_text_nonnull(status, detail, rtr_writable(output), output_length, length);
 }
 
+/* Writes the text of a status with its detail, and the offset of the unit that is refused, such as
+ * "invalid unit length, at byte 20". Otherwise as rtr_text. */
+static inline uint8_t rtr_text_at(uint8_t status, uint8_t detail, uint64_t offset,
+                                  uint8_t *output, size_t output_length, size_t *length)
+{
+    return rtr_text_at_nonnull(status, detail, offset, rtr_writable(output), output_length, length);
+}
+
+/* Writes what a peer's error report says, by its code and its text, `reported`: the name of the
+ * code, and if the text isn't empty, its first RTR_MOST_QUOTED bytes in quotes, of which any but
+ * printable ASCII is a question mark: `No Data Available, "later"`. Otherwise as rtr_text. */
+static inline uint8_t rtr_report_text(uint16_t code,
+                                      const uint8_t *reported, size_t reported_length,
+                                      uint8_t *output, size_t output_length, size_t *length)
+{
+    return rtr_report_text_nonnull(code, rtr_readable(reported), reported_length,
+                                   rtr_writable(output), output_length, length);
+}
+
 /* Writes the name of a number, as `named`, an rtr_named, selects: of a status, a kind, a cause, a
  * reason or an error code; or the text of a rule on times. A number without a name gets a text such
  * as "type 5" or "error code 12"; for any other `named` the text is empty. Otherwise as
@@ -593,6 +617,10 @@ bool rtr_version_has(uint8_t version, uint8_t kind);
 /* Returns the first rule that these times in seconds break, an rtr_time_rule; RTR_TIME_RULE_NONE if
  * a cache may send them. */
 uint8_t rtr_times_rule(uint32_t refresh, uint32_t retry, uint32_t expire);
+
+/* Returns the first rule that the times of an end of data of this version break, as rtr_times_rule:
+ * RTR_TIME_RULE_NONE in version 0, which has no times. */
+uint8_t rtr_end_rule(uint8_t version, uint32_t refresh, uint32_t retry, uint32_t expire);
 
 /* Returns the version of the archive; RTR_WIRE_VERSION_NUMBER is that of the header. */
 uint32_t rtr_wire_version(void);
@@ -674,6 +702,27 @@ static inline uint8_t rtr_delta(const uint8_t *old_data, size_t old_data_length,
     return rtr_delta_nonnull(rtr_readable(old_data), old_data_length,
                              rtr_readable(new_data), new_data_length,
                              rtr_writable(output), output_length, answer);
+}
+
+/* Writes the changes from the old data to the new, of whatever versions and sessions: as rtr_delta,
+ * in the higher of both versions, and with the end of data of the new data in that version; those
+ * of version 0 get the recommended times in a later one. An empty input stands for no data: then
+ * all of the other is announced or withdrawn, with its end of data. An output of old_data_length +
+ * new_data_length bytes always suffices.
+ *
+ * RTR_OK; or, in this order,
+ *   RTR_SHORT to RTR_PREFIX, RTR_NOT_CANONICAL   the first fault of the old data (side 1), or else
+ *                                                of the new (side 2); RTR_SHORT with side 2 if both
+ *                                                are empty
+ *   RTR_NO_ROOM                                  the output is shorter than the changes */
+static inline uint8_t rtr_changes_between(const uint8_t *old_data, size_t old_data_length,
+                                          const uint8_t *new_data, size_t new_data_length,
+                                          uint8_t *output, size_t output_length,
+                                          struct rtr_data_answer *answer)
+{
+    return rtr_changes_between_nonnull(rtr_readable(old_data), old_data_length,
+                                       rtr_readable(new_data), new_data_length,
+                                       rtr_writable(output), output_length, answer);
 }
 
 /* Applies the changes to the data, and writes the result: data in canonical form, with the end of
@@ -827,6 +876,13 @@ static inline uint8_t rtr_load(const uint8_t *input, size_t input_length,
  *
  * A VRP covers a route if the route's prefix lies in its own; it matches the route if it covers it,
  * its AS is the route's and isn't 0, and the route's prefix length is at most its max length. */
+
+/* Returns the offset of the end of data in data in canonical form: 0 if they have no payloads. The
+ * bytes aren't checked: those that aren't data give an offset within them. */
+static inline size_t rtr_end_offset(const uint8_t *data, size_t data_length)
+{
+    return rtr_end_offset_nonnull(rtr_readable(data), data_length);
+}
 
 /* Checks that the bytes begin with data in canonical form, and indexes them for lookups, in two
  * passes. Bytes after the end of data are ignored. The caller still owns the bytes.
@@ -1210,30 +1266,21 @@ static inline const char *rtr_cause_text(uint8_t cause)
 }
 
 /* Writes the text of a failure by an error report that the peer sent, with a 0 at its end: `what`,
- * the text of RTR_CAUSE_REPORTED or RTR_REASON_REPORTED, the name of the report's code, and the
- * first RTR_MOST_QUOTED bytes of its text. The input is that of rtr_next, which returned the
- * report. An output of 200 bytes suffices; a shorter one truncates the text. */
+ * the text of RTR_CAUSE_REPORTED or RTR_REASON_REPORTED, and that of rtr_report_text. The input is
+ * that of rtr_next, which returned the report. An output of 200 bytes suffices; a shorter one
+ * truncates the text. */
 static inline void rtr_reported_text(const char *what, const struct rtr_unit *report,
                                      const uint8_t *input, char *output, size_t output_length)
 {
-    uint8_t name[RTR_TEXT_ROOM] = {0};
-    size_t at = 0, length;
-    rtr_name(RTR_NAMED_CODE, report->code, name, sizeof name - 1, &length);
-    const char *const parts[] = {what, ": ", (const char *)name, report->text_length ? ", \"" : ""};
+    size_t at = 0, length, room = output_length ? output_length - 1 : 0;
+    const char *const parts[] = {what, ": "};
     for (size_t part = 0; part < sizeof parts / sizeof *parts; part++)
-        for (const char *from = parts[part]; *from && at + 1 < output_length; from++)
+        for (const char *from = parts[part]; *from && at < room; from++)
             output[at++] = *from;
-    const uint8_t *text = input + report->text_start;
-    for (size_t i = 0; i < report->text_length && i < RTR_MOST_QUOTED; i++) {
-        uint8_t byte = text[i];
-        if (at + 1 >= output_length)
-            break;
-        output[at++] = byte >= ' ' && byte <= '~' ? (char)byte : '?';
-    }
-    if (report->text_length && at + 1 < output_length)
-        output[at++] = '"';
+    rtr_report_text(report->code, input + report->text_start, report->text_length,
+                    (uint8_t *)output + at, room - at, &length);
     if (output_length)
-        output[at] = 0;
+        output[at + (length < room - at ? length : room - at)] = 0;
 }
 
 /* A router's end of a session with its bytes and its data, without sockets, clock and memory (RFC
@@ -1248,8 +1295,9 @@ static inline void rtr_reported_text(const char *what, const struct rtr_unit *re
  *   RTR_TODO_CONNECT    open a connection until `wakes`, then call rtr_link_opened or
  *                       rtr_link_lost, and rtr_link_next. The output is empty
  *   RTR_TODO_CLOSE      send the bytes at rtr_link_output, and close the connection, or stop
- *                       opening it, for this `cause`. There is one for each RTR_TODO_CONNECT. If a
- *                       unit or a change ends the connection, it begins at `offset` of the input
+ *                       opening it, for this `cause`: rtr_todo_failure says which failure that is.
+ *                       There is one for each RTR_TODO_CONNECT. If a unit or a change ends the
+ *                       connection, it begins at `offset` of the input
  *   RTR_TODO_DATA       there are new data: rtr_link_data. Those before them are still in the
  *                       other buffer, until a whole answer is there again (`answers`)
  *   RTR_TODO_DROPPED    the data have expired: there are none any more
@@ -1293,10 +1341,25 @@ enum rtr_todo_kind {
     RTR_TODO_OUTPUT_ROOM = 12
 };
 
-/* A router's end: 224 bytes, aligned as a uint64_t. Its fields are its own. It may be copied. */
+/* Why there is no connection, or no data. docs/SESSIONS.md has what is reported to the cache. */
+enum rtr_client_failure {
+    RTR_CLIENT_NONE = 0,     /* nothing failed; the client may reconnect at once in another
+                                version */
+    RTR_CLIENT_LOST = 1,     /* connecting failed, or the connection broke or was closed */
+    RTR_CLIENT_SLOW = 2,     /* the cache didn't answer or finish an answer in time */
+    RTR_CLIENT_TOO_LONG = 3, /* an answer has too many units or bytes */
+    RTR_CLIENT_REFUSED = 4,  /* a unit or the changes are refused for `status` */
+    RTR_CLIENT_BREACH = 5,   /* a unit breaks the rules of a session */
+    RTR_CLIENT_REPORTED = 6, /* the cache reports the error `code` */
+    RTR_CLIENT_EXPIRED = 7,  /* the data have expired, and were dropped */
+    RTR_CLIENT_MEMORY = 8    /* there is no memory for an answer; or of an rtr_client to connect:
+                                then RTR_CLIENT_CONNECT hasn't come, and it retries at `wakes` */
+};
+
+/* A router's end: 232 bytes, aligned as a uint64_t. Its fields are its own. It may be copied. */
 struct rtr_link {
     struct rtr_settings settings;
-    uint64_t expires, came, asked, tried, due, rises, bytes, latest;
+    uint64_t expires, came, asked, tried, due, rises, bytes, latest, received;
     size_t kept, end_size, filled, shown, unsent;
     struct rtr_known known, answer;
     uint32_t wait, rise_wait, units, note, mark;
@@ -1307,16 +1370,20 @@ struct rtr_link {
 
 /* What the program does next. Fields that it doesn't have are 0. */
 struct rtr_todo {
-    uint64_t wakes; /* when to call rtr_link_next, if nothing comes before. It may have passed */
-    size_t room;    /* the length that a buffer needs: in bytes, of the index in entries */
-    size_t offset;  /* the offset in the input of the unit that it is about */
-    uint16_t code;  /* the error code of the report that the output ends with */
-    uint8_t kind;   /* what to do, an rtr_todo_kind */
-    uint8_t cause;  /* why the connection ends, an rtr_cause */
-    uint8_t status; /* why a unit or a change is refused, an rtr_status; else 0 */
-    uint8_t detail; /* the detail of the status, as in an rtr_answer */
-    bool drops;     /* whether there are no data any more */
-    bool reports;   /* whether the output ends with a report */
+    uint64_t wakes;    /* when to call rtr_link_next, if nothing comes before. It may have passed */
+    uint64_t position; /* the offset of the unit that it is about, in all bytes of the
+                          connection; of a change that doesn't apply, that in the payload units
+                          of the answer; at an end that is about no unit, the number of bytes
+                          that came before those of the input */
+    size_t room;       /* the length that a buffer needs: in bytes, of the index in entries */
+    size_t offset;     /* the offset of that unit in the input */
+    uint16_t code;     /* the error code of the report that the output ends with */
+    uint8_t kind;      /* what to do, an rtr_todo_kind */
+    uint8_t cause;     /* why the connection ends, an rtr_cause */
+    uint8_t status;    /* why a unit or a change is refused, an rtr_status; else 0 */
+    uint8_t detail;    /* the detail of the status, as in an rtr_answer */
+    bool drops;        /* whether there are no data any more */
+    bool reports;      /* whether the output ends with a report */
 };
 
 /* What the buffers hold. */
@@ -1410,6 +1477,11 @@ static inline uint8_t rtr_link_give_up(struct rtr_link *link,
     return rtr_link_give_up_nonnull(link, now, rtr_writable(buffers->input), buffers->input_length,
                                     rtr_writable(buffers->output), buffers->output_length, todo);
 }
+
+/* Returns which failure this is, an rtr_client_failure: of RTR_TODO_CLOSE, RTR_TODO_DROPPED and
+ * RTR_TODO_NO_DATA; otherwise RTR_CLIENT_NONE. `gave_up` says whether rtr_link_give_up returned it.
+ * Any numbers may be in the struct. */
+uint8_t rtr_todo_failure(const struct rtr_todo *todo, bool gave_up);
 
 /* Sets `state` to what the buffers hold at this time; to 0 in all fields if the call is refused. */
 static inline uint8_t rtr_link_state(const struct rtr_link *link,
@@ -1758,6 +1830,11 @@ enum rtr_entry {
 /* Sets the defaults. */
 void rtr_server_settings_usual(struct rtr_server_settings *settings);
 
+/* Reports whether `length` bytes of changes, as encoded for routers of a version, are kept for
+ * further routers beside `kept_bytes` that are kept: if both together aren't more than
+ * `keep_bytes`. Those that aren't kept are computed again. */
+bool rtr_server_keeps(const struct rtr_server_settings *settings, size_t kept_bytes, size_t length);
+
 /* Initializes the door of a server without connections, whatever the struct holds. */
 void rtr_door_init(struct rtr_door *door, const struct rtr_server_settings *settings);
 
@@ -1785,7 +1862,8 @@ struct rtr_connection {
     uint64_t number; /* the number of the newest data when the answer began */
     size_t filled;   /* the bytes that came and weren't heard */
     size_t unsent;   /* the bytes of the answer, or of the last report, that weren't sent */
-    uint8_t state;   /* 0 if it is served, 1 if it ended with a report, 2 if it ended without one */
+    uint8_t state;   /* 0 if it is served, 1 if it ended with a report, 2 if it ended without one
+                        or broke */
     bool fresh;      /* whether there may be a whole unit among the unheard bytes */
     bool closed;     /* whether the router has closed */
 };
@@ -1804,7 +1882,7 @@ enum rtr_step {
 
 /* The limit that ended a connection. */
 enum rtr_cut {
-    RTR_CUT_NONE = 0,        /* the rtr_cache ended it */
+    RTR_CUT_NONE = 0,        /* the rtr_cache ended it, or it broke */
     RTR_CUT_SLOW = 1,        /* a unit or an answer took too long */
     RTR_CUT_NEW_SESSION = 2, /* there are data of another session */
     RTR_CUT_BEHIND = 3       /* more than `most_behind` newer data came */
@@ -1819,6 +1897,15 @@ void rtr_connection_received(struct rtr_connection *connection, uint64_t now, si
 
 /* The router closed the connection. */
 void rtr_connection_closed(struct rtr_connection *connection);
+
+/* The connection broke, as after a reset or a failed write: nothing can be sent on it any more, so
+ * that rtr_connection_next returns RTR_STEP_CLOSE. What came before isn't heard any more. */
+void rtr_connection_broke(struct rtr_connection *connection);
+
+/* Reports whether the program reads from the connection now: while no answer is being sent, until
+ * the router closes or the connection ends. What a router sends meanwhile waits in the system.
+ * After RTR_STEP_FINISH a program reads, too, but ignores what comes. */
+bool rtr_connection_reads(const struct rtr_connection *connection);
 
 /* Reports that rtr_cache_read took `size` bytes: 0 if there is no whole unit. */
 void rtr_connection_heard(struct rtr_connection *connection, uint64_t now, size_t size);
@@ -2006,6 +2093,16 @@ static inline uint8_t rtr_stores_take(struct rtr_stores *stores,
                                    rtr_writable(buffers->second), buffers->second_length, answer);
 }
 
+/* Returns the version to which new data of this session and version are converted before
+ * rtr_stores_take, where the present data have `present_version`: that of the present data, if
+ * these have the same session and no lower version than `version`, since the data of a session
+ * follow each other in one version; otherwise RTR_HIGHEST_VERSION, which has a form for each
+ * payload. Stores that hold the same session in a lower version refuse it
+ * (RTR_STORES_OTHER_VERSION), until the data come in a new session. rtr_normalise_for_slice
+ * converts data. */
+uint8_t rtr_stores_version(const struct rtr_present *present, uint8_t present_version,
+                           uint16_t session, uint8_t version);
+
 /* The file has the store that was taken, which is served from now on. If none waits, nothing
  * changes. RTR_STORES_OK or RTR_STORES_NOT_MADE. */
 uint8_t rtr_stores_saved(struct rtr_stores *stores);
@@ -2013,6 +2110,11 @@ uint8_t rtr_stores_saved(struct rtr_stores *stores);
 /* Drops the store that was taken, as when it couldn't be saved, whether or not the file has it:
  * what is served stays. RTR_STORES_OK or RTR_STORES_NOT_MADE. */
 uint8_t rtr_stores_give_up(struct rtr_stores *stores);
+
+/* Returns the pause in milliseconds before a failed save is retried, given the pause before the
+ * last try, or 0 after the first: one second at first, then twice the last pause, at most a
+ * minute. */
+uint32_t rtr_retry_after(uint32_t previous);
 
 /* Sets `state` to what the two buffers hold. RTR_STORES_OK, _NOT_MADE or _SHORT_BUFFER; if the
  * call is refused, all fields are 0. */

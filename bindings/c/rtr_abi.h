@@ -66,6 +66,10 @@ uint8_t rtr_change_json_nonnull(const uint8_t *input, size_t input_length,
                                 uint8_t *output, size_t output_length, struct rtr_line *answer);
 uint8_t rtr_text_nonnull(uint8_t status, uint8_t detail, uint8_t *output, size_t output_length,
                          size_t *length);
+uint8_t rtr_text_at_nonnull(uint8_t status, uint8_t detail, uint64_t offset,
+                            uint8_t *output, size_t output_length, size_t *length);
+uint8_t rtr_report_text_nonnull(uint16_t code, const uint8_t *reported, size_t reported_length,
+                                uint8_t *output, size_t output_length, size_t *length);
 uint8_t rtr_name_nonnull(uint8_t named, uint16_t number, uint8_t *output, size_t output_length,
                          size_t *length);
 bool rtr_provider_nonnull(const struct rtr_unit *unit, const uint8_t *input, size_t input_length,
@@ -81,6 +85,10 @@ uint8_t rtr_same_meaning_nonnull(const uint8_t *left, size_t left_length,
 uint8_t rtr_delta_nonnull(const uint8_t *old_data, size_t old_data_length,
                           const uint8_t *new_data, size_t new_data_length,
                           uint8_t *output, size_t output_length, struct rtr_data_answer *answer);
+uint8_t rtr_changes_between_nonnull(const uint8_t *old_data, size_t old_data_length,
+                                    const uint8_t *new_data, size_t new_data_length,
+                                    uint8_t *output, size_t output_length,
+                                    struct rtr_data_answer *answer);
 uint8_t rtr_apply_nonnull(const uint8_t *data, size_t data_length,
                           const uint8_t *changes, size_t changes_length,
                           uint8_t *output, size_t output_length, struct rtr_data_answer *answer);
@@ -95,6 +103,7 @@ uint8_t rtr_order_nonnull(const uint8_t *input, size_t input_length,
 uint8_t rtr_load_nonnull(const uint8_t *input, size_t input_length,
                          size_t *index, size_t index_length, uint8_t *work, size_t work_length,
                          uint8_t *output, size_t output_length, struct rtr_loaded *loaded);
+size_t rtr_end_offset_nonnull(const uint8_t *data, size_t data_length);
 uint8_t rtr_check_data_nonnull(const uint8_t *data, size_t data_length, struct rtr_lookup *lookup,
                                struct rtr_data_answer *answer);
 uint8_t rtr_validate_nonnull(const uint8_t *data, size_t data_length,

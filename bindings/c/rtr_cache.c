@@ -21,13 +21,12 @@ struct rtr_made {
 
 /* ---- data */
 
-/* Returns the end of data of data in canonical form, all units of which have one version. */
+/* Returns the end of data of data in canonical form. */
 static struct rtr_unit end_of(const struct rtr_shared *data)
 {
     struct rtr_unit unit;
-    rtr_next(data->bytes, data->size, &unit);
-    size_t size = unit.version ? RTR_LONGEST_END : RTR_SHORTEST_END;
-    rtr_next(data->bytes + data->size - size, size, &unit);
+    size_t end = rtr_end_offset(data->bytes, data->size);
+    rtr_next(data->bytes + end, data->size - end, &unit);
     return unit;
 }
 
@@ -75,12 +74,10 @@ static enum rtr_update load(struct rtr_server *s, const uint8_t *input, size_t l
     return has_memory ? refuse(s, loaded.status, loaded.offset) : RTR_UPDATE_MEMORY;
 }
 
-/* Reports whether RFC 8210 section 6 allows a cache these timings; version 0 has none. */
+/* Reports whether RFC 8210 section 6 allows a cache these timings. */
 static bool are_times_allowed(struct rtr_server *s, const struct rtr_unit *end)
 {
-    s->time_rule = RTR_TIME_RULE_NONE;
-    if (end->version)
-        s->time_rule = rtr_times_rule(end->refresh, end->retry, end->expire);
+    s->time_rule = rtr_end_rule(end->version, end->refresh, end->retry, end->expire);
     return s->time_rule == RTR_TIME_RULE_NONE;
 }
 
@@ -250,7 +247,7 @@ static enum rtr_update refused_by(enum rtr_stores_status status)
     }
 }
 
-/* Drops the store that waits to be saved. */
+/* Drops the pending store. */
 static void give_up(struct rtr_server *s)
 {
     bool second = state_of(s).second;
@@ -259,7 +256,7 @@ static void give_up(struct rtr_server *s)
     s->held[!second] = NULL;
 }
 
-/* Takes data in canonical form, which replace a store that waits. The buffers have the lengths that
+/* Takes data in canonical form, which replace a pending store. The buffers have the lengths that
  * suffice for rtr_stores_take; the served data become one more of the earlier ones. */
 static enum rtr_update take(struct rtr_server *s, int64_t date, const uint8_t *data, size_t length)
 {
@@ -295,15 +292,11 @@ static enum rtr_update take(struct rtr_server *s, int64_t date, const uint8_t *d
     return RTR_UPDATE_TAKEN;
 }
 
-/* Converts data to the highest version, so that files of all versions can follow each other; or to
- * the version of the stored data of their session, if that isn't below their own. */
+/* Converts data to the version in which the stores take them; returns false without memory. */
 static bool convert(const struct rtr_server *s, struct rtr_shared **data)
 {
     struct rtr_unit end = end_of(*data);
-    bool follows = s->present.has && s->present.session == end.session;
-    uint8_t version = RTR_HIGHEST_VERSION;
-    if (follows && s->end.version >= end.version)
-        version = s->end.version;
+    uint8_t version = rtr_stores_version(&s->present, s->end.version, end.session, end.version);
     if (version == end.version)
         return true;
     struct rtr_shared *converted = in_version(*data, version);
@@ -318,10 +311,9 @@ static enum rtr_update take_input(struct rtr_server *s, int64_t date, const uint
                                   size_t length)
 {
     struct rtr_unit end;
-    if (length < RTR_LONGEST_END
-        || rtr_next(input + length - RTR_LONGEST_END, RTR_LONGEST_END, &end) != RTR_OK
-        || end.kind != RTR_END_OF_DATA || end.version != RTR_HIGHEST_VERSION
-        || !are_times_allowed(s, &end))
+    size_t offset = rtr_end_offset(input, length);
+    if (rtr_next(input + offset, length - offset, &end) != RTR_OK || end.kind != RTR_END_OF_DATA
+        || end.version != RTR_HIGHEST_VERSION || !are_times_allowed(s, &end))
         return RTR_UPDATE_REFUSED;
     s->has_cut = false;
     s->refused = end.serial;
@@ -438,14 +430,14 @@ static struct rtr_shared *sent_form(struct rtr_server *s, uint8_t version)
     return *form ? hold(*form) : NULL;
 }
 
-/* Caches changes, unless that exceeds `keep_bytes` or memory runs out. */
+/* Caches changes for further routers, as the settings allow, unless memory runs out. */
 static void keep_made(struct rtr_server *s, struct rtr_made entry)
 {
-    size_t bytes = entry.changes->length;
+    size_t bytes = 0;
     for (size_t i = 0; i < s->made_count; i++)
         bytes += s->made[i].changes->length;
     struct rtr_made *made = NULL;
-    if (bytes <= s->settings.keep_bytes)
+    if (rtr_server_keeps(&s->settings, bytes, entry.changes->length))
         made = realloc(s->made, (s->made_count + 1) * sizeof *made);
     if (!made)
         return;
@@ -547,13 +539,7 @@ static size_t answer_size(const struct rtr_served *c)
 /* Returns how many of them are unsent. */
 static size_t unsent(const struct rtr_served *c)
 {
-    return c->over ? 0 : c->connection.unsent;
-}
-
-/* Reports whether the connection hasn't ended. */
-static bool is_served(const struct rtr_served *c)
-{
-    return !c->over && !c->connection.state;
+    return answer_size(c) ? c->connection.unsent : 0;
 }
 
 static void drop_answer(struct rtr_served *c)
@@ -561,6 +547,13 @@ static void drop_answer(struct rtr_served *c)
     release(c->body);
     c->body = NULL;
     c->head_length = 0;
+}
+
+/* Sends nothing any more: the connection broke, or has to be closed. */
+static void stop(struct rtr_served *c)
+{
+    drop_answer(c);
+    rtr_connection_broke(&c->connection);
 }
 
 static void set_text(struct rtr_served *c, const char *text)
@@ -586,9 +579,9 @@ static void explain_end(struct rtr_served *c, const struct rtr_serving *serving,
         rtr_reported_text(rtr_reason_text(RTR_REASON_REPORTED), &unit, c->input, c->text,
                           sizeof c->text);
     } else if (serving->reason == RTR_REASON_FAULTY) {
-        rtr_text(serving->status, serving->detail, (uint8_t *)c->text, RTR_TEXT_ROOM, &count);
-        snprintf(c->text + count, sizeof c->text - count, ", at byte %llu",
-                 (unsigned long long)c->offset);
+        rtr_text_at(serving->status, serving->detail, c->offset, (uint8_t *)c->text,
+                    RTR_TEXT_AT_ROOM, &count);
+        c->text[count] = 0;
     } else if (serving->reason != RTR_REASON_LOST) {
         set_text(c, rtr_reason_text(serving->reason));
     }
@@ -729,17 +722,13 @@ enum rtr_served_event rtr_served_next(struct rtr_served *c, int64_t now)
 {
     const struct rtr_server *s = c->server;
     uint64_t time = (uint64_t)now;
-    uint8_t step = RTR_STEP_CLOSE, cut = RTR_CUT_NONE;
-    do {
-        if (!c->over)
-            step =
-                rtr_connection_next(&c->connection, time, &c->cache, &s->present, s->number, &cut);
-    } while (take_step(c, time, step));
-    /* A struct rtr_connection knows no connection that broke: nothing can be sent on it. */
-    if (step == RTR_STEP_CLOSE || c->broken) {
+    uint8_t step, cut;
+    do
+        step = rtr_connection_next(&c->connection, time, &c->cache, &s->present, s->number, &cut);
+    while (take_step(c, time, step));
+    if (step == RTR_STEP_CLOSE) {
         explain_cut(c, cut);
-        drop_answer(c);
-        c->over = true;
+        stop(c);
         c->wakes = now;
         return RTR_SERVED_CLOSE;
     }
@@ -750,15 +739,18 @@ enum rtr_served_event rtr_served_next(struct rtr_served *c, int64_t now)
 
 void rtr_served_lost(struct rtr_served *c, const char *reason)
 {
-    if (reason && is_served(c))
+    if (!reason) {
+        rtr_connection_closed(&c->connection);
+        return;
+    }
+    if (!c->connection.state)
         set_text(c, reason);
-    rtr_connection_closed(&c->connection);
-    c->broken = c->broken || reason;
+    stop(c);
 }
 
 uint8_t *rtr_served_room(struct rtr_served *c, size_t *length)
 {
-    bool reads = is_served(c) && !unsent(c) && !c->connection.closed;
+    bool reads = rtr_connection_reads(&c->connection);
     *length = reads ? input_size(c) - c->connection.filled : 0;
     return c->input + c->connection.filled;
 }
@@ -766,7 +758,7 @@ uint8_t *rtr_served_room(struct rtr_served *c, size_t *length)
 bool rtr_served_received(struct rtr_served *c, int64_t now, size_t length)
 {
     if (length > input_size(c) - c->connection.filled) {
-        rtr_served_lost(c, "more bytes were read than there is room for");
+        rtr_served_lost(c, RTR_FAILURE_MORE_READ);
         return false;
     }
     rtr_connection_received(&c->connection, (uint64_t)now, length);
@@ -790,7 +782,7 @@ int rtr_served_output(const struct rtr_served *c, struct rtr_part parts[2])
 bool rtr_served_sent(struct rtr_served *c, int64_t now, size_t length)
 {
     if (length > unsent(c)) {
-        rtr_served_lost(c, "more bytes were sent than there are");
+        rtr_served_lost(c, RTR_FAILURE_MORE_SENT);
         return false;
     }
     rtr_connection_sent(&c->connection, (uint64_t)now, length);

@@ -22,8 +22,8 @@
  * 488 bytes; it holds no data, only how much of the server's was sent. A server and its connections
  * are used by one thread at a time. Without memory, a connection ends, and new data are refused.
  *
- * The door of the server (rtr_door_next) says whether a new connection is served, is refused by a
- * report of code 1, or is left in the system's queue: a program calls rtr_door_next(&server.door,
+ * The door of the server (rtr_door_next) decides whether a new connection is served, refused with
+ * a report of code 1, or left in the system's queue: a program calls rtr_door_next(&server.door,
  * server.spare) before it accepts a connection. One that is accepted where that returns
  * RTR_ENTRY_WAIT is closed without a report.
  *
@@ -54,11 +54,7 @@
 extern "C" {
 #endif
 
-enum rtr_served_event {
-    RTR_SERVED_WAIT,
-    RTR_SERVED_CLOSE,
-    RTR_SERVED_FINISH
-};
+enum rtr_served_event { RTR_SERVED_WAIT, RTR_SERVED_CLOSE, RTR_SERVED_FINISH };
 
 /* The result of giving data to a server. */
 enum rtr_update {
@@ -112,12 +108,12 @@ struct rtr_server {
     bool spare;
 
     /* Private. */
-    uint64_t number;            /* counts the data that were served */
+    uint64_t number; /* counts the data that were served */
     struct rtr_stores stores;
     struct rtr_shared *held[2]; /* the buffers of `stores` */
     /* The data in other versions, encoded when a router first asks in one. */
     struct rtr_shared *forms[RTR_HIGHEST_VERSION + 1];
-    uint32_t *kept;             /* the serial numbers from which there are changes */
+    uint32_t *kept; /* the serial numbers from which there are changes */
     size_t kept_count, kept_capacity;
     struct rtr_made *made;
     size_t made_count;
@@ -138,7 +134,6 @@ struct rtr_served {
     struct rtr_shared *body; /* what is sent after the head */
     uint64_t offset;         /* of the input in all bytes that were read */
     uint8_t *input;          /* `small`, or the buffer of a longer unit */
-    bool broken, over;       /* over: rtr_served_next has returned RTR_SERVED_CLOSE */
     uint8_t entry;           /* an rtr_entry */
     uint8_t head_length, head[RTR_SERVED_HEAD], small[RTR_SERVED_INPUT];
 };
@@ -160,8 +155,8 @@ void rtr_server_free(struct rtr_server *server);
  *
  * Begin serial numbers at 1: a router that lost the first answer, such as BIRD 2.0, asks for the
  * changes since serial number 0, and there are none if that is the present one. */
-enum rtr_update rtr_server_update(struct rtr_server *server, int64_t date,
-                                  const uint8_t *input, size_t length);
+enum rtr_update rtr_server_update(struct rtr_server *server, int64_t date, const uint8_t *input,
+                                  size_t length);
 
 /* Returns the store that waits to be saved, of `length` bytes, and sets `head` to the bytes before
  * it in the file; null, with length 0, if none waits. It stays until the next update. */
@@ -187,12 +182,12 @@ void rtr_served_free(struct rtr_served *served);
 /* Returns what to do next; `now` is the time. */
 enum rtr_served_event rtr_served_next(struct rtr_served *served, int64_t now);
 
-/* Reports that the connection broke, for this reason; null means that the router closed it, and may
- * still read. Queries that were read before are still answered. */
+/* Reports that the connection broke, for this reason: nothing is sent on it any more. Null means
+ * that the router closed it, and may still read: queries that were read before are answered. */
 void rtr_served_lost(struct rtr_served *served, const char *reason);
 
-/* Returns the buffer to read into, and sets `length` to its size: 0 while there are bytes to
- * send. */
+/* Returns the buffer to read into, and sets `length` to its size: 0 while there are bytes to send,
+ * and after the router closed or the connection ended. */
 uint8_t *rtr_served_room(struct rtr_served *served, size_t *length);
 
 /* Reports that `length` bytes were read, at this time, into the buffer of rtr_served_room. Returns

@@ -2,6 +2,7 @@
  * memory, and what it does without. Expected values are written by hand, after RFC 8210 and
  * docs/SESSIONS.md. */
 #include "rtr_cache_testing.h"
+#include <fcntl.h>
 #include <sys/resource.h>
 
 /* Times that RFC 8210 section 6 doesn't allow are refused by the name of the rule, and the old
@@ -37,7 +38,8 @@ static void test_times(void)
     ends();
 }
 
-/* Changes since old data are kept for two hours after newer data came, up to a limit of bytes. */
+/* Changes since old data are kept for two hours after newer data came, up to a limit of bytes. The
+ * same limit applies to changes that were encoded for routers. */
 static void test_kept(void)
 {
     has_data(1);
@@ -55,6 +57,13 @@ static void test_kept(void)
     asks_changes(1, SESSION, 8);
     says_reset(1);
     leaves();
+    for (uint8_t version = 1; version < 3; version++) {
+        begins();
+        asks_changes(version, SESSION, 9);
+        says(whole(version, 10, 8, 9));
+        leaves();
+    }
+    CHECK(s.made_count == 1); /* each has two prefixes and an end of data, 64 bytes */
     ends();
 }
 
@@ -194,7 +203,7 @@ static void test_refusals(void)
 
 /* ---- saving */
 
-/* Sets a text to the file of the store that waits. */
+/* Sets a text to the file of the pending store. */
 static void writes(struct text *file)
 {
     struct rtr_store_head head;
@@ -503,6 +512,22 @@ static void test_no_report(void)
     ends();
 }
 
+/* Without memory for a unit that is longer than the first buffer, a connection ends. */
+static void test_no_input(void)
+{
+    struct text header = {.length = 0};
+    add_header(&header, 1, 10, 1, 65535);
+    has_data(1);
+    begins();
+    allocations = 0;
+    denied = 1;
+    comes(header.bytes, header.length);
+    closes("no memory");
+    denied = 0;
+    CHECK(allocations == 1);
+    ends();
+}
+
 static void test_memory(void)
 {
     for (uint8_t version = 1; version < 3; version++)
@@ -536,7 +561,8 @@ static void test_held(uint8_t version)
     ends();
 }
 
-/* Data of more than a huge page are in a file in memory, unless file sizes are limited. */
+/* Data of more than a huge page are in a file in memory, which is closed with the server, unless
+ * file sizes are limited. */
 static void test_filed(bool limited)
 {
     enum { COUNT = 170000, LENGTH = COUNT * 20 + 24 };
@@ -564,6 +590,7 @@ static void test_filed(bool limited)
     free(table);
     free(copy);
     ends();
+    CHECK(limited || fcntl(parts[1].file, F_GETFD) < 0);
 }
 
 int main(void)
@@ -584,6 +611,7 @@ int main(void)
     test_torn();
     test_memory();
     test_no_report();
+    test_no_input();
     test_held(1);
     test_held(2);
     test_filed(false);

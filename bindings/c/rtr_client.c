@@ -10,13 +10,6 @@
  * INPUT bytes between two answers. */
 enum { OUTPUT = 2 * RTR_SERIAL_SIZE + RTR_LONGEST_UNIT, INPUT = RTR_LONGEST_UNIT };
 
-/* The rtr_client_failure for each rtr_cause. */
-static const uint8_t failures[] = {RTR_CLIENT_LOST,     RTR_CLIENT_SLOW,   RTR_CLIENT_REFUSED,
-                                   RTR_CLIENT_REPORTED, RTR_CLIENT_BREACH, RTR_CLIENT_BREACH,
-                                   RTR_CLIENT_BREACH,   RTR_CLIENT_BREACH, RTR_CLIENT_BREACH,
-                                   RTR_CLIENT_BREACH,   RTR_CLIENT_BREACH, RTR_CLIENT_TOO_LONG,
-                                   RTR_CLIENT_REFUSED,  RTR_CLIENT_EXPIRED};
-
 struct bytes {
     uint8_t *at;
     size_t length;
@@ -85,15 +78,6 @@ static bool new_index(struct rtr_client *c, size_t count)
     return c->buffers.index != NULL;
 }
 
-/* Grows the buffer for changes to `size` bytes; returns false without memory. */
-static bool grow_changes(struct rtr_client *c, size_t size)
-{
-    if (size <= c->room_length)
-        return true;
-    release(&c->room, &c->room_length);
-    return resize(&c->room, &c->room_length, size);
-}
-
 static void forget_output(struct rtr_client *c)
 {
     must(rtr_link_sent(&c->link, &c->buffers, state(c).unsent));
@@ -119,14 +103,15 @@ static bool grow_buffer(struct rtr_client *c, const struct rtr_todo *todo)
     }
 }
 
-/* Frees the buffers that only an answer needs, and those that don't hold the data. */
+/* Frees the buffers that are needed only while an answer comes: the index, and those that hold
+ * neither the data nor the former data. The input buffer gets its first size back. */
 static void trim(struct rtr_client *c)
 {
     struct rtr_link_buffers *b = &c->buffers;
     release_index(c);
-    if (c->data != b->first)
+    if (c->data != b->first && c->former != b->first)
         release(&b->first, &b->first_length);
-    if (c->data != b->second)
+    if (c->data != b->second && c->former != b->second)
         release(&b->second, &b->second_length);
     if (b->input_length > INPUT && state(c).filled <= INPUT)
         resize(&b->input, &b->input_length, INPUT);
@@ -134,109 +119,29 @@ static void trim(struct rtr_client *c)
 
 /* ---- data */
 
-/* Writes data in another version and session, and returns their length; 0 if `data` is invalid. */
-static size_t write_form(struct bytes data, uint8_t version, uint16_t session, struct bytes form)
-{
-    struct rtr_answer answer;
-    if (rtr_normalise_for_slice(data.at, data.length, form.at, form.length, UINT64_MAX, version,
-                                &answer)
-        != RTR_OK)
-        return 0;
-    size_t size = version ? RTR_LONGEST_END : RTR_SHORTEST_END;
-    uint8_t *at = form.at + answer.written - size;
-    struct rtr_unit end;
-    rtr_next(at, size, &end);
-    end.session = session;
-    rtr_write_unit(&end, NULL, 0, at, size, &size);
-    return answer.written;
-}
-
-/* Writes data without payloads, with this end of data, to `at`: at most RTR_LONGEST_END bytes. */
-static struct bytes nothing(const struct rtr_unit *end, uint8_t *at)
-{
-    struct bytes none = {at, 0};
-    rtr_write_unit(end, NULL, 0, at, RTR_LONGEST_END, &none.length);
-    return none;
-}
-
-/* Returns the buffer size for the changes from old data to new data, and for both data in another
- * version behind them. */
-static size_t size_of_changes(size_t old, size_t new)
-{
-    return 2 * (old + new + 2 * RTR_LONGEST_END);
-}
-
-/* Writes the changes from old data to new data of any versions and sessions to the client's buffer
- * for changes. Returns the status of rtr_delta. */
-static uint8_t write_changes(struct rtr_client *c, struct bytes old, const struct rtr_unit *old_end,
-                             struct bytes new, const struct rtr_unit *end)
-{
-    struct rtr_data_answer answer;
-    uint8_t version = old_end->version > end->version ? old_end->version : end->version;
-    size_t most = old.length + new.length + 2 * RTR_LONGEST_END;
-    if (old_end->version != end->version || old_end->session != end->session) {
-        struct bytes from = {c->room + most, old.length + RTR_LONGEST_END};
-        struct bytes to = {from.at + from.length, new.length + RTR_LONGEST_END};
-        from.length = write_form(old, version, end->session, from);
-        to.length = write_form(new, version, end->session, to);
-        old = from;
-        new = to;
-    }
-    uint8_t status = rtr_delta(old.at, old.length, new.at, new.length, c->room, most, &answer);
-    c->changes = status == RTR_OK ? c->room : NULL;
-    c->changes_length = answer.written;
-    return status;
-}
-
-/* Grows the buffer for the changes to data that fill the other buffer, once that is there, before a
- * whole answer is applied: without memory the present data stay. Returns false without memory. */
-static bool reserve_changes(struct rtr_client *c, bool second)
-{
-    size_t length = second ? c->buffers.first_length : c->buffers.second_length;
-    return !c->data || !length || grow_changes(c, size_of_changes(c->data_length, length));
-}
-
-/* Sets `payloads` and `end` from the data. */
-static void count_payloads(struct rtr_client *c)
-{
-    uint8_t detail;
-    size_t size, at = 0;
-    must(rtr_unit_size(c->data, c->data_length, &size, &detail));
-    for (c->payloads = 0; at + size < c->data_length; c->payloads++) {
-        at += size;
-        must(rtr_unit_size(c->data + at, c->data_length - at, &size, &detail));
-    }
-    must(rtr_next(c->data + at, size, &c->end));
-}
-
-/* Publishes new data and the changes to them. The old data are still in the other buffer. */
+/* Publishes new data. The former data, from which the changes lead, stay in their buffer. */
 static void show(struct rtr_client *c)
 {
     struct rtr_link_state held = state(c);
-    struct bytes old = {c->data, c->data_length};
-    struct rtr_unit old_end = c->end;
+    c->former = c->data;
+    c->former_length = c->data_length;
+    c->changed = true;
     c->data = held.second ? c->buffers.second : c->buffers.first;
     c->data_length = held.shown;
-    count_payloads(c);
-    if (old.at) {
-        must(write_changes(c, old, &old_end, (struct bytes){c->data, held.shown}, &c->end));
-    } else { /* the changes from no data are the data */
-        c->changes = c->data;
-        c->changes_length = c->data_length;
-    }
+    size_t end = rtr_end_offset(c->data, c->data_length);
+    must(rtr_next(c->data + end, c->data_length - end, &c->end));
     trim(c);
     happens(c, RTR_CLIENT_DATA);
 }
 
-/* Publishes the loss of the data, and the changes that withdraw them. */
+/* Publishes the loss of the data. */
 static void drop(struct rtr_client *c)
 {
-    uint8_t at[RTR_LONGEST_END];
-    struct bytes old = {c->data, c->data_length}, none = nothing(&c->end, at);
-    if (grow_changes(c, size_of_changes(old.length, none.length)))
-        must(write_changes(c, old, &c->end, none, &c->end));
+    c->former = c->data;
+    c->former_length = c->data_length;
+    c->changed = true;
     c->data = NULL;
-    c->data_length = c->payloads = 0;
+    c->data_length = 0;
     trim(c);
     happens(c, RTR_CLIENT_DROPPED);
 }
@@ -253,16 +158,13 @@ static void explain_report(struct rtr_client *c, struct bytes report)
     c->code = unit.code;
 }
 
-/* Sets `text` to why a unit is refused, and its offset: within the answer if a change doesn't
- * apply, else within all bytes of the connection. `filled` is the length of the input. */
-static void explain_refused(struct rtr_client *c, const struct rtr_todo *todo, size_t filled)
+/* Sets `text` to why a unit is refused, and where. */
+static void explain_refused(struct rtr_client *c, const struct rtr_todo *todo)
 {
     size_t count;
-    uint64_t at = todo->offset;
-    if (todo->cause == RTR_CAUSE_FAULTY)
-        at += c->received - filled;
-    rtr_text(todo->status, todo->detail, (uint8_t *)c->text, RTR_TEXT_ROOM, &count);
-    snprintf(c->text + count, sizeof c->text - count, ", at byte %llu", (unsigned long long)at);
+    rtr_text_at(todo->status, todo->detail, todo->position, (uint8_t *)c->text, RTR_TEXT_AT_ROOM,
+                &count);
+    c->text[count] = 0;
 }
 
 /* Queues a failure with its text; null keeps the present text. */
@@ -274,36 +176,39 @@ static void fail(struct rtr_client *c, enum rtr_client_failure failure, const ch
     happens(c, RTR_CLIENT_FAILED);
 }
 
-/* Queues the failure that ended the connection. `filled` is the length of the input. */
+/* Queues the failure that ended the connection, unless the link only changes the version: then the
+ * client reconnects at once. `filled` is the length of the input. */
 static void explain(struct rtr_client *c, const struct rtr_todo *todo, size_t filled)
 {
-    enum rtr_client_failure failure = failures[todo->cause];
+    enum rtr_client_failure failure = rtr_todo_failure(todo, c->starved);
+    if (failure == RTR_CLIENT_NONE)
+        return;
     c->status = todo->status;
-    if (c->starved || (todo->cause == RTR_CAUSE_NOT_APPLIED && todo->status == RTR_OK)) {
-        fail(c, RTR_CLIENT_MEMORY, RTR_FAILURE_NO_MEMORY);
+    if (failure == RTR_CLIENT_MEMORY) {
+        fail(c, failure, RTR_FAILURE_NO_MEMORY);
     } else if (failure == RTR_CLIENT_REPORTED) {
         explain_report(c, (struct bytes){c->buffers.input + todo->offset, filled - todo->offset});
         fail(c, failure, NULL);
     } else if (failure == RTR_CLIENT_REFUSED) {
-        explain_refused(c, todo, filled);
+        explain_refused(c, todo);
         fail(c, failure, NULL);
     } else {
         fail(c, failure, failure == RTR_CLIENT_LOST ? c->reason : rtr_cause_text(todo->cause));
     }
 }
 
-/* Ends the connection, and drops the data if the link says so. A change of version is no failure:
- * the client reconnects at once. `filled` is the length of the input. */
+/* Ends the connection, and drops the data if the link says so. `filled` is the length of the
+ * input. */
 static void end(struct rtr_client *c, const struct rtr_todo *todo, size_t filled)
 {
     if (todo->drops)
         drop(c);
     if (c->broken)
         forget_output(c);
+    c->lost = false;
     c->closing = true;
     happens(c, RTR_CLIENT_CLOSE);
-    if (todo->cause != RTR_CAUSE_LOWER && todo->cause != RTR_CAUSE_HIGHER)
-        explain(c, todo, filled);
+    explain(c, todo, filled);
     trim(c);
 }
 
@@ -312,7 +217,6 @@ static void act(struct rtr_client *c, const struct rtr_todo *todo, size_t filled
 {
     if (todo->kind == RTR_TODO_CONNECT) {
         c->broken = false;
-        c->received = 0;
         happens(c, RTR_CLIENT_CONNECT);
     } else if (todo->kind == RTR_TODO_CLOSE) {
         end(c, todo, filled);
@@ -327,19 +231,17 @@ static void act(struct rtr_client *c, const struct rtr_todo *todo, size_t filled
     }
 }
 
-/* Gets the link's next request, or gives up the answer if there is no memory for it. */
-static void ask_link(struct rtr_client *c, const struct rtr_link_state *held, struct rtr_todo *todo)
+/* Gets the link's next request, or gives up the answer if there is no memory for it. A wish that
+ * comes after the loss of a connection waits until that is closed. */
+static void ask_link(struct rtr_client *c, struct rtr_todo *todo)
 {
     uint64_t now = (uint64_t)c->now;
-    c->starved = held->answers && !reserve_changes(c, held->second);
-    if (!c->starved) {
-        must(c->wished ? rtr_link_ask_now(&c->link, &c->buffers, now, todo)
-                       : rtr_link_next(&c->link, &c->buffers, now, todo));
-        if (todo->kind >= RTR_TODO_INPUT_ROOM)
-            c->starved = !grow_buffer(c, todo);
-        else
-            c->wished = false;
-    }
+    bool asks = c->wished && !c->lost;
+    must(asks ? rtr_link_ask_now(&c->link, &c->buffers, now, todo)
+              : rtr_link_next(&c->link, &c->buffers, now, todo));
+    c->starved = todo->kind >= RTR_TODO_INPUT_ROOM && !grow_buffer(c, todo);
+    if (asks && todo->kind < RTR_TODO_INPUT_ROOM)
+        c->wished = false;
     if (c->starved)
         must(rtr_link_give_up(&c->link, &c->buffers, now, todo));
 }
@@ -347,10 +249,10 @@ static void ask_link(struct rtr_client *c, const struct rtr_link_state *held, st
 /* Takes a step; returns whether the link may have another one now. */
 static bool step(struct rtr_client *c)
 {
-    struct rtr_link_state held = state(c);
-    ask_link(c, &held, &c->todo);
+    size_t filled = state(c).filled;
+    ask_link(c, &c->todo);
     c->untold = true;
-    act(c, &c->todo, held.filled);
+    act(c, &c->todo, filled);
     return c->todo.kind != RTR_TODO_WAIT;
 }
 
@@ -369,12 +271,16 @@ void rtr_client_init(struct rtr_client *c, uint8_t version)
     c->report_limit = RTR_LAST_REPORT_LIMIT;
 }
 
-/* Frees the changes of an earlier event. */
+/* Frees the changes of an earlier event, and the data from which they led. */
 static void forget_changes(struct rtr_client *c)
 {
-    release(&c->room, &c->room_length);
-    c->changes = NULL;
-    c->changes_length = 0;
+    bool held = c->former != NULL;
+    release(&c->changes, &c->changes_length);
+    c->former = NULL;
+    c->former_length = 0;
+    c->changed = false;
+    if (held)
+        trim(c);
 }
 
 void rtr_client_free(struct rtr_client *c)
@@ -386,7 +292,7 @@ void rtr_client_free(struct rtr_client *c)
     release(&c->buffers.second, &c->buffers.second_length);
     release(&c->buffers.output, &c->buffers.output_length);
     c->data = NULL;
-    c->data_length = c->payloads = 0;
+    c->data_length = 0;
     if (c->begun)
         must(rtr_link_again(&c->link));
 }
@@ -427,8 +333,8 @@ enum rtr_client_event rtr_client_next(struct rtr_client *c, int64_t now)
 {
     bool begun = true;
     c->now = now > c->now ? now : c->now;
+    forget_changes(c);
     if (!c->count) {
-        forget_changes(c);
         c->status = 0;
         if (c->closing)
             forget_output(c);
@@ -450,11 +356,12 @@ void rtr_client_tell(struct rtr_client *c, struct rtr_group *group, size_t membe
                      struct rtr_group_answer *answer)
 {
     uint64_t now = (uint64_t)c->now;
+    bool some = rtr_end_offset(c->data, c->data_length) > 0;
     *answer = (struct rtr_group_answer){.shown = RTR_GROUP_SAME};
     if (c->unmade)
         rtr_group_fails(group, now, member, answer);
     else if (c->untold)
-        must(rtr_group_tell(group, now, member, &c->todo, c->payloads, answer));
+        must(rtr_group_tell(group, now, member, &c->todo, some, answer));
     c->unmade = c->untold = false;
 }
 
@@ -472,18 +379,39 @@ bool rtr_client_has_data(const struct rtr_client *c, int64_t now)
     return held.has_data;
 }
 
-bool rtr_client_instead(struct rtr_client *c, uint8_t *data, size_t length,
-                        const struct rtr_unit *end)
+size_t rtr_client_payloads(const struct rtr_client *c)
 {
-    struct bytes new = {c->data, c->data_length};
-    forget_changes(c);
-    if (!data) {
-        c->changes = c->data;
-        c->changes_length = c->data_length;
-        return true;
-    }
-    return grow_changes(c, size_of_changes(length, new.length))
-           && write_changes(c, (struct bytes){data, length}, end, new, &c->end) == RTR_OK;
+    uint8_t detail;
+    size_t size = 0, count = 0, at = 0;
+    for (; at < c->data_length; at += size, count++)
+        must(rtr_unit_size(c->data + at, c->data_length - at, &size, &detail));
+    return count ? count - 1 : 0;
+}
+
+const uint8_t *rtr_client_changes_from(struct rtr_client *c, const uint8_t *data, size_t length,
+                                       size_t *changes_length)
+{
+    struct rtr_data_answer answer;
+    size_t most = length + c->data_length;
+    release(&c->changes, &c->changes_length);
+    *changes_length = data ? 0 : c->data_length;
+    if (!data) /* the changes from no data are the data */
+        return c->data;
+    if (most < length || !resize(&c->changes, &c->changes_length, most))
+        return NULL;
+    if (rtr_changes_between(data, length, c->data, c->data_length, c->changes, most, &answer)
+        != RTR_OK)
+        release(&c->changes, &c->changes_length);
+    else
+        resize(&c->changes, &c->changes_length, answer.written);
+    *changes_length = answer.written;
+    return c->changes;
+}
+
+const uint8_t *rtr_client_changes(struct rtr_client *c, size_t *length)
+{
+    *length = 0;
+    return c->changed ? rtr_client_changes_from(c, c->former, c->former_length, length) : NULL;
 }
 
 /* Reports whether the link was in the right state for a call. */
@@ -504,6 +432,7 @@ bool rtr_client_lost(struct rtr_client *c, const char *reason)
     if (!c->begun || !in_turn(rtr_link_lost(&c->link)))
         return false;
     snprintf(c->reason, sizeof c->reason, "%s", reason ? reason : rtr_cause_text(RTR_CAUSE_LOST));
+    c->lost = true;
     c->broken = reason != NULL;
     return true;
 }
@@ -520,13 +449,10 @@ bool rtr_client_received(struct rtr_client *c, size_t length)
         return false;
     uint8_t status = rtr_link_received(&c->link, &c->buffers, length);
     if (status == RTR_LINK_TOO_LONG) {
-        rtr_client_lost(c, "more bytes were read than there is room for");
+        rtr_client_lost(c, RTR_FAILURE_MORE_READ);
         return false;
     }
-    if (!in_turn(status))
-        return false;
-    c->received += length;
-    return true;
+    return in_turn(status);
 }
 
 const uint8_t *rtr_client_output(const struct rtr_client *c, size_t *length)
@@ -541,7 +467,7 @@ bool rtr_client_sent(struct rtr_client *c, size_t length)
         return !length;
     uint8_t status = rtr_link_sent(&c->link, &c->buffers, length);
     if (status == RTR_LINK_TOO_LONG) {
-        rtr_client_lost(c, "more bytes were sent than there are");
+        rtr_client_lost(c, RTR_FAILURE_MORE_SENT);
         return false;
     }
     must(status);

@@ -17,9 +17,9 @@
  *                       RTR_LAST_REPORT_BYTES until the cache closes, but not after `wakes`; and
  *                       close the connection. Each RTR_CLIENT_CONNECT is followed by one
  *                       RTR_CLIENT_CLOSE
- *   RTR_CLIENT_DATA     `data` is the cache's data at the serial number of `end`. `changes` lead
- *                       to them from the former data; there may be none
- *   RTR_CLIENT_DROPPED  there are no data any more; `changes` withdraw the former data
+ *   RTR_CLIENT_DATA     `data` is the cache's data at the serial number of `end`.
+ *                       rtr_client_changes lead to them from the former data; there may be none
+ *   RTR_CLIENT_DROPPED  there are no data any more; rtr_client_changes withdraw the former data
  *   RTR_CLIENT_NO_DATA  the cache has no data yet (RFC 8210 section 8.4); the client asks again
  *                       after the retry time
  *   RTR_CLIENT_FAILED   `failure` and `text` say why there is no connection; RTR_CLIENT_CONNECT
@@ -28,9 +28,10 @@
  * Each call returns at once. A client is one struct of at most 1.25 KiB. Several clients may run at
  * once, each used by one thread at a time. A client allocates 128 KiB for input and output, and 12
  * bytes for each query that the cache doesn't take. While it loads an answer, it allocates memory
- * for the answer, at most `most_bytes`, the new data and the changes, but never by a length that a
- * header claims; then it keeps the data. Without memory the connection ends, and the data stay
- * unchanged.
+ * for the answer, at most `most_bytes`, and for the new data, but never by a length that a header
+ * claims; without memory the connection ends, and the data stay unchanged. The former data stay in
+ * memory until the next rtr_client_next; then it keeps only the data. It allocates memory for
+ * changes when the program asks for them.
  */
 #ifndef FISHREEF_RTR_CLIENT_H
 #define FISHREEF_RTR_CLIENT_H
@@ -51,19 +52,6 @@ enum rtr_client_event {
     RTR_CLIENT_FAILED
 };
 
-/* Why there is no connection. docs/SESSIONS.md has what is reported to the cache. */
-enum rtr_client_failure {
-    RTR_CLIENT_LOST,     /* connecting failed, or the connection broke or was closed */
-    RTR_CLIENT_SLOW,     /* the cache didn't answer or finish an answer in time */
-    RTR_CLIENT_TOO_LONG, /* an answer has too many units or bytes */
-    RTR_CLIENT_REFUSED,  /* a unit or the changes are refused for `status` */
-    RTR_CLIENT_BREACH,   /* a unit breaks the rules of a session */
-    RTR_CLIENT_REPORTED, /* the cache reports the error `code` */
-    RTR_CLIENT_EXPIRED,  /* the data have expired, and were dropped */
-    RTR_CLIENT_MEMORY    /* there is no memory for an answer or its changes; or to connect: then
-                            RTR_CLIENT_CONNECT hasn't come, and the client retries at `wakes` */
-};
-
 /* Times are in milliseconds, by a monotonic clock that isn't negative. A time before that of an
  * earlier call is taken as the earlier call's. */
 struct rtr_client {
@@ -76,32 +64,26 @@ struct rtr_client {
 
     /* For the program to read. Pointers are valid until the next call of rtr_client_next or
      * rtr_client_free. */
-    uint8_t *data;         /* in canonical form (rtr.h); null if there are none. They may expire
+    uint8_t *data; /* in canonical form (rtr.h); null if there are none. They may expire
                               between calls: rtr_client_has_data */
     size_t data_length;
-    struct rtr_unit end;   /* their end of data */
-    size_t payloads;       /* the number of their payload units */
-    uint8_t *changes;      /* in canonical form; `data` itself, if there were none before; null if
-                              memory ran out for the changes that withdraw all data. Their session
-                              is that of `end`, their version the higher of the old and the new
-                              data's */
-    size_t changes_length;
+    struct rtr_unit end; /* their end of data */
     int64_t wakes;
-    uint8_t failure;       /* an rtr_client_failure */
-    uint8_t status;        /* an rtr_status, or 0 */
-    uint16_t code;         /* the error code of the last report (RFC 8210 section 12) */
-    char text[400];        /* of a failure, or of a cache without data */
+    uint8_t failure; /* an rtr_client_failure of rtr.h */
+    uint8_t status;  /* an rtr_status, or 0 */
+    uint16_t code;   /* the error code of the last report (RFC 8210 section 12) */
+    char text[400];  /* of a failure, or of a cache without data */
 
     /* Private. */
     struct rtr_link link;
     struct rtr_todo todo; /* what the link asked for last */
     struct rtr_link_buffers buffers;
-    uint8_t *room; /* the buffer of the changes */
-    size_t room_length;
+    const uint8_t *former; /* the data before the last event, in their buffer */
+    uint8_t *changes;      /* what was asked for */
+    size_t former_length, changes_length;
     int64_t now, tries;
-    uint64_t received; /* bytes on the connection */
     uint8_t events[4], count;
-    bool begun, wished, broken, closing, starved;
+    bool begun, wished, lost, broken, closing, starved, changed;
     bool untold, unmade; /* a group wasn't told of `todo`; or of a failure without a link's todo */
     char reason[200];
 };
@@ -135,11 +117,20 @@ void rtr_client_ask_now(struct rtr_client *client);
  * hasn't returned RTR_CLIENT_DROPPED yet. */
 bool rtr_client_has_data(const struct rtr_client *client, int64_t now);
 
-/* Sets `changes` to those that lead from another client's data, with this end of data, to the
- * client's own; from no data, if `data` is null. Returns false without memory, or if the bytes
- * aren't data: then there are no changes. */
-bool rtr_client_instead(struct rtr_client *client, uint8_t *data, size_t length,
-                        const struct rtr_unit *end);
+/* Returns the number of payload units of the data, which it counts; 0 if there are none. */
+size_t rtr_client_payloads(const struct rtr_client *client);
+
+/* After RTR_CLIENT_DATA or RTR_CLIENT_DROPPED, computes the changes from the former data to these,
+ * and returns them with their length, as rtr_changes_between writes them; `data` itself, if there
+ * were none before. Returns null without memory, and after other events. The changes are valid
+ * until the next call of this, rtr_client_changes_from, rtr_client_next or rtr_client_free. */
+const uint8_t *rtr_client_changes(struct rtr_client *client, size_t *length);
+
+/* Computes the changes from these data, as another client's, to the client's own, as
+ * rtr_client_changes; from no data, if `data` is null. Returns null without memory, and if the
+ * bytes aren't data. */
+const uint8_t *rtr_client_changes_from(struct rtr_client *client, const uint8_t *data,
+                                       size_t length, size_t *changes_length);
 
 /* The connection is established. Returns false, and does nothing, unless RTR_CLIENT_CONNECT asked
  * for it and nothing else was reported since. */

@@ -33,11 +33,11 @@ static void test_answer(void)
             comes(whole(1, 5, 1, 3)->bytes, whole(1, 5, 1, 3)->length);
             EXPECT(DATA);
         }
-        CHECK(c.payloads == 3);
+        CHECK(rtr_client_payloads(&c) == 3);
         EXPECT(WAIT);
         now += 7200 * 1000;
-        next = denies(which);
-        CHECK(next == RTR_CLIENT_DROPPED && (c.changes_length == 3 * 20 + 24 || which == 1));
+        CHECK(denies(which) == RTR_CLIENT_DROPPED);
+        CHECK(changes_length() == 3 * 20 + 24);
         ends();
     }
 }
@@ -62,14 +62,20 @@ static void test_changes(void)
             CHECK(next == RTR_CLIENT_CLOSE && which <= 3);
             EXPECT(FAILED);
             CHECK(c.failure == RTR_CLIENT_MEMORY && !strcmp(c.text, "no memory"));
-            CHECK(c.payloads == 3 && c.end.serial == 5 && c.data_length == before.length - 8);
+            CHECK(rtr_client_payloads(&c) == 3 && c.end.serial == 5);
+            CHECK(c.data_length == before.length - 8);
             CHECK(memcmp(c.data, before.bytes + 8, c.data_length) == 0);
             connects_after(1000);
             sends_reset_query(1);
             comes(whole(1, 6, 2, 4)->bytes, whole(1, 6, 2, 4)->length);
             EXPECT(DATA);
         }
-        CHECK(c.payloads == 3 && c.end.serial == 6 && c.changes_length == 2 * 20 + 24);
+        size_t length;
+        allocations = 0;
+        denied = 1; /* the data are there, and the changes when they are asked for again */
+        CHECK(!rtr_client_changes(&c, &length) && length == 0);
+        denied = 0;
+        CHECK(rtr_client_payloads(&c) == 3 && c.end.serial == 6 && changes_length() == 2 * 20 + 24);
         ends();
     }
 }
@@ -88,13 +94,13 @@ static void test_input(void)
     CHECK(denies(1) == RTR_CLIENT_CLOSE);
     owes(NONE, 0);
     EXPECT(FAILED);
-    CHECK(c.failure == RTR_CLIENT_MEMORY && c.payloads == 3 && c.end.serial == 5);
+    CHECK(c.failure == RTR_CLIENT_MEMORY && rtr_client_payloads(&c) == 3 && c.end.serial == 5);
     CHECK(c.data_length == before.length - 8 && !memcmp(c.data, before.bytes + 8, c.data_length));
     connects_after(1000);
     sends_reset_query(1);
     comes(whole(1, 6, 1, 4000)->bytes, whole(1, 6, 1, 4000)->length);
     EXPECT(DATA);
-    CHECK(c.payloads == 4000 && c.changes_length == 3997 * 20 + 24);
+    CHECK(rtr_client_payloads(&c) == 4000 && changes_length() == 3997 * 20 + 24);
     ends();
 }
 
@@ -120,6 +126,22 @@ static void test_unit(void)
     ends();
 }
 
+/* The last event is a failure of the first client of a group, which hears of it once: it starts the
+ * second one. */
+static void starts_next(void)
+{
+    struct rtr_group group;
+    struct rtr_group_settings settings;
+    struct rtr_group_answer answer;
+    rtr_group_usual(&settings);
+    CHECK(rtr_group_init(&group, &settings, 2, (uint64_t)now) == RTR_OK);
+    rtr_client_tell(&c, &group, 0, &answer);
+    CHECK(answer.shown == RTR_GROUP_SAME && !answer.stops && answer.starts && answer.start == 1);
+    CHECK(rtr_group_init(&group, &settings, 2, (uint64_t)now) == RTR_OK);
+    rtr_client_tell(&c, &group, 0, &answer);
+    CHECK(answer.shown == RTR_GROUP_SAME && !answer.stops && !answer.starts);
+}
+
 /* Without memory to connect, the client fails at once, and connects a pause later. */
 static void test_beginning(void)
 {
@@ -130,7 +152,9 @@ static void test_beginning(void)
         CHECK(!rtr_client_room(&c, &capacity) && capacity == 0);
         CHECK(denies(which) == RTR_CLIENT_FAILED);
         CHECK(c.failure == RTR_CLIENT_MEMORY && !strcmp(c.text, "no memory"));
-        CHECK(rtr_client_next(&c, now) == RTR_CLIENT_WAIT && c.wakes > now);
+        starts_next();
+        CHECK(rtr_client_next(&c, now) == RTR_CLIENT_WAIT);
+        CHECK(c.wakes > now && c.wakes <= now + c.settings.pause + 1);
         now = c.wakes;
         asks();
         ends();
@@ -149,14 +173,15 @@ static void test_held(void)
         const struct text *text = serial == 5 ? whole(1, 5, 1, 6000) : &changes;
         comes(text->bytes, text->length);
         EXPECT(DATA);
-        CHECK((c.changes == c.data) == (serial == 5));
+        size_t length;
+        CHECK((rtr_client_changes(&c, &length) == c.data) == (serial == 5));
         EXPECT(WAIT);
         CHECK(held < c.data_length + 2 * 65536 + 1000);
         now = c.wakes;
         EXPECT(WAIT);
         sends_serial_query(1, serial);
     }
-    CHECK(c.payloads == 6002);
+    CHECK(rtr_client_payloads(&c) == 6002);
     ends();
 }
 

@@ -20,8 +20,7 @@ static void test_pieces(void)
         EXPECT(DATA);
         CHECK(c.data_length == text->length - 8);
         CHECK(memcmp(c.data, text->bytes + 8, c.data_length) == 0);
-        CHECK(c.changes_length == c.data_length);
-        CHECK(memcmp(c.changes, c.data, c.data_length) == 0);
+        changes_are(c.data, c.data_length);
         ends();
     }
 }
@@ -75,7 +74,7 @@ static void test_failures(void)
         CHECK(c.wakes == now + 2000 && c.status == row->status);
         EXPECT(FAILED);
         CHECK(c.failure == row->failure && !strcmp(c.text, row->text));
-        CHECK(c.payloads == 3 && c.end.serial == 5);
+        CHECK(rtr_client_payloads(&c) == 3 && c.end.serial == 5);
         connects_after(1000);
         sends_reset_query(2);
         comes((const uint8_t *)"\2\5\0\0\0\0\0\x08", 8); /* offsets restart at 0 */
@@ -115,7 +114,7 @@ static void test_texts(void)
     CHECK(c.failure == RTR_CLIENT_SLOW && !strcmp(c.text, "the cache is too slow"));
     now += 3600 * 1000; /* 7200 seconds after the data */
     EXPECT(DROPPED);
-    CHECK(c.changes_length == 3 * 20 + 24);
+    CHECK(changes_length() == 3 * 20 + 24);
     EXPECT(FAILED);
     CHECK(c.failure == RTR_CLIENT_EXPIRED && !strcmp(c.text, "the data have expired"));
     ends();
@@ -163,6 +162,30 @@ static void test_wish(void)
     ends();
 }
 
+/* A request that comes beside the loss of a connection, or a failed connect, outlives that: the
+ * client connects as soon as the pause allows, not when it would connect anyway. */
+static void test_wish_at_a_loss(void)
+{
+    for (int first = 0; first < 2; first++) {
+        has_data(1);
+        now += 5000;
+        if (first)
+            rtr_client_ask_now(&c);
+        rtr_client_lost(&c, "it broke");
+        if (!first)
+            rtr_client_ask_now(&c);
+        EXPECT(CLOSE);
+        EXPECT(FAILED);
+        EXPECT(CONNECT);
+        rtr_client_lost(&c, "it is refused");
+        rtr_client_ask_now(&c);
+        EXPECT(CLOSE);
+        EXPECT(FAILED);
+        connects_after(1000);
+        ends();
+    }
+}
+
 /* Data expire on time, even if the program makes no call. */
 static void test_expiry(void)
 {
@@ -187,17 +210,19 @@ static void test_changes(void)
     add_end(&changes, 1, SESSION, 6, usual);
     comes(changes.bytes, changes.length);
     EXPECT(DATA);
-    CHECK(c.payloads == 2 && c.changes_length == 3 * 20 + 24);
-    CHECK(c.changes[8] == 1 && c.changes[19] == 9 && c.changes[39] == 1 && c.changes[59] == 2);
+    size_t length;
+    const uint8_t *made = rtr_client_changes(&c, &length);
+    CHECK(rtr_client_payloads(&c) == 2 && length == 3 * 20 + 24);
+    CHECK(made[8] == 1 && made[19] == 9 && made[39] == 1 && made[59] == 2);
     ends();
 }
 
 /* The changes from other data, of any version and session, to a client's own. */
-static void test_instead(void)
+static void test_changes_from(void)
 {
     static struct text other, expected;
     for (uint8_t version = 0; version < 3; version++) {
-        struct rtr_unit end;
+        size_t length;
         uint8_t higher = version > 1 ? version : 1;
         other.length = expected.length = 0;
         add_prefix(&expected, higher, 1, 1);
@@ -207,21 +232,16 @@ static void test_instead(void)
         add_prefix(&other, version, 1, 4);
         if (version == 2)
             add_aspa(&other, 1, 7, 8), add_aspa(&expected, 0, 7, 8);
-        size_t payloads = other.length;
         add_end(&other, version, SESSION + version, 9, usual);
         add_end(&expected, higher, SESSION, 5, usual);
         has_data(1);
-        CHECK(rtr_next(other.bytes + payloads, other.length - payloads, &end) == RTR_OK);
-        CHECK(rtr_client_instead(&c, other.bytes, other.length, &end));
-        CHECK(c.changes_length == expected.length);
-        CHECK(memcmp(c.changes, expected.bytes, expected.length) == 0);
-        CHECK(rtr_client_instead(&c, NULL, 0, &end));
-        CHECK(c.changes_length == c.data_length && !memcmp(c.changes, c.data, c.data_length));
-        CHECK(!rtr_client_instead(&c, other.bytes, other.length - 1, &end) && !c.changes);
+        const uint8_t *made = rtr_client_changes_from(&c, other.bytes, other.length, &length);
+        CHECK(made && length == expected.length && !memcmp(made, expected.bytes, length));
+        CHECK(rtr_client_changes_from(&c, NULL, 0, &length) == c.data && length == c.data_length);
+        CHECK(!rtr_client_changes_from(&c, other.bytes, other.length - 1, &length) && !length);
         allocations = 0;
         denied = 1;
-        CHECK(!rtr_client_instead(&c, other.bytes, other.length, &end));
-        CHECK(!c.changes && c.changes_length == 0);
+        CHECK(!rtr_client_changes_from(&c, other.bytes, other.length, &length) && !length);
         denied = 0;
         EXPECT(WAIT);
         ends();
@@ -259,8 +279,8 @@ static void test_lower_answer(void)
         sends_reset_query(lower);
         comes(whole(lower, 5, 1, 1)->bytes, whole(lower, 5, 1, 1)->length);
         EXPECT(DATA);
-        CHECK(c.changes_length == gone.length + 24);
-        CHECK(memcmp(c.changes, gone.bytes, gone.length) == 0);
+        add_end(&gone, version, SESSION, 5, usual);
+        changes_are(gone.bytes, gone.length);
         ends();
     }
 }
@@ -326,7 +346,7 @@ static void test_limit(void)
         comes(text->bytes, text->length);
         if (over == 0) {
             EXPECT(DATA);
-            CHECK(c.payloads == 3);
+            CHECK(rtr_client_payloads(&c) == 3);
         } else {
             EXPECT(CLOSE);
             owes(NONE, 0);
@@ -355,7 +375,7 @@ static void test_room(void)
             EXPECT(FAILED);
         } else {
             EXPECT(DATA);
-            CHECK(c.payloads == 2 && c.data_length == 105 + first + 24);
+            CHECK(rtr_client_payloads(&c) == 2 && c.data_length == 105 + first + 24);
         }
         ends();
     }
@@ -376,7 +396,7 @@ static void test_wrong_lengths(void)
             CHECK(!rtr_client_sent(&c, more)); /* there are none */
         EXPECT(CLOSE);
         EXPECT(FAILED);
-        CHECK(c.failure == RTR_CLIENT_LOST && c.payloads == 3);
+        CHECK(c.failure == RTR_CLIENT_LOST && rtr_client_payloads(&c) == 3);
         CHECK(!strcmp(c.text, wrong < 2 ? "more bytes were read than there is room for"
                                         : "more bytes were sent than there are"));
         ends();
@@ -479,12 +499,15 @@ static void test_turns(void)
 }
 
 /* After rtr_client_again a client connects at once, without data; the waits for a failing cache
- * continue to grow. */
+ * continue to grow. A time before that of the last call counts as that one. */
 static void test_again(void)
 {
     has_data(1);
     rtr_client_free(&c);
     CHECK(held == 0 && !c.data && !rtr_client_has_data(&c, now));
+    rtr_client_again(&c);
+    CHECK(rtr_client_next(&c, now - 5000) == RTR_CLIENT_CONNECT && c.now == now);
+    rtr_client_free(&c);
     rtr_client_again(&c);
     asks();
     ends();
@@ -644,9 +667,10 @@ int main(int count, char **words)
     test_failures();
     test_texts();
     test_wish();
+    test_wish_at_a_loss();
     test_expiry();
     test_changes();
-    test_instead();
+    test_changes_from();
     test_lower_answer();
     test_queries_not_taken();
     test_flood();

@@ -1,5 +1,5 @@
-/* Tests of the calls for a server's limits and its door: which connections are served, refused and
- * left waiting.
+/* Tests of the calls for a server's limits, its door and its connections: which connections are
+ * served, refused and left waiting, what each does next, and what a server keeps.
  *
  * usage: server_tests */
 #include "testing.h"
@@ -80,9 +80,9 @@ static void check_ends(void)
     CHECK(rtr_door_enter(&door, true) == RTR_ENTRY_SERVE && door.served == UINT32_MAX);
 }
 
-/* A call on a connection, and what comes of it: what to do then, for which limit, and until when.
+/* A call on a connection, and its result: the next action, the limit, and the deadline.
  * The router was told of data of session 7; its machine waits until 90 s. */
-enum call { NOTHING, CAME, HEARD, ANSWERS, ENDS, SENT, CLOSED };
+enum call { NOTHING, CAME, HEARD, ANSWERS, ENDS, SENT, CLOSED, BROKE };
 
 struct turn {
     uint64_t now;
@@ -117,6 +117,19 @@ static const struct turn turns[] = {
     {29999, SENT, 4, true, 7, 7, RTR_STEP_CLOSE, RTR_CUT_NONE, 30000},
 };
 
+/* A connection that breaks while it is sent an answer is closed, without a limit, and stays so. */
+static const struct turn broken[] = {
+    {1000, CAME, 8, true, 7, 5, RTR_STEP_HEAR, RTR_CUT_NONE, 0},
+    {1000, HEARD, 8, true, 7, 5, RTR_STEP_WAIT, RTR_CUT_NONE, 90000},
+    {1000, ANSWERS, 9, true, 7, 5, RTR_STEP_SEND, RTR_CUT_NONE, 31000},
+    {1000, BROKE, 0, true, 7, 5, RTR_STEP_CLOSE, RTR_CUT_NONE, 0},
+    {99000, SENT, 9, true, 8, 9, RTR_STEP_CLOSE, RTR_CUT_NONE, 0},
+    {99000, CAME, 8, true, 8, 9, RTR_STEP_CLOSE, RTR_CUT_NONE, 0},
+    {99000, CLOSED, 0, true, 8, 9, RTR_STEP_CLOSE, RTR_CUT_NONE, 0},
+    {99000, ANSWERS, 9, false, 8, 9, RTR_STEP_CLOSE, RTR_CUT_NONE, 0},
+    {99000, ENDS, 9, false, 8, 9, RTR_STEP_CLOSE, RTR_CUT_NONE, 0},
+};
+
 static bool call(struct rtr_connection *connection, const struct turn *turn)
 {
     switch (turn->call) {
@@ -135,12 +148,21 @@ static bool call(struct rtr_connection *connection, const struct turn *turn)
     case CLOSED:
         rtr_connection_closed(connection);
         return true;
+    case BROKE:
+        rtr_connection_broke(connection);
+        return true;
     default:
         return true;
     }
 }
 
-static void check_connection(void)
+/* Reads where it waits, hears or is told the time, until the router closes. */
+static bool reads(const struct rtr_connection *connection)
+{
+    return !connection->state && !connection->unsent && !connection->closed;
+}
+
+static void check_connection(const struct turn *turns, size_t count)
 {
     struct rtr_server_settings settings;
     struct rtr_connection connection;
@@ -148,7 +170,7 @@ static void check_connection(void)
     rtr_server_settings_usual(&settings);
     memset(&connection, 0xa5, sizeof connection);
     rtr_connection_init(&connection, 0, &settings);
-    for (size_t i = 0; i < sizeof turns / sizeof turns[0]; i++) {
+    for (size_t i = 0; i < count; i++) {
         const struct turn *turn = &turns[i];
         const struct rtr_present present = {1, turn->session, true};
         uint8_t cut = 99;
@@ -160,6 +182,66 @@ static void check_connection(void)
             fprintf(stderr, "turn %zu\n", i);
         CHECK(step == turn->step && cut == turn->cut);
         CHECK(rtr_connection_wakes(&connection, &cache, &present) == turn->wakes);
+        CHECK(rtr_connection_reads(&connection) == reads(&connection));
+        CHECK(step != RTR_STEP_WAIT || rtr_connection_reads(&connection));
+        CHECK(step != RTR_STEP_SEND || !rtr_connection_reads(&connection));
+    }
+}
+
+/* The present data, whether there are any, and new ones: the version in which these are kept. */
+static void check_versions(void)
+{
+    static const struct {
+        bool has;
+        uint8_t present;
+        uint16_t session;
+        uint8_t version, kept;
+    } rows[] = {
+        {false, 0, 7, 0, 2}, {true, 1, 7, 0, 1}, {true, 1, 7, 1, 1}, {true, 1, 7, 2, 2},
+        {true, 1, 8, 1, 2},  {true, 0, 7, 0, 0}, {true, 2, 7, 0, 2}, {true, 0, 7, 1, 2},
+    };
+    for (size_t i = 0; i < sizeof rows / sizeof rows[0]; i++) {
+        struct rtr_present present = {1, 7, rows[i].has};
+        uint8_t kept = rtr_stores_version(&present, rows[i].present, rows[i].session,
+                                          rows[i].version);
+        CHECK(kept == rows[i].kept);
+    }
+}
+
+/* Up to `keep_bytes`, without an overflow. */
+static void check_kept(void)
+{
+    struct rtr_server_settings settings;
+    rtr_server_settings_usual(&settings);
+    CHECK(rtr_server_keeps(&settings, 0, settings.keep_bytes));
+    CHECK(!rtr_server_keeps(&settings, 0, settings.keep_bytes + 1));
+    settings.keep_bytes = 100;
+    CHECK(rtr_server_keeps(&settings, 40, 60) && !rtr_server_keeps(&settings, 40, 61));
+    CHECK(rtr_server_keeps(&settings, 100, 0) && !rtr_server_keeps(&settings, 101, 0));
+    CHECK(!rtr_server_keeps(&settings, 1, SIZE_MAX) && !rtr_server_keeps(&settings, SIZE_MAX, 1));
+}
+
+/* 1, 2, 4, .. 32, 60 and 60 seconds (docs/OPERATORS.md). */
+static void check_retries(void)
+{
+    uint32_t pause = 0;
+    for (uint32_t seconds = 1; seconds <= 32; seconds *= 2) {
+        pause = rtr_retry_after(pause);
+        CHECK(pause == 1000 * seconds);
+    }
+    CHECK(rtr_retry_after(pause) == 60000 && rtr_retry_after(60000) == 60000);
+    CHECK(rtr_retry_after(UINT32_MAX) == 60000);
+}
+
+/* The times of an end of data, which has none in version 0. */
+static void check_end_rule(void)
+{
+    CHECK(rtr_end_rule(0, 0, 0, 0) == RTR_TIME_RULE_NONE);
+    for (uint8_t version = 1; version <= RTR_HIGHEST_VERSION; version++) {
+        CHECK(rtr_end_rule(version, 3600, 600, 7200) == RTR_TIME_RULE_NONE);
+        CHECK(rtr_end_rule(version, 0, 600, 7200) == RTR_TIME_RULE_REFRESH);
+        CHECK(rtr_end_rule(version, 3600, 7201, 172800) == RTR_TIME_RULE_RETRY);
+        CHECK(rtr_end_rule(version, 7200, 600, 7200) == RTR_TIME_RULE_ABOVE_REFRESH);
     }
 }
 
@@ -168,6 +250,11 @@ int main(void)
     check_limits();
     check_door();
     check_ends();
-    check_connection();
+    check_connection(turns, sizeof turns / sizeof turns[0]);
+    check_connection(broken, sizeof broken / sizeof broken[0]);
+    check_versions();
+    check_kept();
+    check_retries();
+    check_end_rule();
     return 0;
 }

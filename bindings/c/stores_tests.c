@@ -226,7 +226,7 @@ static uint64_t number_at(const uint8_t *bytes)
     return value;
 }
 
-/* Writes the file of the store that waits. */
+/* Writes the file of the pending store. */
 static void write_file(struct cache *k)
 {
     struct rtr_stores_state state = state_of(k);

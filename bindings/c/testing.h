@@ -68,8 +68,8 @@ static inline void *lie(const struct arena *arena, struct fenced fenced, size_t 
     return arena->at_end ? fenced.end - length : fenced.front;
 }
 
-static inline uint8_t *copied(const struct arena *arena, struct fenced fenced,
-                              const uint8_t *bytes, size_t length)
+static inline uint8_t *copied(const struct arena *arena, struct fenced fenced, const uint8_t *bytes,
+                              size_t length)
 {
     uint8_t *copy = lie(arena, fenced, length);
     memcpy(copy, bytes, length);

@@ -13,22 +13,48 @@ static const char *(*const plain[])(uint8_t) = {
     rtr_status_text, rtr_kind_text, rtr_cause_text, rtr_reason_text, NULL, rtr_time_rule_text,
 };
 
-#define NO_TEXT 255 /* no rtr_named */
+/* The calls that write texts. */
+enum text_call { TEXT, TEXT_AT, REPORT, NAME };
 
-/* Calls rtr_text, or rtr_name if `named` isn't NO_TEXT, with each output size: the text is written
- * if it fits, else its start. */
-static void check_text(const struct arena *arena, uint8_t named, unsigned long number,
-                       uint8_t detail, const char *text)
+/* How long a text of each may be, with a 0 behind it. */
+static const size_t rooms[] = {RTR_TEXT_ROOM, RTR_TEXT_AT_ROOM, RTR_REPORT_TEXT_ROOM,
+                               RTR_TEXT_ROOM};
+
+/* The arguments of a call; fields that it doesn't take are 0. */
+struct asked {
+    enum text_call call;
+    uint8_t named, detail;
+    uint16_t number;
+    uint64_t offset;
+    const uint8_t *reported;
+    size_t reported_length;
+};
+
+static uint8_t write_text(const struct asked *a, uint8_t *output, size_t capacity, size_t *length)
+{
+    switch (a->call) {
+    case TEXT:
+        return rtr_text((uint8_t)a->number, a->detail, output, capacity, length);
+    case TEXT_AT:
+        return rtr_text_at((uint8_t)a->number, a->detail, a->offset, output, capacity, length);
+    case REPORT:
+        return rtr_report_text(a->number, a->reported, a->reported_length, output, capacity,
+                               length);
+    default:
+        return rtr_name(a->named, a->number, output, capacity, length);
+    }
+}
+
+/* Makes a call with each output size: the text is written if it fits, else its start. */
+static void check_text(const struct arena *arena, const struct asked *asked, const char *text)
 {
     size_t length = strlen(text);
-    CHECK(length < RTR_TEXT_ROOM);
+    CHECK(length < rooms[asked->call]);
     for (size_t capacity = 0; capacity <= length + 1; capacity++) {
         uint8_t *output = lie(arena, arena->output, capacity);
         size_t *length_written = FILLED(arena->answer, size_t);
         memset(output, 0xa5, capacity);
-        uint8_t status = named == NO_TEXT
-            ? rtr_text((uint8_t)number, detail, output, capacity, length_written)
-            : rtr_name(named, (uint16_t)number, output, capacity, length_written);
+        uint8_t status = write_text(asked, output, capacity, length_written);
         CHECK(status == (capacity < length ? RTR_NO_ROOM : RTR_OK) && *length_written == length);
         CHECK(memcmp(output, text, capacity < length ? capacity : length) == 0);
         CHECK(capacity <= length || output[length] == 0xa5);
@@ -48,24 +74,63 @@ static void check_plain(uint8_t named, unsigned long number, const char *text)
         CHECK(strcmp(plain_text, text) == 0);
 }
 
+/* Decodes hex digits, and returns the number of bytes. */
+static size_t bytes_of(const char *row, uint8_t *bytes)
+{
+    size_t count = 0;
+    unsigned byte;
+    for (int length; sscanf(row, " %2x%n", &byte, &length) == 1; row += length)
+        bytes[count++] = (uint8_t)byte;
+    return count;
+}
+
+/* A report's text, and that of rtr_reported_text, which has it. */
+static void check_report(const struct arena *arena, uint16_t code, const char *digits,
+                         const char *text)
+{
+    uint8_t bytes[128];
+    char said[200], whole[200];
+    size_t size = bytes_of(digits, bytes);
+    const uint8_t *input = copied(arena, arena->input, bytes, size);
+    struct asked asked = {.call = REPORT, .number = code, .reported = input,
+                          .reported_length = size};
+    struct rtr_unit unit = {.code = code, .text_length = size};
+    check_text(arena, &asked, text);
+    snprintf(whole, sizeof whole, "it says: %s", text);
+    for (size_t capacity = 1; capacity <= sizeof said; capacity++) {
+        memset(said, 'x', sizeof said);
+        rtr_reported_text("it says", &unit, input, said, capacity);
+        CHECK(strlen(said) == (strlen(whole) < capacity ? strlen(whole) : capacity - 1));
+        CHECK(memcmp(said, whole, strlen(said)) == 0);
+    }
+}
+
 /* A row of the file. */
 static void check_row(const struct arena *arena, const char *row)
 {
-    char word[16];
+    char word[16], digits[256];
     int front = 0;
     unsigned long number, detail;
+    unsigned long long offset;
     if (sscanf(row, "text %lu %lu %n", &number, &detail, &front) == 2 && front) {
-        check_text(arena, NO_TEXT, number, (uint8_t)detail, row + front);
-        return;
+        struct asked asked = {.call = TEXT, .number = (uint16_t)number, .detail = (uint8_t)detail};
+        check_text(arena, &asked, row + front);
+    } else if (sscanf(row, "at %lu %lu %llu %n", &number, &detail, &offset, &front) == 3) {
+        struct asked asked = {.call = TEXT_AT, .number = (uint16_t)number,
+                              .detail = (uint8_t)detail, .offset = offset};
+        check_text(arena, &asked, row + front);
+    } else if (sscanf(row, "report %lu %255s %n", &number, digits, &front) == 2) {
+        check_report(arena, (uint16_t)number, digits, row + front);
+    } else {
+        CHECK(sscanf(row, "%15s %lu %n", word, &number, &front) == 2);
+        uint8_t named = 0;
+        while (named < sizeof words / sizeof *words && strcmp(word, words[named]) != 0)
+            named++;
+        CHECK(named < sizeof words / sizeof *words);
+        struct asked asked = {.call = NAME, .named = named, .number = (uint16_t)number};
+        check_text(arena, &asked, row + front);
+        check_plain(named, number, row + front);
     }
-    CHECK(sscanf(row, "%15s %lu %n", word, &number, &front) == 2);
-    for (uint8_t named = 0; named < sizeof words / sizeof *words; named++)
-        if (strcmp(word, words[named]) == 0) {
-            check_text(arena, named, number, 0, row + front);
-            check_plain(named, number, row + front);
-            return;
-        }
-    CHECK(!"a row of no such name");
 }
 
 /* The functions of rtr.h know the same names as the archive, and no others. */
@@ -91,6 +156,8 @@ static void check_all(void)
             size_t length;
             CHECK(rtr_text((uint8_t)status, (uint8_t)detail, NULL, 0, &length) == RTR_NO_ROOM);
             CHECK(0 < length && length < RTR_TEXT_ROOM);
+            rtr_text_at((uint8_t)status, (uint8_t)detail, UINT64_MAX, NULL, 0, &length);
+            CHECK(length < RTR_TEXT_AT_ROOM);
         }
 }
 
@@ -103,16 +170,6 @@ static const char *const sample_words[WORDS] = {
 struct sample {
     char rows[WORDS][400];
 };
-
-/* Decodes a row of hex digits, and returns the number of bytes. */
-static size_t bytes_of(const char *row, uint8_t *bytes)
-{
-    size_t count = 0;
-    unsigned byte;
-    for (int length; sscanf(row, " %2x%n", &byte, &length) == 1; row += length)
-        bytes[count++] = (uint8_t)byte;
-    return count;
-}
 
 typedef uint8_t line_call(const uint8_t *, size_t, uint8_t *, size_t, struct rtr_line *);
 
