@@ -5,6 +5,7 @@ package rtr
 import (
 	"bytes"
 	"context"
+	"io"
 	"net"
 	"sync"
 	"testing"
@@ -76,6 +77,46 @@ func TestAskNowOffline(t *testing.T) {
 	})
 	if err != errEnough {
 		t.Fatal(err)
+	}
+}
+
+// hasty is a connection that calls AskNow at its end, before the client knows of that.
+type hasty struct {
+	*net.TCPConn
+	client *Client
+}
+
+func (h hasty) Read(bytes []byte) (int, error) {
+	n, err := h.TCPConn.Read(bytes)
+	if err == io.EOF {
+		h.client.AskNow()
+	}
+	return n, err
+}
+
+// A request that comes between the loss of a connection, or a failed dial, and its close makes the
+// next connection.
+func TestAskNowAtALoss(t *testing.T) {
+	noLeaks(t)
+	client := quick(fakeCache(t, quiet(t, scene{reset1, full(7, 1)}),
+		play(t, nil, scene{asked(1, 7, 1), full(7, 2)})))
+	client.Version, client.Retry = 1, patience
+	dials := 0
+	client.Dial = func(ctx context.Context, network, address string) (net.Conn, error) {
+		if dials++; dials == 2 {
+			client.AskNow()
+			return nil, errBroken
+		}
+		connection, err := new(net.Dialer).DialContext(ctx, network, address)
+		if err != nil {
+			return nil, err
+		}
+		return hasty{connection.(*net.TCPConn), client}, nil
+	}
+	if _, failures := follow(t, client, func(update Update) bool {
+		return update.Data.Serial() == 2
+	}); len(failures) != 2 {
+		t.Fatal(texts(failures))
 	}
 }
 

@@ -41,8 +41,6 @@ type cause uint8
 // The causes for which a Client has errors of their own.
 const (
 	causeLost          cause = C.RTR_CAUSE_LOST
-	causeSlow          cause = C.RTR_CAUSE_SLOW
-	causeFaulty        cause = C.RTR_CAUSE_FAULTY
 	causeReported      cause = C.RTR_CAUSE_REPORTED
 	causeOutOfPlace    cause = C.RTR_CAUSE_OUT_OF_PLACE
 	causeNoSuchPayload cause = C.RTR_CAUSE_NO_SUCH_PAYLOAD
@@ -54,8 +52,6 @@ const (
 	causeTooLong       cause = C.RTR_CAUSE_TOO_LONG
 	causeNotApplied    cause = C.RTR_CAUSE_NOT_APPLIED
 	causeExpired       cause = C.RTR_CAUSE_EXPIRED
-	causeLower         cause = C.RTR_CAUSE_LOWER
-	causeHigher        cause = C.RTR_CAUSE_HIGHER
 )
 
 // String returns the text of the cause, as in reports.
@@ -127,7 +123,7 @@ func reasonText(reason C.uint8_t) string {
 }
 
 // ErrTooSlow: the peer exceeded a time limit.
-var ErrTooSlow = errors.New("rtr: the peer is too slow")
+var ErrTooSlow = errors.New("rtr: " + failureSlow)
 
 // Breach is a unit that breaks a rule of the session, which ends it. A unit that is malformed is a
 // Fault. errors.Is finds the reason in it.
@@ -175,20 +171,7 @@ func (r *Reported) Error() string {
 	if r.router {
 		text = reasonText(C.RTR_REASON_REPORTED)
 	}
-	text = fmt.Sprintf("rtr: %s: %v", text, r.Code)
-	if r.Text == "" {
-		return text
-	}
-	quoted := []byte(r.Text)
-	if len(quoted) > mostQuoted {
-		quoted = quoted[:mostQuoted]
-	}
-	for i, octet := range quoted {
-		if octet < ' ' || octet > '~' {
-			quoted[i] = '?'
-		}
-	}
-	return fmt.Sprintf("%s, \"%s\"", text, quoted)
+	return fmt.Sprintf("rtr: %s: %s", text, reportText(r.Code, r.Text))
 }
 
 // breachOf returns a breach with this reason and code, and a copy of input's first unit.

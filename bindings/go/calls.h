@@ -111,6 +111,34 @@ static inline struct text_result text(
 	return all;
 }
 
+struct text_at_result {
+	size_t text_length;
+	uint8_t result;
+};
+
+static inline struct text_at_result text_at(
+	uint8_t status, uint8_t detail, uint64_t offset, uint8_t *output, size_t output_length)
+{
+	struct text_at_result all;
+	all.result = rtr_text_at(status, detail, offset, output, output_length, &all.text_length);
+	return all;
+}
+
+struct report_text_result {
+	size_t text_length;
+	uint8_t result;
+};
+
+static inline struct report_text_result report_text(
+	uint16_t code, const uint8_t *reported, size_t reported_length, uint8_t *output,
+	size_t output_length)
+{
+	struct report_text_result all;
+	all.result = rtr_report_text(code, reported, reported_length, output, output_length,
+		&all.text_length);
+	return all;
+}
+
 struct name_result {
 	size_t text_length;
 	uint8_t result;
@@ -181,6 +209,16 @@ static inline struct rtr_data_answer delta(
 	struct rtr_data_answer answer;
 	rtr_delta(old_data, old_data_length, new_data, new_data_length, output, output_length,
 		&answer);
+	return answer;
+}
+
+static inline struct rtr_data_answer changes_between(
+	const uint8_t *old_data, size_t old_data_length, const uint8_t *new_data,
+	size_t new_data_length, uint8_t *output, size_t output_length)
+{
+	struct rtr_data_answer answer;
+	rtr_changes_between(old_data, old_data_length, new_data, new_data_length, output,
+		output_length, &answer);
 	return answer;
 }
 
@@ -434,6 +472,12 @@ static inline struct link_give_up_result link_give_up(
 	return all;
 }
 
+static inline uint8_t todo_failure(
+	struct rtr_todo todo, bool gave_up)
+{
+	return rtr_todo_failure(&todo, gave_up);
+}
+
 struct link_state_result {
 	struct rtr_link_state state;
 	uint8_t result;
@@ -598,6 +642,12 @@ static inline struct cache_report_result cache_report(
 	return all;
 }
 
+static inline bool server_keeps(
+	struct rtr_server_settings settings, size_t kept_bytes, size_t length)
+{
+	return rtr_server_keeps(&settings, kept_bytes, length);
+}
+
 static inline void door_init(
 	struct rtr_door *door, struct rtr_server_settings settings)
 {
@@ -614,6 +664,12 @@ static inline void connection_init(
 	struct rtr_connection *connection, uint64_t now, struct rtr_server_settings settings)
 {
 	rtr_connection_init(connection, now, &settings);
+}
+
+static inline bool connection_reads(
+	struct rtr_connection connection)
+{
+	return rtr_connection_reads(&connection);
 }
 
 struct connection_next_result {
@@ -652,6 +708,12 @@ static inline struct rtr_stores_answer stores_take(
 	struct rtr_stores_answer answer;
 	rtr_stores_take(stores, new, new_length, now, &limits, &buffers, &work, &answer);
 	return answer;
+}
+
+static inline uint8_t stores_version(
+	struct rtr_present present, uint8_t present_version, uint16_t session, uint8_t version)
+{
+	return rtr_stores_version(&present, present_version, session, version);
 }
 
 struct stores_state_result {

@@ -16,7 +16,6 @@ type follower struct {
 
 	data      Data
 	connected bool
-	received  int64 // bytes from the present connection
 	logged    int   // how many of the unsent bytes are in the log
 	todo      *todo // the link's last action, until a caller takes it; nil then
 	err       error // why there is no connection
@@ -32,7 +31,8 @@ func (f *follower) run() error {
 	return f.stopped
 }
 
-// next returns the next action. A request is handled before bytes that arrived after it.
+// next returns the next action. A request is handled before bytes that arrived after it; without a
+// connection, or once that is lost, it waits for the next wait.
 func (f *follower) next() todo {
 	if f.connected && f.askRequest.take() {
 		return f.link.askNow(f.peer.now())
@@ -77,7 +77,7 @@ func (f *follower) wait(until uint64) {
 // connect connects. If the deadline passes, the link ends the attempt.
 func (f *follower) connect(until uint64) {
 	var err error
-	f.received, f.logged = 0, 0
+	f.logged = 0
 	if f.connected, err = f.peer.connect(until); f.connected {
 		f.logs(LevelDebug, "connected")
 		f.link.opened()
@@ -98,7 +98,6 @@ func (f *follower) send(until uint64) {
 func (f *follower) receive(until uint64) {
 	count, err := f.peer.read(f.link.inputTail(f.peer.now()), until)
 	f.link.received(count)
-	f.received += int64(count)
 	f.checkLost(err)
 }
 
@@ -106,7 +105,7 @@ func (f *follower) receive(until uint64) {
 // lost.
 func (f *follower) checkLost(err error) {
 	if err != nil {
-		f.err = err
+		f.err, f.connected = err, false
 		f.link.lost()
 		f.stop(f.peer.ended())
 	}
@@ -122,7 +121,7 @@ func (f *follower) close(t todo) {
 	f.peer.close(f.link.unsent(f.peer.now()), bool(t.reports))
 	f.connected = false
 	f.link.release(f.peer.now())
-	if c := cause(t.cause); c != causeLower && c != causeHigher {
+	if reason != nil {
 		f.failed(reason)
 	}
 }

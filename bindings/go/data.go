@@ -8,6 +8,7 @@ import (
 	"errors"
 	"fmt"
 	"math"
+	"sync"
 )
 
 // Timing has the three times of an end of data, in seconds (RFC 8210 section 6). Version 0 has
@@ -30,10 +31,15 @@ var ErrTiming = errors.New("rtr: a cache may not send these times")
 // section 6 that they break: the refresh time is 1 to 86400 seconds, the retry time 1 to 7200, the
 // expire time 600 to 172800, and longer than both.
 func (t Timing) Check() error {
-	if rule, broken := brokenTimeRule(t); broken {
-		return fmt.Errorf("%w: %s", ErrTiming, name(namedTimeRule, rule))
+	return timesError(brokenTimeRule(t))
+}
+
+// timesError returns the error for the rule of this number, or nil for 0.
+func timesError(rule uint16) error {
+	if rule == 0 {
+		return nil
 	}
-	return nil
+	return fmt.Errorf("%w: %s", ErrTiming, name(namedTimeRule, rule))
 }
 
 // Data is the data of a cache, or a router's copy of them: payloads, and an end of data with their
@@ -45,12 +51,18 @@ func (t Timing) Check() error {
 // payloads.
 type Data struct {
 	bytes   []byte // the units, and the end of data
-	units   int    // the number of payload units
-	kinds   [16]int32
 	session uint16
 	serial  uint32
 	timing  Timing
+	counted *counted
 	lookup  *lookup
+}
+
+// counted is what copies of a Data share: the number of its payload units of each kind, which the
+// first use counts.
+type counted struct {
+	once  sync.Once
+	kinds [16]int
 }
 
 // NewData makes data without payloads. Data of version 0 have no timing.
@@ -134,19 +146,16 @@ func unitLength(unit []byte) int {
 	return int(binary.BigEndian.Uint32(unit[4:]))
 }
 
-// checkedData returns the data of these bytes, which were checked.
+// checkedData returns the data of these bytes, which were checked, and end with the end of data.
 func checkedData(bytes []byte) Data {
-	data := Data{bytes: bytes[:len(bytes):len(bytes)], lookup: new(lookup)}
-	at := 0
-	for ; Kind(bytes[at+1]) != EndOfData; data.units++ {
-		data.kinds[bytes[at+1]%16]++
-		at += unitLength(bytes[at:])
-	}
 	var end Unit
-	end.parse(bytes[at:])
-	data.session, data.serial = end.Session, end.Serial
-	data.timing = Timing{Refresh: end.Refresh, Retry: end.Retry, Expire: end.Expire}
-	return data
+	_, last := parts(bytes)
+	end.parse(last)
+	return Data{
+		bytes: bytes[:len(bytes):len(bytes)], session: end.Session, serial: end.Serial,
+		timing:  Timing{Refresh: end.Refresh, Retry: end.Retry, Expire: end.Expire},
+		counted: new(counted), lookup: new(lookup),
+	}
 }
 
 // Equal reports whether two data have the same payloads, version, session, serial number and
@@ -177,7 +186,7 @@ func (d Data) With(session uint16, serial uint32, timing Timing) (Data, error) {
 	if _, end := parts(d.bytes); err != nil || bytes.Equal(end, other.bytes) {
 		return d, err
 	}
-	other.units, other.kinds = d.units, d.kinds
+	other.counted = d.counted
 	all := append([]byte(nil), d.bytes...) // make would first clear them
 	_, end := parts(all)
 	copy(end, other.bytes)
@@ -196,17 +205,43 @@ func (d Data) Bytes() []byte {
 	return d.bytes
 }
 
-// Len returns the number of payloads.
+// Len returns the number of payloads. The first call of this or Count counts them.
 func (d Data) Len() int {
-	return d.units
+	all := 0
+	for _, count := range d.kinds() {
+		all += count
+	}
+	return all
 }
 
 // Count returns the number of payloads of a kind.
 func (d Data) Count(kind Kind) int {
-	if int(kind) >= len(d.kinds) {
+	kinds := d.kinds()
+	if int(kind) >= len(kinds) {
 		return 0
 	}
-	return int(d.kinds[kind])
+	return kinds[kind]
+}
+
+// kinds returns the number of payloads of each kind.
+func (d Data) kinds() [16]int {
+	if d.IsZero() {
+		return [16]int{}
+	}
+	d.counted.once.Do(func() {
+		for units, _ := parts(d.bytes); len(units) > 0; units = units[unitLength(units):] {
+			d.counted.kinds[units[1]%16]++
+		}
+	})
+	return d.counted.kinds
+}
+
+// some returns 0 if there are no payloads, else 1: what a group asks, without a count.
+func (d Data) some() int {
+	if endOffset(d.bytes) > 0 {
+		return 1
+	}
+	return 0
 }
 
 // Version returns the protocol version of each unit and of the end of data.
@@ -257,11 +292,8 @@ func formFor(sequence []byte, version uint8) ([]byte, error) {
 
 // parts returns the payload units of a sequence in canonical form, and its end of data.
 func parts(sequence []byte) (units, end []byte) {
-	size := longestEnd
-	if sequence[0] == 0 {
-		size = shortestEnd
-	}
-	return sequence[:len(sequence)-size], sequence[len(sequence)-size:]
+	offset := endOffset(sequence)
+	return sequence[:offset], sequence[offset:]
 }
 
 // fitted returns the written front of an output; a copy, if more than a quarter isn't used.
@@ -329,12 +361,17 @@ func (u *Units) AppendJSON(b []byte) []byte {
 // Errors, each a Fault, in this order: Short for the zero Data; UnitVersion if the new data are of
 // another version; OtherSession if they are of another session.
 func Delta(old, new Data) ([]byte, error) {
-	// Most deltas are much shorter than the data.
+	return leading(delta, old, new)
+}
+
+// leading returns what a call writes for the changes from old data to new.
+func leading(call func(old, new, output []byte) (int, error), old, new Data) ([]byte, error) {
+	// Most changes are much shorter than the data.
 	output := make([]byte, len(old.bytes)/8+len(new.bytes)/8)
-	written, err := delta(old.bytes, new.bytes, output)
+	written, err := call(old.bytes, new.bytes, output)
 	if errors.Is(err, NoRoom) {
 		output = make([]byte, len(old.bytes)+len(new.bytes))
-		written, err = delta(old.bytes, new.bytes, output)
+		written, err = call(old.bytes, new.bytes, output)
 	}
 	if err != nil {
 		return nil, err
@@ -342,37 +379,13 @@ func Delta(old, new Data) ([]byte, error) {
 	return fitted(output, written), nil
 }
 
-// changesBetween returns the changes between data of any versions and sessions: in the higher
-// version, since the lower one may lack some of the payloads. The zero Data stands for none.
+// changesBetween returns the changes between data of any versions and sessions, in the higher
+// version. The zero Data stands for none.
 func changesBetween(old, new Data) ([]byte, error) {
-	if old.IsZero() {
+	if old.IsZero() { // also if both are
 		return new.bytes, nil
 	}
-	version, session := new.Version(), new.Session()
-	if new.IsZero() || old.Version() > version {
-		version = old.Version()
-	}
-	if new.IsZero() {
-		session = old.Session()
-	}
-	sides := [2]Data{old, new}
-	for i, side := range sides {
-		var err error
-		if side.IsZero() {
-			side, err = NewData(version, session, 0, Timing{})
-		} else if side.Version() != version {
-			side, err = side.For(version)
-		}
-		if err != nil {
-			return nil, err
-		}
-		sides[i] = side
-	}
-	former, err := sides[0].With(session, sides[0].Serial(), sides[0].Timing())
-	if err != nil {
-		return nil, err
-	}
-	return Delta(former, sides[1])
+	return leading(between, old, new)
 }
 
 // Apply returns the data after all of the changes, with the end of data of the changes, or an

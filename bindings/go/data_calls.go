@@ -13,6 +13,22 @@ func delta(old, new, output []byte) (int, error) {
 	return lengthOf(C.delta(first, n, second, m, out, capacity), old, new)
 }
 
+// between writes the changes from old to new, of any versions and sessions, to output, and returns
+// their length. An empty slice stands for no data.
+func between(old, new, output []byte) (int, error) {
+	first, n := cBytes(old)
+	second, m := cBytes(new)
+	out, capacity := cBytes(output)
+	return lengthOf(C.changes_between(first, n, second, m, out, capacity), old, new)
+}
+
+// endOffset returns the offset of the end of data in data in canonical form: 0 if there are no
+// payloads.
+func endOffset(data []byte) int {
+	bytes, n := cBytes(data)
+	return int(C.rtr_end_offset(bytes, n))
+}
+
 // apply writes the data after the changes to output, and returns their length.
 func apply(data, changes, output []byte) (int, error) {
 	first, n := cBytes(data)

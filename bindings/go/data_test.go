@@ -8,7 +8,6 @@ import (
 	"errors"
 	"fmt"
 	"math/rand"
-	"reflect"
 	"sort"
 	"sync"
 	"testing"
@@ -178,7 +177,7 @@ func TestDeltas(t *testing.T) {
 			t.Fatalf("%x becomes %x: %v", changes, ordered, err)
 		}
 		applied, err := Apply(before, append(ordered, 7))
-		if err != nil || !reflect.DeepEqual(applied, after) {
+		if err != nil || !applied.Equal(after) {
 			t.Fatalf("%x and %x: %x %v", before.Bytes(), ordered, applied.Bytes(), err)
 		}
 	}
@@ -570,7 +569,7 @@ func TestNewData(t *testing.T) {
 			data.Timing() != shown || data.Len() != 0 || data.IsZero() || data.Units().Scan() {
 			t.Fatalf("%+v %v", data, err)
 		}
-		if !reflect.DeepEqual(parsed(t, data.Bytes()), data) {
+		if !parsed(t, data.Bytes()).Equal(data) {
 			t.Fatalf("%x", data.Bytes())
 		}
 	}

@@ -59,6 +59,9 @@ func (c *deltaCase) called() ([]byte, error) {
 		units := len(c.second) / shortestPayload
 		written, err := applyInOrder(c.first, c.second, output, units)
 		return output[:written], err
+	case 4:
+		written, err := between(c.first, c.second, output)
+		return output[:written], err
 	}
 	return Order(c.first)
 }

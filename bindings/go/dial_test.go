@@ -60,7 +60,7 @@ func resolved(t *testing.T, addresses ...net.IP) {
 	}()
 }
 
-// Of a name with two addresses the one with a cache is used, in either order.
+// If only one of the two addresses of a name has a cache, that is used, in either order.
 func TestSecondAddress(t *testing.T) {
 	noLeaks(t)
 	data := parsed(t, join(ipv4, ending(1, 7, 9)))

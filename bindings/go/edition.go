@@ -28,7 +28,8 @@ type edition struct {
 	sends      int                 // the number of clients that are being sent a file
 	old        bool                // there is a newer edition
 	deltas     map[question][]byte
-	deltaSpace int // bytes left for more deltas
+	deltaBytes C.size_t // of them
+	limits     C.struct_rtr_server_settings
 }
 
 // question is a serial query, without its session.
@@ -47,20 +48,18 @@ func newEdition(number C.uint64_t, history []byte, limits ServerLimits) *edition
 	return &edition{
 		number: number, present: present,
 		data: data, history: history, known: serialsOf(history),
-		// An answer to a client that has the present data is never computed again.
-		files: map[string][2]piece{}, deltas: map[question][]byte{},
-		deltaSpace: limits.KeepBytes + versions*longestEnd,
+		files: map[string][2]piece{}, deltas: map[question][]byte{}, limits: limits.settings(),
 	}
 }
 
-// alike returns new data in the version in which the server keeps them: in the highest one, which
-// has all payloads, or in that of the present data, if they are of a file with a lower one.
+// alike returns new data in the version in which the store takes them.
 func (e *edition) alike(data Data) (Data, error) {
-	present := e.data.Version()
-	if !e.data.IsZero() && e.data.Session() == data.Session() && data.Version() <= present {
-		return data.For(present)
+	var present C.uint8_t
+	if e.present.has {
+		present = C.uint8_t(e.data.Version())
 	}
-	return data.For(highestVersion)
+	return data.For(uint8(C.rtr_stores_version(&e.present, present, C.uint16_t(data.Session()),
+		C.uint8_t(data.Version()))))
 }
 
 // refused returns the error for new data that the store didn't take; nil if they are the present
@@ -159,7 +158,7 @@ func (e *edition) since(version uint8, serial uint32) ([]byte, error) {
 	return e.sinceIn(version, serial)
 }
 
-// sinceIn is since, with the lock. It keeps the changes if there is space.
+// sinceIn is since, with the lock. It keeps the changes as the limits say.
 func (e *edition) sinceIn(version uint8, serial uint32) (changes []byte, err error) {
 	query := question{version, serial}
 	if changes, ok := e.deltas[query]; ok {
@@ -176,10 +175,11 @@ func (e *edition) sinceIn(version uint8, serial uint32) (changes []byte, err err
 	return changes, err
 }
 
-// keep keeps changes for further clients, if there is space.
+// keep keeps changes for further clients, if the limits let it.
 func (e *edition) keep(query question, changes []byte) {
-	if size := len(changes); 0 < size && size <= e.deltaSpace {
+	size := C.size_t(len(changes))
+	if size > 0 && bool(C.rtr_server_keeps(&e.limits, e.deltaBytes, size)) {
 		e.deltas[query] = changes
-		e.deltaSpace -= size
+		e.deltaBytes += size
 	}
 }

@@ -53,14 +53,14 @@ type Fault struct {
 
 // Error returns a text with the detail and the offset.
 func (f *Fault) Error() string {
-	text := f.Text()
-	switch {
-	case f.Offset < 0:
-		return "rtr: " + text
-	case f.Side != 0:
-		return fmt.Sprintf("rtr: %s, at byte %d of the %v input", text, f.Offset, f.Side)
+	if f.Offset < 0 {
+		return "rtr: " + f.Text()
 	}
-	return fmt.Sprintf("rtr: %s, at byte %d", text, f.Offset)
+	text := "rtr: " + statusTextAt(f.Status, f.Detail, uint64(f.Offset))
+	if f.Side != 0 {
+		return fmt.Sprintf("%s of the %v input", text, f.Side)
+	}
+	return text
 }
 
 // Text returns the text of the status with the detail, without the offset.
@@ -88,7 +88,7 @@ func (f *Fault) Code() (code ErrorCode, owed bool) {
 }
 
 // Report returns the error report that is owed to the peer (RFC 8210 section 5.11), and whether one
-// is owed, as Code does. It has the unit's bytes, a text that says what is wrong, and the version
+// is owed, as Code does. It has the unit's bytes, a text that states what is wrong, and the version
 // of the unit: set Version if the session has another. A report has at most 65519 bytes of unit and
 // text: the unit is cut to that, and then the text.
 func (f *Fault) Report() (report *Unit, owed bool) {

@@ -139,7 +139,7 @@ func (c *chooser) handle(ctx context.Context, e sourceEvent) error {
 // report reports an event to the group. It returns the decision, and the failure that the event is,
 // or nil.
 func (c *chooser) report(e sourceEvent) (Decision, error) {
-	failed, payloads := e.failed, e.data.Len()
+	failed, payloads := e.failed, e.data.some()
 	if failed == nil {
 		c.members[e.index].data = e.data
 		if !e.data.IsZero() && !c.group.Counts(payloads) {
@@ -172,7 +172,7 @@ func (c *chooser) obey(ctx context.Context, index int, decision Decision) error 
 	return err
 }
 
-// show passes the data of a source to the listener, with the changes from those before.
+// show passes the data of a source to the listener, with the changes from the previous data.
 func (c *chooser) show(index int, data Data) error {
 	update := updateOf(c.shown, data)
 	c.shown = data

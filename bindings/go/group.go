@@ -54,7 +54,7 @@ type Decision struct {
 	Start int
 }
 
-// Shown says how the shown data of a Group change.
+// Shown is how the shown data of a Group change.
 type Shown uint8
 
 // MostMembers is the maximal number of members of a Group.

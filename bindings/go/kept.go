@@ -2,12 +2,16 @@
 
 package rtr
 
+// #include "rtr.h"
+import "C"
+
 import (
 	"errors"
 	"fmt"
 	"os"
 	"path/filepath"
 	"syscall"
+	"time"
 )
 
 // besideSuffix is the suffix of the file that is written before it replaces the old one.
@@ -18,7 +22,7 @@ var ErrTorn = errors.New("rtr: " + failureDamaged)
 
 // ErrUnsynced: a file has the new store, but its folder couldn't be synced: after a power cut the
 // file may have the former one.
-var ErrUnsynced = errors.New("rtr: the folder isn't synced")
+var ErrUnsynced = errors.New("rtr: " + failureUnsynced)
 
 // unsynced is an error of the system that is ErrUnsynced too.
 type unsynced struct{ error }
@@ -49,6 +53,13 @@ func (s *Server) Save(path string) error {
 		return nil
 	}
 	return saveStore(store, path)
+}
+
+// RetryAfter returns how long a program waits before it calls Update again with data that couldn't
+// be saved, where it waited so long before the last time, or 0 at the first: a second, and twice as
+// long each time, up to a minute.
+func RetryAfter(previous time.Duration) time.Duration {
+	return span(C.rtr_retry_after(milliseconds(previous)))
 }
 
 // saverTo returns the saver to a file.

@@ -59,9 +59,15 @@ func TestServerRestart(t *testing.T) {
 	if got := stepsBack(t, dial(t, address), 5); got != 4 {
 		t.Fatal(got)
 	}
-	// It has data now, and doesn't restore others.
+	// It has data now, and doesn't restore others; but it removes what a killed server left.
+	if err := os.WriteFile(path+besideSuffix, []byte("rtrkept"), 0o600); err != nil {
+		t.Fatal(err)
+	}
 	if _, err := server.Restore(path); err != nil {
 		t.Fatal(err)
+	}
+	if _, err := os.Stat(path + besideSuffix); !errors.Is(err, os.ErrNotExist) {
+		t.Fatal("a new file is left:", err)
 	}
 	send(t, connection, asked(1, 7, 4))
 	expect(t, connection, join(response(1, 7), changed(changed(ipv4, 0, 1), 13, 4),
@@ -154,6 +160,9 @@ func TestRenameFails(t *testing.T) {
 		if info, err := os.Stat(path); err != nil || !info.IsDir() {
 			t.Errorf("%s: %v", name, err)
 		}
+		if _, err := os.Stat(path + besideSuffix); !errors.Is(err, os.ErrNotExist) {
+			t.Errorf("%s: a new file is left: %v", name, err)
+		}
 	}
 }
 
@@ -225,8 +234,8 @@ func withoutDescriptors(t *testing.T) (release func()) {
 	}
 }
 
-// Without free descriptors a file is read by the one that is kept in reserve. Without that, an
-// error is reported once, and the file retried.
+// Without free descriptors a file is read with the reserved one. Without that, an error is reported
+// once, and reading is retried.
 func TestWatchFull(t *testing.T) {
 	w, last := watched(t)
 	all := sequences(1, 1)

@@ -111,8 +111,8 @@ func (s *simulated) CloseWrite() error {
 	return nil
 }
 
-// Each limit of time ends a connection at its time (docs/SESSIONS.md, "The cache"), and the limits
-// that a caller sets are used, each for what it limits.
+// Each time limit ends a connection when it is reached (docs/SESSIONS.md, "The cache"), and the
+// limits that a caller sets are used.
 func TestServerLimitsOfTime(t *testing.T) {
 	data := megabytes(t)
 	usual := NewServer().Limits

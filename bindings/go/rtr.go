@@ -188,11 +188,11 @@ const (
 	namedTimeRule = C.RTR_NAMED_TIME_RULE
 )
 
-// brokenTimeRule returns the first rule of RFC 8210 section 6 that the times of a cache break, and
-// whether they break one.
-func brokenTimeRule(t Timing) (rule uint16, broken bool) {
-	number := C.rtr_times_rule(C.uint32_t(t.Refresh), C.uint32_t(t.Retry), C.uint32_t(t.Expire))
-	return uint16(number), number != C.RTR_TIME_RULE_NONE
+// brokenTimeRule returns the number of the first rule of RFC 8210 section 6 that the times of a
+// cache break, or 0.
+func brokenTimeRule(t Timing) uint16 {
+	refresh, retry, expire := C.uint32_t(t.Refresh), C.uint32_t(t.Retry), C.uint32_t(t.Expire)
+	return uint16(C.rtr_times_rule(refresh, retry, expire))
 }
 
 // name returns the name of a number of one of these tables; for a rule on times, its text.
@@ -209,6 +209,23 @@ func statusText(status Status, detail uint8) string {
 	out, capacity := cBytes(text[:])
 	n := C.text(C.uint8_t(status), C.uint8_t(detail), out, capacity).text_length
 	return string(text[:n])
+}
+
+// statusTextAt returns the text of a status with its detail, and an offset.
+func statusTextAt(status Status, detail uint8, offset uint64) string {
+	var text [textAtRoom]byte
+	out, capacity := cBytes(text[:])
+	length := C.text_at(C.uint8_t(status), C.uint8_t(detail), C.uint64_t(offset), out, capacity)
+	return string(text[:length.text_length])
+}
+
+// reportText returns what an error report of this code and text says.
+func reportText(code ErrorCode, reported string) string {
+	var text [reportTextRoom]byte
+	in, n := cBytes([]byte(reported))
+	out, capacity := cBytes(text[:])
+	length := C.report_text(C.uint16_t(code), in, n, out, capacity).text_length
+	return string(text[:length])
 }
 
 // parse sets the unit to input's first unit, and returns its size. If that is refused, the unit

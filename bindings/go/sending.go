@@ -100,7 +100,7 @@ func (c *served) opening() []byte {
 
 // send sends some of what is unsent, or waits for the client to take it. It first tries without
 // waiting, so that what a socket takes at once is sent however many newer data have come.
-func (c *served) send() error {
+func (c *served) send() {
 	part := c.reply.part()
 	sent, err := c.writeSome(part, c.beginWrite())
 	c.endWrite()
@@ -109,13 +109,12 @@ func (c *served) send() error {
 	C.rtr_connection_sent(&c.pace, c.now(), C.size_t(sent))
 	switch {
 	case err != nil && (c.raw == nil || !isTimeout(err)):
-		return c.failed(err)
+		c.lost(err)
 	case c.pace.unsent == 0:
 		c.sent()
 	case c.reply.begun:
 		c.look()
 	}
-	return nil
 }
 
 // beginWrite sets the deadline of a write, and reports whether the write may wait.
@@ -152,7 +151,7 @@ func (c *served) writeSome(part *piece, wait bool) (sent int, err error) {
 	full := false
 	failed := c.raw.Write(func(socket uintptr) bool {
 		sent, err = part.send(int(socket))
-		full = err == syscall.EAGAIN || err == syscall.EINTR
+		full = err == syscall.EAGAIN
 		return !full || !wait
 	})
 	switch {
@@ -167,20 +166,22 @@ func (c *served) writeSome(part *piece, wait bool) (sent int, err error) {
 	return sent, nil
 }
 
-// failed returns why the connection ends after a write failed, or after one that can't be continued
-// timed out.
-func (c *served) failed(err error) error {
+// lost reports to the pace that the connection broke, since reading or writing failed, or a write
+// that timed out can't be continued. A limit that has ended it by now is the reason.
+func (c *served) lost(err error) {
 	c.look()
-	next := c.nextWith(c.newest)
 	switch {
-	case c.last || next.result == C.RTR_STEP_CLOSE:
-		return c.why(next.cut)
+	case c.nextWith(c.newest).result == C.RTR_STEP_CLOSE:
+		return
+	case c.last:
 	case isTimeout(err):
-		return ErrTooSlow
+		c.broken = ErrTooSlow
 	case c.server.closed.Load():
-		return ErrServerClosed
+		c.broken = ErrServerClosed
+	default:
+		c.broken = err
 	}
-	return err
+	C.rtr_connection_broke(&c.pace)
 }
 
 // sent is called when all of an answer, or of the last report, is sent.

@@ -32,10 +32,10 @@ func Normalise(input, output []byte, limit uint64) (Progress, error) {
 // written in this version. An output 12 bytes longer than the input always suffices, since an end
 // of data has 12 bytes in version 0 and 24 in versions 1 and 2.
 //
-// For a version above 2 it fails with UnitVersion before it reads or writes anything.
+// For a version above the highest, 2, it fails with UnitVersion before it reads or writes anything.
 func NormaliseFor(input, output []byte, limit uint64, version uint8) (Progress, error) {
 	progress, status, detail := normaliseFor(input, output, limit, version)
-	if status == UnitVersion && version > 2 {
+	if status == UnitVersion && version > highestVersion {
 		// The argument is refused, not a unit.
 		return progress, &Fault{Status: status, Detail: detail, Offset: -1}
 	}

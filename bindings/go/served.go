@@ -33,7 +33,8 @@ type served struct {
 	input   []byte               // received and not handled; in buffer, if it fits
 	buffer  [64]byte
 	offset  int64 // of the input in all received bytes
-	closed  error // why no more bytes come
+	closed  bool  // the client has closed: no more bytes come
+	broken  error // why nothing can be sent any more
 
 	lock    sync.Mutex
 	woken   bool   // there may be a newer edition, or the server is closed
@@ -140,7 +141,8 @@ func (c *served) take(step C.uint8_t) error {
 		c.receive()
 		return nil
 	case C.RTR_STEP_SEND:
-		return c.send()
+		c.send()
+		return nil
 	case C.RTR_STEP_FINISH:
 		c.finish()
 		return nil
@@ -165,7 +167,7 @@ func (c *served) tell(step C.uint8_t) {
 		in, n := cBytes(c.input)
 		known := c.newest.known
 		C.rtr_cache_read(&c.cache, now, present, firstOf(known), C.size_t(len(known)), in, n,
-			C.bool(c.closed != nil), &c.serving)
+			C.bool(c.closed), &c.serving)
 		C.rtr_connection_heard(&c.pace, now, c.serving.taken)
 	case C.RTR_STEP_LOSE:
 		C.rtr_cache_lost(&c.cache, now, present, &c.serving)
@@ -190,9 +192,13 @@ func (c *served) receive() {
 	n, err := c.connection.Read(c.input[len(c.input):cap(c.input)])
 	c.input = c.input[:len(c.input)+n]
 	C.rtr_connection_received(&c.pace, c.now(), C.size_t(n))
-	if n == 0 && err != nil && !isTimeout(err) {
-		c.closed = err
+	switch {
+	case n > 0 || err == nil || isTimeout(err):
+	case err == io.EOF:
+		c.closed = true
 		C.rtr_connection_closed(&c.pace)
+	default:
+		c.lost(err)
 	}
 }
 
@@ -207,21 +213,21 @@ func (c *served) mayRead() bool {
 	return !c.woken
 }
 
-// why returns the error for the limit that ended the connection, or for the cache's reason; nil if
-// the client closed the connection.
+// why returns the error for the limit that ended the connection, or that broke it, or for the
+// cache's reason; nil if the client closed the connection.
 func (c *served) why(cut C.uint8_t) error {
 	if err, ok := cuts[cut]; ok {
 		return err
+	}
+	if c.broken != nil {
+		return c.broken
 	}
 	switch c.serving.reason {
 	case C.RTR_REASON_LOST:
 		if c.server.closed.Load() {
 			return ErrServerClosed
 		}
-		if c.closed == io.EOF {
-			return nil
-		}
-		return c.closed
+		return nil
 	case C.RTR_REASON_REPORTED:
 		return reportedIn(c.input, true)
 	case C.RTR_REASON_FAULTY:

@@ -20,15 +20,18 @@ import (
 // are those of NewServer; if any is set, zero in another allows nothing.
 type ServerLimits struct {
 	Connections int           // at once; further clients get a report, and are closed
+	Refused     int           // of these at once; others wait in the queue of the system
 	First       time.Duration // from the connection to the first query
 	Unit        time.Duration // from the first byte of a unit to its last
 	Idle        time.Duration // from one query to the next
 	Write       time.Duration // how long a client may receive no byte of an answer
 	Response    time.Duration // for a whole response
+	Report      time.Duration // to send a last report, and for the client to read it
+	Behind      int           // newer data that may come while a client is sent an answer
 	Notify      time.Duration // between two notifies to a client, at least
 	// How long the changes from old data are kept after newer data came; the last are always kept.
 	Keep      time.Duration
-	KeepBytes int // the most bytes of these, with 16 for each; and as many of computed deltas
+	KeepBytes int // the most bytes of these, with 16 for each; and the most of computed deltas
 	// Whether to answer a serial query that has no delta with a report of code 0 instead of a cache
 	// reset: for routers that wait after a reset, as BIRD 2.0 does.
 	Refuse bool
@@ -195,7 +198,7 @@ func (s *Server) update(data Data, save saver, before func()) error {
 }
 
 // begin sets how the server saves, if save isn't nil. It does so even if saving then fails, since
-// the file may have the data all the same.
+// the file may have the data nevertheless.
 func (s *Server) begin(save saver) error {
 	if save == nil {
 		return nil
@@ -248,10 +251,9 @@ func (s *Server) edition(number C.uint64_t) *edition {
 // servable returns an error if a cache may not serve the data. Data of version 0 have no times;
 // clients of later versions get the default ones with them.
 func (d Data) servable() error {
-	if d.Version() == 0 {
-		return nil
-	}
-	return d.Timing().Check()
+	t := d.Timing()
+	return timesError(uint16(C.rtr_end_rule(C.uint8_t(d.Version()), C.uint32_t(t.Refresh),
+		C.uint32_t(t.Retry), C.uint32_t(t.Expire))))
 }
 
 // logs logs new data, and warns of serial number 0.
@@ -281,8 +283,8 @@ const (
 )
 
 // Serve accepts the clients of a listener until the server is closed, and closes the listener.
-// While Limits.Connections clients are served, further ones get a report; while 64 of these haven't
-// left, the next ones wait in the queue of the system.
+// While Limits.Connections clients are served, further ones get a report; while Limits.Refused of
+// these haven't left, the next ones wait in the queue of the system.
 //
 // Errors: ErrServerClosed; that of the listener, after ten in a row. Errors don't count while the
 // system has no descriptor for another connection.
@@ -432,6 +434,7 @@ func (s *Server) Shutdown(ctx context.Context) error {
 		s.running.Wait()
 		close(ended)
 	}()
+	defer func() { s.present.Load().replaced() }() // closes its files in memory
 	select {
 	case <-ended:
 		return nil

@@ -95,8 +95,8 @@ func sequences(of ...byte) (all [][]byte) {
 	return all
 }
 
-// stepsBack returns the number of earlier serial numbers from which a client gets changes: it asks
-// with those before the present one, downwards.
+// stepsBack returns the number of earlier serial numbers from which a client gets changes: it
+// queries with the serial numbers before the present one, the latest first.
 func stepsBack(t *testing.T, connection net.Conn, serial uint32) (count uint32) {
 	t.Helper()
 	for ; count < serial; count++ {
@@ -294,14 +294,22 @@ func TestServerSerialZero(t *testing.T) {
 		"0 data session=7 serial=1 version=1 payloads=0")
 }
 
-// A client that reads an answer slowly gets all of it unless three newer editions have come, or one
-// of another session.
+// A client that reads an answer slowly gets all of it unless three newer editions have come, or as
+// many as the limits say, or one of another session.
 func TestServerBehind(t *testing.T) {
 	noLeaks(t)
-	for reason, sessions := range map[error][]uint16{
-		ErrBehind: {7, 7, 7}, ErrSessionEnded: {8},
+	for _, row := range []struct {
+		behind   int
+		sessions []uint16
+		reason   error
+	}{
+		{2, []uint16{7, 7, 7}, ErrBehind},
+		{0, []uint16{7}, ErrBehind},
+		{2, []uint16{8}, ErrSessionEnded},
 	} {
-		server, address := started(t, nil)
+		server, address := started(t, func(limits *ServerLimits) {
+			limits.Behind = row.behind
+		})
 		errs := why(server)
 		if err := server.Update(megabytes(t)); err != nil {
 			t.Fatal(err)
@@ -313,7 +321,7 @@ func TestServerBehind(t *testing.T) {
 		if _, err := io.CopyN(io.Discard, slow, 1<<16); err != nil {
 			t.Fatal(err)
 		}
-		for i, session := range sessions {
+		for i, session := range row.sessions {
 			time.Sleep(50 * time.Millisecond)
 			if len(errs) > 0 {
 				t.Fatal(i, <-errs)
@@ -325,7 +333,7 @@ func TestServerBehind(t *testing.T) {
 				t.Fatal(err)
 			}
 		}
-		if err := <-errs; err != reason {
+		if err := <-errs; err != row.reason {
 			t.Fatal(err)
 		}
 	}
@@ -495,6 +503,7 @@ func TestServerShutdownLimit(t *testing.T) {
 	server, address := started(t, func(limits *ServerLimits) {
 		limits.Write, limits.Response = time.Hour, time.Hour
 	}, megabytes(t))
+	errs := why(server)
 	greedy := dial(t, address)
 	send(t, greedy, asked(1, 0))
 	expect(t, greedy, response(1, 7))
@@ -504,6 +513,9 @@ func TestServerShutdownLimit(t *testing.T) {
 		t.Fatal(err)
 	}
 	if err := server.Shutdown(context.Background()); err != nil {
+		t.Fatal(err)
+	}
+	if err := <-errs; err != ErrServerClosed {
 		t.Fatal(err)
 	}
 }
@@ -534,7 +546,10 @@ func TestServerListener(t *testing.T) {
 		err    error
 		times  int
 		broken bool
-	}{{full, 12, false}, {errFailed, 9, false}, {errFailed, 10, true}} {
+	}{
+		{full, 12, false}, {syscall.ENFILE, 12, false}, {syscall.ENOBUFS, 12, false},
+		{syscall.ENOMEM, 12, false}, {errFailed, 9, false}, {errFailed, 10, true},
+	} {
 		listener := listen(t, "127.0.0.1:0")
 		done := make(chan error, 1)
 		failing := &failingListener{Listener: listener, err: row.err, times: row.times}

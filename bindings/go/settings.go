@@ -39,11 +39,14 @@ func usualServerLimits() ServerLimits {
 	usual := usualServerSettings()
 	return ServerLimits{
 		Connections: int(usual.most_connections),
+		Refused:     int(usual.most_refused),
 		First:       span(usual.cache.first_limit),
 		Unit:        span(usual.unit_limit),
 		Idle:        span(usual.cache.idle_limit),
 		Write:       span(usual.write_limit),
 		Response:    span(usual.response_limit),
+		Report:      span(usual.report_limit),
+		Behind:      int(usual.most_behind),
 		Notify:      span(usual.cache.pause),
 		Keep:        time.Duration(usual.keep) * time.Millisecond,
 		KeepBytes:   int(usual.keep_bytes),
@@ -56,10 +59,8 @@ func usualServerSettings() (usual C.struct_rtr_server_settings) {
 	return usual
 }
 
-// settings returns the settings of a server with these limits. Those that ServerLimits lacks have
-// their defaults.
-func (l ServerLimits) settings() C.struct_rtr_server_settings {
-	s := usualServerSettings()
+// settings returns the settings of a server with these limits.
+func (l ServerLimits) settings() (s C.struct_rtr_server_settings) {
 	s.cache.first_limit = milliseconds(l.First)
 	s.cache.idle_limit = milliseconds(l.Idle)
 	s.cache.pause = milliseconds(l.Notify)
@@ -69,7 +70,10 @@ func (l ServerLimits) settings() C.struct_rtr_server_settings {
 	s.unit_limit = milliseconds(l.Unit)
 	s.write_limit = milliseconds(l.Write)
 	s.response_limit = milliseconds(l.Response)
-	s.most_connections = C.uint32_t(within32(uint64(atLeastZero(l.Connections))))
+	s.report_limit = milliseconds(l.Report)
+	s.most_connections = countOf(l.Connections)
+	s.most_refused = countOf(l.Refused)
+	s.most_behind = countOf(l.Behind)
 	return s
 }
 
@@ -88,6 +92,11 @@ func milliseconds(span time.Duration) C.uint32_t {
 		return 1
 	}
 	return C.uint32_t(within32(uint64(span.Milliseconds())))
+}
+
+// countOf converts a number for C: a negative one to 0, and one above 32 bits to the highest.
+func countOf(number int) C.uint32_t {
+	return C.uint32_t(within32(uint64(atLeastZero(number))))
 }
 
 // atLeastZero returns the number, or zero if it is negative.

@@ -6,6 +6,7 @@ import (
 	"context"
 	"crypto/tls"
 	"errors"
+	"io"
 	"net"
 	"os"
 	"testing"
@@ -58,6 +59,72 @@ func TestStuckWrites(t *testing.T) {
 	_, err := client.Fetch(ctx)
 	if !errors.Is(err, os.ErrDeadlineExceeded) || connection.writes > 2 {
 		t.Errorf("%d writes, %v", connection.writes, err)
+	}
+}
+
+// idle is a connection of a caller's Dial that breaks the rules of io: from one of its writes on it
+// takes at most this many bytes without an error, and its reads return neither bytes nor an error.
+type idle struct {
+	net.Conn
+	first, most   int
+	writes, reads int
+}
+
+func (i *idle) Write(bytes []byte) (int, error) {
+	i.writes++
+	if i.writes < i.first {
+		return len(bytes), nil
+	}
+	if i.writes > i.first+1 {
+		return 0, errBroken // so that a client that repeats its call ends
+	}
+	return i.most, nil
+}
+
+func (i *idle) Read([]byte) (int, error) {
+	if i.reads++; i.reads > 1 {
+		return 0, errBroken
+	}
+	return 0, nil
+}
+
+// A connection whose write takes too few bytes, or whose read has none, without an error, is lost:
+// the client doesn't call it again.
+func TestCallsWithoutProgress(t *testing.T) {
+	noLeaks(t)
+	for name, row := range map[string]struct {
+		first, most int
+		want        error
+	}{
+		"a write of nothing": {1, 0, io.ErrShortWrite},
+		"a write of some":    {1, headerSize - 1, io.ErrShortWrite},
+		"a read of no bytes": {2, 0, io.ErrNoProgress},
+	} {
+		near, far := net.Pipe()
+		connection := &idle{Conn: near, first: row.first, most: row.most}
+		client := NewClientConn(connection)
+		client.AskIn(0) // there is no lower version to fall to
+		ctx, cancel := limited(t)
+		if _, err := client.Fetch(ctx); !errors.Is(err, row.want) {
+			t.Errorf("%s: %v after %d writes, %d reads", name, err, connection.writes, connection.reads)
+		}
+		cancel()
+		far.Close()
+	}
+}
+
+// A cache that reads nothing costs the time limits of an answer and of last bytes, no more.
+func TestCacheThatReadsNothing(t *testing.T) {
+	noLeaks(t)
+	near, far := net.Pipe()
+	defer far.Close()
+	client := NewClientConn(near)
+	client.AskIn(0)
+	client.Limits.Response, client.Limits.Report = 30*time.Millisecond, 30*time.Millisecond
+	ctx, cancel := limited(t)
+	defer cancel()
+	if _, err := client.Fetch(ctx); !errors.Is(err, ErrTooSlow) {
+		t.Error(err)
 	}
 }
 

@@ -30,6 +30,61 @@ func TestWakeBeforeARead(t *testing.T) {
 	}
 }
 
+// A wake between a look and a write isn't lost either: that write doesn't wait.
+func TestWakeBeforeAWrite(t *testing.T) {
+	server := NewServer()
+	client := simulate(server, &simulated{})
+	client.look()
+	server.wake()
+	if client.beginWrite() {
+		t.Error("the write waits")
+	}
+	client.look()
+	if !client.beginWrite() {
+		t.Error("the next one doesn't wait")
+	}
+}
+
+// shaking is a simulated connection with a handshake.
+type shaking struct {
+	simulated
+	shake func(context.Context) error
+}
+
+func (s *shaking) HandshakeContext(ctx context.Context) error { return s.shake(ctx) }
+
+// A handshake has the time limit of a first query; it doesn't begin once the server is closed; and
+// new data don't end the reads of one that is about to begin.
+func TestHandshakes(t *testing.T) {
+	server := NewServer()
+	server.Limits.First, server.Limits.Unit = 20*time.Millisecond, 2*patience
+	slow := &shaking{shake: func(ctx context.Context) error {
+		select {
+		case <-ctx.Done():
+			return ctx.Err()
+		case <-time.After(patience):
+			return nil
+		}
+	}}
+	client := newServed(server, slow)
+	server.clients[client] = true
+	server.wake()
+	if !slow.toRead.IsZero() {
+		t.Error("its reads end at", slow.toRead)
+	}
+	if err := client.shake(); err != ErrTooSlow {
+		t.Error(err)
+	}
+	server.closed.Store(true)
+	late := &shaking{shake: func(context.Context) error {
+		t.Error("a handshake begins")
+		return nil
+	}}
+	if err := newServed(server, late).shake(); err != ErrServerClosed {
+		t.Error(err)
+	}
+}
+
 // New data don't end the wait for a client to read its last report, which lasts 10 seconds
 // (docs/SESSIONS.md).
 func TestNewDataAfterALastReport(t *testing.T) {
@@ -82,6 +137,16 @@ func until(t *testing.T, what string, holds func() bool) {
 			t.Fatal(what)
 		}
 	}
+}
+
+// awaitLeft waits until all clients of a server have left.
+func awaitLeft(t *testing.T, server *Server) {
+	t.Helper()
+	until(t, "a client stays", func() bool {
+		server.lock.Lock()
+		defer server.lock.Unlock()
+		return len(server.clients) == 0
+	})
 }
 
 // The file of old data is closed once no client is sent it any more, whether they were replaced

@@ -75,7 +75,7 @@ func (s *store) served() (store, history []byte) {
 	return s.buffers[served][:end:end], s.buffers[served][offset:end:end]
 }
 
-// toSave returns the store that waits to be saved; nil for none.
+// toSave returns the pending store; nil if there is none.
 func (s *store) toSave() []byte {
 	state, _, other := s.state()
 	if !state.waits {
@@ -126,16 +126,10 @@ func (s *store) takeIn(
 	return answer
 }
 
-// saved makes the store that waited the served one, if one waited.
+// saved records that the pending store is saved, so that it is served from now on; a no-op if none
+// is pending.
 func (s *store) saved() {
 	C.rtr_stores_saved(&s.stores)
-	_, _, other := s.state()
-	s.buffers[other] = nil
-}
-
-// giveUp drops the store that waits.
-func (s *store) giveUp() {
-	C.rtr_stores_give_up(&s.stores)
 	_, _, other := s.state()
 	s.buffers[other] = nil
 }

@@ -19,7 +19,7 @@ func ofSession(t *testing.T, session uint16, serial uint32) Data {
 	return parsed(t, join(ipv4, ending(1, session, serial)))
 }
 
-// A server never goes back to a session that it left, neither after a restart.
+// A server never returns to a session that it left, not even after a restart.
 func TestSessionLeft(t *testing.T) {
 	path := t.TempDir() + "/kept"
 	server := NewServer()
@@ -134,7 +134,7 @@ func TestUpdateOfServerWithFile(t *testing.T) {
 	}
 }
 
-// If the first data can't be saved, the file may have them all the same: nothing is served before
+// If the first data can't be saved, the file may have them nevertheless: nothing is served before
 // it is saved to that file.
 func TestFirstSaveFails(t *testing.T) {
 	path := t.TempDir() + "/kept"
@@ -430,6 +430,30 @@ func TestChangesAhead(t *testing.T) {
 	changes, err := server.present.Load().since(highestVersion, 2)
 	if err != nil || !bytes.Equal(changes, expected) {
 		t.Errorf("%x, %v", changes, err)
+	}
+}
+
+// Changes are kept up to the limit. Changes beyond it are computed for each client, and the kept
+// ones stay.
+func TestChangesUpToTheLimit(t *testing.T) {
+	server := NewServer()
+	for serial := uint32(1); serial <= 3; serial++ {
+		if err := server.Update(manyOf(t, 8, 64496+serial, serial)); err != nil {
+			t.Fatal(err)
+		}
+	}
+	e := server.present.Load()
+	kept, space := len(e.deltas), e.limits.keep_bytes
+	for _, row := range []struct {
+		space, kept int
+	}{{0, kept}, {0, kept}, {1, kept + 1}, {0, kept + 1}} {
+		if e.limits.keep_bytes = e.deltaBytes; row.space > 0 {
+			e.limits.keep_bytes = space
+		}
+		changes, err := e.since(highestVersion, 1)
+		if err != nil || len(changes) == 0 || len(e.deltas) != row.kept {
+			t.Error(row, len(changes), err, len(e.deltas))
+		}
 	}
 }
 

@@ -53,9 +53,13 @@ const (
 	lastReportBytes = 1048576
 	// For rtr_text and rtr_name, with a 0 after the text.
 	textRoom = 64
+	// For rtr_text_at, with a 0 after the text.
+	textAtRoom = 96
+	// For rtr_report_text, with a 0 after the text.
+	reportTextRoom = 136
 	// For rtr_check_name.
 	nameRoom = 65528
-	// For rtr_line of most units: not of long keys, ASPAs and reports.
+	// For rtr_line of most units: not of long keys, ASPAs, reports.
 	lineRoom = 160
 	// For rtr_finding_line.
 	findingRoom = 128
@@ -68,6 +72,9 @@ const (
 	failureNoMemory      = "no memory"
 	failureEmpty         = "the cache has no payloads"
 	failureStopped       = "the client was stopped"
+	failureSlow          = "the peer is too slow"
+	failureMoreRead      = "more bytes were read than there is room for"
+	failureMoreSent      = "more bytes were sent than there are"
 	failureBehind        = "the router is too far behind"
 	failureClosed        = "the server is closed"
 	failureOldSerial     = "the serial number isn't later than that of the present data"
@@ -75,6 +82,7 @@ const (
 	failureSessionLeft   = "the cache left this session: the data need a new one"
 	failureOtherSession  = "a cache that doesn't save has one session"
 	failureUnsaved       = "the cache serves data that it didn't save"
+	failureUnsynced      = "the folder isn't synced"
 	failureHigherVersion = "the saved data are of a lower version: the data need a new session"
 	failureDamaged       = "the saved file is damaged: the data need a new session"
 )

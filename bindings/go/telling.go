@@ -2,6 +2,9 @@
 
 package rtr
 
+// #include "calls.h"
+import "C"
+
 import "errors"
 
 // errDone ends a follower after it has got its data.
@@ -60,34 +63,25 @@ func (f *follower) logQueries() {
 	}
 }
 
-// reason returns why a connection ends.
+// reason returns why a connection ends; nil if the link reconnects in another version.
 func (f *follower) reason(t todo) error {
-	why := cause(t.cause)
-	switch {
-	case f.link.gaveUp, why == causeNotApplied && t.status == 0:
-		return ErrNoMemory
-	case why == causeLost:
+	switch C.todo_failure(t, C.bool(f.link.gaveUp)) {
+	case C.RTR_CLIENT_NONE:
+		return nil
+	case C.RTR_CLIENT_LOST:
 		return f.err
-	case why == causeFaulty, why == causeNotApplied:
-		return f.refused(t)
-	case why == causeSlow:
+	case C.RTR_CLIENT_SLOW:
 		return ErrTooSlow
-	case why == causeTooLong:
+	case C.RTR_CLIENT_TOO_LONG:
 		return ErrTooLong
-	case why == causeExpired:
-		return ErrExpired
-	case why == causeReported:
+	case C.RTR_CLIENT_REFUSED:
+		return owned(refusal(Status(t.status), uint8(t.detail), f.link.inputFrom(t), int64(t.position)))
+	case C.RTR_CLIENT_REPORTED:
 		return reportedIn(f.link.inputFrom(t), false)
+	case C.RTR_CLIENT_EXPIRED:
+		return ErrExpired
+	case C.RTR_CLIENT_MEMORY:
+		return ErrNoMemory
 	}
-	return breachOf(breaches[why], ErrorCode(t.code), f.link.inputFrom(t))
-}
-
-// refused returns the fault of a unit, at its offset in the bytes of the connection, or of a
-// change, at its offset in the changes of the answer.
-func (f *follower) refused(t todo) error {
-	input, offset := f.link.inputFrom(t), int64(t.offset)
-	if cause(t.cause) == causeFaulty {
-		offset = f.received - int64(len(input))
-	}
-	return owned(refusal(Status(t.status), uint8(t.detail), input, offset))
+	return breachOf(breaches[cause(t.cause)], ErrorCode(t.code), f.link.inputFrom(t))
 }

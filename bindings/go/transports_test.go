@@ -203,6 +203,32 @@ func TestOverTLS(t *testing.T) {
 	}
 }
 
+// A router that waits over TLS is told of new data, as over TCP.
+func TestNotifyOverTLS(t *testing.T) {
+	trusted := newAuthority(t)
+	server := rtr.NewServer()
+	server.Limits.Notify = 0
+	address := servedTLS(t, server, trusted.issue(cacheName, time.Hour), trusted.pool())
+	newer, err := rtr.NewData(1, 7, 10, rtr.RecommendedTiming)
+	if err != nil {
+		t.Fatal(err)
+	}
+	ctx, cancel := context.WithTimeout(context.Background(), tlsWait)
+	defer cancel()
+	enough := errors.New("enough")
+	client := overTLS(address, cacheName, trusted.pool(), trusted.issue(here, time.Hour))
+	client.Limits.Pause = time.Millisecond
+	err = client.Run(ctx, func(update rtr.Update) error {
+		if update.Data.Equal(newer) {
+			return enough
+		}
+		return server.Update(newer)
+	})
+	if err != enough {
+		t.Error(err)
+	}
+}
+
 // manyPayloads returns data of at least this many bytes.
 func manyPayloads(t *testing.T, size int) rtr.Data {
 	t.Helper()

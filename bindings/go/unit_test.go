@@ -5,6 +5,7 @@ package rtr
 import (
 	"bytes"
 	"encoding/binary"
+	"encoding/hex"
 	"errors"
 	"fmt"
 	"io"
@@ -523,6 +524,19 @@ func TestTextRows(t *testing.T) {
 			}
 			fault := Fault{Status: Status(number), Detail: uint8(detail), Offset: -1}
 			text, got = "rtr: "+after, fault.Error()
+		case "at":
+			var detail uint8
+			var offset uint64
+			if _, err := fmt.Sscan(text, &detail, &offset); err != nil {
+				t.Fatal(row)
+			}
+			text = strings.SplitN(text, " ", 3)[2]
+			got = statusTextAt(Status(number), detail, offset)
+		case "report":
+			digits, after, _ := strings.Cut(text, " ")
+			reported, _ := hex.DecodeString(digits)
+			text = after
+			got = reportText(ErrorCode(number), string(reported))
 		case "status":
 			got = name(namedStatus, uint16(number))
 		case "kind":

@@ -230,7 +230,7 @@ func TestReportsEnd(t *testing.T) {
 			<-ended
 		}))
 		client.AskIn(0)
-		client.Limits.Report = limit
+		client.Limits.Report, client.Limits.Dial = limit, 2*patience
 		ctx, cancel := limited(t)
 		if _, err := client.Fetch(ctx); err == nil || ctx.Err() != nil {
 			t.Errorf("%s: %v", name, err)

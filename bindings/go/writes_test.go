@@ -48,12 +48,12 @@ func TestWriteTakenInPart(t *testing.T) {
 		c := newServed(NewServer(), connection)
 		c.reply = reply{parts: [2]piece{{bytes: make([]byte, 1<<20)}}}
 		c.answers(0)
-		var err error
-		for err == nil {
-			err = c.send()
+		for c.broken == nil {
+			c.send()
 		}
-		if !errors.Is(err, ErrTooSlow) || len(connection.takes) > 0 || connection.deadlines != writes {
-			t.Errorf("%s: %v after %d deadlines", name, err, connection.deadlines)
+		if !errors.Is(c.broken, ErrTooSlow) || len(connection.takes) > 0 ||
+			connection.deadlines != writes {
+			t.Errorf("%s: %v after %d deadlines", name, c.broken, connection.deadlines)
 		}
 	}
 }
@@ -116,11 +116,20 @@ func TestFiled(t *testing.T) {
 			}
 			continue
 		}
+		flags, _, _ := syscall.Syscall(syscall.SYS_FCNTL, part.file.Fd(), syscall.F_GETFD, 0)
+		if flags&syscall.FD_CLOEXEC == 0 {
+			t.Error("programs that the process starts have the file, too")
+		}
 		part.file.Seek(0, io.SeekStart)
 		if read, err := io.ReadAll(part.file); err != nil || !bytes.Equal(read, all[:length]) {
 			t.Errorf("%d bytes: others in the file, %v", length, err)
 		}
 	}
+	maps, err := os.ReadFile("/proc/self/maps")
+	if err != nil || bytes.Contains(maps, []byte("memfd:rtr")) {
+		t.Error("a file is still mapped", err)
+	}
+	noDescriptors(t)
 	var usual syscall.Rlimit
 	if err := syscall.Getrlimit(syscall.RLIMIT_FSIZE, &usual); err != nil {
 		t.Fatal(err)
