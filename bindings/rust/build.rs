@@ -89,7 +89,7 @@ fn compiled() -> PathBuf {
     to
 }
 
-/// The first of these files beside this one that is there.
+/// Returns the first of these files that exists beside this one.
 fn first_there(names: &[&str]) -> PathBuf {
     let mut paths = names.iter().map(|name| here().join(name));
     paths

@@ -27,6 +27,7 @@ ENUMS = {"rtr_status": ("status", "RTR_"), "rtr_prefix_rule": ("prefix_rule", "R
          "rtr_phase": ("phase", "RTR_PHASE_"),
          "rtr_link_status": ("link_status", "RTR_LINK_"),
          "rtr_todo_kind": ("todo_kind", "RTR_TODO_"),
+         "rtr_client_failure": ("client_failure", "RTR_CLIENT_"),
          "rtr_cause": ("cause", "RTR_CAUSE_"), "rtr_group_shown": ("group_shown", "RTR_GROUP_"),
          "rtr_group_status": ("group_status", "RTR_GROUP_"),
          "rtr_serving_kind": ("serving", "RTR_SERVE_"), "rtr_reason": ("reason", "RTR_REASON_"),
@@ -206,19 +207,19 @@ def listed(front, parts, end, indent=""):
 
 
 def qualified(kind):
-    """Returns a type as the safe functions name it."""
+    """Returns the name of a type in the safe functions."""
     return kind if kind in calls.TYPES else f"abi::{struct_name(kind)}"
 
 
 def safe(parameter):
-    """Returns a parameter of a safe function."""
+    """Returns the declaration of a parameter of a safe function."""
     front = {"const": "&", "mut": "&mut ", "": ""}[parameter.pointer]
     kind = qualified(parameter.kind)
     return f"{parameter.name}: {front}{f'[{kind}]' if parameter.slice else kind}"
 
 
 def passed(parameter, outputs):
-    """Returns what a safe function passes on for a parameter."""
+    """Returns the arguments that a safe function passes to the call for a parameter."""
     name = parameter.name
     if parameter.slice:
         return f"{name}.{'as_mut_ptr' if parameter.pointer == 'mut' else 'as_ptr'}(), {name}.len()"

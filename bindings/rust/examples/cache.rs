@@ -4,16 +4,16 @@
 //!
 //! By default it listens at `[::]:3323`, and serves 1024 clients at once.
 //!
-//! The file holds a list or a recording, whose data are served; a line says what is left out of
-//! it. The cache checks it four times a second, and reads it again when it has changed: replace it
-//! by renaming another file. If a file is refused, the cache says why, and still serves the data
-//! before it; it retries to read a file that it can't read. With `--refuse` a router whose data
-//! aren't known any more gets a report of code 0 instead of a cache reset.
+//! The file holds a list or a recording, whose data are served; a line reports what is left out
+//! of it. The cache checks the file four times a second, and reads it again when it has changed:
+//! replace it by renaming another file. If a file is refused, the cache reports why, and still
+//! serves the previous data; it retries to read a file that it can't read. With `--refuse` a router
+//! whose data aren't known any more gets a report of code 0 instead of a cache reset.
 //!
-//! Data are saved to a file beside it, with `.kept` behind its name, before they are served. If
-//! that fails, the cache says why, and retries after 1, 2, 4 .. seconds, up to a minute. A restart
-//! serves what that file has. If it is damaged, the cache doesn't start: remove it, and give the
-//! next data a session that was never used. SIGINT and SIGTERM end the program.
+//! Data are saved to a file beside it, with `.kept` after its name, before they are served. If
+//! that fails, the cache reports why, and retries after 1, 2, 4 .. seconds, up to a minute. A
+//! restart serves the data of that file. If it is damaged, the cache doesn't start: remove it, and
+//! give the next data a session that was never used. SIGINT and SIGTERM end the program.
 //!
 //! Exits with status 0 after a signal, 1 if it can't serve, 2 for wrong arguments.
 
@@ -83,7 +83,7 @@ mod signals {
     const TERMINATE: i32 = 15;
 
     extern "C" {
-        /// Of the C library, on Linux and other systems with these numbers.
+        /// A function of the C library, on Linux and other systems with these numbers.
         fn signal(number: i32, handler: extern "C" fn(i32)) -> usize;
     }
 
@@ -106,7 +106,7 @@ fn give_back() {
     const MMAP_THRESHOLD: i32 = -3;
 
     extern "C" {
-        /// Of the GNU C library.
+        /// A function of the GNU C library.
         fn mallopt(parameter: i32, value: i32) -> i32;
     }
 

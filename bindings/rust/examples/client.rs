@@ -99,7 +99,7 @@ mod signals {
     const TERMINATE: i32 = 15;
 
     extern "C" {
-        /// Of the C library, on Linux and other systems with these numbers.
+        /// A function of the C library, on Linux and other systems with these numbers.
         fn signal(number: i32, handler: extern "C" fn(i32)) -> usize;
     }
 

@@ -46,9 +46,13 @@ pub(crate) const LAST_REPORT_LIMIT: u32 = 2000;
 pub(crate) const LAST_REPORT_BYTES: usize = 1048576;
 /// For rtr_text and rtr_name, with a 0 after the text.
 pub(crate) const TEXT_ROOM: usize = 64;
+/// For rtr_text_at, with a 0 after the text.
+pub(crate) const TEXT_AT_ROOM: usize = 96;
+/// For rtr_report_text, with a 0 after the text.
+pub(crate) const REPORT_TEXT_ROOM: usize = 136;
 /// For rtr_check_name.
 pub(crate) const NAME_ROOM: usize = 65528;
-/// For rtr_line of most units: not of long keys, ASPAs and reports.
+/// For rtr_line of most units: not of long keys, ASPAs, reports.
 pub(crate) const LINE_ROOM: usize = 160;
 /// For rtr_finding_line.
 pub(crate) const FINDING_ROOM: usize = 128;
@@ -63,6 +67,12 @@ pub(crate) mod failure {
         "the cache has no payloads";
     pub(crate) const STOPPED: &str =
         "the client was stopped";
+    pub(crate) const SLOW: &str =
+        "the peer is too slow";
+    pub(crate) const MORE_READ: &str =
+        "more bytes were read than there is room for";
+    pub(crate) const MORE_SENT: &str =
+        "more bytes were sent than there are";
     pub(crate) const BEHIND: &str =
         "the router is too far behind";
     pub(crate) const CLOSED: &str =
@@ -77,6 +87,8 @@ pub(crate) mod failure {
         "a cache that doesn't save has one session";
     pub(crate) const UNSAVED: &str =
         "the cache serves data that it didn't save";
+    pub(crate) const UNSYNCED: &str =
+        "the folder isn't synced";
     pub(crate) const HIGHER_VERSION: &str =
         "the saved data are of a lower version: the data need a new session";
     pub(crate) const DAMAGED: &str =
@@ -411,6 +423,29 @@ pub(crate) mod todo_kind {
     pub(crate) const OUTPUT_ROOM: u8 = 12;
 }
 
+/// Why there is no connection, or no data. docs/SESSIONS.md has what is reported to the cache.
+pub(crate) mod client_failure {
+    /// Nothing failed; the client may reconnect at once in another version.
+    pub(crate) const NONE: u8 = 0;
+    /// Connecting failed, or the connection broke or was closed.
+    pub(crate) const LOST: u8 = 1;
+    /// The cache didn't answer or finish an answer in time.
+    pub(crate) const SLOW: u8 = 2;
+    /// An answer has too many units or bytes.
+    pub(crate) const TOO_LONG: u8 = 3;
+    /// A unit or the changes are refused for `status`.
+    pub(crate) const REFUSED: u8 = 4;
+    /// A unit breaks the rules of a session.
+    pub(crate) const BREACH: u8 = 5;
+    /// The cache reports the error `code`.
+    pub(crate) const REPORTED: u8 = 6;
+    /// The data have expired, and were dropped.
+    pub(crate) const EXPIRED: u8 = 7;
+    /// There is no memory for an answer; or of an rtr_client to connect: then RTR_CLIENT_CONNECT
+    /// hasn't come, and it retries at `wakes`.
+    pub(crate) const MEMORY: u8 = 8;
+}
+
 /// How the shown data change.
 pub(crate) mod group_shown {
     pub(crate) const SAME: u8 = 0;
@@ -483,7 +518,7 @@ pub(crate) mod step {
 
 /// The limit that ended a connection.
 pub(crate) mod cut {
-    /// The rtr_cache ended it.
+    /// The rtr_cache ended it, or it broke.
     pub(crate) const CUT_NONE: u8 = 0;
     /// A unit or an answer took too long.
     pub(crate) const CUT_SLOW: u8 = 1;
@@ -715,13 +750,13 @@ pub(crate) struct Route {
 pub(crate) struct Tables {
     pub(crate) ipv4: usize,
     pub(crate) ipv6: usize,
-    /// For each first byte the IPv4 unit at which its addresses begin.
+    /// For each first byte, the index of the first IPv4 unit with such an address.
     pub(crate) starts: [usize; 256],
-    /// The length of the shortest IPv4 prefix; 255 where there is none.
+    /// The length of the shortest IPv4 prefix; 255 if there is none.
     pub(crate) shortest_ipv4: u8,
-    /// That of the shortest IPv6 prefix.
+    /// The length of the shortest IPv6 prefix; 255 if there is none.
     pub(crate) shortest_ipv6: u8,
-    /// The same of IPv4 prefixes of eight bits or more, for each first byte.
+    /// For each first byte, the length of the shortest IPv4 prefix of at least eight bits.
     pub(crate) shortest: [u8; 256],
 }
 
@@ -741,9 +776,9 @@ impl Default for Tables {
 #[repr(C)]
 #[derive(Clone, Copy, Debug, Default, PartialEq, Eq, Hash)]
 pub(crate) struct Lookup {
-    /// How many bytes the data are of, or 0.
+    /// The length of the data in bytes, or 0.
     pub(crate) length: usize,
-    /// What this length is below the greatest number.
+    /// The greatest number minus this length.
     pub(crate) seal: usize,
     /// The tables of the data.
     pub(crate) tables: Tables,
@@ -944,6 +979,8 @@ pub(crate) struct Link {
     pub(crate) bytes: u64,
     /// The latest time that was passed.
     pub(crate) latest: u64,
+    /// How many bytes came on the connection.
+    pub(crate) received: u64,
     /// The length of the payload units at the front of the input.
     pub(crate) kept: usize,
     /// The length of the end of data behind them, in a whole answer, or 0.
@@ -992,9 +1029,13 @@ pub(crate) struct Link {
 pub(crate) struct Todo {
     /// When to call rtr_link_next, if nothing comes before. It may have passed.
     pub(crate) wakes: u64,
+    /// The offset of the unit that it is about, in all bytes of the connection; of a change that
+    /// doesn't apply, that in the payload units of the answer; at an end that is about no unit,
+    /// the number of bytes that came before those of the input.
+    pub(crate) position: u64,
     /// The length that a buffer needs: in bytes, of the index in entries.
     pub(crate) room: usize,
-    /// The offset in the input of the unit that it is about.
+    /// The offset of that unit in the input.
     pub(crate) offset: usize,
     /// The error code of the report that the output ends with.
     pub(crate) code: u16,
@@ -1205,7 +1246,7 @@ pub(crate) struct Connection {
     pub(crate) filled: usize,
     /// The bytes of the answer, or of the last report, that weren't sent.
     pub(crate) unsent: usize,
-    /// 0 if it is served, 1 if it ended with a report, 2 if it ended without one.
+    /// 0 if it is served, 1 if it ended with a report, 2 if it ended without one or broke.
     pub(crate) state: u8,
     /// Whether there may be a whole unit among the unheard bytes.
     pub(crate) fresh: bool,
@@ -1361,6 +1402,22 @@ extern "C" {
         output_length: usize,
         text_length: *mut usize,
     ) -> u8;
+    pub(crate) fn rtr_text_at_nonnull(
+        status: u8,
+        detail: u8,
+        offset: u64,
+        output: *mut u8,
+        output_length: usize,
+        text_length: *mut usize,
+    ) -> u8;
+    pub(crate) fn rtr_report_text_nonnull(
+        code: u16,
+        reported: *const u8,
+        reported_length: usize,
+        output: *mut u8,
+        output_length: usize,
+        text_length: *mut usize,
+    ) -> u8;
     pub(crate) fn rtr_name_nonnull(
         named: u8,
         number: u16,
@@ -1394,6 +1451,12 @@ extern "C" {
         retry: u32,
         expire: u32,
     ) -> u8;
+    pub(crate) fn rtr_end_rule(
+        version: u8,
+        refresh: u32,
+        retry: u32,
+        expire: u32,
+    ) -> u8;
     pub(crate) fn rtr_wire_version(
     ) -> u32;
     pub(crate) fn rtr_write_unit_nonnull(
@@ -1413,6 +1476,15 @@ extern "C" {
         answer: *mut Comparison,
     ) -> u8;
     pub(crate) fn rtr_delta_nonnull(
+        old_data: *const u8,
+        old_data_length: usize,
+        new_data: *const u8,
+        new_data_length: usize,
+        output: *mut u8,
+        output_length: usize,
+        answer: *mut DataAnswer,
+    ) -> u8;
+    pub(crate) fn rtr_changes_between_nonnull(
         old_data: *const u8,
         old_data_length: usize,
         new_data: *const u8,
@@ -1461,6 +1533,10 @@ extern "C" {
         output_length: usize,
         loaded: *mut Loaded,
     ) -> u8;
+    pub(crate) fn rtr_end_offset_nonnull(
+        data: *const u8,
+        data_length: usize,
+    ) -> usize;
     pub(crate) fn rtr_check_data_nonnull(
         data: *const u8,
         data_length: usize,
@@ -1642,6 +1718,10 @@ extern "C" {
         output_length: usize,
         todo: *mut Todo,
     ) -> u8;
+    pub(crate) fn rtr_todo_failure(
+        todo: *const Todo,
+        gave_up: bool,
+    ) -> u8;
     pub(crate) fn rtr_link_state_of(
         link: *const Link,
         now: u64,
@@ -1760,6 +1840,11 @@ extern "C" {
     pub(crate) fn rtr_server_settings_usual(
         settings: *mut ServerSettings,
     );
+    pub(crate) fn rtr_server_keeps(
+        settings: *const ServerSettings,
+        kept_bytes: usize,
+        length: usize,
+    ) -> bool;
     pub(crate) fn rtr_door_init(
         door: *mut Door,
         settings: *const ServerSettings,
@@ -1789,6 +1874,12 @@ extern "C" {
     pub(crate) fn rtr_connection_closed(
         connection: *mut Connection,
     );
+    pub(crate) fn rtr_connection_broke(
+        connection: *mut Connection,
+    );
+    pub(crate) fn rtr_connection_reads(
+        connection: *const Connection,
+    ) -> bool;
     pub(crate) fn rtr_connection_heard(
         connection: *mut Connection,
         now: u64,
@@ -1857,12 +1948,21 @@ extern "C" {
         second_length: usize,
         answer: *mut StoresAnswer,
     ) -> u8;
+    pub(crate) fn rtr_stores_version(
+        present: *const Present,
+        present_version: u8,
+        session: u16,
+        version: u8,
+    ) -> u8;
     pub(crate) fn rtr_stores_saved(
         stores: *mut Stores,
     ) -> u8;
     pub(crate) fn rtr_stores_give_up(
         stores: *mut Stores,
     ) -> u8;
+    pub(crate) fn rtr_retry_after(
+        previous: u32,
+    ) -> u32;
     pub(crate) fn rtr_stores_state_nonnull(
         stores: *const Stores,
         first: *const u8,
@@ -2125,7 +2225,7 @@ mod tests {
         assert_eq!(place!(value.drops), 38);
         assert_eq!(place!(value.reports), 39);
         let value = super::Link::default();
-        assert_eq!(size_of::<super::Link>(), 224);
+        assert_eq!(size_of::<super::Link>(), 232);
         assert_eq!(place!(value.settings), 0);
         assert_eq!(place!(value.expires), 40);
         assert_eq!(place!(value.came), 48);
@@ -2135,48 +2235,50 @@ mod tests {
         assert_eq!(place!(value.rises), 80);
         assert_eq!(place!(value.bytes), 88);
         assert_eq!(place!(value.latest), 96);
-        assert_eq!(place!(value.kept), 104);
-        assert_eq!(place!(value.end_size), 112);
-        assert_eq!(place!(value.filled), 120);
-        assert_eq!(place!(value.shown), 128);
-        assert_eq!(place!(value.unsent), 136);
-        assert_eq!(place!(value.known), 144);
-        assert_eq!(place!(value.answer), 164);
-        assert_eq!(place!(value.wait), 184);
-        assert_eq!(place!(value.rise_wait), 188);
-        assert_eq!(place!(value.units), 192);
-        assert_eq!(place!(value.note), 196);
-        assert_eq!(place!(value.mark), 200);
-        assert_eq!(place!(value.session), 204);
-        assert_eq!(place!(value.phase), 206);
-        assert_eq!(place!(value.version), 207);
-        assert_eq!(place!(value.floor), 208);
-        assert_eq!(place!(value.agreed), 209);
-        assert_eq!(place!(value.fell), 210);
-        assert_eq!(place!(value.silent), 211);
-        assert_eq!(place!(value.changes), 212);
-        assert_eq!(place!(value.resync), 213);
-        assert_eq!(place!(value.answered), 214);
-        assert_eq!(place!(value.noted), 215);
-        assert_eq!(place!(value.has_data), 216);
-        assert_eq!(place!(value.holding), 217);
-        assert_eq!(place!(value.since), 218);
-        assert_eq!(place!(value.shows), 219);
-        assert_eq!(place!(value.second), 220);
-        assert_eq!(place!(value.opened), 221);
-        assert_eq!(place!(value.closed), 222);
+        assert_eq!(place!(value.received), 104);
+        assert_eq!(place!(value.kept), 112);
+        assert_eq!(place!(value.end_size), 120);
+        assert_eq!(place!(value.filled), 128);
+        assert_eq!(place!(value.shown), 136);
+        assert_eq!(place!(value.unsent), 144);
+        assert_eq!(place!(value.known), 152);
+        assert_eq!(place!(value.answer), 172);
+        assert_eq!(place!(value.wait), 192);
+        assert_eq!(place!(value.rise_wait), 196);
+        assert_eq!(place!(value.units), 200);
+        assert_eq!(place!(value.note), 204);
+        assert_eq!(place!(value.mark), 208);
+        assert_eq!(place!(value.session), 212);
+        assert_eq!(place!(value.phase), 214);
+        assert_eq!(place!(value.version), 215);
+        assert_eq!(place!(value.floor), 216);
+        assert_eq!(place!(value.agreed), 217);
+        assert_eq!(place!(value.fell), 218);
+        assert_eq!(place!(value.silent), 219);
+        assert_eq!(place!(value.changes), 220);
+        assert_eq!(place!(value.resync), 221);
+        assert_eq!(place!(value.answered), 222);
+        assert_eq!(place!(value.noted), 223);
+        assert_eq!(place!(value.has_data), 224);
+        assert_eq!(place!(value.holding), 225);
+        assert_eq!(place!(value.since), 226);
+        assert_eq!(place!(value.shows), 227);
+        assert_eq!(place!(value.second), 228);
+        assert_eq!(place!(value.opened), 229);
+        assert_eq!(place!(value.closed), 230);
         let value = super::Todo::default();
-        assert_eq!(size_of::<super::Todo>(), 32);
+        assert_eq!(size_of::<super::Todo>(), 40);
         assert_eq!(place!(value.wakes), 0);
-        assert_eq!(place!(value.room), 8);
-        assert_eq!(place!(value.offset), 16);
-        assert_eq!(place!(value.code), 24);
-        assert_eq!(place!(value.kind), 26);
-        assert_eq!(place!(value.cause), 27);
-        assert_eq!(place!(value.status), 28);
-        assert_eq!(place!(value.detail), 29);
-        assert_eq!(place!(value.drops), 30);
-        assert_eq!(place!(value.reports), 31);
+        assert_eq!(place!(value.position), 8);
+        assert_eq!(place!(value.room), 16);
+        assert_eq!(place!(value.offset), 24);
+        assert_eq!(place!(value.code), 32);
+        assert_eq!(place!(value.kind), 34);
+        assert_eq!(place!(value.cause), 35);
+        assert_eq!(place!(value.status), 36);
+        assert_eq!(place!(value.detail), 37);
+        assert_eq!(place!(value.drops), 38);
+        assert_eq!(place!(value.reports), 39);
         let value = super::LinkState::default();
         assert_eq!(size_of::<super::LinkState>(), 48);
         assert_eq!(place!(value.wakes), 0);

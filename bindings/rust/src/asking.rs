@@ -77,8 +77,10 @@ impl Askings {
 
 #[cfg(test)]
 mod tests {
-    use super::{Asked, Askings};
+    use super::{Asked, Asking, Askings};
     use crate::timed::Stop;
+    use std::sync::atomic::AtomicBool;
+    use std::sync::Arc;
     use std::time::{Duration, Instant};
 
     const LONG: Duration = Duration::from_secs(60);
@@ -104,7 +106,31 @@ mod tests {
         }
     }
 
-    /// Each thread gets the requests that come once it is there, and none before.
+    /// A thread without a waker looks for requests now and then.
+    #[test]
+    fn a_thread_without_a_waker() {
+        let asked = Asked {
+            asking: Arc::new(Asking {
+                is_requested: AtomicBool::new(false),
+                waker: None,
+            }),
+            woken: None,
+        };
+        assert!(waited(&asked, LONG) < LONG / 2);
+    }
+
+    /// Nothing is kept of threads that have ended, except of the last one until another comes.
+    #[test]
+    fn threads_that_have_ended() {
+        let askings = Askings::default();
+        let runs = askings.add();
+        (0..5).for_each(|_| drop(askings.add()));
+        assert_eq!(askings.0.lock().unwrap().len(), 2);
+        askings.ask();
+        assert!(runs.take());
+    }
+
+    /// Each thread gets the requests that come after it was registered, and no earlier ones.
     #[test]
     fn requests_to_threads() {
         let askings = Askings::default();

@@ -181,7 +181,7 @@ impl Cache {
         *locked(&self.state.store) = Store::open(path).expect("no file");
     }
 
-    /// Drops the deltas from a serial number and those before it.
+    /// Drops the deltas from a serial number and from earlier ones.
     #[cfg(test)]
     pub(crate) fn forget(&self, serial: u32) {
         let mut newest = locked(&self.state.newest);
@@ -266,9 +266,9 @@ impl Moment {
     }
 }
 
-/// Checks that RFC 8210 section 6 allows a cache the times of these data; version 0 has none.
+/// Checks that RFC 8210 section 6 allows a cache the times of these data.
 fn check_times(data: &Data) -> Result<(), UpdateError> {
-    match data.end().timing.and_then(TimeRule::broken_by) {
+    match TimeRule::broken_by(&data.end()) {
         Some(rule) => Err(UpdateError::Times(rule)),
         None => Ok(()),
     }

@@ -7,7 +7,7 @@ mod scenes;
 use self::scenes::{answer, bytes_of, each_line, hex, play};
 use super::{Server, ServerOptions};
 use crate::cache::Moment;
-use crate::serving::Connection;
+use crate::carrying::Connection;
 use crate::socket::Socket;
 use crate::waiting::{wait, Awaited};
 use crate::{Data, UpdateError};
@@ -77,7 +77,7 @@ fn own_file() -> PathBuf {
     folder.unwrap_or_else(std::env::temp_dir).join(name)
 }
 
-/// Returns a server that saves to this file, and serves what it has.
+/// Returns a server that saves to this file, and serves its data.
 fn saving(options: &ServerOptions) -> Server {
     let server = Server::new(options.clone());
     server
@@ -86,8 +86,8 @@ fn saving(options: &ServerOptions) -> Server {
     server
 }
 
-/// Gives a server these data. It refuses those of a session that it left: for a scene that goes
-/// back to one, it forgets what it left.
+/// Gives a server these data. It refuses data of a session that it left: if a scene returns to
+/// such a session, the server first forgets which sessions it left.
 fn update(server: &Server, data: Data) -> Result<bool, UpdateError> {
     match server.update(data.clone()) {
         Err(UpdateError::SessionLeft) => {
@@ -132,8 +132,8 @@ impl Joined {
         }
     }
 
-    /// Reports whether the connection has nothing to do now; `is_ready` says whether it has
-    /// bytes to read.
+    /// Reports whether the connection has nothing to do now; `is_ready` is whether it has bytes
+    /// to read.
     fn rests(&self, moment: &Moment, is_ready: bool) -> bool {
         let connection = &self.connection;
         let is_held = connection.is_sending() && self.readable.load(Ordering::Relaxed) == 0;
@@ -270,7 +270,7 @@ impl CacheEnd {
         }
     }
 
-    /// Drops the deltas from a serial number and those before it.
+    /// Drops the deltas from a serial number and from earlier ones.
     fn forgets(&mut self, serial: u32) {
         self.server().shared.cache.forget(serial);
     }

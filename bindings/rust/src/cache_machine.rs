@@ -5,12 +5,24 @@ pub(crate) use crate::abi::{reason, serving, Cache, Present, Serving};
 use crate::abi::{self, named, CacheSettings};
 use crate::calls;
 use crate::sys;
+use crate::unit::EndOfData;
 use std::string::{String, ToString};
 use std::vec::Vec;
 
 /// Returns the text of the report with which a cache ends a connection, for this reason.
 pub(crate) fn reason_text(reason: u8) -> String {
     sys::name(named::REASON, reason.into()).to_string()
+}
+
+impl Present {
+    /// Returns the session and serial number of data with this end.
+    pub(crate) fn of(end: EndOfData) -> Present {
+        Present {
+            serial: end.serial,
+            session: end.session,
+            has: true,
+        }
+    }
 }
 
 impl Cache {

@@ -138,6 +138,33 @@ pub(crate) fn text(status: u8, detail: u8, output: &mut [u8]) -> (usize, u8) {
 }
 
 #[inline]
+pub(crate) fn text_at(status: u8, detail: u8, offset: u64, output: &mut [u8]) -> (usize, u8) {
+    let mut text_length = 0;
+    // SAFETY: as at the head of this file.
+    let result = unsafe { abi::rtr_text_at_nonnull(
+        status,
+        detail,
+        offset,
+        output.as_mut_ptr(), output.len(),
+        &mut text_length,
+    ) };
+    (text_length, result)
+}
+
+#[inline]
+pub(crate) fn report_text(code: u16, reported: &[u8], output: &mut [u8]) -> (usize, u8) {
+    let mut text_length = 0;
+    // SAFETY: as at the head of this file.
+    let result = unsafe { abi::rtr_report_text_nonnull(
+        code,
+        reported.as_ptr(), reported.len(),
+        output.as_mut_ptr(), output.len(),
+        &mut text_length,
+    ) };
+    (text_length, result)
+}
+
+#[inline]
 pub(crate) fn name(named: u8, number: u16, output: &mut [u8]) -> (usize, u8) {
     let mut text_length = 0;
     // SAFETY: as at the head of this file.
@@ -194,6 +221,12 @@ pub(crate) fn times_rule(refresh: u32, retry: u32, expire: u32) -> u8 {
 }
 
 #[inline]
+pub(crate) fn end_rule(version: u8, refresh: u32, retry: u32, expire: u32) -> u8 {
+    // SAFETY: as at the head of this file.
+    unsafe { abi::rtr_end_rule(version, refresh, retry, expire) }
+}
+
+#[inline]
 pub(crate) fn wire_version() -> u32 {
     // SAFETY: as at the head of this file.
     unsafe { abi::rtr_wire_version() }
@@ -230,6 +263,23 @@ pub(crate) fn delta(old_data: &[u8], new_data: &[u8], output: &mut [u8]) -> abi:
     let mut answer = abi::DataAnswer::default();
     // SAFETY: as at the head of this file.
     unsafe { abi::rtr_delta_nonnull(
+        old_data.as_ptr(), old_data.len(),
+        new_data.as_ptr(), new_data.len(),
+        output.as_mut_ptr(), output.len(),
+        &mut answer,
+    ) };
+    answer
+}
+
+#[inline]
+pub(crate) fn changes_between(
+    old_data: &[u8],
+    new_data: &[u8],
+    output: &mut [u8],
+) -> abi::DataAnswer {
+    let mut answer = abi::DataAnswer::default();
+    // SAFETY: as at the head of this file.
+    unsafe { abi::rtr_changes_between_nonnull(
         old_data.as_ptr(), old_data.len(),
         new_data.as_ptr(), new_data.len(),
         output.as_mut_ptr(), output.len(),
@@ -300,6 +350,12 @@ pub(crate) fn load(
         &mut loaded,
     ) };
     loaded
+}
+
+#[inline]
+pub(crate) fn end_offset(data: &[u8]) -> usize {
+    // SAFETY: as at the head of this file.
+    unsafe { abi::rtr_end_offset_nonnull(data.as_ptr(), data.len()) }
 }
 
 #[inline]
@@ -611,6 +667,12 @@ pub(crate) fn link_give_up(
 }
 
 #[inline]
+pub(crate) fn todo_failure(todo: &abi::Todo, gave_up: bool) -> u8 {
+    // SAFETY: as at the head of this file.
+    unsafe { abi::rtr_todo_failure(todo, gave_up) }
+}
+
+#[inline]
 pub(crate) fn link_state(
     link: &abi::Link,
     now: u64,
@@ -816,6 +878,16 @@ pub(crate) fn server_settings_usual(settings: &mut abi::ServerSettings) {
 }
 
 #[inline]
+pub(crate) fn server_keeps(
+    settings: &abi::ServerSettings,
+    kept_bytes: usize,
+    length: usize,
+) -> bool {
+    // SAFETY: as at the head of this file.
+    unsafe { abi::rtr_server_keeps(settings, kept_bytes, length) }
+}
+
+#[inline]
 pub(crate) fn door_init(door: &mut abi::Door, settings: &abi::ServerSettings) {
     // SAFETY: as at the head of this file.
     unsafe { abi::rtr_door_init(door, settings) };
@@ -859,6 +931,18 @@ pub(crate) fn connection_received(connection: &mut abi::Connection, now: u64, si
 pub(crate) fn connection_closed(connection: &mut abi::Connection) {
     // SAFETY: as at the head of this file.
     unsafe { abi::rtr_connection_closed(connection) };
+}
+
+#[inline]
+pub(crate) fn connection_broke(connection: &mut abi::Connection) {
+    // SAFETY: as at the head of this file.
+    unsafe { abi::rtr_connection_broke(connection) };
+}
+
+#[inline]
+pub(crate) fn connection_reads(connection: &abi::Connection) -> bool {
+    // SAFETY: as at the head of this file.
+    unsafe { abi::rtr_connection_reads(connection) }
 }
 
 #[inline]
@@ -982,6 +1066,17 @@ pub(crate) fn stores_take(
 }
 
 #[inline]
+pub(crate) fn stores_version(
+    present: &abi::Present,
+    present_version: u8,
+    session: u16,
+    version: u8,
+) -> u8 {
+    // SAFETY: as at the head of this file.
+    unsafe { abi::rtr_stores_version(present, present_version, session, version) }
+}
+
+#[inline]
 pub(crate) fn stores_saved(stores: &mut abi::Stores) -> u8 {
     // SAFETY: as at the head of this file.
     unsafe { abi::rtr_stores_saved(stores) }
@@ -991,6 +1086,12 @@ pub(crate) fn stores_saved(stores: &mut abi::Stores) -> u8 {
 pub(crate) fn stores_give_up(stores: &mut abi::Stores) -> u8 {
     // SAFETY: as at the head of this file.
     unsafe { abi::rtr_stores_give_up(stores) }
+}
+
+#[inline]
+pub(crate) fn retry_after(previous: u32) -> u32 {
+    // SAFETY: as at the head of this file.
+    unsafe { abi::rtr_retry_after(previous) }
 }
 
 #[inline]

@@ -1,23 +1,25 @@
 //! Bytes in canonical form.
 
 use crate::abi::LONGEST_END;
+use crate::calls;
 use crate::fault::Fault;
+use crate::iter::Units;
 use crate::sequence::normalise_for;
 use crate::sys;
 use crate::unit::{EndOfData, Unit, UnitRef};
-use crate::units::Units;
-use alloc::borrow::Cow;
 use alloc::collections::TryReserveError;
 use alloc::sync::Arc;
 use alloc::vec;
 use alloc::vec::Vec;
+use core::hash::{Hash, Hasher};
+use core::sync::atomic::{AtomicUsize, Ordering};
 
 /// Bytes in canonical form that end with an end of data. Clones share them.
 #[derive(Clone, Debug, PartialEq, Eq, Hash)]
 pub(crate) struct Canonical {
     pub(crate) bytes: Arc<Vec<u8>>,
-    pub(crate) payloads: usize,
     pub(crate) end: EndOfData,
+    counted: Count,
 }
 
 impl Canonical {
@@ -39,21 +41,16 @@ impl Canonical {
         Canonical::of(bytes)
     }
 
-    fn of(bytes: Vec<u8>) -> Self {
-        let (mut payloads, mut rest) = (0, &bytes[..]);
-        // Only the last unit is parsed: the others are payloads.
-        while let Some(size) = sys::unit_size(rest).ok().filter(|size| *size < rest.len()) {
-            rest = &rest[size..];
-            payloads += 1;
-        }
-        let end = match Unit::first(rest) {
+    /// Wraps these bytes, which are in canonical form.
+    pub(crate) fn of(bytes: Vec<u8>) -> Self {
+        let end = match Unit::first(&bytes[calls::end_offset(&bytes)..]) {
             Ok((Unit::EndOfData(end), _)) => end,
             _ => panic!("the archive wrote an end of data"),
         };
         Canonical {
             bytes: Arc::new(bytes),
-            payloads,
             end,
+            counted: Count::new(),
         }
     }
 
@@ -62,10 +59,24 @@ impl Canonical {
         Arc::try_unwrap(self.bytes).unwrap_or_else(|shared| shared.to_vec())
     }
 
+    /// Returns the number of payload units, which the first call counts.
+    pub(crate) fn payloads(&self) -> usize {
+        let known = self.counted.0.load(Ordering::Relaxed);
+        if known != Count::NONE {
+            return known;
+        }
+        let (mut payloads, mut rest) = (0, self.unit_bytes());
+        while let Ok(size) = sys::unit_size(rest) {
+            rest = &rest[size..];
+            payloads += 1;
+        }
+        self.counted.0.store(payloads, Ordering::Relaxed);
+        payloads
+    }
+
     /// Returns the bytes of the payload units.
     pub(crate) fn unit_bytes(&self) -> &[u8] {
-        let end: UnitRef = Unit::EndOfData(self.end);
-        &self.bytes[..self.bytes.len() - end.size()]
+        &self.bytes[..calls::end_offset(&self.bytes)]
     }
 
     /// Returns the same data for clients of a version, without what it can't carry.
@@ -82,9 +93,7 @@ impl Canonical {
 
     /// Returns the payload units, without the end of data.
     pub(crate) fn units(&self) -> impl Iterator<Item = UnitRef<'_>> + Clone + '_ {
-        Units::sequence(&self.bytes, u64::MAX)
-            .filter_map(Result::ok)
-            .take(self.payloads)
+        Units::new(self.unit_bytes()).filter_map(Result::ok)
     }
 
     /// Returns the changes from these data to the new data. Versions and sessions may differ. If
@@ -98,59 +107,53 @@ impl Canonical {
         &self,
         new: Option<&Canonical>,
     ) -> Result<Canonical, TryReserveError> {
-        let end = new.map_or(self.end, |new| new.end);
-        let version = self.end.version.max(end.version);
-        let old = self.form(version, end.session)?;
-        let new = match new {
-            Some(new) => new.form(version, end.session)?,
-            None => Cow::Borrowed(self.end_bytes()),
-        };
-        delta(&old, &new)
-    }
-
-    /// Returns the bytes in this version and session.
-    fn form(&self, version: u8, session: u16) -> Result<Cow<'_, [u8]>, TryReserveError> {
-        if (version, session) == (self.end.version, self.end.session) {
-            return Ok(Cow::Borrowed(&self.bytes));
-        }
-        let mut form = Vec::new();
-        form.try_reserve_exact(self.bytes.len() + LONGEST_END)?;
-        form.resize(form.capacity(), 0);
-        let normalised = normalise_for(&self.bytes, &mut form, u64::MAX, version);
-        form.truncate(
-            normalised
-                .expect("data have a form in each version")
-                .written,
-        );
-        if session != self.end.session {
-            let end: UnitRef = Unit::EndOfData(EndOfData {
-                version,
-                session,
-                ..self.end
-            });
-            form.truncate(form.len() - end.size());
-            end.append(&mut form).expect("its version has a form");
-        }
-        Ok(Cow::Owned(form))
-    }
-
-    /// Returns the bytes of the end of data.
-    fn end_bytes(&self) -> &[u8] {
-        &self.bytes[self.unit_bytes().len()..]
+        let new = new.map_or(&[][..], |new| &new.bytes);
+        changes_between(&self.bytes, new)
     }
 }
 
-/// Returns the changes from old data to new data of the same version and session.
-pub(crate) fn delta(old: &[u8], new: &[u8]) -> Result<Canonical, TryReserveError> {
+/// How many payloads there are, once they were counted; it isn't compared.
+#[derive(Debug)]
+struct Count(AtomicUsize);
+
+impl Count {
+    const NONE: usize = usize::MAX;
+
+    fn new() -> Count {
+        Count(AtomicUsize::new(Count::NONE))
+    }
+}
+
+impl Clone for Count {
+    fn clone(&self) -> Count {
+        Count(AtomicUsize::new(self.0.load(Ordering::Relaxed)))
+    }
+}
+
+impl PartialEq for Count {
+    fn eq(&self, _other: &Count) -> bool {
+        true
+    }
+}
+
+impl Eq for Count {}
+
+impl Hash for Count {
+    fn hash<H: Hasher>(&self, _state: &mut H) {}
+}
+
+/// Returns the changes from old data to new data of any versions and sessions; empty bytes stand for
+/// no data.
+pub(crate) fn changes_between(old: &[u8], new: &[u8]) -> Result<Canonical, TryReserveError> {
     let most = old.len() + new.len();
     let mut changes = Vec::new();
     changes.try_reserve_exact(most / 8)?; // enough for most changes
-    let mut result = sys::append_delta(old, new, &mut changes);
+    let mut result = sys::append_changes(old, new, &mut changes);
     if matches!(result, Err(error) if error.fault == Fault::NoRoom) {
         changes = Vec::new();
         changes.try_reserve_exact(most)?;
-        result = sys::append_delta(old, new, &mut changes);
+        result = sys::append_changes(old, new, &mut changes);
     }
-    result.expect("data of one version and session");
+    result.expect("the call takes both data");
     Ok(Canonical::shrunk(changes))
 }

@@ -127,13 +127,13 @@ impl Changes {
     /// Returns how many payloads are announced or withdrawn.
     #[must_use]
     pub fn len(&self) -> usize {
-        self.computed().payloads
+        self.computed().payloads()
     }
 
     /// Reports whether no payload is announced or withdrawn.
     #[must_use]
     pub fn is_empty(&self) -> bool {
-        self.len() == 0
+        self.computed().unit_bytes().is_empty()
     }
 }
 

@@ -2,11 +2,11 @@
 
 use crate::asking::Askings;
 use crate::client_error::ClientError;
-use crate::following::{dial, Follower};
 use crate::log::{Log, LogFields, LogLevel};
 use crate::options::ClientOptions;
 use crate::owned_data::Data;
 use crate::router::Event;
+use crate::running::{dial, Follower};
 use crate::socket::Socket;
 use crate::timed::Stop;
 use std::boxed::Box;

@@ -1,13 +1,12 @@
 //! Why a client ends a connection.
 
-use crate::abi::{cause, failure, named, Todo, HEADER_SIZE, MOST_QUOTED};
+use crate::abi::{cause, client_failure, failure, named, Todo, HEADER_SIZE};
 use crate::data::{DataError, Place, Side};
 use crate::error;
 use crate::fault::{ErrorCode, Fault};
 use crate::refusal::Refusal;
 use crate::sys;
 use crate::unit::{unit_size, ErrorReport, Unit};
-use alloc::string::String;
 use alloc::vec::Vec;
 use core::fmt;
 
@@ -16,27 +15,14 @@ fn write_cause(f: &mut fmt::Formatter<'_>, cause: u8) -> fmt::Result {
     f.write_str(&sys::name(named::CAUSE, cause.into()))
 }
 
-/// Writes the name of a report's code, and the first bytes of its text in quotes, of which any but
-/// printable ASCII is a question mark.
+/// Writes what a peer's report says.
 pub(crate) fn write_report(
     f: &mut fmt::Formatter<'_>,
     report: &ErrorReport<Vec<u8>>,
 ) -> fmt::Result {
-    write!(f, ": {}", report.code)?;
-    match &report.parts {
-        Some(parts) if !parts.text.is_empty() => {
-            let shown = |&byte: &u8| {
-                if matches!(byte, b' '..=b'~') {
-                    byte.into()
-                } else {
-                    '?'
-                }
-            };
-            let quoted: String = parts.text.iter().take(MOST_QUOTED).map(shown).collect();
-            write!(f, ", \"{quoted}\"")
-        }
-        _ => Ok(()),
-    }
+    let text = report.parts.as_ref().map_or(&[][..], |parts| &parts.text);
+    f.write_str(": ")?;
+    f.write_str(&sys::report_text(report.code.0, text))
 }
 
 /// A breach of the rules of a session by a cache.
@@ -142,31 +128,39 @@ impl error::Error for ClientError {
 }
 
 impl ClientError {
-    /// Returns the error for the reason in `todo`. The input begins with the unit or the change at
-    /// fault, at this offset of the connection.
-    pub(crate) fn of(todo: &Todo, input: &[u8], offset: u64) -> ClientError {
-        let reason = match todo.cause {
-            cause::SLOW => return ClientError::TooSlow,
-            cause::TOO_LONG => return ClientError::TooLong,
-            cause::EXPIRED => return ClientError::Expired,
-            cause::REPORTED => return ClientError::reported(input),
-            cause::FAULTY => {
+    /// Returns the error for a failure, one of [`client_failure`]. The input begins with the unit or
+    /// the change at fault.
+    pub(crate) fn of(failure: u8, todo: &Todo, input: &[u8]) -> ClientError {
+        match failure {
+            client_failure::SLOW => ClientError::TooSlow,
+            client_failure::TOO_LONG => ClientError::TooLong,
+            client_failure::REFUSED if todo.cause == cause::FAULTY => {
                 let fault = Fault::of(todo.status, todo.detail);
-                return ClientError::Refused(Refusal {
+                ClientError::Refused(Refusal {
                     fault,
-                    offset,
+                    offset: todo.position,
                     unit: fault.of_unit(input).to_vec(),
-                });
+                })
             }
-            cause::NOT_APPLIED => return ClientError::refused(todo, input),
+            client_failure::REFUSED => ClientError::refused(todo, input),
+            client_failure::BREACH => ClientError::breach(todo, input),
+            client_failure::REPORTED => ClientError::reported(input),
+            client_failure::EXPIRED => ClientError::Expired,
+            client_failure::MEMORY => ClientError::NoMemory,
+            _ => ClientError::Closed,
+        }
+    }
+
+    /// Returns the error for a unit that breaks the rules of a session.
+    fn breach(todo: &Todo, input: &[u8]) -> ClientError {
+        let reason = match todo.cause {
             cause::OUT_OF_PLACE => Breach::Misplaced,
             cause::NO_SUCH_PAYLOAD => Breach::NoPayload,
             cause::OTHER_VERSION => Breach::OtherVersion,
             cause::HIGHER_VERSION => Breach::HigherVersion,
             cause::OTHER_SESSION => Breach::OtherSession,
             cause::OLD_SERIAL => Breach::SerialBack,
-            cause::OTHER_DATA => Breach::OtherData,
-            _ => return ClientError::Closed,
+            _ => Breach::OtherData,
         };
         ClientError::Breach {
             reason,

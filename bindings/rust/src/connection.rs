@@ -38,7 +38,7 @@ impl Connection {
         connection
     }
 
-    /// Reports whether neither the machine nor a report has ended it.
+    /// Reports whether it hasn't ended or broken.
     pub(crate) fn is_open(&self) -> bool {
         self.state == OPEN
     }
@@ -51,6 +51,11 @@ impl Connection {
     /// Records that the client closed the connection.
     pub(crate) fn close(&mut self) {
         calls::connection_closed(self);
+    }
+
+    /// Records that the connection broke: nothing is sent on it any more.
+    pub(crate) fn broke(&mut self) {
+        calls::connection_broke(self);
     }
 
     /// Records that the machine took `size` bytes of the input: 0 if it has no whole unit.

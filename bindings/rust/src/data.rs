@@ -49,7 +49,7 @@ impl DataError {
 impl fmt::Display for DataError {
     fn fmt(&self, f: &mut fmt::Formatter<'_>) -> fmt::Result {
         match self.place {
-            Some(place) => write!(f, "{}, at byte {}", self.fault, place.offset),
+            Some(place) => self.fault.fmt_at(f, place.offset as u64),
             None => self.fault.fmt(f),
         }
     }
@@ -71,6 +71,19 @@ impl Error for DataError {}
 /// errors it is unchanged.
 pub fn delta_into(old: &[u8], new: &[u8], output: &mut [u8]) -> Result<usize, DataError> {
     sys::delta(old, new, output)
+}
+
+/// Writes the changes from old data to new data of any versions and sessions, and returns their
+/// length: as [`delta_into`], in the higher of both versions, and with the end of data of the new
+/// data in that version; that of version 0 gets the recommended timing in a later one. An empty
+/// slice stands for no data: then all of the other is announced or withdrawn, with its end of data.
+///
+/// # Errors
+///
+/// Those of [`delta_into`], except `UnitVersion` for another version and `OtherSession`; `Short` of
+/// the new data if both slices are empty.
+pub fn changes_between(old: &[u8], new: &[u8], output: &mut [u8]) -> Result<usize, DataError> {
+    sys::changes_between(old, new, output)
 }
 
 /// Applies changes to data, and writes the result in canonical form, with the end of data of the

@@ -35,7 +35,7 @@ pub enum Entry {
 
 impl Door {
     /// Creates the door of a server without connections. At most [`ServerOptions::connections`] are
-    /// served at once, and 64 beside them refused.
+    /// served at once, and [`ServerOptions::refused`] more refused at once.
     #[must_use]
     pub fn new(options: &ServerOptions) -> Self {
         let mut door = abi::Door::default();

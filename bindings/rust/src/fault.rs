@@ -170,6 +170,11 @@ impl Fault {
         })
     }
 
+    /// Writes its text, and the offset of the unit.
+    pub(crate) fn fmt_at(self, f: &mut fmt::Formatter<'_>, offset: u64) -> fmt::Result {
+        f.write_str(&sys::text_at(self.status(), self.detail(), offset))
+    }
+
     /// Returns the bytes of the unit with this fault at the start of these bytes: only the header
     /// if that is refused, since its length can't be trusted.
     pub(crate) fn of_unit(self, bytes: &[u8]) -> &[u8] {

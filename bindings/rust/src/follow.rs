@@ -1,11 +1,11 @@
 //! Follows several caches by preference, each in a thread.
 
 use crate::client::Client;
-use crate::following::{Follower, Timed};
 use crate::group::{Decision, GroupSettings, News};
 use crate::owned_data::Data;
 use crate::preferred::Preferred;
 use crate::router::{Event, Step};
+use crate::running::{Follower, Timed};
 use crate::timed::milliseconds_since;
 use std::format;
 use std::io;

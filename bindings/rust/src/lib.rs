@@ -102,6 +102,8 @@ mod cache_machine;
 mod calls;
 #[cfg(feature = "alloc")]
 mod canonical;
+#[cfg(feature = "std")]
+mod carrying;
 #[cfg(feature = "alloc")]
 mod changes;
 #[cfg(feature = "alloc")]
@@ -118,11 +120,10 @@ mod door;
 mod fault;
 #[cfg(feature = "std")]
 mod follow;
-#[cfg(feature = "std")]
-mod following;
 mod group;
 #[cfg(feature = "std")]
 mod input;
+mod iter;
 mod kind;
 #[cfg(feature = "alloc")]
 mod lines;
@@ -147,6 +148,8 @@ mod refusal;
 #[cfg(feature = "alloc")]
 mod router;
 #[cfg(feature = "std")]
+mod running;
+#[cfg(feature = "std")]
 mod saving;
 mod sequence;
 #[cfg(feature = "std")]
@@ -155,8 +158,6 @@ mod served;
 mod server;
 #[cfg(feature = "std")]
 mod server_error;
-#[cfg(feature = "std")]
-mod serving;
 #[cfg(feature = "std")]
 mod snapshot;
 #[cfg(feature = "std")]
@@ -167,7 +168,6 @@ mod sys;
 #[cfg(feature = "std")]
 mod timed;
 mod unit;
-mod units;
 mod validation;
 #[cfg(feature = "alloc")]
 mod vrps;
@@ -186,13 +186,16 @@ pub use checking::{Checker, Finding};
 pub use client::Client;
 #[cfg(feature = "alloc")]
 pub use client_error::{Breach, ClientError};
-pub use data::{apply_in_order, apply_into, delta_into, order_into, DataError, Place, Side};
+pub use data::{
+    apply_in_order, apply_into, changes_between, delta_into, order_into, DataError, Place, Side,
+};
 #[cfg(feature = "std")]
 pub use door::{Door, Entry};
 pub use fault::{ErrorCode, Fault, PrefixRule};
 #[cfg(feature = "std")]
 pub use follow::{follow, follow_with};
 pub use group::{Decision, Group, GroupSettings, News, Shown, TooManyMembers};
+pub use iter::Units;
 pub use kind::{Kind, UnknownKind};
 #[cfg(feature = "alloc")]
 pub use lines::{change_json, change_line, unit_json, unit_line};
@@ -231,7 +234,6 @@ pub use unit::{
     Ipv4Prefix, Ipv6Prefix, Providers, ReportParts, ResetQuery, RouterKey, SerialNotify,
     SerialQuery, Timing, Unit, UnitRef,
 };
-pub use units::Units;
 pub use validation::{Covering, LengthError, Mismatch, Route, Tables, Validity, Vrp};
 #[cfg(feature = "alloc")]
 pub use vrps::{RoaPayload, RoaPayloadError};

@@ -24,7 +24,7 @@ use core::str;
 ///
 /// # Errors
 ///
-/// Those of [`unit_size`](crate::unit_size), and `Short` for an incomplete unit.
+/// The errors of [`unit_size`](crate::unit_size), and `Short` for an incomplete unit.
 pub fn unit_line(input: &[u8], offset: u64) -> Result<(String, usize), Fault> {
     line_by(|output| sys::line(input, offset, output))
 }

@@ -30,8 +30,6 @@ pub(crate) struct Link {
     is_second: bool,
     /// The time of the last call.
     now: u64,
-    /// The number of bytes received on the connection.
-    received: u64,
     /// The number of filled bytes of the input before the last call.
     filled_before: usize,
     /// Whether there was no memory for received bytes.
@@ -86,7 +84,6 @@ impl Link {
             former: None,
             is_second: false,
             now: 0,
-            received: 0,
             filled_before: 0,
             is_starved: false,
             gave_up: false,
@@ -144,7 +141,6 @@ impl Link {
     /// Reports that `count` bytes were read into that buffer.
     pub(crate) fn received(&mut self, count: usize) {
         must(calls::link_received(&mut self.client, &self.input, count));
-        self.received += count as u64;
     }
 
     /// Adds received bytes. Without memory for them the next call gives up.
@@ -168,7 +164,8 @@ impl Link {
         let status = calls::link_sent(&mut self.client, &mut self.output, count);
         assert!(
             status != link_status::TOO_LONG,
-            "more bytes were sent than there are"
+            "{}",
+            abi::failure::MORE_SENT
         );
         must(status);
     }
@@ -177,11 +174,6 @@ impl Link {
     /// unit begins.
     pub(crate) fn input_from(&self, offset: usize) -> &[u8] {
         &self.input[offset..self.filled_before]
-    }
-
-    /// Converts that offset to one in all bytes of the connection.
-    pub(crate) fn position(&self, offset: usize) -> u64 {
-        self.received - (self.filled_before - offset) as u64
     }
 
     /// Reports whether the last call gave up for lack of memory.
@@ -281,9 +273,6 @@ impl Link {
         }
         if todo.drops || todo.kind == todo_kind::DROPPED {
             self.former = self.data.take();
-        }
-        if todo.kind == todo_kind::CONNECT {
-            self.received = 0;
         }
         if !is_room(todo.kind) {
             self.next_data = Vec::new();

@@ -95,6 +95,9 @@ impl ClientOptions {
 pub struct ServerOptions {
     /// The most clients served at once (default 1024). One more gets a report of code 1.
     pub connections: usize,
+    /// The most clients above that limit that get such a report at once (default 64). Further ones
+    /// wait in the system's queue.
+    pub refused: usize,
     /// How long deltas from earlier data are kept after newer data came (default 2 hours).
     pub keep: Duration,
     /// The most bytes of steps back to earlier data, with 16 bytes for each step, and of encoded
@@ -114,6 +117,10 @@ pub struct ServerOptions {
     pub write: Duration,
     /// The time limit for a whole answer (default 10 minutes).
     pub response: Duration,
+    /// The time for a last report to be sent and to be read by the client (default 10 seconds).
+    pub report: Duration,
+    /// How many newer data may come while a client is sent an answer (default 2).
+    pub behind: usize,
     /// The least time between two notifies to a client (default 1 minute, RFC 8210 section 8.2).
     pub notify: Duration,
 }
@@ -123,6 +130,7 @@ impl Default for ServerOptions {
         let usual = sys::usual_server_settings();
         ServerOptions {
             connections: usize::try_from(usual.most_connections).unwrap_or(usize::MAX),
+            refused: usize::try_from(usual.most_refused).unwrap_or(usize::MAX),
             keep: Duration::from_millis(usual.keep),
             keep_bytes: usual.keep_bytes,
             refuse: usual.cache.refuses,
@@ -131,6 +139,8 @@ impl Default for ServerOptions {
             idle: span(usual.cache.idle_limit),
             write: span(usual.write_limit),
             response: span(usual.response_limit),
+            report: span(usual.report_limit),
+            behind: usize::try_from(usual.most_behind).unwrap_or(usize::MAX),
             notify: span(usual.cache.pause),
         }
     }
@@ -152,13 +162,21 @@ impl ServerOptions {
             unit_limit: milliseconds(self.unit),
             write_limit: milliseconds(self.write),
             response_limit: milliseconds(self.response),
-            most_connections: u32::try_from(self.connections).unwrap_or(u32::MAX),
-            ..sys::usual_server_settings()
+            report_limit: milliseconds(self.report),
+            most_connections: count(self.connections),
+            most_refused: count(self.refused),
+            most_behind: count(self.behind),
         }
     }
 }
 
-/// Converts a duration to the machine's milliseconds.
-fn span(milliseconds: u32) -> Duration {
+/// Converts the machine's milliseconds to a duration.
+pub(crate) fn span(milliseconds: u32) -> Duration {
     Duration::from_millis(milliseconds.into())
+}
+
+/// Converts a number to the machine's, or to its highest number.
+#[cfg(feature = "std")]
+fn count(number: usize) -> u32 {
+    u32::try_from(number).unwrap_or(u32::MAX)
 }

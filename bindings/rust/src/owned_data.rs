@@ -5,12 +5,11 @@ use crate::canonical::Canonical;
 use crate::changes::Changes;
 use crate::data::{apply_in_order, apply_into, delta_into, order_into, DataError, Place, Side};
 use crate::fault::Fault;
+use crate::iter::Units;
 use crate::sys;
 use crate::unit::{EndOfData, Timing, Unit, UnitRef};
-use crate::units::Units;
 use crate::validation::{Covering, Route, Validity};
 use alloc::boxed::Box;
-use alloc::sync::Arc;
 use alloc::vec;
 use alloc::vec::Vec;
 
@@ -149,16 +148,16 @@ impl Data {
         self.0.end
     }
 
-    /// Returns the number of payloads.
+    /// Returns the number of payloads, which the first call counts.
     #[must_use]
     pub fn len(&self) -> usize {
-        self.0.payloads
+        self.0.payloads()
     }
 
     /// Reports whether there are no payloads.
     #[must_use]
     pub fn is_empty(&self) -> bool {
-        self.0.payloads == 0
+        self.0.unit_bytes().is_empty()
     }
 
     /// Returns the validity of the route by the VRPs of the data (RFC 6811 section 2).
@@ -267,11 +266,7 @@ impl Data {
         let unit: UnitRef = Unit::EndOfData(end);
         let mut bytes = self.0.unit_bytes().to_vec();
         unit.append(&mut bytes).expect("its version has this form");
-        Data::of(Canonical {
-            bytes: Arc::new(bytes),
-            end,
-            ..self.0
-        })
+        Data::of(Canonical::of(bytes))
     }
 }
 

@@ -90,7 +90,8 @@ impl Preferred {
         data: Option<&Data>,
     ) -> Decision {
         self.members[member] = data.cloned();
-        let payloads = data.map_or(0, Data::len);
+        // The group asks only whether there are any.
+        let payloads = usize::from(data.map_or(false, |data| !data.is_empty()));
         let decided = self.group.tell(now, member, news, payloads);
         if matches!(step, Step::Data(_)) && !self.group.counts(payloads) {
             self.push(member, Step::Failed(ClientError::Empty), None);

@@ -2,11 +2,11 @@
 
 use crate::abi::{HEADER_SIZE, LONGEST_UNIT};
 use crate::fault::Fault;
+use crate::iter::refuse_outside_of_sequences;
 use crate::kind::Kind;
 use crate::refusal::Refusal;
 use crate::sys;
 use crate::unit::{OwnedUnit, Unit, UnitRef};
-use crate::units::refuse_outside_of_sequences;
 use std::fmt;
 use std::io::{self, Read};
 use std::vec::Vec;

@@ -31,7 +31,7 @@ impl Refusal {
 
 impl fmt::Display for Refusal {
     fn fmt(&self, f: &mut fmt::Formatter<'_>) -> fmt::Result {
-        write!(f, "{}, at byte {}", self.fault, self.offset)
+        self.fault.fmt_at(f, self.offset)
     }
 }
 

@@ -1,6 +1,7 @@
 //! A router's end of a session, without sockets or a clock.
 
-use crate::abi::{cause, status, todo_kind, Todo};
+use crate::abi::{client_failure, todo_kind, Todo};
+use crate::calls;
 use crate::changes::Changes;
 use crate::client_error::ClientError;
 use crate::group::News;
@@ -73,7 +74,7 @@ pub struct Router {
 #[derive(Clone, Copy, Debug, PartialEq, Eq)]
 enum Connection {
     None,
-    /// The caller is opening one.
+    /// The caller is opening a connection.
     Wanted,
     Open,
     /// Connecting failed, or no more bytes come; it isn't closed yet.
@@ -301,15 +302,13 @@ impl Router {
     /// Why the connection ends; none if the router reconnects at once in another version.
     fn ending(&mut self, todo: &Todo) -> Option<ClientError> {
         let lost = self.error.take();
-        let is_memory = todo.cause == cause::NOT_APPLIED && todo.status == status::OK;
-        Some(match todo.cause {
-            cause::LOWER | cause::HIGHER => return None,
-            _ if is_memory || self.link.gave_up() => ClientError::NoMemory,
-            cause::LOST => lost.unwrap_or(ClientError::Closed),
-            _ => {
+        match calls::todo_failure(todo, self.link.gave_up()) {
+            client_failure::NONE => None,
+            client_failure::LOST => Some(lost.unwrap_or(ClientError::Closed)),
+            failure => {
                 let input = self.link.input_from(todo.offset);
-                ClientError::of(todo, input, self.link.position(todo.offset))
+                Some(ClientError::of(failure, todo, input))
             }
-        })
+        }
     }
 }

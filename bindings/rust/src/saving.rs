@@ -1,6 +1,8 @@
 //! Writes the file of a cache, and retries it.
 
 use crate::cache::locked;
+use crate::calls;
+use crate::options::span;
 use std::fs::{remove_file, rename, File};
 use std::io::{self, ErrorKind, Write};
 use std::path::{Path, PathBuf};
@@ -8,10 +10,6 @@ use std::string::ToString;
 use std::sync::{Arc, Condvar, Mutex, PoisonError};
 use std::thread::{current, Builder, JoinHandle};
 use std::time::{Duration, Instant};
-
-/// The pause before the first retry, and the longest one; in between each is twice the last.
-const FIRST_PAUSE: Duration = Duration::from_secs(1);
-const LONGEST_PAUSE: Duration = Duration::from_secs(60);
 
 /// Returns the name of the new file beside the old one, which it replaces when it is complete.
 fn new_beside(path: &Path) -> PathBuf {
@@ -77,9 +75,9 @@ impl Retries {
         let turn = Arc::clone(&self.turn);
         let number = self.next_turn();
         let task = move || {
-            let mut pause = FIRST_PAUSE;
-            while has_waited(&turn, number, pause) && !is_done() {
-                pause = longer(pause);
+            let mut pause = calls::retry_after(0);
+            while has_waited(&turn, number, span(pause)) && !is_done() {
+                pause = calls::retry_after(pause);
             }
         };
         let thread = Builder::new().name("rtr save".to_string()).spawn(task)?;
@@ -111,11 +109,6 @@ impl Retries {
     }
 }
 
-/// Returns the pause after one of this length.
-fn longer(pause: Duration) -> Duration {
-    LONGEST_PAUSE.min(2 * pause)
-}
-
 /// Waits for a time; returns whether the thread of this number may continue.
 fn has_waited((turn, changed): &(Mutex<Turn>, Condvar), number: u64, pause: Duration) -> bool {
     let until = Instant::now() + pause;
@@ -133,15 +126,15 @@ fn has_waited((turn, changed): &(Mutex<Turn>, Condvar), number: u64, pause: Dura
 
 #[cfg(test)]
 mod tests {
-    use super::{longer, FIRST_PAUSE};
+    use crate::calls;
     use std::iter::successors;
     use std::vec::Vec;
 
     // As `Server::update` says.
     #[test]
     fn pauses_double_up_to_a_minute() {
-        let pauses = successors(Some(FIRST_PAUSE), |pause| Some(longer(*pause)));
-        let seconds: Vec<u64> = pauses.take(8).map(|pause| pause.as_secs()).collect();
+        let pauses = successors(Some(0), |pause| Some(calls::retry_after(*pause)));
+        let seconds: Vec<u32> = pauses.skip(1).take(8).map(|pause| pause / 1000).collect();
         assert_eq!(seconds, [1, 2, 4, 8, 16, 32, 60, 60]);
     }
 }

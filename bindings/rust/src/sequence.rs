@@ -30,7 +30,7 @@ pub struct Stopped {
 
 impl fmt::Display for Stopped {
     fn fmt(&self, f: &mut fmt::Formatter<'_>) -> fmt::Result {
-        write!(f, "{}, at byte {}", self.fault, self.progress.taken)
+        self.fault.fmt_at(f, self.progress.taken as u64)
     }
 }
 
@@ -99,8 +99,8 @@ impl fmt::Display for NotCompared {
             Side::First => "left",
             Side::Second => "right",
         };
-        let offset = self.place.offset;
-        write!(f, "{}, at byte {offset} of the {side} input", self.fault)
+        self.fault.fmt_at(f, self.place.offset as u64)?;
+        write!(f, " of the {side} input")
     }
 }
 

@@ -69,11 +69,11 @@ pub struct Served {
     machine: Machine,
     connection: Connection,
     input: Input,
+    /// The offset of the input in all received bytes.
+    offset: u64,
     output: Option<Output>,
     /// Whether [`Served::next`] has returned [`ServedStep::Finish`].
     is_finished: bool,
-    /// Whether a limit has ended it, or its socket has failed: nothing is sent any more.
-    is_over: bool,
     /// Why it ended, until [`Served::next`] has returned that.
     ended: Option<ServerError>,
 }
@@ -87,9 +87,9 @@ impl Served {
             machine: Machine::new(moment.now, &settings.cache),
             connection: Connection::new(moment.now, &settings),
             input: Input::default(),
+            offset: 0,
             output: None,
             is_finished: false,
-            is_over: false,
             ended: None,
         }
     }
@@ -109,13 +109,13 @@ impl Served {
     /// Reports whether the connection is still open.
     #[must_use]
     pub fn is_served(&self) -> bool {
-        self.connection.is_open() && !self.is_over
+        self.connection.is_open()
     }
 
     /// Returns when to call [`Served::next`] if nothing happens before.
     #[must_use]
     pub fn wakes(&self, moment: &Moment) -> u64 {
-        if self.ended.is_some() || self.is_over {
+        if self.ended.is_some() {
             return 0;
         }
         self.connection.wakes(&self.machine, moment.present())
@@ -149,8 +149,7 @@ impl Served {
         }
     }
 
-    /// Reports that the connection broke. Its unsent bytes are lost, so no proved call decides what
-    /// follows.
+    /// Reports that the connection broke. Its unsent bytes are lost, and it has to be closed.
     pub fn lost(&mut self, error: io::Error) {
         self.end(ServerError::Io(error));
     }
@@ -160,9 +159,6 @@ impl Served {
         loop {
             if let Some(error) = self.ended.take() {
                 return ServedStep::Ended(error);
-            }
-            if self.is_over {
-                return ServedStep::Close;
             }
             let (now, present) = (moment.now, moment.present());
             let connection = &self.connection;
@@ -198,6 +194,7 @@ impl Served {
         let serving = self.machine.read(now, present, known, input, has_closed);
         self.connection.heard(now, serving.taken);
         self.perform(&serving, moment);
+        self.offset += serving.taken as u64;
         if self.is_served() {
             self.input.take(serving.taken);
         } else {
@@ -219,7 +216,7 @@ impl Served {
         let output = Output::new(head, body);
         let (now, size) = (moment.now, output.size());
         let begins = if serving.kind == serving::END {
-            self.ended = ServerError::of(serving, self.input.bytes());
+            self.ended = ServerError::of(serving, self.input.bytes(), self.offset);
             self.connection.ends(now, size)
         } else {
             self.connection.answers(now, size, moment.number())
@@ -228,12 +225,12 @@ impl Served {
         self.output = (size > 0).then_some(output);
     }
 
-    /// Ends the connection at once, for this reason.
+    /// Ends the connection at once, for this reason: nothing is sent any more.
     fn end(&mut self, error: ServerError) {
         if self.is_served() {
             self.ended = Some(error);
         }
         self.output = None;
-        self.is_over = true;
+        self.connection.broke();
     }
 }

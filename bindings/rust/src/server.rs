@@ -1,12 +1,12 @@
 //! A cache.
 
 use crate::cache::{locked, Cache, Moment};
+use crate::carrying::{Connection, Ended};
 use crate::door::{Door, Entry};
 use crate::log::{log_retried, Log, LogFields, LogLevel};
 use crate::options::ServerOptions;
 use crate::owned_data::Data;
 use crate::server_error::{SaveError, ServerError, UpdateError};
-use crate::serving::{Connection, Ended};
 use crate::socket::Socket;
 use crate::timed::{has_to_wait, milliseconds_since, Stop};
 use crate::unit::EndOfData;

@@ -3,9 +3,9 @@
 use crate::abi::{failure, named, time_rule};
 use crate::cache_machine::{reason, reason_text, Serving};
 use crate::client_error::write_report;
-use crate::fault::{ErrorCode, Fault};
+use crate::fault::ErrorCode;
 use crate::sys;
-use crate::unit::{ErrorReport, Timing, Unit};
+use crate::unit::{EndOfData, ErrorReport, Unit};
 use std::fmt;
 use std::io;
 use std::string::{String, ToString};
@@ -63,9 +63,9 @@ impl std::error::Error for ServerError {
 }
 
 impl ServerError {
-    /// Returns why the machine ends a connection; the input begins with the unit. None if the
-    /// client has closed it, between units.
-    pub(crate) fn of(serving: &Serving, input: &[u8]) -> Option<ServerError> {
+    /// Returns why the machine ends a connection; the input begins with the unit, at this offset in
+    /// all received bytes. None if the client has closed it, between units.
+    pub(crate) fn of(serving: &Serving, input: &[u8], offset: u64) -> Option<ServerError> {
         let text = match (serving.reason, Unit::first(input)) {
             (reason::LOST, _) => return None,
             (reason::SLOW, _) => return Some(ServerError::TooSlow),
@@ -74,7 +74,7 @@ impl ServerError {
             (reason::REPORTED, Ok((Unit::ErrorReport(report), _))) => {
                 return Some(ServerError::Reported(report.into_owned()));
             }
-            (reason::FAULTY, _) => Fault::of(serving.status, serving.detail).to_string(),
+            (reason::FAULTY, _) => sys::text_at(serving.status, serving.detail, offset).to_string(),
             (other, _) => reason_text(other),
         };
         let code = serving.reports.then_some(ErrorCode(serving.code));
@@ -167,9 +167,9 @@ pub enum TimeRule {
 }
 
 impl TimeRule {
-    /// Returns the first rule that these times break.
-    pub(crate) fn broken_by(timing: Timing) -> Option<TimeRule> {
-        match sys::times_rule(timing) {
+    /// Returns the first rule that the times of this end of data break.
+    pub(crate) fn broken_by(end: &EndOfData) -> Option<TimeRule> {
+        match sys::end_rule(end) {
             time_rule::NONE => None,
             time_rule::REFRESH => Some(TimeRule::Refresh),
             time_rule::RETRY => Some(TimeRule::Retry),

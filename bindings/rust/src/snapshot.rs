@@ -3,7 +3,8 @@
 use crate::body::{Body, Memory};
 use crate::cache::locked;
 use crate::cache_machine::Present;
-use crate::canonical::delta;
+use crate::calls;
+use crate::canonical::changes_between;
 use crate::options::ServerOptions;
 use crate::store::{in_version, History};
 use crate::unit::EndOfData;
@@ -49,11 +50,7 @@ impl Snapshot {
         let end = history.end();
         let snapshot = Snapshot {
             number: before.map_or(1, |before| before.number + 1),
-            present: Present {
-                serial: end.serial,
-                session: end.session,
-                has: true,
-            },
+            present: Present::of(end),
             known: history.known(),
             end,
             history,
@@ -74,7 +71,7 @@ impl Snapshot {
             return;
         }
         let (serial, old, new) = (before.present.serial, before.data(), self.data());
-        let changes = delta(&old, &new).expect("memory for the changes");
+        let changes = changes_between(&old, &new).expect("memory for the changes");
         for version in versions {
             let changes = in_version(&changes.bytes, self.end.version, version).into_owned();
             debug_assert_eq!(changes, self.history.since(serial, version));
@@ -135,16 +132,15 @@ impl Snapshot {
         self.keep(key, changes, options)
     }
 
-    /// Keeps encoded changes; if they are too many, it drops all others.
+    /// Keeps encoded changes for further clients, if the limit lets it.
     fn keep(&self, key: (u32, u8), changes: Vec<u8>, options: &ServerOptions) -> Body {
         let changes = Body::of(Memory::Allocated(changes));
         let mut encoded = locked(&self.encoded);
-        encoded.size += changes.len();
-        if encoded.size > options.keep_bytes {
-            encoded.changes.clear();
-            encoded.size = changes.len();
+        let fits = calls::server_keeps(&options.settings(), encoded.size, changes.len());
+        if fits && !encoded.changes.contains_key(&key) {
+            encoded.size += changes.len();
+            encoded.changes.insert(key, changes.clone());
         }
-        encoded.changes.insert(key, changes.clone());
         changes
     }
 }
@@ -153,6 +149,7 @@ impl Snapshot {
 mod tests {
     use super::Snapshot;
     use crate::abi::HistoryLimits;
+    use crate::cache::locked;
     use crate::store::Store;
     use crate::{Data, ServerOptions};
     use std::vec::Vec;
@@ -207,5 +204,37 @@ mod tests {
             }
             before = Some(snapshot);
         }
+    }
+
+    /// Changes are kept up to the limit. Changes beyond it are computed for each client, and the
+    /// kept ones stay.
+    #[test]
+    fn changes_up_to_the_limit() {
+        let limits = HistoryLimits {
+            time: u64::MAX,
+            bytes: usize::MAX,
+        };
+        let (mut store, mut options) = (Store::default(), ServerOptions::default());
+        for (serial, numbers) in [(1, 0..9), (2, 3..12), (3, 4..9)] {
+            assert_eq!(store.take(&data(serial, numbers), &limits), Ok(true));
+        }
+        let snapshot = Snapshot::after(None, store.history().unwrap(), &options);
+        let first = snapshot.since(2, 1, &options);
+        options.keep_bytes = first.len();
+        let kept = |serial| locked(&snapshot.encoded).changes.contains_key(&(serial, 2));
+        assert!(kept(1) && !kept(2));
+        for _ in 0..2 {
+            assert_eq!(
+                snapshot.since(2, 2, &options)[..],
+                snapshot.history.since(2, 2)[..]
+            );
+            assert!(kept(1) && !kept(2));
+        }
+        options.keep_bytes += snapshot.since(2, 2, &options).len();
+        snapshot.since(2, 2, &options);
+        assert!(kept(1) && kept(2));
+        assert_eq!(locked(&snapshot.encoded).size, options.keep_bytes);
+        snapshot.since(2, 2, &options);
+        assert_eq!(locked(&snapshot.encoded).size, options.keep_bytes);
     }
 }

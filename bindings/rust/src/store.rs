@@ -4,6 +4,7 @@ use crate::abi::{self, failure, room, stores_status as status};
 use crate::abi::{HistoryLimits, StoreHead, Stores, StoresAnswer, StoresState};
 use crate::abi::{HIGHEST_VERSION, LONGEST_END, SHORTEST_PAYLOAD};
 use crate::body::{Body, Memory};
+use crate::cache_machine::Present;
 use crate::calls;
 use crate::owned_data::Data;
 use crate::saving::{forget_new, replace, sync_folder};
@@ -58,7 +59,7 @@ impl Rooms {
     }
 }
 
-/// The stores of a cache: the served one, and the one that waits to be saved.
+/// The stores of a cache: the served one, and the pending one, which must be saved first.
 #[derive(Debug, Default)]
 pub(crate) struct Store {
     /// None before the first data of a cache that doesn't save.
@@ -195,13 +196,14 @@ impl Store {
         })
     }
 
-    /// Returns the version in which data with this end are kept: the highest one, which has all
-    /// payloads, or that of the served data of their session, if a file has them in a lower one.
+    /// Returns the version in which data with this end are kept.
     fn kept_in(&self, new: EndOfData) -> u8 {
-        match self.history().map(|history| history.end()) {
-            Some(end) if end.session == new.session && new.version <= end.version => end.version,
-            _ => HIGHEST_VERSION,
+        let (mut present, mut version) = (Present::default(), 0);
+        if let Some(end) = self.history().map(|history| history.end()) {
+            present = Present::of(end);
+            version = end.version;
         }
+        calls::stores_version(&present, version, new.session, new.version)
     }
 
     /// Buffers to take data of this length, enough for most changes.
@@ -233,7 +235,7 @@ impl Store {
         }
     }
 
-    /// Saves the store that waits, which is served then.
+    /// Saves the pending store, which is then served.
     pub(crate) fn save(&mut self) -> io::Result<()> {
         let (stores, path) = match (&mut self.stores, &self.path) {
             (Some(stores), Some(path)) => (stores, path),

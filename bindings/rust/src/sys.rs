@@ -12,6 +12,8 @@ use crate::fault::{ErrorCode, Fault};
 use crate::kind::Kind;
 use crate::net::{IpAddr, Ipv4Addr, Ipv6Addr};
 use crate::sequence::{NotCompared, Progress, Stopped};
+#[cfg(feature = "std")]
+use crate::unit::EndOfData;
 use crate::unit::{self, ErrorReport, Providers, ReportParts, Timing, UnitRef};
 use crate::validation::{Route, Validity};
 #[cfg(feature = "alloc")]
@@ -84,18 +86,18 @@ pub(crate) fn unit_size(input: &[u8]) -> Result<usize, Fault> {
     }
 }
 
-/// A text of the archive.
-pub(crate) struct Text {
-    bytes: [u8; abi::TEXT_ROOM],
+/// A text of the archive, of less than `ROOM` bytes.
+pub(crate) struct Text<const ROOM: usize> {
+    bytes: [u8; ROOM],
     length: usize,
 }
 
-impl Text {
+impl<const ROOM: usize> Text<ROOM> {
     /// Returns the text that a call writes to the front of these bytes; the call returns its
     /// length.
     fn by(call: impl FnOnce(&mut [u8]) -> (usize, u8)) -> Self {
         let mut text = Text {
-            bytes: [0; abi::TEXT_ROOM],
+            bytes: [0; ROOM],
             length: 0,
         };
         text.length = call(&mut text.bytes).0;
@@ -103,7 +105,7 @@ impl Text {
     }
 }
 
-impl Deref for Text {
+impl<const ROOM: usize> Deref for Text<ROOM> {
     type Target = str;
 
     fn deref(&self) -> &str {
@@ -114,8 +116,19 @@ impl Deref for Text {
 }
 
 /// Returns the text of a status with its detail.
-pub(crate) fn status_text(status: u8, detail: u8) -> Text {
+pub(crate) fn status_text(status: u8, detail: u8) -> Text<{ abi::TEXT_ROOM }> {
     Text::by(|output| calls::text(status, detail, output))
+}
+
+/// Returns the text of a status with its detail, and an offset.
+pub(crate) fn text_at(status: u8, detail: u8, offset: u64) -> Text<{ abi::TEXT_AT_ROOM }> {
+    Text::by(|output| calls::text_at(status, detail, offset, output))
+}
+
+/// Returns what an error report of this code and text says.
+#[cfg(feature = "alloc")]
+pub(crate) fn report_text(code: u16, text: &[u8]) -> Text<{ abi::REPORT_TEXT_ROOM }> {
+    Text::by(|output| calls::report_text(code, text, output))
 }
 
 /// Converts a duration to milliseconds; only zero becomes zero.
@@ -125,14 +138,16 @@ pub(crate) fn milliseconds(span: Duration) -> u32 {
 }
 
 /// Returns the name of a number; `named` selects the table of names.
-pub(crate) fn name(named: u8, number: u16) -> Text {
+pub(crate) fn name(named: u8, number: u16) -> Text<{ abi::TEXT_ROOM }> {
     Text::by(|output| calls::name(named, number, output))
 }
 
-/// Returns the first rule of RFC 8210 section 6 that these times break, or 0.
+/// Returns the first rule of RFC 8210 section 6 that the times of an end of data break, or 0.
 #[cfg(feature = "std")]
-pub(crate) fn times_rule(timing: Timing) -> u8 {
-    calls::times_rule(timing.refresh, timing.retry, timing.expire)
+pub(crate) fn end_rule(end: &EndOfData) -> u8 {
+    let times = end.timing.map(|t| (t.refresh, t.retry, t.expire));
+    let (refresh, retry, expire) = times.unwrap_or_default();
+    calls::end_rule(end.version, refresh, retry, expire)
 }
 
 /// Writes the line of the first unit of the input, as much as fits; returns the length of the whole
@@ -231,13 +246,26 @@ pub(crate) fn delta(old: &[u8], new: &[u8], output: &mut [u8]) -> Result<usize, 
     data_result(calls::delta(old, new, output))
 }
 
-/// Writes the delta to the capacity of an empty vector.
+pub(crate) fn changes_between(
+    old: &[u8],
+    new: &[u8],
+    output: &mut [u8],
+) -> Result<usize, DataError> {
+    data_result(calls::changes_between(old, new, output))
+}
+
+/// Writes the changes between data of any versions and sessions to the capacity of an empty vector.
+/// An empty slice stands for no data.
 #[cfg(feature = "alloc")]
-pub(crate) fn append_delta(old: &[u8], new: &[u8], output: &mut Vec<u8>) -> Result<(), DataError> {
+pub(crate) fn append_changes(
+    old: &[u8],
+    new: &[u8],
+    output: &mut Vec<u8>,
+) -> Result<(), DataError> {
     let mut answer = DataAnswer::default();
     // SAFETY: as in `normalise`; the call writes to the output, and as many bytes as it says.
     unsafe {
-        abi::rtr_delta_nonnull(
+        abi::rtr_changes_between_nonnull(
             old.as_ptr(),
             old.len(),
             new.as_ptr(),
@@ -535,6 +563,25 @@ mod tests {
         }
     }
 
+    /// Returns what the library says for a row without a name, and what it has to say.
+    #[cfg(feature = "std")]
+    fn said<'a>(word: &str, number: u16, row: &'a str) -> (std::string::String, &'a str) {
+        let (first, text) = row.split_once(' ').unwrap();
+        if word == "report" {
+            let digits = if first == "-" { "" } else { first };
+            let byte = |at| u8::from_str_radix(&digits[at..at + 2], 16).unwrap();
+            let reported: std::vec::Vec<u8> = (0..digits.len()).step_by(2).map(byte).collect();
+            return (super::report_text(number, &reported).to_string(), text);
+        }
+        let (status, detail) = (number.try_into().unwrap(), first.parse().unwrap());
+        if word == "text" {
+            return (super::status_text(status, detail).to_string(), text);
+        }
+        let (offset, text) = text.split_once(' ').unwrap();
+        let offset = offset.parse().unwrap();
+        (super::text_at(status, detail, offset).to_string(), text)
+    }
+
     /// The library's texts, the same in all languages.
     #[cfg(feature = "std")]
     #[test]
@@ -548,7 +595,7 @@ mod tests {
             .filter(|row| !row.is_empty() && !row.starts_with('#'))
         {
             let (word, rest) = row.split_once(' ').unwrap();
-            let (number, mut text) = rest.split_once(' ').unwrap();
+            let (number, text) = rest.split_once(' ').unwrap();
             let number = number.parse::<u16>().unwrap();
             let named = match word {
                 "status" => named::STATUS,
@@ -558,11 +605,8 @@ mod tests {
                 "code" => named::CODE,
                 "time_rule" => named::TIME_RULE,
                 _ => {
-                    let (detail, after) = text.split_once(' ').unwrap();
-                    text = after;
-                    let said =
-                        super::status_text(number.try_into().unwrap(), detail.parse().unwrap());
-                    assert_eq!(&*said, text, "{row}");
+                    let (said, text) = said(word, number, text);
+                    assert_eq!(said, text, "{row}");
                     rows += 1;
                     continue;
                 }

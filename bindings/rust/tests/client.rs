@@ -318,6 +318,8 @@ fn no_data_and_expired_data() {
     let place = told.iter().position(|told| *told == Told::Dropped).unwrap();
     assert_eq!(told[..2], [told[0].clone(), told[0].clone()]);
     assert_eq!(told[2], Told::Data(data(1)));
+    let closed = "the cache closed the connection".to_string();
+    assert_eq!(told[3], Told::Failed(closed));
     assert_eq!(told.get(place + 1), Some(&expired));
 }
 

@@ -4,7 +4,7 @@
 
 mod computed;
 
-use rtr_wire::{apply_in_order, apply_into, delta_into, order, order_into};
+use rtr_wire::{apply_in_order, apply_into, changes_between, delta_into, order, order_into};
 use rtr_wire::{DataError, Fault, Side};
 
 /// One case: a call, and its expected result.
@@ -55,6 +55,7 @@ impl<'a> Case<'a> {
             0 => delta_into(self.first, self.second, output),
             1 => apply_into(self.first, self.second, output),
             2 => order_into(self.first, &mut index, output),
+            4 => changes_between(self.first, self.second, output),
             _ => apply_in_order(self.first, self.second, &mut index, output),
         }
     }

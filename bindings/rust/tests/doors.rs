@@ -184,6 +184,29 @@ fn doors() {
     assert_eq!(door.clients(), 2);
 }
 
+/// The options limit how many clients are refused at once: zero refuses none, and the largest
+/// number of the machine is a limit, too.
+#[test]
+fn doors_that_refuse_others() {
+    for refused in [0, 3] {
+        let mut door = Door::new(&ServerOptions {
+            connections: 0,
+            refused,
+            ..ServerOptions::default()
+        });
+        for _ in 0..refused {
+            assert_eq!(door.enter(true), Entry::Refuse);
+        }
+        assert_eq!(door.enter(true), Entry::Wait);
+    }
+    let most = Door::new(&ServerOptions {
+        connections: 0,
+        refused: usize::MAX,
+        ..ServerOptions::default()
+    });
+    assert_eq!(most.next(true), Entry::Refuse);
+}
+
 /// By default 1024 clients are served; without a spare descriptor none.
 #[test]
 fn the_usual_door() {
@@ -194,7 +217,8 @@ fn the_usual_door() {
     }
     assert_eq!(door.enter(true), Entry::Refuse);
     let options = ServerOptions::default();
-    assert_eq!(options.connections, 1024);
+    assert_eq!((options.connections, options.refused), (1024, 64));
+    assert_eq!((options.report, options.behind), (milliseconds(10_000), 2));
     assert_eq!(options.keep, milliseconds(2 * 3_600_000));
     assert_eq!(options.keep_bytes, 64 << 20);
     assert_eq!(options.notify, milliseconds(60_000));

@@ -177,6 +177,43 @@ fn a_silent_cache() {
     });
 }
 
+/// Each silent cache costs one patience, whenever that begins.
+#[test]
+fn silent_caches() {
+    in_time(|| {
+        let silent = TcpListener::bind("127.0.0.1:0").unwrap();
+        let place = Place::default();
+        *place.lock().unwrap() = Some(silent.local_addr().unwrap());
+        let settings = GroupSettings {
+            patience: milliseconds(1000),
+            ..GroupSettings::default()
+        };
+        let third = Place::default();
+        let _third = cache(&third, data_of(9, 3, 25));
+        let places = [&place, &place, &third];
+        let began = Stamp::now();
+        let mut starts = Vec::new();
+        let clients = |member: usize| {
+            starts.push(Stamp::now());
+            client(places[member], options())
+        };
+        let data = follow_with(settings, 3, clients, |member, event| {
+            assert!(matches!(event, Event::Data { .. }) && member == 2);
+            ControlFlow::Break(())
+        });
+        assert_eq!(data.unwrap(), Some(data_of(9, 3, 25)));
+        for (start, before) in starts.iter().zip(0..) {
+            let patience = settings.patience * before;
+            let (time, slept) = (began.until(*start), began.slept_until(*start));
+            assert!(time + milliseconds(1) >= patience, "{before}: {time:?}"); // whole milliseconds
+            assert!(
+                slept < patience + settings.patience / 2,
+                "{before}: it slept {slept:?}"
+            );
+        }
+    });
+}
+
 /// An answer without payloads is a failure, unless there is only one cache.
 #[test]
 fn empty_answers() {
@@ -198,6 +235,84 @@ fn empty_answers() {
             ControlFlow::Break(())
         });
         assert_eq!(alone.unwrap().map(|data| data.is_empty()), Some(true));
+    });
+}
+
+/// A first cache that comes and goes, beside a second one that can't be reached.
+struct Restarts {
+    first: Place,
+    server: Option<Server>,
+    /// When each run of the second client dialed, by run.
+    dials: Vec<Arc<Mutex<Vec<Instant>>>>,
+    /// How often the first had data.
+    answers: u32,
+}
+
+impl Restarts {
+    /// Returns a new client of the second cache.
+    fn second(&mut self) -> Arc<Client> {
+        let dials = Arc::new(Mutex::new(Vec::new()));
+        self.dials.push(Arc::clone(&dials));
+        let options = ClientOptions {
+            retry: Some(HOUR),
+            ..options()
+        };
+        Arc::new(Client::over(options, move |_| {
+            dials.lock().unwrap().push(Instant::now());
+            Err::<TcpStream, _>(ErrorKind::ConnectionRefused.into())
+        }))
+    }
+
+    /// The first cache comes when the second has failed in a run, and goes once it had data, twice.
+    /// The third run ends at its second failure.
+    fn tell(&mut self, member: usize, event: &Event<'_>) -> ControlFlow<()> {
+        match (member, event) {
+            (0, Event::Data { .. }) => {
+                self.answers += 1;
+                *self.first.lock().unwrap() = None;
+                self.server.take().expect("it is there").stop();
+            }
+            (1, Event::Failed(_)) if self.answers == 2 => {
+                let last = self.dials.last().expect("it runs").lock().unwrap();
+                if last.len() > 1 {
+                    return ControlFlow::Break(());
+                }
+            }
+            (1, Event::Failed(_)) if self.server.is_none() => {
+                let data = data_of(SESSION, 1 + self.answers, 30);
+                self.server = Some(cache(&self.first, data));
+            }
+            (_, Event::Failed(_)) => {}
+            other => panic!("{other:?}"),
+        }
+        ControlFlow::Continue(())
+    }
+}
+
+/// The waits for a cache continue to grow where its client is stopped and started again
+/// (`docs/SESSIONS.md`, "Caches by preference"): the third is of 4 seconds, less up to half by
+/// chance.
+#[test]
+fn waits_that_go_on() {
+    in_time(|| {
+        let first = Place::default();
+        let restarts = Mutex::new(Restarts {
+            first: Arc::clone(&first),
+            server: None,
+            dials: Vec::new(),
+            answers: 0,
+        });
+        let clients = |member: usize| match member {
+            0 => client(&first, options()),
+            _ => restarts.lock().unwrap().second(),
+        };
+        let on = |member: usize, event: Event<'_>| restarts.lock().unwrap().tell(member, &event);
+        follow(2, clients, on).unwrap();
+        let restarts = restarts.into_inner().unwrap();
+        assert_eq!(restarts.dials.len(), 3);
+        let last = restarts.dials[2].lock().unwrap();
+        let wait = last[1] - last[0];
+        assert!(wait >= milliseconds(1999), "{wait:?}"); // it counts whole milliseconds
     });
 }
 

@@ -123,6 +123,33 @@ fn data_that_are_kept() {
     assert_eq!(router.into_data(), Some(data(9)));
 }
 
+/// A request that comes beside the loss of a connection, or a failed connect, outlives that: the
+/// router connects as soon as the pause allows, not when it would connect anyway.
+#[test]
+fn requests_at_a_loss() {
+    let lose = |router: &mut Router, now, asks_first| {
+        if asks_first {
+            router.ask_now();
+        }
+        router.lost(now, ErrorKind::ConnectionReset.into());
+        if !asks_first {
+            router.ask_now();
+        }
+        assert!(matches!(router.next(now), Step::Close));
+        assert!(matches!(router.next(now), Step::Failed(ClientError::Io(_))));
+    };
+    for asks_first in [false, true] {
+        let mut router = asked();
+        data_step(read(&mut router, &all(1), usize::MAX, 0));
+        lose(&mut router, 5000, asks_first);
+        assert!(matches!(router.next(5000), Step::Connect));
+        lose(&mut router, 5000, asks_first);
+        assert!(matches!(router.next(5000), Step::Wait));
+        assert_eq!(router.wakes(), 6000);
+        assert!(matches!(router.next(6000), Step::Connect));
+    }
+}
+
 /// Two threads that use the changes of an event at once see the same ones.
 #[test]
 fn changes_of_two_threads() {

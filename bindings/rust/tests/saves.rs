@@ -9,11 +9,13 @@ use caches::{knows, options, Cache, SavedFile};
 use peers::*;
 use rtr_wire::*;
 use std::io::ErrorKind;
+use std::sync::atomic::{AtomicBool, Ordering};
 use std::sync::mpsc::channel;
-use std::sync::Mutex;
+use std::sync::{Arc, Mutex};
 use std::time::SystemTime;
 
-/// A server that starts over its file has its data and the deltas to them. It accepts no file with
+/// A server that starts over its file has its data and the deltas to them, and tells a client that
+/// asked before it had them. It accepts no file with
 /// a byte changed, or without its end, or of another form.
 #[test]
 fn restarts() {
@@ -49,7 +51,11 @@ fn restarts() {
     // What a save left that was killed.
     std::fs::write(file.folder().join("kept.new"), &whole[..9]).unwrap();
     let cache = Cache::new(options());
+    let mut early = cache.client();
+    early.send(&reset_query(2));
+    assert!(matches!(early.unit(), Some(Unit::ErrorReport(_))));
     assert_eq!(cache.server.save_to(path).unwrap(), Some(data(4)));
+    assert!(matches!(early.unit(), Some(Unit::SerialNotify(notify)) if notify.serial == 4));
     assert_eq!(file.names(), ["kept"]);
     assert_eq!(cache.server.end(), Some(data(4).end()));
     knows(&cache, 2, 1..=4);
@@ -219,7 +225,7 @@ fn saves_that_fail() {
     assert_eq!(client.response(), data(1).as_bytes());
     while logged.try_recv().is_ok() {}
 
-    // A folder in the place of the new file: it can't be written.
+    // A folder has the name of the new file, so that it can't be written.
     let blocked = file.folder().join("kept.new");
     std::fs::create_dir(&blocked).unwrap();
     let failure = std::fs::File::create(&blocked).unwrap_err();
@@ -273,7 +279,7 @@ fn what_a_failed_save_leaves() {
     let _alone = alone();
     let file = SavedFile::new("leaves");
     let cache = Cache::saving(&file, 1..=1);
-    // A folder in the place of the file: none can be renamed to it.
+    // A folder has the name of the file, so that no file can be renamed to it.
     std::fs::remove_file(&file.0).unwrap();
     std::fs::create_dir(&file.0).unwrap();
     for serial in 2..=3 {
@@ -325,7 +331,7 @@ fn tables_in_memory() {
     }
 }
 
-/// Newer data that are saved, or the present ones again, end the retries.
+/// Newer data that are saved, or the present ones again, end the retries, and so does a stop.
 #[test]
 fn retries_that_end() {
     let _alone = alone();
@@ -346,7 +352,70 @@ fn retries_that_end() {
         assert!(holds(|| threads("rtr save") == 1));
         std::fs::remove_dir(&blocked).unwrap();
         assert!(holds(|| cache.server.end() == Some(data(4).end())));
+        // A server that stops retries no longer.
+        std::fs::create_dir(&blocked).unwrap();
+        assert!(cache.server.update(data(5)).is_err());
+        assert!(holds(|| threads("rtr save") == 1));
+        cache.server.stop();
+        assert!(holds(|| threads("rtr save") == 0));
     }
+}
+
+/// Nothing of a cache whose retries have ended runs any more, also if one had begun.
+#[test]
+fn a_retry_that_has_begun() {
+    let _alone = alone();
+    let file = SavedFile::new("begun");
+    let cache = rtr_wire::Cache::new(options());
+    cache.save_to(&file.0).unwrap();
+    cache.update(data(1)).unwrap();
+    let (began, beginnings) = channel();
+    let began = Mutex::new(began);
+    let states = Arc::new([AtomicBool::new(false), AtomicBool::new(false)]);
+    let retried = Arc::clone(&states);
+    cache.on_retry(move |_| {
+        let [stops, has_ended] = &*retried;
+        let _ = began.lock().unwrap().send(());
+        while !stops.load(Ordering::SeqCst) {
+            std::thread::sleep(milliseconds(1));
+        }
+        std::thread::sleep(milliseconds(300)); // for a stop that doesn't wait
+        has_ended.store(true, Ordering::SeqCst);
+    });
+    let blocked = file.folder().join("kept.new");
+    std::fs::create_dir(&blocked).unwrap();
+    assert!(cache.update(data(2)).is_err());
+    beginnings.recv_timeout(PATIENCE).expect("it retries");
+    let [stops, has_ended] = &*states;
+    stops.store(true, Ordering::SeqCst);
+    cache.stop_saving();
+    assert!(has_ended.load(Ordering::SeqCst));
+}
+
+/// The function that gets the result of a retry may call the cache.
+#[test]
+fn a_retry_that_asks_the_cache() {
+    let _alone = alone();
+    let file = SavedFile::new("asks");
+    let cache = Arc::new(rtr_wire::Cache::new(options()));
+    cache.save_to(&file.0).unwrap();
+    cache.update(data(1)).unwrap();
+    let (sender, results) = channel();
+    let sender = Mutex::new(sender);
+    let asked = Arc::downgrade(&cache);
+    cache.on_retry(move |saved| {
+        if let (Ok(data), Some(cache)) = (saved, asked.upgrade()) {
+            let is_new = cache.update(data.clone());
+            let _ = sender.lock().unwrap().send(is_new);
+        }
+    });
+    let blocked = file.folder().join("kept.new");
+    std::fs::create_dir(&blocked).unwrap();
+    assert!(cache.update(data(2)).is_err());
+    std::fs::remove_dir(&blocked).unwrap();
+    let is_new = results.recv_timeout(PATIENCE).expect("it returns");
+    assert_eq!(is_new, Ok(false));
+    assert_eq!(cache.end(), Some(data(2).end()));
 }
 
 /// A cache never serves two data under one session and serial number: it doesn't return to a

@@ -183,6 +183,59 @@ fn the_last_report() {
     assert_eq!(closing.step(1200), "close");
 }
 
+/// A last report has the time of the options, and an answer is cut by as many newer data as they
+/// say.
+#[test]
+fn reports_and_newer_data_by_the_options() {
+    for (report, behind) in [(2001, 0), (60_000, 5)] {
+        let options = ServerOptions {
+            report: milliseconds(report),
+            behind,
+            ..ServerOptions::default()
+        };
+        let mut unread = Joined::new(options.clone());
+        unread.receives(1000, &[2, 8, 0, 0, 0, 0, 0, 8]);
+        assert_eq!(unread.step(1000), "unit is not a query");
+        unread.until(1000 + report, "send", &["close"]);
+
+        let mut slow = Joined::answering(options, 1000);
+        for serial in 2..2 + u32::try_from(behind).unwrap() {
+            assert_eq!(slow.cache.update(data(serial)), Ok(true));
+            assert_eq!(slow.step(1000), "send");
+        }
+        assert_eq!(slow.cache.update(data(99)), Ok(true));
+        assert_eq!(slow.step(1000), "the router is too far behind");
+    }
+}
+
+/// A connection that breaks is closed at once, with its answer unsent and its input unheard. A
+/// reason that it had before stays.
+#[test]
+fn connections_that_break() {
+    let mut sending = Joined::answering(ServerOptions::default(), 1000);
+    sending.served.lost(ErrorKind::ConnectionReset.into());
+    assert!(!sending.served.is_served());
+    assert_eq!(sending.served.output(), [&[], &[]]);
+    assert_eq!(sending.wakes(), 0);
+    assert_eq!(sending.step(1000), "connection reset");
+    assert_eq!(sending.wakes(), 0);
+    sending.receives(1000, &reset_query(2));
+    assert_eq!(sending.step(1000), "close");
+
+    let mut waiting = Joined::new(ServerOptions::default());
+    waiting.receives(1000, &[2, 2]);
+    assert_eq!(waiting.step(1000), "receive");
+    waiting.served.lost(ErrorKind::ConnectionReset.into());
+    assert_eq!(waiting.step(1000), "connection reset");
+    assert_eq!(waiting.step(1000), "close");
+
+    let mut ending = Joined::new(ServerOptions::default());
+    ending.receives(1000, &[2, 8, 0, 0, 0, 0, 0, 8]);
+    assert_eq!(ending.step(1000), "unit is not a query");
+    ending.served.lost(ErrorKind::BrokenPipe.into());
+    assert_eq!(ending.step(1000), "close");
+}
+
 /// The third newer data end an answer, and so do data of another session.
 #[test]
 fn answers_that_are_cut() {
@@ -228,7 +281,8 @@ fn clients_that_close() {
             if rest.is_empty() {
                 assert_eq!(joined.step(1000), "close");
             } else {
-                assert_eq!(joined.step(1000), "unexpected end of input");
+                let text = format!("unexpected end of input, at byte {}", 8 * queries);
+                assert_eq!(joined.step(1000), text);
                 assert_eq!(joined.step(1000), "send");
                 assert_eq!(
                     report_code(&joined.sends_all(1000)),

@@ -91,7 +91,7 @@ fn serial_numbers_wrap() {
         let changes = order(&client.response()).unwrap();
         assert_eq!(of(row).apply(&changes), Ok(of((3, 5))));
     }
-    // The first no longer comes before these, of which the client is notified.
+    // The first serial number isn't earlier than this one, of which the client is notified.
     assert_eq!(cache.server.update(of((4, 0x6000_0000))), Ok(true));
     assert!(matches!(client.unit(), Some(Unit::SerialNotify(_))));
     client.send(&serial_query(2, SESSION, 0x8000_000a));
@@ -663,6 +663,21 @@ fn no_thread_wakes() {
     assert!(stay_asleep(&["rtr cache"]));
 }
 
+/// After a limit has ended a connection no thread wakes for it.
+#[test]
+fn no_thread_wakes_after_a_limit() {
+    let _alone = alone();
+    let cache = Cache::new(ServerOptions {
+        unit: milliseconds(100),
+        ..options()
+    });
+    let _idle = cache.client();
+    let mut slow = cache.client();
+    slow.send(&[2, 2]);
+    assert!(slow.is_closed());
+    assert!(stay_asleep(&["rtr cache"]));
+}
+
 /// The server logs why it ended a connection, except for clients that just leave.
 #[test]
 fn reasons() {
@@ -685,14 +700,14 @@ fn reasons() {
     let why = || told.recv_timeout(PATIENCE).expect("it ends").0;
     let rows: [(&[u8], &str); 7] = [
         (&[], "the router is too slow"),
-        (&long, "unit is longer than 65535 bytes"),
+        (&long, "unit is longer than 65535 bytes, at byte 0"),
         (&reset_query(3), "version is not supported"),
         (common::IPV4, "unit is not a query"),
         (
             common::REPORT,
             r#"the router reports an error: No Data Available, "no""#,
         ),
-        (&[2, 10, 0, 0, 0, 0, 0, 0], "invalid unit length"),
+        (&[2, 10, 0, 0, 0, 0, 0, 0], "invalid unit length, at byte 0"),
         (&[2, 2], "the router is too slow"),
     ];
     for (bytes, text) in rows {

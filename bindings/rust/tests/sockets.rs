@@ -217,7 +217,8 @@ fn a_hidden_report() {
     });
 }
 
-/// A failed setup of a socket is reported, and no other client waits for it.
+/// A failed setup of a socket, which has no Nagle delay, is reported, and no other client waits for
+/// it.
 #[test]
 fn connections_that_are_refused() {
     let _alone = alone();
@@ -227,11 +228,16 @@ fn connections_that_are_refused() {
         let _ = sender.lock().unwrap().send(error.to_string());
     });
     server.update(data(1)).unwrap();
-    let ready = |_| Err::<TcpStream, _>(io::Error::new(ErrorKind::Other, "no"));
+    let (has_delay, delays) = channel();
+    let ready = move |stream: TcpStream| {
+        has_delay.send(!stream.nodelay()?).unwrap();
+        Err::<TcpStream, _>(io::Error::new(ErrorKind::Other, "no"))
+    };
     let address = server.listen_with("127.0.0.1:0", ready).unwrap();
     let plain = server.listen("127.0.0.1:0").unwrap();
     assert!(Peer::connect(address).is_closed());
     assert_eq!(told.recv_timeout(PATIENCE).as_deref(), Ok("no"));
+    assert_eq!(delays.try_recv(), Ok(false));
     let mut client = Peer::connect(plain);
     client.send(&reset_query(2));
     assert_eq!(client.response(), data(1).as_bytes());
@@ -269,12 +275,13 @@ fn no_client_wakes() {
             thread.spawn_scoped(scope, run).unwrap()
         });
         let threads: Vec<_> = threads.collect();
-        assert!(stay_asleep(&names));
+        let stays_asleep = stay_asleep(&names);
         let began = Instant::now();
         clients.into_iter().for_each(Client::stop);
         for thread in threads {
             thread.join().unwrap();
         }
         assert!(began.elapsed() < LATE, "they end late");
+        assert!(stays_asleep, "they wake");
     });
 }

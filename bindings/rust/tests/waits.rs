@@ -4,8 +4,8 @@
 
 mod peers;
 
-use peers::{alone, holds, reset_query, LATE, PATIENCE};
-use rtr_wire::{Client, ClientError, ClientOptions, Event, Socket};
+use peers::{alone, holds, reset_query, Stamp, LATE, PATIENCE};
+use rtr_wire::{Client, ClientError, ClientOptions, Event, Socket, Unit};
 use std::io::{self, ErrorKind, Read, Write};
 use std::ops::ControlFlow;
 use std::os::unix::io::{AsFd, BorrowedFd};
@@ -17,10 +17,12 @@ use std::time::{Duration, Instant};
 /// A unit of a type that nobody knows, for which a client owes a report (RFC 8210 section 12).
 const UNKNOWN: [u8; 8] = [0, 5, 0, 0, 0, 0, 0, 8];
 
-/// A socket that from one of its writes on takes nothing: it fails by this, or else it returns 0.
+/// A socket that takes a few bytes in each write, and from one of its writes on nothing: it fails
+/// by this, or else it returns 0.
 struct Full {
     socket: UnixStream,
     writes: Arc<AtomicU32>,
+    most: usize,
     first: u32,
     fails: Option<ErrorKind>,
 }
@@ -35,7 +37,7 @@ impl Write for Full {
     fn write(&mut self, bytes: &[u8]) -> io::Result<usize> {
         let count = 1 + self.writes.fetch_add(1, Ordering::SeqCst);
         match self.fails {
-            _ if count < self.first => self.socket.write(bytes),
+            _ if count < self.first => self.socket.write(&bytes[..bytes.len().min(self.most)]),
             Some(error) => Err(error.into()),
             None => Ok(0),
         }
@@ -63,12 +65,23 @@ fn client(
     fails: Option<ErrorKind>,
     report: Duration,
 ) -> (Client, UnixStream, Arc<AtomicU32>) {
+    writing(usize::MAX, first, fails, report)
+}
+
+/// Does the same with a socket that accepts at most `most` bytes in a write.
+fn writing(
+    most: usize,
+    first: u32,
+    fails: Option<ErrorKind>,
+    report: Duration,
+) -> (Client, UnixStream, Arc<AtomicU32>) {
     let (mine, other) = UnixStream::pair().unwrap();
     mine.set_nonblocking(true).unwrap();
     let writes = Arc::new(AtomicU32::new(0));
     let socket = Full {
         socket: mine,
         writes: Arc::clone(&writes),
+        most,
         first,
         fails,
     };
@@ -121,19 +134,61 @@ fn reports_arrive() {
     }
 }
 
+/// A query and a report arrive whole where the socket takes a few bytes at a time.
+#[test]
+fn parts_of_a_report() {
+    let _alone = alone();
+    for most in [1, 7] {
+        let (client, mut other, _) = writing(most, u32::MAX, None, PATIENCE);
+        let cache = std::thread::spawn(move || {
+            other.write_all(&UNKNOWN)?;
+            let mut came = Vec::new();
+            other.read_to_end(&mut came).map(|_| came)
+        });
+        client.fetch().unwrap_err();
+        let came = cache.join().unwrap().unwrap();
+        assert_eq!(came[..8], reset_query(0), "{most}");
+        let about = match Unit::first(&came[8..]) {
+            Ok((Unit::ErrorReport(report), [])) => report.parts.map(|parts| parts.unit),
+            other => panic!("{most}: {other:?}"),
+        };
+        assert_eq!(about, Some(&UNKNOWN[..]), "{most}");
+    }
+}
+
+/// After a report a client reads a mebibyte of a cache that sends on, and closes then.
+#[test]
+fn bytes_after_a_report() {
+    let _alone = alone();
+    let (client, mut other, _) = client(u32::MAX, None, PATIENCE);
+    let cache = std::thread::spawn(move || {
+        other.write_all(&UNKNOWN).unwrap();
+        // A little more, since some of these are read before the report is owed.
+        let _ = other.write_all(&vec![0; ClientOptions::LAST_BYTES + (1 << 17)]);
+        other // which stays open
+    });
+    let begun = Instant::now();
+    client.fetch().unwrap_err();
+    assert!(begun.elapsed() < LATE, "{:?}", begun.elapsed());
+    drop(cache.join().unwrap());
+}
+
 /// The time for a report ends the connection of a cache that takes none of it, and of one that
 /// takes it and doesn't close.
 #[test]
 fn reports_in_time() {
     let _alone = alone();
     for first in [2, u32::MAX] {
-        let limit = Duration::from_millis(50);
+        let limit = Duration::from_millis(500);
         let (client, mut other, _) = client(first, Some(ErrorKind::WouldBlock), limit);
         other.write_all(&UNKNOWN).unwrap();
-        let begun = Instant::now();
+        let begun = Stamp::now();
         let error = client.fetch().unwrap_err();
+        let ended = Stamp::now();
         assert!(!matches!(error, ClientError::Io(_)), "{error}");
-        assert!(begun.elapsed() < LATE, "{first}: {:?}", begun.elapsed());
+        let (time, slept) = (begun.until(ended), begun.slept_until(ended));
+        assert!(time >= limit && time < LATE, "{first}: {time:?}");
+        assert!(slept < limit * 3 / 2, "{first}: it slept {slept:?}");
     }
 }
 

@@ -47,7 +47,7 @@ pub fn samples() -> Vec<Sample> {
     all
 }
 
-/// A recording of the file `tests/loads`, which says what it has.
+/// A recording of the file `tests/loads`, which documents its contents.
 #[derive(Default)]
 pub struct Load {
     pub name: &'static str,

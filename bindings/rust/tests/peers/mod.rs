@@ -216,13 +216,7 @@ impl Stamp {
 
     /// This moment of the thread of this name, which has begun to run.
     pub fn of(name: &str) -> Stamp {
-        let tasks = std::fs::read_dir("/proc/self/task").unwrap();
-        let mut folders = tasks.map(|task| task.unwrap().path());
-        let is_named = |folder: &PathBuf| {
-            let found = std::fs::read_to_string(folder.join("comm"));
-            found.map_or(false, |found| found.trim_end() == name)
-        };
-        Stamp::read(&folders.find(is_named).expect("a thread of this name"))
+        Stamp::read(&folders(name).next().expect("a thread of this name"))
     }
 
     fn read(folder: &Path) -> Stamp {
@@ -248,6 +242,16 @@ impl Stamp {
         let awake = later.awake.saturating_sub(self.awake);
         self.until(later).saturating_sub(awake)
     }
+}
+
+/// Returns the folders of the threads of this name, which have begun to run.
+fn folders(name: &str) -> impl Iterator<Item = PathBuf> + '_ {
+    let tasks = std::fs::read_dir("/proc/self/task").unwrap();
+    let folders = tasks.map(|task| task.unwrap().path());
+    folders.filter(move |folder| {
+        let found = std::fs::read_to_string(folder.join("comm"));
+        found.map_or(false, |found| found.trim_end() == name)
+    })
 }
 
 /// Waits until a condition holds; returns whether it does before patience ends.
@@ -288,17 +292,24 @@ pub fn waits(name: &str) -> u64 {
     named.filter_map(count).sum()
 }
 
-/// Reports whether threads of these names are there, and stay asleep: for two seconds each wakes
-/// twice at most. On a busy machine it takes a while until all has been sent, and nothing more
-/// comes.
+/// Reports whether threads of these names exist and stay asleep: within two seconds each wakes at
+/// most twice, and sleeps for half of them, which one that polls without a wait doesn't. On a busy
+/// machine it takes a while until everything has been sent.
 pub fn stay_asleep(names: &[&str]) -> bool {
     let counts = || names.iter().map(|name| waits(name)).collect::<Vec<u64>>();
+    let awake = || {
+        let awake = |name: &&str| folders(name).map(|folder| Stamp::read(&folder).awake).sum();
+        names.iter().map(awake).collect::<Vec<Duration>>()
+    };
     let began = Instant::now();
     while began.elapsed() < PATIENCE {
-        let before = counts();
+        let (before, awake_before) = (counts(), awake());
         std::thread::sleep(Duration::from_secs(2));
         let mut woken = counts().into_iter().zip(before);
-        if woken.all(|(now, before)| now - before <= 2) {
+        let mut ran = awake().into_iter().zip(awake_before);
+        if woken.all(|(now, before)| now - before <= 2)
+            && ran.all(|(now, before)| now.saturating_sub(before) < Duration::from_secs(1))
+        {
             return names.iter().all(|name| threads(name) > 0);
         }
     }

@@ -27,7 +27,7 @@ pub(crate) enum Wanted {
     Bytes,
     /// Room in the stream for bytes to be sent.
     Room,
-    /// That the stream has sent what it holds.
+    /// A flush of the stream's buffered bytes.
     Flush,
 }
 

@@ -113,7 +113,7 @@ impl<S: AsyncRead + AsyncWrite + Unpin> AsyncClient<S> {
     }
 
     /// Waits until the data changed, or a connection or a query failed, and returns that event. The
-    /// next call goes on.
+    /// next call continues.
     #[allow(clippy::missing_panics_doc)] // It can't: each such step has an event.
     pub async fn next(&mut self) -> Event<'_> {
         self.last = None; // which frees the data before the last ones

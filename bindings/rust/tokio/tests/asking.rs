@@ -56,6 +56,32 @@ async fn a_client_that_waits() {
     drop(playing.await.unwrap());
 }
 
+/// A query has its time limit also after a longer wait: a cache that falls silent is left.
+#[tokio::test(start_paused = true)]
+async fn a_cache_that_falls_silent() {
+    let (ours, mut cache) = duplex(1 << 16);
+    let mut ours = Some(ours);
+    let options = ClientOptions {
+        version: 2,
+        ..ClientOptions::default()
+    };
+    let mut client = AsyncClient::new(options, move || {
+        let stream = ours.take().expect("it connects once");
+        async { Ok(stream) }
+    });
+    cache.write_all(&answer(data(1).as_bytes())).await.unwrap();
+    assert!(matches!(client.next().await, Event::Data { .. }));
+    // It would wait for the refresh time of an hour.
+    assert!(timeout(milliseconds(60_000), client.next()).await.is_err());
+    client.ask_now();
+    let began = tokio::time::Instant::now();
+    match client.next().await {
+        Event::Failed(error) => assert!(matches!(error, ClientError::TooSlow), "{error:?}"),
+        other => panic!("{other:?}"),
+    }
+    assert_eq!(began.elapsed().as_secs(), 120);
+}
+
 /// If connections can't be made, it makes the next one after a pause, not when its time comes,
 /// which grows.
 #[tokio::test(start_paused = true)]

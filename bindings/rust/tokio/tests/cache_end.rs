@@ -25,7 +25,7 @@ struct CacheEnd {
     options: ServerOptions,
     server: Option<AsyncServer>,
     serving: Option<Serving>,
-    /// A connection beside it, where there may be no more.
+    /// Another connection, beyond the limit.
     other: Option<Serving>,
     world: Shared,
     runtime: Runtime,

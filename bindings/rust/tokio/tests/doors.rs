@@ -7,6 +7,7 @@ mod peers;
 use peers::{answer, data, milliseconds, prefix, reset_query};
 use rtr_wire::{ErrorCode, ServerError, ServerOptions, Unit};
 use rtr_wire_tokio::AsyncServer;
+use std::future::pending;
 use std::net::SocketAddr;
 use std::sync::mpsc::{channel, Receiver};
 use std::sync::Mutex;
@@ -98,6 +99,52 @@ async fn a_listener_that_waits() {
         .await
         .expect("it is served");
     assert_eq!(server.clients(), 1);
+    server.stop();
+    listening.await.unwrap().unwrap();
+}
+
+/// A future that serves closes its connections when it is dropped.
+#[tokio::test]
+async fn a_listener_that_is_dropped() {
+    let (server, _told) = telling(1);
+    let listener = TcpListener::bind("127.0.0.1:0").await.unwrap();
+    let address = listener.local_addr().unwrap();
+    let serving = server.clone();
+    let listening = tokio::spawn(async move { serving.serve(listener).await });
+    let mut client = TcpStream::connect(address).await.unwrap();
+    is_served(&mut client).await;
+    listening.abort();
+    let read = timeout(peers::PATIENCE, client.read(&mut [0])).await;
+    assert_eq!(read.expect("it is closed").unwrap(), 0);
+    assert_eq!(server.clients(), 0);
+}
+
+/// A connection that a listener prepares has the time of a first query, by default 30 seconds, and
+/// no Nagle delay.
+#[tokio::test(start_paused = true)]
+async fn a_connection_that_is_prepared() {
+    let (server, told) = telling(1);
+    let listener = TcpListener::bind("127.0.0.1:0").await.unwrap();
+    let address = listener.local_addr().unwrap();
+    let serving = server.clone();
+    let (sender, prepared) = channel();
+    let listening = tokio::spawn(async move {
+        let ready = |stream: TcpStream| {
+            sender.send((stream.nodelay(), Instant::now())).unwrap();
+            async move {
+                pending::<()>().await;
+                Ok(stream)
+            }
+        };
+        serving.serve_with(listener, ready).await
+    });
+    let mut client = TcpStream::connect(address).await.unwrap();
+    assert_eq!(client.read(&mut [0]).await.unwrap(), 0);
+    let (has_no_delay, began) = prepared.try_recv().unwrap();
+    assert!(has_no_delay.unwrap());
+    let time = began.elapsed();
+    assert!((30_000..30_010).contains(&time.as_millis()), "{time:?}");
+    assert_eq!(told.try_recv().as_deref(), Ok("the router is too slow"));
     server.stop();
     listening.await.unwrap().unwrap();
 }

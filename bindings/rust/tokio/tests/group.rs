@@ -76,8 +76,8 @@ async fn shown(
     }
 }
 
-/// The first cache of two comes and goes: the second's data are shown while it is away, and what
-/// changed leads from the ones to the others, also of another session.
+/// The first of two caches comes and goes: while it is away, the data of the second are shown. The
+/// changes lead from the data of one to those of the other, even if their sessions differ.
 #[tokio::test(start_paused = true)]
 async fn the_first_that_answers() {
     let (first, second) = (place(Place::Refuses), data_of(9, 3, 25));
@@ -181,6 +181,42 @@ async fn expired() {
     assert_eq!((began.elapsed().as_secs(), group.data()), (7200, None));
 }
 
+/// Nobody sees data that have expired, also where the group didn't go on.
+#[tokio::test(start_paused = true)]
+async fn expired_while_nothing_runs() {
+    let places = [place(Place::Serves(cache(data(5))))];
+    let mut group = AsyncGroup::new(places.iter().map(client)).unwrap();
+    shown(&mut group, &mut Vec::new()).await;
+    tokio::time::advance(milliseconds(7_199_000)).await;
+    assert_eq!(group.data(), Some((0, &data(5))));
+    tokio::time::advance(milliseconds(1_000)).await;
+    assert_eq!(group.data(), None);
+}
+
+/// A request goes to each member that runs: the second asks before it is time, too.
+#[tokio::test(start_paused = true)]
+async fn requests() {
+    let options = ServerOptions {
+        notify: HOUR,
+        ..ServerOptions::default()
+    };
+    let server = AsyncServer::new(options);
+    server.update(data_of(9, 1, 20)).unwrap();
+    let places = [place(Place::Refuses), place(Place::Serves(server.clone()))];
+    let mut group = AsyncGroup::new(places.iter().map(client)).unwrap();
+    shown(&mut group, &mut Vec::new()).await;
+    // A notify tells of the second data, and none within the next hour.
+    server.update(data_of(9, 2, 20)).unwrap();
+    shown(&mut group, &mut Vec::new()).await;
+    server.update(data_of(9, 3, 20)).unwrap();
+    group.ask_now();
+    let began = Instant::now();
+    let (member, data, _) = shown(&mut group, &mut Vec::new()).await;
+    assert_eq!((member, data), (1, data_of(9, 3, 20)));
+    let time = began.elapsed();
+    assert!(time < Duration::from_secs(60), "{time:?}");
+}
+
 /// Asks for the next event, with a future that is dropped each time when it has to wait.
 struct Dropping<'g>(&'g mut AsyncGroup<DuplexStream>);
 
@@ -208,6 +244,41 @@ async fn futures_that_are_dropped() {
         group.ask_now();
         while Dropping(&mut group).await != Some(serial) {}
         assert_eq!(group.data(), Some((1, &data_of(9, serial, 500))));
+    }
+}
+
+/// The waits for a cache continue to grow where its client is stopped and started again
+/// (`docs/SESSIONS.md`, "Caches by preference"): each run fails twice, so the first wait of the next
+/// one is four times as long.
+#[tokio::test(start_paused = true)]
+async fn waits_that_go_on() {
+    let first = place(Place::Refuses);
+    let often = ClientOptions {
+        pause: milliseconds(5),
+        retry: Some(milliseconds(20)),
+        ..ClientOptions::default()
+    };
+    let shared = Arc::clone(&first);
+    let returning =
+        AsyncClient::with_random(often, 0, move || dial(shared.lock().unwrap().clone()));
+    let dials: Arc<Mutex<Vec<Instant>>> = Arc::default();
+    let dialed = Arc::clone(&dials);
+    let refused = AsyncClient::with_random(ClientOptions::default(), 0, move || {
+        dialed.lock().unwrap().push(Instant::now());
+        dial(Place::Refuses)
+    });
+    let mut group = AsyncGroup::new([returning, refused]).unwrap();
+    for (serial, seconds) in [(5, 1), (6, 4), (7, 16)] {
+        while dials.lock().unwrap().len() < 2 {
+            assert!(matches!(group.next().await, (_, Event::Failed(_))));
+        }
+        let times = std::mem::take(&mut *dials.lock().unwrap());
+        assert_eq!(times[1] - times[0], Duration::from_secs(seconds));
+        let server = cache(data(serial));
+        *first.lock().unwrap() = Place::Serves(server.clone());
+        assert_eq!(shown(&mut group, &mut Vec::new()).await.0, 0);
+        *first.lock().unwrap() = Place::Refuses;
+        server.stop();
     }
 }
 

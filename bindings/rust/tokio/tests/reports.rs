@@ -1,4 +1,4 @@
-//! How long a client keeps a connection for its last report, by a clock that stands while there is
+//! How long a client keeps a connection for its last bytes, by a clock that stands while there is
 //! something to do.
 
 use rtr_wire::{ClientError, ClientOptions, Event};
@@ -6,6 +6,7 @@ use rtr_wire_tokio::AsyncClient;
 use std::future::pending;
 use std::io::{self, ErrorKind};
 use std::pin::Pin;
+use std::sync::Arc;
 use std::task::{Context, Poll};
 use std::time::Duration;
 use tokio::io::{duplex, AsyncRead, AsyncReadExt, AsyncWrite, AsyncWriteExt};
@@ -136,4 +137,70 @@ fn times_of_reports() {
         );
         assert_eq!(is_of_writing, name == "no query", "{name}: {text}");
     }
+}
+
+/// A stream that takes no bytes, and whose reads fail.
+struct Broken;
+
+impl AsyncRead for Broken {
+    fn poll_read(
+        self: Pin<&mut Self>,
+        _: &mut Context<'_>,
+        _: &mut ReadBuf<'_>,
+    ) -> Poll<io::Result<()>> {
+        Poll::Ready(Err(ErrorKind::ConnectionReset.into()))
+    }
+}
+
+impl AsyncWrite for Broken {
+    fn poll_write(self: Pin<&mut Self>, _: &mut Context<'_>, _: &[u8]) -> Poll<io::Result<usize>> {
+        Poll::Pending
+    }
+
+    fn poll_flush(self: Pin<&mut Self>, _: &mut Context<'_>) -> Poll<io::Result<()>> {
+        Poll::Pending
+    }
+
+    fn poll_shutdown(self: Pin<&mut Self>, _: &mut Context<'_>) -> Poll<io::Result<()>> {
+        Poll::Pending
+    }
+}
+
+/// A connection that breaks before it took the query is lost at once: the client doesn't wait until
+/// it takes bytes.
+#[tokio::test(start_paused = true)]
+async fn a_connection_that_breaks_with_unsent_bytes() {
+    let mut client = AsyncClient::new(ClientOptions::default(), || async { Ok(Broken) });
+    let begun = Instant::now();
+    match client.next().await {
+        Event::Failed(ClientError::Io(error)) => {
+            assert_eq!(error.kind(), ErrorKind::ConnectionReset);
+        }
+        other => panic!("{other:?}"),
+    }
+    assert_eq!(begun.elapsed(), Duration::ZERO);
+}
+
+/// A dial that stalls ends with its time limit, and nothing of it is left while the client waits.
+#[tokio::test(start_paused = true)]
+async fn a_dial_that_stalls() {
+    let counted = Arc::new(());
+    let dialed = Arc::clone(&counted);
+    let options = ClientOptions {
+        dial: LIMIT,
+        ..ClientOptions::default()
+    };
+    let mut client = AsyncClient::<DuplexStream>::new(options, move || {
+        let dialed = Arc::clone(&dialed);
+        async move {
+            pending::<()>().await;
+            drop(dialed);
+            Err(ErrorKind::TimedOut.into())
+        }
+    });
+    let begun = Instant::now();
+    assert!(matches!(client.next().await, Event::Failed(_)));
+    let time = begun.elapsed();
+    assert!(time >= LIMIT && time < LIMIT + LIMIT / 2, "{time:?}");
+    assert_eq!(Arc::strong_count(&counted), 2, "a dial is left");
 }

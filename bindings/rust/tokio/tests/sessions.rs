@@ -106,7 +106,7 @@ fn server_options() -> ServerOptions {
     }
 }
 
-/// Limits that a test waits for, and that no client comes to that does at once what it can.
+/// Limits that a test can wait for, and that no client reaches if it acts at once.
 fn server_limits() -> ServerOptions {
     ServerOptions {
         first_query: milliseconds(2000),
@@ -351,7 +351,7 @@ fn futures_that_are_dropped() {
     assert!(drops > 1000, "only {drops} futures were dropped");
 }
 
-/// A refused unit is reported, also where each future is dropped, and the client goes on.
+/// A refused unit is reported, even if each future is dropped, and the client continues.
 #[test]
 fn a_report() {
     let _alone = alone();
@@ -481,7 +481,7 @@ fn clients_that_stall() {
     assert!(holds(|| host.server.clients() == 0));
 }
 
-/// A unit may begin to come long after the one before: its time counts from its first byte.
+/// A unit may begin long after the previous one: its limit counts from its first byte.
 #[test]
 fn a_client_that_waits() {
     let _alone = alone();
@@ -598,7 +598,8 @@ fn fifty_clients() {
     assert!(holds(|| host.server.clients() == 0));
 }
 
-/// A server has its data after a restart, also one in a thread.
+/// A server has its data after a restart, also one in a thread, and tells a client that asked before
+/// it had them.
 #[test]
 fn restarts() {
     let _alone = alone();
@@ -609,7 +610,11 @@ fn restarts() {
     server.update(data(2)).unwrap();
     drop(server);
     let host = Host::new(AsyncServer::new(server_options()));
+    let mut early = Peer::connect(host.address);
+    early.send(&reset_query(2));
+    assert!(matches!(early.unit(), Some(Unit::ErrorReport(_))));
     assert_eq!(host.server.save_to(&path).unwrap(), Some(data(2)));
+    assert!(matches!(early.unit(), Some(Unit::SerialNotify(notify)) if notify.serial == 2));
     assert_eq!(host.server.end(), Some(data(2).end()));
     let in_thread = Server::new(ServerOptions::default());
     assert_eq!(in_thread.save_to(&path).unwrap(), Some(data(2)));
@@ -633,7 +638,7 @@ fn saves_that_fail() {
     let mut client = Peer::connect(host.address);
     client.send(&reset_query(2));
     assert_eq!(client.response(), data(1).as_bytes());
-    // A folder in the place of the new file: it can't be written.
+    // A folder has the name of the new file, so that it can't be written.
     let blocked = folder.join("kept.new");
     std::fs::create_dir(&blocked).unwrap();
     for serial in [2, 3] {
@@ -649,6 +654,7 @@ fn saves_that_fail() {
     // A server that stops retries no longer.
     std::fs::create_dir(&blocked).unwrap();
     assert!(host.server.update(data(4)).is_err());
+    assert!(holds(|| threads("rtr save") == 1));
     host.server.stop();
     assert!(holds(|| threads("rtr save") == 0));
     std::fs::remove_dir_all(folder).unwrap();

@@ -117,7 +117,7 @@ async fn data_that_change() {
     server.stop();
 }
 
-/// The cache has another name than the one that is asked for, or isn't who it says.
+/// The cache's certificate has another name than the requested one, or isn't trusted.
 #[tokio::test]
 async fn certificates_of_caches() {
     let (folder, nobody) = (Folder::new("tls-caches"), Authority::new());
@@ -159,7 +159,7 @@ async fn certificates_of_routers() {
     for (file, names, from, by) in rows {
         let files = folder.files(file, &names, from, by);
         assert!(fetched(address, NAME, &files).await.is_err(), "{file}");
-        // It may tell before how the last one ended.
+        // The program may first report how the previous connection ended.
         let mut text = String::new();
         while !text.contains("certificate") {
             (receiver, text) = told(receiver).await;

@@ -8,10 +8,10 @@ mod openssl;
 #[path = "../../tests/peers/mod.rs"]
 mod peers;
 
+use self::openssl::OpenSsl;
 use ::openssl::ssl::{Ssl, SslConnector, SslStream};
 use certificates::{now, paths, Authority, Folder, Names, NAME};
 use example::{acceptor, connector};
-use self::openssl::OpenSsl;
 use peers::{alone, data, holds, milliseconds, Peer, LATE, PATIENCE};
 use rtr_wire::{Client, ClientError, ClientOptions, Event, Server, ServerOptions, Socket};
 use std::io::{self, ErrorKind, Read, Write};

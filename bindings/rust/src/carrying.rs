@@ -123,7 +123,8 @@ impl Connection {
         }
     }
 
-    /// Sends unsent bytes; returns whether they were those before a file's, which follow at once.
+    /// Sends unsent bytes; returns whether they were all those before a file's, so that these follow
+    /// at once.
     fn send(&mut self, moment: &mut Moment, clock: impl Fn() -> u64) -> bool {
         let before_file = match self.served.file() {
             Some(_) => self.served.output()[0].len(),
