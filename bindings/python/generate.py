@@ -35,6 +35,7 @@ ENUMS = {"rtr_status": ("Status", "RTR_"), "rtr_prefix_rule": ("PrefixRule", "RT
          "rtr_reason": ("Reason", "RTR_REASON_"), "rtr_entry": ("Entry", "RTR_ENTRY_"),
          "rtr_step": ("Step", "RTR_STEP_"), "rtr_cut": ("Cut", "RTR_CUT_"),
          "rtr_link_status": ("LinkStatus", "RTR_LINK_"), "rtr_todo_kind": ("TodoKind", "RTR_TODO_"),
+         "rtr_client_failure": ("ClientFailure", "RTR_CLIENT_"),
          "rtr_stores_status": ("StoresStatus", "RTR_STORES_"), "rtr_room": ("Room", "RTR_ROOM_"),
          "rtr_time_rule": ("TimeRule", "RTR_TIME_RULE_")}
 

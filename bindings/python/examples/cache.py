@@ -12,10 +12,9 @@ import socket
 import sys
 from typing import Optional, Tuple
 
-from rtr_wire import DamagedError, Data, Fault, Server, UpdateError, load_data
+from rtr_wire import DamagedError, Data, Fault, Server, UpdateError, load_data, retry_after
 
 LOOK = 0.25  # seconds between two checks of the file
-LONGEST = 60.0  # the longest pause after failures
 
 
 def say(text: str) -> None:
@@ -65,14 +64,14 @@ def mark_of(path: str) -> Optional[Tuple[int, ...]]:
 
 async def follow(server: Server, path: str) -> None:
     """Serves the data of a file whenever another file has its name."""
-    seen, pause = None, LOOK
+    seen, pause = None, 0.0
     while True:
         found = mark_of(path)
         if found == seen and found is not None or take(server, path):
-            seen, pause = found, LOOK
+            seen, pause = found, 0.0
         else:
-            pause = min(2 * pause, LONGEST)
-        await asyncio.sleep(pause)
+            pause = retry_after(pause)
+        await asyncio.sleep(pause or LOOK)
 
 
 async def serve(path: str, host: str, port: int) -> None:

@@ -168,7 +168,7 @@ class End:
             self.server._update(data, nowhere)
 
     def forgets(self, serial):
-        """Drops the changes from a serial number and those before."""
+        """Drops the changes from a serial number and from earlier ones."""
         edition = self.server._edition
         kept = list(edition.known)[:list(edition.known).index(serial)]
         edition.known = (ctypes.c_uint32 * len(kept))(*kept)

@@ -1,8 +1,10 @@
 """Clients with scripted caches, on the loopback interface and over pairs of sockets."""
 import asyncio
 import contextlib
+import errno
 import gc
 import ipaddress
+import itertools
 import pathlib
 import select
 import selectors
@@ -26,6 +28,7 @@ ONE = IPv4Prefix(ipaddress.IPv4Network("10.0.0.0/8"), max_length=8, asn=1)
 TWO = replace(ONE, asn=2)
 KEY = RouterKey(bytes(20), 1, b"key")
 FIRST, SECOND = Data([ONE, KEY], EndOfData(7, 1)), Data([ONE, TWO], EndOfData(7, 2))
+LATEST = Data([TWO], EndOfData(7, 3))
 
 
 def answer(payloads):
@@ -94,6 +97,14 @@ def certified(folder, name="IP:127.0.0.1"):
     return server, certificate
 
 
+@contextlib.contextmanager
+def unreachable():
+    """Reserves a port at which nobody listens: a closed one may be another test's next one."""
+    with socket.socket() as bound:
+        bound.bind(("127.0.0.1", 0))
+        yield bound.getsockname()[1]
+
+
 def resolved(port, *addresses):
     """Resolves every host name to these addresses."""
     found = [(socket.AF_INET, socket.SOCK_STREAM, 6, "", (address, port)) for address in addresses]
@@ -146,7 +157,8 @@ RESET = ResetQuery(1)
 FOLLOWS = both(says(RESET, answer(FIRST), bytes(SerialNotify(7, 2))),
                says(SerialQuery(7, 1), bytes(CacheResponse(7)), bytes(FIRST.delta(SECOND))), waits)
 ASKED = both(says(RESET, answer(FIRST)),
-             says(SerialQuery(7, 1), bytes(CacheResponse(7)), bytes(FIRST.delta(SECOND))), waits)
+             says(SerialQuery(7, 1), bytes(CacheResponse(7)), bytes(FIRST.delta(SECOND))),
+             says(SerialQuery(7, 2), bytes(CacheResponse(7)), bytes(SECOND.delta(LATEST))), waits)
 
 
 class Simulated:
@@ -325,12 +337,30 @@ class Following:
         self.assertEqual((first.data, second.data), (FIRST, None))
         self.assertEqual({unit.announce for unit in second.changes}, {False})
 
+    def test_no_connection_in_time(self):
+        """Connecting that fails at its time limit failed for that, also if a timer ends a little
+        early."""
+        simulated = Simulated()
+        with simulated.cache, simulated.client, \
+                mock.patch("time.monotonic", lambda: simulated.now), \
+                mock.patch("time.sleep", simulated.wait), self.assertRaises(SessionError) as caught:
+            self.fetch_unconnected(simulated, Settings(0, connect_limit=0.2))
+        self.assertEqual(caught.exception.cause, Cause.SLOW)
+
+    def test_time_limit(self):
+        """It waits for an answer as long as the limit says, and no longer."""
+        simulated = Simulated()
+        with simulated.cache, mock.patch("time.monotonic", lambda: simulated.now), \
+                mock.patch("time.sleep", simulated.wait):
+            with self.assertRaises(SessionError) as caught:
+                self.fetch_simulated(simulated, replace(SOON, response_limit=0.1))
+        self.assertEqual(caught.exception.cause, Cause.SLOW)
+        self.assertAlmostEqual(simulated.now, 0.1, delta=0.02)
+
     def test_refused(self):
         """A refused connection is reported."""
-        with socket.socket() as bound:  # it reserves the port, and doesn't listen
-            bound.bind(("127.0.0.1", 0))
-            with self.assertRaises(ConnectionRefusedError):
-                self.fetch(mock.Mock(port=bound.getsockname()[1]))
+        with unreachable() as port, self.assertRaises(ConnectionRefusedError):
+            self.fetch(mock.Mock(port=port))
 
     def test_told(self):
         """An exception of the callback `failed` ends the loop and the connection."""
@@ -383,19 +413,88 @@ class Blocking(Following, unittest.TestCase):
                 asked.assert_called_once_with("cache.example", cache.port,
                                               type=socket.SOCK_STREAM)
 
+    def test_silent_address(self):
+        """An address that accepts a connection, and says nothing to the handshake of TLS, gets its
+        share of the time for connecting."""
+        with tempfile.TemporaryDirectory() as folder:
+            server, certificate = certified(folder)
+            trusting = ssl.create_default_context(cafile=certificate)
+        with Cache(says(RESET, answer(FIRST)), context=server) as cache, closes_all(self), \
+                socket.create_server(("127.0.0.2", cache.port)) as silent, \
+                resolved(cache.port, "127.0.0.2", "127.0.0.1"):
+            late = threading.Timer(60, silent.close)  # which ends the handshake
+            late.start()
+            settings = replace(SOON, connect_limit=4)
+            self.assertEqual(self.fetch(cache, settings, trusting), FIRST)
+            self.assertTrue(late.is_alive())
+            late.cancel()
+
+    def test_shares(self):
+        """Each address of a host name gets an equal share of the time that is left, in which the
+        handshake of TLS has to end, too."""
+        now, shares = [0.0], []
+
+        class Slow:
+            def __init__(self, *_):
+                pass
+
+            def settimeout(self, seconds):
+                shares.append(round(seconds, 3))
+
+            def connect(self, address):
+                now[0] += 1
+                if address[0] == "127.0.0.9":
+                    raise ConnectionRefusedError
+
+            def close(self):
+                pass
+
+        nobody, context = "127.0.0.9", mock.Mock()
+        context.wrap_socket.side_effect = ssl.SSLError
+        client = Client("cache.example", 9, Settings(0, connect_limit=9), ssl=context)
+        with mock.patch("socket.socket", Slow), mock.patch("time.monotonic", lambda: now[0]), \
+                resolved(9, nobody, nobody, "127.0.0.1"), self.assertRaises(ssl.SSLError):
+            client.fetch()
+        self.assertEqual(shares, [3, 4, 7, 6])
+
+    def test_connection_timed_out(self):
+        """The system ends a connection whose bytes nobody acknowledged: that isn't the end of a
+        wait."""
+        class TimedOut(socket.socket):
+            def recv(self, most):
+                raise OSError(errno.ETIMEDOUT, "timed out")
+
+        ours, theirs = socket.socketpair()
+        timed_out = TimedOut(fileno=ours.detach())
+        with theirs, self.assertRaises(TimeoutError):
+            Client(settings=Settings(0), connect=lambda seconds: timed_out).fetch()
+
+    def test_left(self):
+        """Leaving a loop closes its connection."""
+        with Cache(both(says(RESET, answer(FIRST)), waits)) as cache, closes_all(self):
+            client = Client("127.0.0.1", cache.port, SOON)
+            updates = iter(client)
+            self.assertEqual(next(updates).data, FIRST)
+            updates.close()
+
     def test_no_address(self):
         """If no address answers, the last error is raised."""
-        with socket.create_server(("127.0.0.1", 0)) as closed:
-            port = closed.getsockname()[1]
-        with closes_all(self), resolved(port, "127.0.0.9", "127.0.0.1"), \
+        with closes_all(self), unreachable() as port, resolved(port, "127.0.0.9", "127.0.0.1"), \
                 self.assertRaises(ConnectionRefusedError):
             Client("cache.example", port, SOON).fetch()
 
     def fetch(self, cache, settings=SOON, context=None, host="127.0.0.1"):
         return Client(host, cache.port, settings, ssl=context).fetch()
 
-    def fetch_simulated(self, simulated):
-        return Client(settings=SOON, connect=lambda seconds: simulated).fetch()
+    def fetch_simulated(self, simulated, settings=SOON):
+        return Client(settings=settings, connect=lambda seconds: simulated).fetch()
+
+    def fetch_unconnected(self, simulated, settings):
+        def connect(seconds):
+            simulated.wait(seconds - 0.005)
+            raise socket.timeout
+
+        return Client(settings=settings, connect=connect).fetch()
 
     def updates(self, cache, count, failed=None, settings=SOON, context=None):
         client = Client("127.0.0.1", cache.port, settings, failed=patient(failed),
@@ -404,13 +503,15 @@ class Blocking(Following, unittest.TestCase):
             return [next(updates) for _ in range(count)]
 
     def test_ask_now(self):
-        """It asks when its caller requests it, long before the refresh time."""
+        """It asks each time its caller requests it, long before the refresh time."""
         with Cache(ASKED) as cache:
             client = Client("127.0.0.1", cache.port, SOON, failed=patient())
             with contextlib.closing(iter(client)) as updates:
                 self.assertEqual(next(updates).data, FIRST)
                 threading.Timer(0.1, client.ask_now).start()
                 self.assertEqual(next(updates).data, SECOND)
+                threading.Timer(0.1, client.ask_now).start()
+                self.assertEqual(next(updates).data, LATEST)
 
     def test_any_stream(self):
         """The connection may be any object with the methods of a socket."""
@@ -421,6 +522,25 @@ class Blocking(Following, unittest.TestCase):
             self.assertEqual(theirs.recv(100), bytes(RESET))
             self.assertEqual(theirs.recv(100), b"")
 
+    def test_looks(self):
+        """It looks for a request of its caller four times a second (docs/SESSIONS.md)."""
+        class Timed:
+            def __init__(self, connection):
+                self.connection, self.timeouts = connection, []
+
+            def settimeout(self, seconds):
+                self.timeouts.append(seconds)
+                self.connection.settimeout(seconds)
+
+            def __getattr__(self, name):
+                return getattr(self.connection, name)
+
+        ours, theirs = socket.socketpair()
+        theirs.sendall(answer(FIRST))
+        timed = Timed(ours)
+        with theirs:
+            self.assertEqual(Client(settings=SOON, connect=lambda seconds: timed).fetch(), FIRST)
+        self.assertLessEqual(max(timed.timeouts), 0.25)
 
     def test_faults(self):
         """A socket that sends a byte at a time, and isn't always ready, sends the whole query and
@@ -428,17 +548,19 @@ class Blocking(Following, unittest.TestCase):
         class Slow:
             def __init__(self, connection):
                 self.connection, self.calls = connection, 0
+                self.failures = itertools.cycle(
+                    (BlockingIOError, ssl.SSLWantReadError, ssl.SSLWantWriteError))
 
             def send(self, data):
                 self.calls += 1
                 if self.calls % 2:
-                    raise BlockingIOError
+                    raise next(self.failures)
                 return self.connection.send(data[:1])
 
             def recv(self, most):
                 self.calls += 1
                 if self.calls % 3:
-                    raise BlockingIOError
+                    raise next(self.failures)
                 return self.connection.recv(min(most, 5))
 
             def __getattr__(self, name):
@@ -455,7 +577,8 @@ class Blocking(Following, unittest.TestCase):
         self.assertEqual((query, report.code, report.enclosed), (RESET, 0, broken))
 
     def test_no_memory(self):
-        """Without memory to read, it reports that, and reconnects."""
+        """Without memory to read, it reports that, and reconnects; but after the first loss at once,
+        in a lower version, which is no failure."""
         class Failing(socket.socket):
             def recv(self, most):
                 raise MemoryError
@@ -470,7 +593,7 @@ class Blocking(Following, unittest.TestCase):
         client = Client(settings=SOON, connect=connect, failed=failures.append)
         with closes_all(self), contextlib.closing(iter(client)) as updates:
             self.assertEqual(next(updates).data, FIRST)
-        self.assertEqual([type(error) for error in failures], [MemoryError, MemoryError])
+        self.assertEqual([type(error) for error in failures], [MemoryError])
         for end in ends:
             end.close()
 
@@ -482,9 +605,19 @@ class ForAsyncio(Following, unittest.TestCase):
         client = AsyncClient(host, cache.port, settings, ssl=context)
         return asyncio.run(client.fetch())
 
-    def fetch_simulated(self, simulated):
-        client = AsyncClient(settings=SOON,
-                             connect=lambda: asyncio.open_connection(sock=simulated.client))
+    def fetch_unconnected(self, simulated, settings):
+        async def connect():
+            await asyncio.sleep(0.195)
+            raise ConnectionAbortedError
+
+        return self.fetch_by(simulated, settings, connect)
+
+    def fetch_simulated(self, simulated, settings=SOON):
+        return self.fetch_by(simulated, settings,
+                             lambda: asyncio.open_connection(sock=simulated.client))
+
+    def fetch_by(self, simulated, settings, connect):
+        client = AsyncClient(settings=settings, connect=connect)
         loop = asyncio.SelectorEventLoop(SimulatedSelector(simulated))
         with contextlib.closing(loop):
             return loop.run_until_complete(client.fetch())
@@ -499,6 +632,45 @@ class ForAsyncio(Following, unittest.TestCase):
             finally:
                 await updates.aclose()
         return asyncio.run(taken())
+
+    def test_no_memory(self):
+        """Without memory to read, it reports that, and reconnects."""
+        class Failing(asyncio.StreamReader):
+            async def read(self, most=-1):
+                raise MemoryError
+
+        async def connect():
+            reader, writer = await asyncio.open_connection("127.0.0.1", cache.port)
+            readers.append(reader)
+            return Failing() if len(readers) == 1 else reader, writer
+
+        async def follows():
+            client = AsyncClient(settings=replace(SOON, version=0), connect=connect,
+                                 failed=failures.append)
+            updates = client.__aiter__()
+            update = await updates.__anext__()
+            await updates.aclose()
+            return update
+
+        readers, failures = [], []
+        data = Data([replace(ONE, version=0)], EndOfData(7, 5, version=0))
+        with Cache(is_silent, says(ResetQuery(0), answer(data))) as cache:
+            self.assertEqual(asyncio.run(follows()).data, data)
+        self.assertEqual([type(error) for error in failures], [MemoryError])
+
+    def test_silent_address(self):
+        """While an address doesn't answer, the next one is tried too."""
+        with Cache(says(RESET, answer(FIRST))) as cache, \
+                contextlib.ExitStack() as open_sockets, resolved(cache.port, "127.0.0.2",
+                                                                 "127.0.0.1"):
+            listener = socket.create_server(("127.0.0.2", cache.port), backlog=0)
+            open_sockets.enter_context(listener)
+            for _ in range(4):  # more than the system lets wait for this listener
+                waiting = open_sockets.enter_context(socket.socket())
+                waiting.setblocking(False)
+                waiting.connect_ex(listener.getsockname())
+            settings = replace(SOON, connect_limit=60)
+            self.assertEqual(self.fetch(cache, settings, host="cache.example"), FIRST)
 
     def test_cancelled(self):
         """A cancelled task closes its connection."""
@@ -520,7 +692,7 @@ class ForAsyncio(Following, unittest.TestCase):
             asyncio.run(cancelled(cache.port))
 
     def test_ask_now(self):
-        """It asks when its caller requests it, long before the refresh time."""
+        """It asks each time its caller requests it, long before the refresh time."""
         async def follows(port):
             client = AsyncClient("127.0.0.1", port, SOON, failed=patient())
             updates = client.__aiter__()
@@ -528,6 +700,8 @@ class ForAsyncio(Following, unittest.TestCase):
                 self.assertEqual((await updates.__anext__()).data, FIRST)
                 asyncio.get_running_loop().call_later(0.1, client.ask_now)
                 self.assertEqual((await updates.__anext__()).data, SECOND)
+                asyncio.get_running_loop().call_later(0.1, client.ask_now)
+                self.assertEqual((await updates.__anext__()).data, LATEST)
             finally:
                 await updates.aclose()
 

@@ -33,8 +33,14 @@ def called(call):
     return lambda *inputs: _library.front(*call(*map(calls._all_of, inputs)))
 
 
-CALLED = {0: called(calls._delta), 1: applied, 2: lambda first, _: bytes(Changes.from_bytes(first)),
-          3: called(calls._applied)}
+def compared(call):
+    """Calls the package with bytes, for a call that computes changes."""
+    return called(lambda old, new: calls._compared(call, old, new))
+
+
+CALLED = {0: compared(_library.CALLS.rtr_delta_nonnull), 1: applied,
+          2: lambda first, _: bytes(Changes.from_bytes(first)), 3: called(calls._applied),
+          4: compared(_library.CALLS.rtr_changes_between_nonnull)}
 
 
 class Rows(unittest.TestCase):

@@ -10,8 +10,8 @@ from rtr_wire import (CacheResponse, Client, Data, EndOfData, ErrorReport, NoPay
                       aio)
 from rtr_wire import follow as follow_in_threads
 
-from .test_client import (ASKED, FIRST, ONE, RESET, SECOND, SOON, TWO, Cache, answer, both,
-                          closes_all, says)
+from .test_client import (ASKED, FIRST, LATEST, ONE, RESET, SECOND, SOON, TWO, Cache, answer,
+                          both, closes_all, says, unreachable)
 
 EMPTY = Data((), EndOfData(7, 3))
 THIRD = Data([ONE, TWO], EndOfData(9, 1))
@@ -57,11 +57,9 @@ class Preferring:
     def test_next(self):
         """If the first cache can't be reached, the data of the next one are used, and those of the
         first as soon as it has some. The changes are those from one to the other."""
-        with Cache() as closed:
-            pass
         failures = []
-        with Cache(both(says(RESET, answer(FIRST)), stays)) as cache:
-            taken = self.follow([closed.port, cache.port], 1, failures=failures)
+        with Cache(both(says(RESET, answer(FIRST)), stays)) as cache, unreachable() as port:
+            taken = self.follow([port, cache.port], 1, failures=failures)
         self.assertEqual(taken, [(1, FIRST, {*FIRST})])
         self.assertEqual((failures[0][0], type(failures[0][1])), (0, ConnectionRefusedError))
 
@@ -111,12 +109,10 @@ class Preferring:
 
     def test_expired(self):
         """If no cache has data any more, an update without data withdraws all."""
-        with Cache() as closed:
-            pass
         cache = Scripted()
         cache.scripts = (cache.answers_and_closes(FIRST),)
-        with cache:
-            taken = self.follow([closed.port, cache.port], 2, expire=1,
+        with cache, unreachable() as port:
+            taken = self.follow([port, cache.port], 2, expire=1,
                                 after=lambda count: cache.goes_on.set())
         self.assertEqual([data for _, data, _ in taken], [FIRST, None])
         self.assertEqual({unit.announce for unit in taken[1][2]}, {False})
@@ -173,13 +169,15 @@ class InThreads(Preferring, unittest.TestCase):
         follow_in_threads([Client("127.0.0.1", 9)] * count)
 
     def test_ask_now(self):
-        """A followed client asks when its caller requests it."""
+        """A followed client asks each time its caller requests it."""
         with Cache(ASKED) as cache:
             client = Client("127.0.0.1", cache.port, SOON)
             with contextlib.closing(follow_in_threads([client])) as updates:
                 self.assertEqual(next(updates)[1].data, FIRST)
                 client.ask_now()
                 self.assertEqual(next(updates)[1].data, SECOND)
+                client.ask_now()
+                self.assertEqual(next(updates)[1].data, LATEST)
 
 
 class ForAsyncio(Preferring, unittest.TestCase):

@@ -1,12 +1,14 @@
 """What may happen at the same time: a cancellation and bytes or a connection, and a request while a
-loop looks for one. And whose failure a group tells."""
+loop looks for one; news of a run that is stopped. And whose failure a group tells."""
 import asyncio
 import contextlib
+import threading
 import unittest
 
-from rtr_wire import AsyncClient, CacheResponse, Data, EndOfData, Failed, NoPayloads, Update
+from rtr_wire import (AsyncClient, CacheResponse, Client, Data, EndOfData, Failed, NoPayloads,
+                      Update, aio, following)
 from rtr_wire._rtr import Cause, TodoKind, rtr_todo
-from rtr_wire.group import Group
+from rtr_wire.group import Decision, Group
 from rtr_wire.loops import Asking
 
 from .test_client import FIRST, SECOND, SOON
@@ -113,6 +115,26 @@ class Asked(unittest.TestCase):
         asked = client._pass_requests(router, 0)
         client._pass_requests(router, asked)
         self.assertEqual(router.count, 1)
+
+
+class Stopped(unittest.TestCase):
+    """Data of a run that was stopped while they waited in the queue change nothing."""
+
+    def test_thread(self):
+        loop = following._Following([Client()], Group(1, None, None), None)
+        stopped = threading.Event()
+        stopped.set()
+        loop._news.put(following._News(0, stopped, Update(FIRST, None), DATA))
+        self.assertEqual(loop._next(), Decision())
+
+    def test_task(self):
+        async def decision():
+            loop, run = aio._Following([AsyncClient()], Group(1, None, None), None), aio._Run()
+            loop._news, run.is_stopped = asyncio.Queue(1), True
+            await loop._news.put(aio._News(0, run, Update(FIRST, None), DATA))
+            return await loop._next()
+
+        self.assertEqual(asyncio.run(decision()), Decision())
 
 
 class Groups(unittest.TestCase):

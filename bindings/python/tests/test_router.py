@@ -12,7 +12,7 @@ from rtr_wire import (CacheReset, CacheResponse, Cause, Changes, Close, Connect,
                       DuplicateError, EndOfData, ErrorReport, Failed, IPv4Prefix, NoData,
                       PrefixError, ResetQuery, Router, SerialNotify, SerialQuery, SessionError,
                       Settings, ShortError, UnknownError, Update, _library)
-from rtr_wire._rtr import LONGEST_UNIT
+from rtr_wire._rtr import LONGEST_UNIT, TodoKind
 
 SOON = Settings(pause=0.01, retry=0.01)
 TIMES = {"refresh": 300, "retry": 60, "expire": 600}
@@ -239,14 +239,14 @@ class Memory(Routed):
 
     def test_changes(self):
         """New data, and their loss, are reported even without memory for the changes, which can be
-        read later."""
+        read later. The changes from no data need none: they are the data."""
         with mock.patch("rtr_wire.data.memory", side_effect=MemoryError):
             first = self.loads()
             self.now += 601_000
             expired = self.steps()[0]
-            for update in (first, expired):
-                with self.assertRaises(MemoryError):
-                    len(update.changes)
+            self.assertEqual(len(first.changes), 1)
+            with self.assertRaises(MemoryError):
+                len(expired.changes)
         self.assertEqual((first.data, expired.data), (FIRST, None))
         self.assertEqual([list(update.changes) for update in (first, expired)],
                          [[ONE], list(FIRST.delta(data(1)))])
@@ -334,6 +334,16 @@ class Failures(Routed):
         self.assertIsInstance(failed.error, ShortError)
         self.assertEqual((failed.error.offset, failed.error.unit), (8, bytes(ONE)[:12]))
 
+    def test_asked_at_a_loss(self):
+        """A request between the loss of a connection and its close outlives that: the router
+        connects at once, long before its wait after a loss is over."""
+        self.router, error = Router(Settings(pause=0.01)), OSError("lost")
+        self.loads()
+        self.now += 1000
+        self.router.lost(error)
+        self.router.asked()
+        self.assertEqual(self.steps(), [Close(), Failed(error), Connect()])
+
     def test_lost(self):
         """The system's error is reported after the bytes before it were processed."""
         self.steps()
@@ -407,6 +417,22 @@ class Turns(Routed):
         self.reconnects()
         (second,) = self.comes(answer(SECOND))
         self.assertEqual((update.data, second.data, len(second.changes)), (FIRST, SECOND, 2))
+
+    def test_again_after_a_loss(self):
+        """A restarted router returns no step of its last connection, and a group gets nothing that
+        was asked for before."""
+        self.loads()
+        self.router.lost(OSError("reset"))
+        self.assertEqual(self.router.step(self.now), Close())  # a failure would follow
+        self.router.again()
+        self.assertIsNone(self.router.take_todo())
+        self.reconnects()
+
+    def test_take_todo(self):
+        """A group gets each todo once."""
+        self.loads()
+        self.assertEqual(self.router.take_todo().kind, TodoKind.DATA)
+        self.assertIsNone(self.router.take_todo())
 
     def test_waits_grow(self):
         """If its cache failed before, it waits longer after the next failure than a new router."""

@@ -9,7 +9,8 @@ import unittest
 from unittest import mock
 
 from rtr_wire import (CacheResponse, DamagedError, Data, EndOfData, ResetQuery, SerialQuery,
-                      Server, ServerLimits, StoresStatus, TimeRule, UnsyncedError, UpdateError, Vrp)
+                      Server, ServerLimits, StoresStatus, TimeRule, UnsyncedError, UpdateError, Vrp,
+                      retry_after)
 from rtr_wire._rtr import Step
 from rtr_wire.serving import Served
 
@@ -133,7 +134,7 @@ class Saving(Case):
                          response(session=7) + bytes(data(1, [1], session=7).end))
 
     def test_data_that_were_not_saved(self):
-        """A file of a server that didn't save before would lack what it serves later."""
+        """A server that served data without saving them doesn't save later ones."""
         server = Server()
         server.update(data(1, [1]))
         for call in (lambda: server.save(self.path),
@@ -245,12 +246,14 @@ class Saving(Case):
             server = Server()
             server.update(data(1, [1]))
             server.update(data(2, [2]))
-            server._edition._left = space
+            server._edition._kept_bytes = server.limits.keep_bytes - space
             history = server._edition.history
             with mock.patch.object(history, "since", wraps=history.since) as since:
                 for _ in range(2):
                     answer(server, SerialQuery(SESSION, 1, version=1))
             self.assertEqual(since.call_count, count)
+            kept = 20 + 20 + 24 if count == 1 else 0  # two prefixes and an end of data
+            self.assertEqual(server._edition._kept_bytes, server.limits.keep_bytes - space + kept)
 
     def test_closed_server(self):
         server = Server()
@@ -381,6 +384,18 @@ class Files(Case):
         got = play("scene python", "cache usual", f"0 restores {other}", "1 router connects",
                    f"2 router> {query}")
         self.assertEqual(got, response() + bytes(second.delta(third)))
+
+
+class Pauses(unittest.TestCase):
+    """The pauses before a failed save is retried."""
+
+    def test_pauses(self):
+        """A second at first, then twice the last pause, at most a minute."""
+        self.assertEqual(retry_after(), 1)
+        self.assertEqual([retry_after(pause) for pause in (0, 1, 2, 1.5, 32, 60, 1e9)],
+                         [1, 2, 4, 3, 60, 60, 60])
+        with self.assertRaisesRegex(ValueError, "previous is -1: it must be from 0 on"):
+            retry_after(-1)
 
 
 class Limits(unittest.TestCase):

@@ -9,6 +9,7 @@ import socket
 import ssl
 import struct
 import tempfile
+import threading
 import tracemalloc
 import unittest
 from dataclasses import replace
@@ -165,6 +166,18 @@ class Answers(Servers):
             router.asks_after(2)
             self.assertEqual([unit.serial for unit in await router.answer()], [2])
 
+    async def test_data_of_another_thread(self):
+        """New data that another thread passes on are told to a loop that waits."""
+        server = self.serves()
+        server.update(data(1, [1]))
+        router = await self.router()
+        router.asks_all()
+        await router.answer()
+        updates = threading.Timer(0.2, server.update, [data(2, [1, 2])])
+        updates.start()
+        self.assertEqual(await router.reads(), SerialNotify(SESSION, 2, version=2))
+        updates.join()
+
     async def test_without_data(self):
         server = self.serves()
         self.assertIsNone(server.end)
@@ -175,6 +188,26 @@ class Answers(Servers):
         server.update(data(1, [1]))
         router.asks_after(7, session=9)
         self.assertEqual(await router.reads(), CacheReset(version=1))
+
+    async def test_one_timer(self):
+        """A timer whose time has changed is cancelled, so that a connection has one."""
+        loop, timers = asyncio.get_running_loop(), []
+        later = loop.call_later
+
+        def sets(*words):
+            timers.append(later(*words))
+            return timers[-1]
+
+        server = self.serves()
+        server.update(data(1, [1]))
+        with mock.patch.object(loop, "call_later", sets):
+            router = await self.router()
+            for _ in range(20):
+                router.asks_all()
+                await router.answer()
+            left = [timer for timer in timers if not timer.cancelled()]
+        self.assertGreater(len(timers), 20)
+        self.assertEqual(len(left), 1)
 
     async def test_pipelined_queries(self):
         server = self.serves()
@@ -503,15 +536,29 @@ class Doors(Servers):
         router.asks_all()
         self.assertEqual((await router.reads()).code, 2)
 
+    async def test_a_connection_that_breaks_at_once(self):
+        """A connection whose options can't be set is closed, told, and not counted any more. Some
+        systems refuse them once the router has reset the connection."""
+        server = self.serves(ServerLimits(most_connections=1))
+        server.update(data(1, [1]))
+        with mock.patch("rtr_wire.server._prepared", side_effect=OSError(errno.EINVAL, "reset")):
+            self.assertIsNone(await (await self.router()).reads())
+            self.assertEqual(str(await self.reason()), "[Errno 22] reset")
+        self.assertEqual((server._door.served, server._door.refused), (0, 0))
+        router = await self.router()
+        router.asks_all()
+        await router.answer()
+
     async def test_a_listener_that_fails(self):
         class Failing(socket.socket):
             """A listener that can't accept, for as many times as it has errors."""
             errors = []
 
             def accept(self):
-                raise self.errors.pop()
+                raise self.errors.pop() if self.errors else BlockingIOError
 
-        for number, left in (errno.EPROTO, 30 - 10), (errno.EMFILE, 0):
+        # A connection that was aborted before it was accepted is no error of the listener.
+        for number, left in (errno.EPROTO, 30 - 10), (errno.EMFILE, 0), (errno.ECONNABORTED, 0):
             Failing.errors = [OSError(number, "failed")] * 30
             listener = Failing(socket.AF_INET, socket.SOCK_STREAM)
             listener.bind(("127.0.0.1", 0))
@@ -644,6 +691,20 @@ class OverTls(Servers):
         self.assertEqual((await router.reads()).code, 3)
         self.assertIsNone(await router.reads())
         await router.leaves()
+        self.assertEqual((await self.reason()).reason, Reason.NO_QUERY)
+
+    async def test_close_notify(self):
+        """After a report TLS is closed, too, by which a router knows that nothing was cut off (RFC
+        8446 section 6.1)."""
+        def reads():
+            with socket.create_connection(("127.0.0.1", self.port), LONG) as connected, \
+                    self.trusted.wrap_socket(connected, server_hostname="127.0.0.1",
+                                             suppress_ragged_eofs=False) as router:
+                router.sendall(bytes(CacheResponse(1)) * 3)
+                while router.recv(1 << 16):
+                    pass
+
+        await asyncio.get_running_loop().run_in_executor(None, reads)
         self.assertEqual((await self.reason()).reason, Reason.NO_QUERY)
 
     async def test_a_router_without_tls(self):

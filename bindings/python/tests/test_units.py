@@ -259,6 +259,13 @@ class Faults(unittest.TestCase):
             if word == "text":
                 detail, text = text.split(" ", 1)
                 actual = _library.status_text(int(number), int(detail))
+            elif word == "at":
+                detail, offset, text = text.split(" ", 2)
+                actual = _library.status_text_at(int(number), int(detail), int(offset))
+            elif word == "report":
+                digits, text = text.split(" ", 1)
+                reported = bytes.fromhex(digits.replace("-", ""))
+                actual = _library.report_text(int(number), reported)
             else:
                 actual = _library.name(_rtr.Named[word.upper()], int(number))
             self.assertEqual(actual, text, row)

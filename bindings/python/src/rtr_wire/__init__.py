@@ -44,8 +44,8 @@ Faults
     It has the offset and the bytes of the unit, and the error report that the peer is owed. Any
     other reason for which a session ends is a `SessionError`, or a `ServerError` of a server.
 
-Several threads may use units, data and changes at once, but an iterator or a client only one at a
-time.
+Several threads may use units, data, changes and clients at once, but an iterator or a router only
+one at a time.
 
 `python -m rtr_wire --help` shows the commands of the package.
 
@@ -73,7 +73,7 @@ from .lines import change_json, change_line, unit_lines, unit_objects
 from .reading import Normalised, Units, normalise, same_meaning, units
 from .router import Close, Connect, Failed, NoData, Router, SessionError, Settings, Update
 from .serving import BehindError, ServerError, ServerLimits
-from .store import DamagedError, UnsyncedError
+from .store import DamagedError, UnsyncedError, retry_after
 from .units import (AnyUnit, Aspa, CacheReset, CacheResponse, EndOfData, ErrorReport, IPv4Prefix,
                     IPv6Prefix, Payload, Prefix, ResetQuery, RouterKey, SerialNotify, SerialQuery,
                     Unit, Vrp, serial_order, version_has)
@@ -106,6 +106,6 @@ __all__ = [
     "StoresStatus", "TimeRule", "TooLongError", "TooManyError", "UndecidedError", "Unit",
     "UnitLengthError", "UnitTypeError", "UnitVersionError", "Units", "UnknownError",
     "UnsyncedError", "Update", "UpdateError", "Validity", "Vrp", "__version__", "change_json",
-    "change_line", "check", "follow", "load_data", "normalise", "same_meaning", "serial_order",
-    "unit_lines", "unit_objects", "units", "version_has",
+    "change_line", "check", "follow", "load_data", "normalise", "retry_after", "same_meaning",
+    "serial_order", "unit_lines", "unit_objects", "units", "version_has",
 ]

@@ -40,6 +40,9 @@ CALLS = _load()
 FIELDS = struct.Struct(_rtr.UNIT_LETTERS)
 ROUTE = struct.Struct(_rtr.ROUTE_LETTERS)
 
+# The size of a buffer for any text.
+_LONGEST_TEXT = _rtr.REPORT_TEXT_ROOM
+
 # Blocks of at least this many bytes aren't zeroed.
 _LARGE = 1 << 16
 
@@ -163,16 +166,26 @@ def error_code(status: int, unit: bytes) -> Optional[int]:
     return code.value if owed else None
 
 
-def _text_of(call: Any, *numbers: int) -> str:
-    """Returns the text that a call writes for these numbers."""
-    output, length = ctypes.create_string_buffer(_rtr.TEXT_ROOM), ctypes.c_size_t()
-    call(*numbers, output, len(output), ctypes.byref(length))
+def _text_of(call: Any, *values: Any) -> str:
+    """Returns the text that a call writes for these values."""
+    output, length = ctypes.create_string_buffer(_LONGEST_TEXT), ctypes.c_size_t()
+    call(*values, output, len(output), ctypes.byref(length))
     return output.raw[:length.value].decode("ascii")
 
 
 def status_text(status: int, detail: int) -> str:
     """Returns the text of a status with its detail."""
     return _text_of(CALLS.rtr_text_nonnull, status, detail)
+
+
+def status_text_at(status: int, detail: int, offset: int) -> str:
+    """Returns the text of a status with its detail, and the offset of a unit."""
+    return _text_of(CALLS.rtr_text_at_nonnull, status, detail, offset)
+
+
+def report_text(code: int, text: bytes) -> str:
+    """Returns what an error report says: the name of its code, and the first bytes of its text."""
+    return _text_of(CALLS.rtr_report_text_nonnull, code, text, len(text))
 
 
 def name(named: _rtr.Named, number: int) -> str:

@@ -37,6 +37,8 @@ MOST_MEMBERS = 16
 LAST_REPORT_LIMIT = 2000
 LAST_REPORT_BYTES = 1048576
 TEXT_ROOM = 64
+TEXT_AT_ROOM = 96
+REPORT_TEXT_ROOM = 136
 NAME_ROOM = 65528
 LINE_ROOM = 160
 FINDING_ROOM = 128
@@ -44,6 +46,9 @@ MOST_QUOTED = 100
 FAILURE_NO_MEMORY = "no memory"
 FAILURE_EMPTY = "the cache has no payloads"
 FAILURE_STOPPED = "the client was stopped"
+FAILURE_SLOW = "the peer is too slow"
+FAILURE_MORE_READ = "more bytes were read than there is room for"
+FAILURE_MORE_SENT = "more bytes were sent than there are"
 FAILURE_BEHIND = "the router is too far behind"
 FAILURE_CLOSED = "the server is closed"
 FAILURE_OLD_SERIAL = "the serial number isn't later than that of the present data"
@@ -51,6 +56,7 @@ FAILURE_OTHER_TIMES = "only the times differ from those of the present data"
 FAILURE_SESSION_LEFT = "the cache left this session: the data need a new one"
 FAILURE_OTHER_SESSION = "a cache that doesn't save has one session"
 FAILURE_UNSAVED = "the cache serves data that it didn't save"
+FAILURE_UNSYNCED = "the folder isn't synced"
 FAILURE_HIGHER_VERSION = "the saved data are of a lower version: the data need a new session"
 FAILURE_DAMAGED = "the saved file is damaged: the data need a new session"
 
@@ -405,6 +411,31 @@ class TodoKind(enum.IntEnum):
     OUTPUT_ROOM = 12
 
 
+class ClientFailure(enum.IntEnum):
+    """Why there is no connection, or no data. docs/SESSIONS.md has what is reported to the cache.
+    """
+
+    # Nothing failed; the client may reconnect at once in another version.
+    NONE = 0
+    # Connecting failed, or the connection broke or was closed.
+    LOST = 1
+    # The cache didn't answer or finish an answer in time.
+    SLOW = 2
+    # An answer has too many units or bytes.
+    TOO_LONG = 3
+    # A unit or the changes are refused for `status`.
+    REFUSED = 4
+    # A unit breaks the rules of a session.
+    BREACH = 5
+    # The cache reports the error `code`.
+    REPORTED = 6
+    # The data have expired, and were dropped.
+    EXPIRED = 7
+    # There is no memory for an answer; or of an rtr_client to connect: then RTR_CLIENT_CONNECT
+    # hasn't come, and it retries at `wakes`.
+    MEMORY = 8
+
+
 class GroupShown(enum.IntEnum):
     """How the shown data change."""
 
@@ -485,7 +516,7 @@ class Step(enum.IntEnum):
 class Cut(enum.IntEnum):
     """The limit that ended a connection."""
 
-    # The rtr_cache ended it.
+    # The rtr_cache ended it, or it broke.
     NONE = 0
     # A unit or an answer took too long.
     SLOW = 1
@@ -787,13 +818,13 @@ class rtr_route(Structure):
 class rtr_tables(Structure):
     ipv4: int
     ipv6: int
-    # For each first byte the IPv4 unit at which its addresses begin.
+    # For each first byte, the index of the first IPv4 unit with such an address.
     starts: Any
-    # The length of the shortest IPv4 prefix; 255 where there is none.
+    # The length of the shortest IPv4 prefix; 255 if there is none.
     shortest_ipv4: int
-    # That of the shortest IPv6 prefix.
+    # The length of the shortest IPv6 prefix; 255 if there is none.
     shortest_ipv6: int
-    # The same of IPv4 prefixes of eight bits or more, for each first byte.
+    # For each first byte, the length of the shortest IPv4 prefix of at least eight bits.
     shortest: Any
 
     _fields_ = [
@@ -807,9 +838,9 @@ class rtr_tables(Structure):
 
 
 class rtr_lookup(Structure):
-    # How many bytes the data are of, or 0.
+    # The length of the data in bytes, or 0.
     length: int
-    # What this length is below the greatest number.
+    # The greatest number minus this length.
     seal: int
     # The tables of the data.
     tables: rtr_tables
@@ -1104,6 +1135,8 @@ class rtr_link(Structure):
     bytes: int
     # The latest time that was passed.
     latest: int
+    # How many bytes came on the connection.
+    received: int
     # The length of the payload units at the front of the input.
     kept: int
     # The length of the end of data behind them, in a whole answer, or 0.
@@ -1156,6 +1189,7 @@ class rtr_link(Structure):
         ("rises", c_uint64),
         ("bytes", c_uint64),
         ("latest", c_uint64),
+        ("received", c_uint64),
         ("kept", c_size_t),
         ("end_size", c_size_t),
         ("filled", c_size_t),
@@ -1192,9 +1226,13 @@ class rtr_link(Structure):
 class rtr_todo(Structure):
     # When to call rtr_link_next, if nothing comes before. It may have passed.
     wakes: int
+    # The offset of the unit that it is about, in all bytes of the connection; of a change that
+    # doesn't apply, that in the payload units of the answer; at an end that is about no unit,
+    # the number of bytes that came before those of the input.
+    position: int
     # The length that a buffer needs: in bytes, of the index in entries.
     room: int
-    # The offset in the input of the unit that it is about.
+    # The offset of that unit in the input.
     offset: int
     # The error code of the report that the output ends with.
     code: int
@@ -1213,6 +1251,7 @@ class rtr_todo(Structure):
 
     _fields_ = [
         ("wakes", c_uint64),
+        ("position", c_uint64),
         ("room", c_size_t),
         ("offset", c_size_t),
         ("code", c_uint16),
@@ -1491,7 +1530,7 @@ class rtr_connection(Structure):
     filled: int
     # The bytes of the answer, or of the last report, that weren't sent.
     unsent: int
-    # 0 if it is served, 1 if it ended with a report, 2 if it ended without one.
+    # 0 if it is served, 1 if it ended with a report, 2 if it ended without one or broke.
     state: int
     # Whether there may be a whole unit among the unheard bytes.
     fresh: bool
@@ -1639,12 +1678,16 @@ PROTOTYPES: dict[str, tuple[Any, list[Any]]] = {
     "rtr_change_json_nonnull": (c_uint8, [c_void_p, c_size_t, c_void_p, c_size_t,
         POINTER(rtr_line)]),
     "rtr_text_nonnull": (c_uint8, [c_uint8, c_uint8, c_void_p, c_size_t, c_void_p]),
+    "rtr_text_at_nonnull": (c_uint8, [c_uint8, c_uint8, c_uint64, c_void_p, c_size_t, c_void_p]),
+    "rtr_report_text_nonnull": (c_uint8, [c_uint16, c_void_p, c_size_t, c_void_p, c_size_t,
+        c_void_p]),
     "rtr_name_nonnull": (c_uint8, [c_uint8, c_uint16, c_void_p, c_size_t, c_void_p]),
     "rtr_provider_nonnull": (c_bool, [POINTER(rtr_unit), c_void_p, c_size_t, c_size_t, c_void_p]),
     "rtr_error_code_nonnull": (c_bool, [c_uint8, c_void_p, c_size_t, c_void_p]),
     "rtr_serial_order": (c_uint8, [c_uint32, c_uint32]),
     "rtr_version_has": (c_bool, [c_uint8, c_uint8]),
     "rtr_times_rule": (c_uint8, [c_uint32, c_uint32, c_uint32]),
+    "rtr_end_rule": (c_uint8, [c_uint8, c_uint32, c_uint32, c_uint32]),
     "rtr_wire_version": (c_uint32, []),
     "rtr_write_unit_nonnull": (c_uint8, [POINTER(rtr_unit), c_void_p, c_size_t, c_void_p, c_size_t,
         c_void_p]),
@@ -1652,6 +1695,8 @@ PROTOTYPES: dict[str, tuple[Any, list[Any]]] = {
         POINTER(rtr_comparison)]),
     "rtr_delta_nonnull": (c_uint8, [c_void_p, c_size_t, c_void_p, c_size_t, c_void_p, c_size_t,
         POINTER(rtr_data_answer)]),
+    "rtr_changes_between_nonnull": (c_uint8, [c_void_p, c_size_t, c_void_p, c_size_t, c_void_p,
+        c_size_t, POINTER(rtr_data_answer)]),
     "rtr_apply_nonnull": (c_uint8, [c_void_p, c_size_t, c_void_p, c_size_t, c_void_p, c_size_t,
         POINTER(rtr_data_answer)]),
     "rtr_apply_in_order_nonnull": (c_uint8, [c_void_p, c_size_t, c_void_p, c_size_t, c_void_p,
@@ -1660,6 +1705,7 @@ PROTOTYPES: dict[str, tuple[Any, list[Any]]] = {
         POINTER(rtr_data_answer)]),
     "rtr_load_nonnull": (c_uint8, [c_void_p, c_size_t, c_void_p, c_size_t, c_void_p, c_size_t,
         c_void_p, c_size_t, POINTER(rtr_loaded)]),
+    "rtr_end_offset_nonnull": (c_size_t, [c_void_p, c_size_t]),
     "rtr_check_data_nonnull": (c_uint8, [c_void_p, c_size_t, POINTER(rtr_lookup),
         POINTER(rtr_data_answer)]),
     "rtr_validate_nonnull": (c_uint8, [c_void_p, c_size_t, POINTER(rtr_lookup),
@@ -1702,6 +1748,7 @@ PROTOTYPES: dict[str, tuple[Any, list[Any]]] = {
         c_void_p, c_size_t, POINTER(rtr_todo)]),
     "rtr_link_give_up_nonnull": (c_uint8, [POINTER(rtr_link), c_uint64, c_void_p, c_size_t,
         c_void_p, c_size_t, POINTER(rtr_todo)]),
+    "rtr_todo_failure": (c_uint8, [POINTER(rtr_todo), c_bool]),
     "rtr_link_state_of": (c_uint8, [POINTER(rtr_link), c_uint64, c_size_t, c_size_t, c_size_t,
         c_size_t, POINTER(rtr_link_state)]),
     "rtr_group_usual": (None, [POINTER(rtr_group_settings)]),
@@ -1732,6 +1779,7 @@ PROTOTYPES: dict[str, tuple[Any, list[Any]]] = {
     "rtr_cache_report_nonnull": (c_bool, [POINTER(rtr_serving), c_void_p, c_size_t, c_void_p,
         c_size_t, c_void_p]),
     "rtr_server_settings_usual": (None, [POINTER(rtr_server_settings)]),
+    "rtr_server_keeps": (c_bool, [POINTER(rtr_server_settings), c_size_t, c_size_t]),
     "rtr_door_init": (None, [POINTER(rtr_door), POINTER(rtr_server_settings)]),
     "rtr_door_next": (c_uint8, [POINTER(rtr_door), c_bool]),
     "rtr_door_enter": (c_uint8, [POINTER(rtr_door), c_bool]),
@@ -1740,6 +1788,8 @@ PROTOTYPES: dict[str, tuple[Any, list[Any]]] = {
         POINTER(rtr_server_settings)]),
     "rtr_connection_received": (None, [POINTER(rtr_connection), c_uint64, c_size_t]),
     "rtr_connection_closed": (None, [POINTER(rtr_connection)]),
+    "rtr_connection_broke": (None, [POINTER(rtr_connection)]),
+    "rtr_connection_reads": (c_bool, [POINTER(rtr_connection)]),
     "rtr_connection_heard": (None, [POINTER(rtr_connection), c_uint64, c_size_t]),
     "rtr_connection_answers": (c_bool, [POINTER(rtr_connection), c_uint64, c_size_t, c_uint64]),
     "rtr_connection_ends": (c_bool, [POINTER(rtr_connection), c_uint64, c_size_t]),
@@ -1755,8 +1805,10 @@ PROTOTYPES: dict[str, tuple[Any, list[Any]]] = {
     "rtr_stores_take_nonnull": (c_uint8, [POINTER(rtr_stores), c_void_p, c_size_t, c_uint64,
         POINTER(rtr_history_limits), c_void_p, c_size_t, c_void_p, c_size_t, c_void_p, c_size_t,
         c_void_p, c_size_t, POINTER(rtr_stores_answer)]),
+    "rtr_stores_version": (c_uint8, [POINTER(rtr_present), c_uint8, c_uint16, c_uint8]),
     "rtr_stores_saved": (c_uint8, [POINTER(rtr_stores)]),
     "rtr_stores_give_up": (c_uint8, [POINTER(rtr_stores)]),
+    "rtr_retry_after": (c_uint32, [c_uint32]),
     "rtr_stores_state_nonnull": (c_uint8, [POINTER(rtr_stores), c_void_p, c_size_t, c_void_p,
         c_size_t, POINTER(rtr_stores_state)]),
     "rtr_history_since_nonnull": (c_uint8, [c_void_p, c_size_t, c_uint32, c_uint8, c_void_p,

@@ -56,7 +56,7 @@ class AsyncClient(Asking):
             print(update.data)
 
     Leave the loop through `contextlib.aclosing`, or cancel the task, so that the connection closes
-    at once.
+    at once. Several loops, and `fetch`, may run at once, as those of a `Client`.
 
     Args:
         host, port: the address of the cache
@@ -109,24 +109,28 @@ class AsyncClient(Asking):
 
     async def run(self, router: Router, clock: Clock
                   ) -> AsyncGenerator[Union[Update, Failed], None]:
-        """Yields the router's updates and failures, until the generator is closed."""
-        streams, asked = None, self._asked
-        try:
-            while True:
-                asked = self._pass_requests(router, asked)
-                step = router.step(clock.now())
-                if step is None:
-                    await _wait(router, clock, streams)
-                elif isinstance(step, Connect):
-                    streams = await self._connected(router, clock)
-                elif isinstance(step, Close):
-                    closed, streams = streams, None
-                    await _close_streams(closed, router.output)
-                else:
-                    yield step
-        finally:
-            if streams is not None:
-                _abort(streams)
+        """Yields the router's updates and failures, until the generator is closed.
+
+        Raises a RuntimeError if another loop runs the router.
+        """
+        with router.alone():
+            streams, asked = None, self._asked
+            try:
+                while True:
+                    asked = self._pass_requests(router, asked)
+                    step = router.step(clock.now())
+                    if step is None:
+                        await _wait(router, clock, streams)
+                    elif isinstance(step, Connect):
+                        streams = await self._connected(router, clock)
+                    elif isinstance(step, Close):
+                        closed, streams = streams, None
+                        await _close_streams(closed, router.output)
+                    else:
+                        yield step
+            finally:
+                if streams is not None:
+                    _abort(streams)
 
     async def _over_tcp(self) -> Streams:
         return await asyncio.open_connection(self.host, self.port, ssl=self._ssl,

@@ -27,6 +27,9 @@ class Client(Asking):
     The loop yields an `Update` whenever the data change, until the caller leaves it; it reconnects
     when a connection ends. The settings limit the memory and time that a cache can cost.
 
+    Several loops over a client, and `fetch`, may run at once, also in several threads: each has a
+    connection and data of its own.
+
     Args:
         host, port: the address of the cache
         settings: limits and times; by default those of `Settings()`, in version 1
@@ -74,7 +77,15 @@ class Client(Asking):
     def run(self, router: Router, clock: Clock, is_stopped: Callable[[], bool] = lambda: False
             ) -> Generator[Union[Update, Failed], None, None]:
         """Yields the router's updates and failures, until `is_stopped`, which is checked while the
-        router waits."""
+        router waits.
+
+        Raises a RuntimeError if another loop runs the router.
+        """
+        with router.alone():
+            yield from self._steps(router, clock, is_stopped)
+
+    def _steps(self, router: Router, clock: Clock, is_stopped: Callable[[], bool]
+               ) -> Generator[Union[Update, Failed], None, None]:
         connection, asked = None, self._asked
         try:
             while not is_stopped():

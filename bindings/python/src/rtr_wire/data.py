@@ -3,9 +3,8 @@ from __future__ import annotations
 
 import ctypes
 import ipaddress
-from dataclasses import replace
-from typing import (Any, Collection, FrozenSet, Iterable, Iterator, List, NamedTuple, Optional,
-                    Tuple, Type, TypeVar, Union)
+from typing import (Any, Callable, Collection, FrozenSet, Iterable, Iterator, List, NamedTuple,
+                    Optional, Tuple, Type, TypeVar, Union)
 
 from . import _library, _rtr
 from ._library import CALLS, HEADER, ROUTE, Buffer, front, memory, number, whole
@@ -34,12 +33,6 @@ def _all_of(data: bytes) -> Part:
     return Part(data, len(data))
 
 
-def _piece(part: Part, offset: int, most: int) -> bytes:
-    """Returns at most this many bytes of a part, from an offset on."""
-    length = min(most, part.length - offset)
-    return ctypes.string_at(_library.address_of(part.memory) + offset, length)
-
-
 def fitted(output: Any, written: int, capacity: int) -> Part:
     """Returns the written part of an output of this capacity, as a copy if much of it is unused and
     memory allows."""
@@ -60,12 +53,11 @@ def _refused(answer: _rtr.rtr_data_answer, *inputs: Part) -> Fault:
     return refusal(answer.status, answer.detail, data, answer.offset, side=answer.side)
 
 
-def _delta(old: Part, new: Part) -> Part:
-    """Calls rtr_delta."""
+def _compared(call: Callable[..., int], old: Part, new: Part) -> Part:
+    """Calls rtr_delta or rtr_changes_between."""
     capacity = old.length + new.length
     output, answer = memory(capacity), _rtr.rtr_data_answer()
-    status = CALLS.rtr_delta_nonnull(
-        old.memory, old.length, new.memory, new.length, output, capacity, answer)
+    status = call(old.memory, old.length, new.memory, new.length, output, capacity, answer)
     if status != Status.OK:
         raise _refused(answer, old, new)
     return fitted(output, answer.written, capacity)
@@ -165,6 +157,9 @@ class _Canonical(Collection[Payload]):
             self._length = count_units(self._part.memory, self._part.length) - 1
         return self._length
 
+    def __bool__(self) -> bool:
+        return bool(CALLS.rtr_end_offset_nonnull(*self._part))
+
     def __iter__(self) -> Iterator[Payload]:
         for unit in Units(self._bytes):
             if isinstance(unit, EndOfData):
@@ -192,10 +187,9 @@ class _Canonical(Collection[Payload]):
 
 
 def end_of(address: int, length: int) -> EndOfData:
-    """Returns the end of data of the canonical units at this address, which are this long."""
-    first = next(Units(ctypes.string_at(address, min(_rtr.LONGEST_UNIT, length))))
-    size = len(bytes(EndOfData(0, 0, version=first.version)))
-    last = next(Units(ctypes.string_at(address + length - size, size)))
+    """Returns the end of data of data in canonical form at this address, of this length."""
+    offset = CALLS.rtr_end_offset_nonnull(address, length)
+    last = next(Units(ctypes.string_at(address + offset, length - offset)))
     assert isinstance(last, EndOfData)
     return last
 
@@ -332,7 +326,7 @@ class Data(_Canonical):
         """
         if not isinstance(new, Data):
             raise TypeError(f"new must be Data, not {type(new).__name__}")
-        return Changes._of(_delta(self._part, new._part))
+        return Changes._of(_compared(CALLS.rtr_delta_nonnull, self._part, new._part))
 
     def for_version(self, version: int) -> Data:
         """Returns the data for clients of a version: in this version, without the payloads that it
@@ -344,7 +338,7 @@ class Data(_Canonical):
 
     def with_end(self, end: EndOfData) -> Data:
         """Returns the same payloads with another end of data, of the same version."""
-        payloads = self._bytes[:len(self._bytes) - len(bytes(self.end))]
+        payloads = self._bytes[:CALLS.rtr_end_offset_nonnull(*self._part)]
         return self.from_bytes(payloads + bytes(end))
 
     def validate(self, prefix: Union[Network, str], asn: int) -> Validity:
@@ -499,23 +493,9 @@ def difference(old: Optional[Data], new: Optional[Data]) -> Changes:
 
 
 def _difference(old: Optional[Data], new: Optional[Data]) -> Part:
-    """Computes the changes of `difference`."""
-    present = [data for data in (old, new) if data is not None]
-    version = max(data.version for data in present)
-    end = _in_version(present[-1], version).end
-    return _delta(*(_side(data, version, end) for data in (old, new)))
-
-
-def _in_version(data: Data, version: int) -> Data:
-    return data if data.version == version else data.for_version(version)
-
-
-def _side(data: Optional[Data], version: int, end: EndOfData) -> Part:
-    """Returns data in a version and the session of `end`, for a delta."""
-    if data is None:
-        return _all_of(bytes(end))
-    data = _in_version(data, version)
-    if data.session == end.session:
-        return data._part
-    own = replace(data.end, session=end.session)
-    return _all_of(_piece(data._part, 0, data._part.length - len(bytes(own))) + bytes(own))
+    """Computes the changes of `difference`; those from no data are the data."""
+    if old is None:
+        assert new is not None
+        return new._part
+    return _compared(CALLS.rtr_changes_between_nonnull, old._part,
+                     _all_of(b"") if new is None else new._part)

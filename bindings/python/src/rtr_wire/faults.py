@@ -33,10 +33,9 @@ class Fault(ValueError):
         self.before: Any = None
 
     def __str__(self) -> str:
-        text = _library.status_text(self.status, self.detail)
-        if self.offset is not None:
-            text += f", at byte {self.offset}"
-        return text
+        if self.offset is None:
+            return _library.status_text(self.status, self.detail)
+        return _library.status_text_at(self.status, self.detail, self.offset)
 
     @property
     def code(self) -> Optional[int]:

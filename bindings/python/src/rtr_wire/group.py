@@ -91,7 +91,7 @@ class Group:
         else:
             self._data[member] = step.data
             if step.data is not None:
-                payloads = len(step.data)
+                payloads = int(bool(step.data))  # a group asks only whether there are any
                 if not CALLS.rtr_group_counts(self._group, payloads):
                     error = NoPayloads()
         if todo is None:

@@ -41,7 +41,6 @@ class Link:
         self._next_data: Any = b""  # the buffer for the next data
         self._index: Any = b""
         self._now = 0  # the latest time
-        self._received = 0  # bytes received on this connection
         self._filled = 0  # bytes in the input before the last action
         self.gave_up = False
         CALLS.rtr_link_init(self._link, settings)
@@ -59,7 +58,6 @@ class Link:
     def opened(self) -> None:
         """Reports that the connection is open that `next` asked for."""
         self._check(CALLS.rtr_link_opened(self._link))
-        self._received = 0
 
     def lost(self) -> None:
         """Reports that connecting failed, or that the connection was closed or broke."""
@@ -75,7 +73,6 @@ class Link:
             view[filled:filled + count] = data if count == size else data[:count]
         self._check(CALLS.rtr_link_received_nonnull(
             self._link, start_of(self._input), len(self._input), count))
-        self._received += count
         self._refresh(self._now)
         return count
 
@@ -125,10 +122,6 @@ class Link:
         """Returns the unit, and perhaps more, that was at this offset of the input before the last
         action."""
         return bytes(self._input[offset:min(self._filled, offset + _rtr.LONGEST_UNIT)])
-
-    def offset_of(self, offset: int) -> int:
-        """Converts an offset of the input to one in all bytes received on the connection."""
-        return self._received - (self._filled - offset)
 
     # ---- calls
 

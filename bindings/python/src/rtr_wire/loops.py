@@ -60,7 +60,7 @@ class Asking:
 
     def ask_now(self) -> None:
         """Asks the cache for its current data as soon as allowed, or connects, without waiting for
-        the refresh or the retry time. Any thread may call it."""
+        the refresh or the retry time: in each loop that runs. Any thread may call it."""
         self._asked += 1
 
     def _pass_requests(self, router: Router, before: int) -> int:

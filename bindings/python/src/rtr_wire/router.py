@@ -1,15 +1,16 @@
 """A router's end of a session, without sockets or a clock."""
 from __future__ import annotations
 
+import contextlib
 import math
-import re
+import threading
 from collections import deque
 from dataclasses import dataclass
-from typing import Any, ClassVar, Deque, List, Optional, Union
+from typing import Any, ClassVar, Deque, Iterator, List, Optional, Union
 
 from . import _library, _rtr
 from ._library import CALLS, Buffer
-from ._rtr import Cause, Status, TodoKind
+from ._rtr import Cause, ClientFailure, TodoKind
 from .data import Changes, Data, difference
 from .faults import refusal
 from .link import Link
@@ -17,13 +18,9 @@ from .reading import Units
 from .units import ErrorReport
 
 
-def report_text(report: ErrorReport) -> str:
-    """Returns the code of an error report by its name, and the printable part of its text."""
-    text = _library.name(_rtr.Named.CODE, report.code)
-    if report.text:
-        quoted = report.text[:_rtr.MOST_QUOTED].decode("latin-1")
-        text += f', "{re.sub("[^ -~]", "?", quoted)}"'
-    return text
+def said_in(report: ErrorReport) -> str:
+    """Returns what an error report says."""
+    return _library.report_text(report.code, report.text or b"")
 
 
 class SessionError(Exception):
@@ -47,7 +44,7 @@ class SessionError(Exception):
 
     def __str__(self) -> str:
         text = _library.name(_rtr.Named.CAUSE, self.cause)
-        return text if self.reported is None else f"{text}: {report_text(self.reported)}"
+        return text if self.reported is None else f"{text}: {said_in(self.reported)}"
 
 
 class NoData(SessionError):
@@ -179,13 +176,26 @@ class Router:
         self._steps: Deque[Step] = deque()
         self._asked = False  # whether the caller requests current data
         self._todo: Optional[_rtr.rtr_todo] = None  # for a group, until it is taken
+        self._in_loop = threading.Lock()  # held by the loop that runs the router
         self._begin(is_wanted=False)
+
+    @contextlib.contextmanager
+    def alone(self) -> Iterator[None]:
+        """Keeps other loops from running the router. Raises a RuntimeError if one does already: it
+        would get some of the steps, such as `Close`, for the connection of this one."""
+        if not self._in_loop.acquire(blocking=False):
+            raise RuntimeError("a loop runs the router already: make another one")
+        try:
+            yield
+        finally:
+            self._in_loop.release()
 
     def _begin(self, is_wanted: bool) -> None:
         """Resets the state of the connection; `is_wanted` if one is to be opened."""
         self._is_wanted, self._is_open = is_wanted, False
         self._received = b""  # received bytes that the link hasn't read yet
         self._ended = False  # whether the connection ended, which the link doesn't know yet
+        self._is_lost = False  # whether it ended, and isn't closed yet
         self._error: Optional[Exception] = None
 
     def again(self) -> None:
@@ -228,7 +238,7 @@ class Router:
     def lost(self, error: Optional[Exception] = None) -> None:
         """Reports that connecting failed, or the connection broke. Ignored if there is none."""
         if self._is_wanted or self._is_open:
-            self._error, self._ended = error, True
+            self._error, self._ended, self._is_lost = error, True, True
 
     def asked(self) -> None:
         """Requests current data: the router asks as soon as allowed, or connects."""
@@ -241,18 +251,25 @@ class Router:
         if self._is_open:
             self._received += received
             self._ended = self._ended or not received
+            self._is_lost = self._is_lost or not received
 
     def step(self, now: int) -> Optional[Step]:
         """Returns what to do at this time; None means to wait."""
         _library.number("now", now, 64)
         while not self._steps:
-            before, todo = self._link.data, self._link.next(now, self._asked)
-            self._asked = False
+            before, todo = self._link.data, self._link.next(now, self._takes_request())
             if todo.kind != TodoKind.WAIT:
                 self._perform(todo, before)
             elif not self._feed():
                 return None
         return self._steps.popleft()
+
+    def _takes_request(self) -> bool:
+        """Takes the caller's request, unless the connection is lost: then it waits until that is
+        closed."""
+        takes = self._asked and not self._is_lost
+        self._asked = self._asked and self._is_lost
+        return takes
 
     def take_todo(self) -> Optional[_rtr.rtr_todo]:
         """Returns what the link asked for last, once, for a group: the first of several steps of
@@ -303,23 +320,21 @@ class Router:
 
     def _reason(self, todo: _rtr.rtr_todo) -> Optional[Exception]:
         """Returns why the connection ends; None if it does for a lower or a higher version."""
-        if self._link.gave_up:
-            return MemoryError(_rtr.FAILURE_NO_MEMORY)
-        if isinstance(self._error, MemoryError):
-            return self._error
-        cause = Cause(todo.cause)
-        if cause in (Cause.LOWER, Cause.HIGHER):
+        error, cause = self._error, Cause(todo.cause)
+        gave_up = self._link.gave_up or isinstance(error, MemoryError)
+        failure = CALLS.rtr_todo_failure(todo, gave_up)
+        if failure == ClientFailure.NONE:
             return None
-        if cause == Cause.LOST and self._error is not None:
-            return self._error
-        if cause == Cause.REPORTED:
+        if failure == ClientFailure.MEMORY:
+            return error if isinstance(error, MemoryError) else MemoryError(_rtr.FAILURE_NO_MEMORY)
+        if failure == ClientFailure.LOST and error is not None:
+            return error
+        if failure == ClientFailure.REPORTED:
             return SessionError(cause, reported=self._report(todo))
         about = self._link.about(todo.offset)
-        if cause == Cause.FAULTY:
-            offset = self._link.offset_of(todo.offset)
-            return refusal(todo.status, todo.detail, about, 0, offset=offset)
-        if cause == Cause.NOT_APPLIED and todo.status != Status.OK:
-            return refusal(todo.status, todo.detail, about, 0, offset=todo.offset, side=2)
+        if failure == ClientFailure.REFUSED:
+            return refusal(todo.status, todo.detail, about, 0, offset=todo.position,
+                           side=2 if cause == Cause.NOT_APPLIED else 0)
         if not todo.reports:
             return SessionError(cause)
         _, size, _ = _library.unit_size(about)

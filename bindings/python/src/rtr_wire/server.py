@@ -230,12 +230,10 @@ class Server:
             raise RuntimeError(_rtr.FAILURE_UNSAVED)
 
     def _as_kept(self, data: Data) -> Data:
-        """Returns data in the version in which they are kept: in the highest one, which has all
-        payloads, or in that of the present data, if a file has these in a lower one."""
-        present, version = self.end, _rtr.HIGHEST_VERSION
-        if (present is not None and present.session == data.session
-                and data.version <= present.version):
-            version = present.version
+        """Returns data in the version in which the store takes them."""
+        end = self.end
+        version = CALLS.rtr_stores_version(self._edition.present, 0 if end is None else end.version,
+                                           data.session, data.version)
         return data if data.version == version else data.for_version(version)
 
     def _refusal(self, status: StoresStatus, data: Data) -> UpdateError:
@@ -247,8 +245,7 @@ class Server:
 
     def _begin_edition(self) -> None:
         """Shows routers what the store serves."""
-        self._edition = Edition(self._edition.number + 1, self._store.history(),
-                                self._settings.keep_bytes)
+        self._edition = Edition(self._edition.number + 1, self._store.history(), self._settings)
         for run in list(self._runs):
             run.wake()
 
@@ -307,10 +304,8 @@ class Server:
 
 
 def _check_times(end: EndOfData) -> None:
-    """Raises an UpdateError for times that a cache may not send; version 0 has none."""
-    if end.version == 0:
-        return
-    rule = TimeRule(CALLS.rtr_times_rule(end.refresh, end.retry, end.expire))
+    """Raises an UpdateError for times that a cache may not send."""
+    rule = TimeRule(CALLS.rtr_end_rule(end.version, end.refresh, end.retry, end.expire))
     if rule != TimeRule.NONE:
         raise UpdateError(_library.name(Named.TIME_RULE, rule), StoresStatus.OK, rule)
 
@@ -532,7 +527,8 @@ class _Connection:
         try:
             self._advance()
         except (OSError, MemoryError) as error:
-            self._lose(error)
+            self._served.lost(error)
+            self._advance()
 
     def _advance(self) -> None:
         server, served = self._run.server, self._served
@@ -557,7 +553,7 @@ class _Connection:
             if self._step != Step.SEND:
                 self._receive()
         except (OSError, MemoryError) as error:
-            self._lose(error)
+            self._served.lost(error)
         self.go_on()
 
     def _receive(self) -> None:
@@ -616,10 +612,6 @@ class _Connection:
             self._timer.cancel()
         seconds = self._run.server._clock.until(when)
         self._timer = self._run.loop.call_later(seconds, self.go_on)
-
-    def _lose(self, error: Exception) -> None:
-        """Closes the connection after an error, which is the reason unless there is one already."""
-        self.close(self._served.error or error)
 
     def close(self, error: Optional[Exception]) -> None:
         """Closes the connection, and reports the reason, if there is one."""

@@ -11,7 +11,7 @@ from ._library import CALLS
 from ._rtr import Cut, Named, Reason, ServingKind, Step
 from .faults import refusal
 from .reading import Units
-from .router import bounded, milliseconds, report_text
+from .router import bounded, milliseconds, said_in
 from .store import History, form_of
 from .units import ErrorReport
 
@@ -111,7 +111,7 @@ class ServerError(Exception):
 
     def __str__(self) -> str:
         text = _library.name(Named.REASON, self.reason)
-        return text if self.reported is None else f"{text}: {report_text(self.reported)}"
+        return text if self.reported is None else f"{text}: {said_in(self.reported)}"
 
 
 class BehindError(ServerError):
@@ -143,14 +143,14 @@ class Edition:
     """
 
     def __init__(self, number: int = 0, history: Optional[History] = None,
-                 keep_bytes: int = 0) -> None:
-        self.number, self.history = number, history
+                 settings: _rtr.rtr_server_settings = _USUAL) -> None:
+        self.number, self.history, self._settings = number, history, settings
         self.present = _rtr.rtr_present()
         known = [] if history is None else history.known()
         self.known = (ctypes.c_uint32 * len(known))(*known)
         self._forms: Dict[int, memoryview] = {}
         self._changes: Dict[Tuple[int, int], bytes] = {}
-        self._left = keep_bytes  # for further changes
+        self._kept_bytes = 0  # of the changes
         if history is not None:
             self.present.has = True
             self.present.session, self.present.serial = history.end.session, history.end.serial
@@ -178,8 +178,8 @@ class Edition:
                 changes = self.history.nothing(version)
             else:
                 changes = self.history.since(serial, version)
-            if len(changes) <= self._left:
-                self._left -= len(changes)
+            if CALLS.rtr_server_keeps(self._settings, self._kept_bytes, len(changes)):
+                self._kept_bytes += len(changes)
                 self._changes[serial, version] = changes
         return memoryview(changes)
 
@@ -224,6 +224,13 @@ class Served:
             self._input += data
             CALLS.rtr_connection_received(self._connection, now, len(data))
 
+    def lost(self, error: Exception) -> None:
+        """Reports that the connection broke: nothing is sent on it any more. This is the reason,
+        unless the connection has ended before."""
+        if not self.has_ended:
+            self.error = error
+        CALLS.rtr_connection_broke(self._connection)
+
     def sent(self, now: int, count: int) -> None:
         """Reports that this many bytes of the output were sent."""
         CALLS.rtr_connection_sent(self._connection, now, count)
@@ -266,7 +273,7 @@ class Served:
 
     @property
     def has_ended(self) -> bool:
-        """Whether the connection ends once all bytes are sent."""
+        """Whether the connection broke, or ends once all bytes are sent."""
         return self._connection.state != 0
 
     # ---- answers

@@ -11,6 +11,7 @@ from . import _library, _rtr
 from ._library import CALLS, memory
 from ._rtr import Room, Status, StoresStatus
 from .data import Data, Part, data_in, end_of, fitted, part_of
+from .router import milliseconds
 
 Path = Union[str, "os.PathLike[str]"]
 
@@ -36,6 +37,14 @@ class DamagedError(ValueError):
 class UnsyncedError(OSError):
     """A file has the new store, but its folder couldn't be synced: after a power cut the file may
     have the former one."""
+
+
+def retry_after(previous: float = 0.0) -> float:
+    """Returns how many seconds a program waits before it calls `Server.update_saved` again with
+    data that couldn't be saved, given its pause before the last try, or 0 after the first: one
+    second at first, then twice the last pause, at most a minute."""
+    pause: int = CALLS.rtr_retry_after(milliseconds("previous", previous))
+    return pause / 1000
 
 
 class Span(NamedTuple):
@@ -140,9 +149,9 @@ def _first_of(history: Span) -> Optional[Tuple[int, Span]]:
 
 
 class Store:
-    """Owns a struct rtr_stores of rtr.h, which is proved, and its two buffers: one has the store
-    that is served, the other one the store that waits to be saved. A buffer isn't written any more
-    once its store is served, since connections send parts of it."""
+    """Owns a struct rtr_stores of rtr.h, which is proved, and its two buffers: one has the served
+    store, the other one the pending store. A buffer isn't written any more once its store is
+    served, since connections send parts of it."""
 
     def __init__(self) -> None:
         self._stores = _rtr.rtr_stores()
@@ -198,12 +207,12 @@ class Store:
         return [changes, spare, state.offset + spare + _SLACK]
 
     def to_save(self) -> Span:
-        """Returns the store that waits to be saved."""
+        """Returns the pending store."""
         state = self._state()
         return Span(self._buffers[0 if state.second else 1].memory, 0, state.taken)
 
     def saved(self) -> None:
-        """Serves the store that waited, if one did, and frees the one before."""
+        """Serves the pending store, if there is one, and frees the previous one."""
         CALLS.rtr_stores_saved(self._stores)
         self._drop_other()
 
