@@ -44,6 +44,7 @@ LAWS = {
     "MOST_KEY_INFO": ("rtr_c/specs/WrittenUnits.antt", "nat_lt N (length info)"),
     "MOST_PROVIDER_BYTES": ("rtr_c/specs/WrittenUnits.antt", "nat_lt N (length providers)"),
     "MOST_REPORT_PARTS": ("rtr_c/specs/WrittenUnits.antt", "nat_lt N (length p + length t)"),
+    "MOST_QUOTED": ("rtr_c/specs/Texts.antt", "map quoted_byte (take N text)"),
     "NAME_ROOM": ("rtr_c/src/laws.rt", "length (unit_name f) ≤ N"),
     "FINDING_ROOM": ("rtr_c/src/laws.rt", "length (told_line offset (numbered_finding f)) ≤ N"),
     "MOST_MEMBERS": ("rtr_c/specs/GroupsShown.antt", "if nat_lt N count"),
@@ -73,6 +74,7 @@ ENUMS = {
     "rtr_cause": [("router_action.rt", "cause_to")],
     "rtr_link_status": [("link_status.rt", "OK", "TOO_LONG")],
     "rtr_todo_kind": [("link_todo.rt", "NOTHING", "OUTPUT_ROOM")],
+    "rtr_client_failure": [("failure.rt", "NONE", "MEMORY")],
     "rtr_group_shown": [("group.rt", "shown_to")],
     "rtr_group_status": [("group_telling.rt", "TOLD", "NO_MEMBER")],
     "rtr_serving_kind": [("serving.rt", "WAIT", "END")],
@@ -88,7 +90,8 @@ ENUMS = {
 # What members begin with behind RTR_ in C.
 PREFIXES = {"rtr_code": "CODE_", "rtr_order": "SERIAL_", "rtr_named": "NAMED_",
             "rtr_rule": "RULE_", "rtr_phase": "PHASE_", "rtr_cause": "CAUSE_",
-            "rtr_link_status": "LINK_", "rtr_todo_kind": "TODO_", "rtr_group_shown": "GROUP_",
+            "rtr_link_status": "LINK_", "rtr_todo_kind": "TODO_",
+            "rtr_client_failure": "CLIENT_", "rtr_group_shown": "GROUP_",
             "rtr_group_status": "GROUP_",
             "rtr_serving_kind": "SERVE_", "rtr_reason": "REASON_", "rtr_stores_status": "STORES_",
             "rtr_room": "ROOM_", "rtr_entry": "ENTRY_",
@@ -103,7 +106,7 @@ CALLED = {("rtr_status", "ACCEPTED"): "OK", ("rtr_order", "NONE"): "NO_ORDER",
           ("rtr_mismatch", "NONE"): "MATCHES", ("rtr_mismatch", "TOO_LONG"): "LONGER"}
 
 # The functions of the crates with the texts of an enum's members, and what C calls the function.
-TEXTS = {"rtr_status": ["rtr_c/src/texts.rt:text_of_status", "session_bytes/src/saying.rt:name"],
+TEXTS = {"rtr_status": ["rtr_c/src/texts.rt:text_of_status", "rtr_units/src/peer_fault.rt:name"],
          "rtr_kind": ["rtr_c/src/texts.rt:kind"],
          "rtr_code": ["rtr_base/src/texts.rt:name"],
          "rtr_cause": ["session_router/src/event.rt:text"],
@@ -290,7 +293,7 @@ def structs():
 
 
 def lay_out(name, declared, laid):
-    """Adds a struct to those with the places of their fields, and first the ones inside it."""
+    """Adds a struct to those with the offsets of their fields, after the structs inside it."""
     if name in laid:
         return
     about, body, proved = declared[name]
@@ -427,7 +430,7 @@ DECLARED = {"struct": r"^struct (\w+)(?: \{$|;$)",
 
 
 def in_order(found, what, named):
-    """Returns what was found as a list, in the order in which rtr.h declares it."""
+    """Returns the found declarations as a list, in their order in rtr.h."""
     places = {name: place for place, name in enumerate(re.findall(DECLARED[what], page(),
                                                                   re.MULTILINE))}
     for name in map(named, found):
@@ -439,7 +442,7 @@ def in_order(found, what, named):
 
 def buffers_of(call):
     """Returns the structs of buffers that a call of rtr.h takes, by the names of their parameters,
-    each with the names of what is passed from it; and the place of these parameters."""
+    each with the names of the fields that are passed; and the position of these parameters."""
     for front, (groups, place) in BUFFERS.items():
         if not call.name.startswith(front):
             continue
@@ -478,8 +481,7 @@ def constants():
     missing = LAWS.keys() - {name for name, _, _ in found}
     if missing:
         fail(f"rtr.h lacks RTR_{min(missing)}")
-    # Sizes of buffers for texts, and of what failures quote, aren't proved: tests in each language
-    # try them.
+    # Sizes of buffers for texts aren't proved: tests in each language try them.
     return [(f"RTR_{name}", number(name) if name in LAWS else int(there), plain(comment))
             for name, there, comment in found]
 

@@ -1,7 +1,6 @@
 // Finds the protocol's rules that units break, as rtr_list --check does.
 
 import { FINDING_ROOM, LONGEST_UNIT, NAME_ROOM, STRUCTS, Status } from "./rtr_table.js";
-import { Fault } from "./fault.js";
 import { offsetsOf } from "./memory.js";
 
 const CHECKED = offsetsOf("checked");
@@ -36,7 +35,7 @@ export class Checker {
         const unit = rtr.answer("naming");
         if (status !== Status.OK) {
             const code = rtr.errorCode(status, rtr.copy(at, Math.min(length, LONGEST_UNIT)));
-            throw new Fault({ ...unit, offset, code, text: rtr.statusText(status, unit.detail) });
+            throw rtr.fault({ ...unit, offset, code });
         }
         const name = latin.decode(rtr.heap.bytes(this.#output, unit.length));
         rtr.call("rtr_check_unit_nonnull", this.#state, at, length, this.#names.has(name), checked);

@@ -9,8 +9,8 @@ export interface Update {
     readonly data: Data | null;
     /** The client that has them. */
     readonly client: Client;
-    /** Iterates over the changes from the data before: units that are announced, then units that
-     * are withdrawn. Each call computes them, and throws OutOfMemory without memory. */
+    /** Iterates over the changes from the previous data: units that are announced, then units that
+     * are withdrawn. Each call computes them, and throws OutOfMemory if memory runs out. */
     changes(): Generator<Unit, void, undefined>;
     /** Returns the changes in canonical form, as a cache sends them. */
     delta(): Uint8Array;

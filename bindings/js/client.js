@@ -119,7 +119,7 @@ export class Client extends EventEmitter {
     }
 }
 
-/** Returns a new link, or restarts the one before. */
+/** Returns a new link, or restarts the previous one. */
 function linkOf(rtr, settings, before) {
     if (before === null) {
         return rtr.link({ highest: USUAL_VERSION, chance: randomInt(CHANCES), ...settings });

@@ -1,6 +1,6 @@
 // The data of a cache or a router.
 
-import { Covers, Kind, LONGEST_END, SHORTEST_END, STRUCTS } from "./rtr_table.js";
+import { Covers, Kind, STRUCTS } from "./rtr_table.js";
 import { arrayOf, byteOf, bytesOf, objectOf, textOf, wordOf } from "./given.js";
 import { readStruct, writeStruct } from "./memory.js";
 import { prefixOf } from "./addresses.js";
@@ -161,34 +161,9 @@ export class Data {
     }
 }
 
-/** Returns the changes from old data to new data of any versions and sessions, in canonical form
- * and in the higher of the versions, so that payloads that the lower one can't carry are withdrawn.
- * One of them may be null, for no data. */
-export function changesBetween(session, old, next) {
-    const version = Math.max(old?.version ?? 0, next?.version ?? 0);
-    const forms = [old, next].map((data) => data && formOf(session, data, version));
-    const end = endOf(session, forms[1] ?? forms[0], version);
-    return session.delta(...forms.map((form) => (
-        form === null ? session.writeUnit(end) : inSession(session, form, end))));
-}
-
 /** Returns the bytes of data in a version. */
 export function formOf(session, data, version) {
     return data.version === version ? data.bytes : session.normalise(data.bytes, { version }).form;
-}
-
-/** Returns the end of data at the end of bytes of a version. */
-export function endOf(session, bytes, version) {
-    return session.next(bytes, bytes.length - (version === 0 ? SHORTEST_END : LONGEST_END));
-}
-
-/** Changes the session of data's bytes to that of an end of data of the same version. */
-function inSession(session, bytes, { version, session: number }) {
-    const own = endOf(session, bytes, version);
-    if (own.session !== number) {
-        bytes.set(session.writeUnit({ ...own, session: number }), own.offset);
-    }
-    return bytes;
 }
 
 /** Returns the fields of a struct rtr_route; the family is 0 if the text is no prefix, or the

@@ -1,16 +1,17 @@
 // The errors of calls of the library, and of both ends of a session.
 
-import { causeText, codeText, Cut, FAILURE_BEHIND, FAILURE_CLOSED, FAILURE_EMPTY, MOST_QUOTED,
-    Reason, reasonText, statusText } from "./rtr_table.js";
+import { causeText, Cut, FAILURE_BEHIND, FAILURE_CLOSED, FAILURE_EMPTY, Reason, reasonText }
+    from "./rtr_table.js";
 
 /** A call was refused, because of a unit, its position in a sequence, or an input. */
 export class Fault extends Error {
-    /** @param fields the result of the call: at least its `status`. `text` is by default the text
-     *      of the status without its detail */
+    /** `session.fault` makes instances.
+     * @param fields the result of the call: at least its `status`, with its `text`, and what is
+     *      `said` of both and the offset */
     constructor(fields) {
-        const { status, text = statusText(status), offset = 0, side = 0 } = fields;
+        const { status, text, said, offset = 0, side = 0 } = fields;
         const where = side === 0 ? "" : side === 1 ? " of the first input" : " of the second input";
-        super(`${text}, at byte ${offset}${where}`);
+        super(`${said}${where}`);
         this.name = "Fault";
         this.status = status;
         this.text = text;
@@ -24,19 +25,18 @@ export class Fault extends Error {
     }
 }
 
-/** Describes a peer's report for a message: its code, and up to 200 characters of its text. */
-function reportText({ code, textBytes }) {
-    const bytes = (textBytes ?? []).slice(0, MOST_QUOTED);
-    const quoted = String.fromCharCode(...bytes).replace(/[^ -~]/gu, "?");
-    return `: ${codeText(code)}${quoted && `, "${quoted}"`}`;
+/** Returns a message with what a peer's report says, if there is one. */
+function withReport(message, said) {
+    return said === null ? message : `${message}: ${said}`;
 }
 
 /** Why a connection to a cache ended, if the reason isn't an invalid unit (a Fault). */
 export class SessionError extends Error {
     /** @param fields the `reason`, a Cause; `unit`, the bytes of the unit that it is about; `code`,
-     *      the error code that was reported to the cache; `reported`, the cache's own report */
-    constructor({ reason, unit = null, code = null, reported = null }) {
-        super(causeText(reason) + (reported === null ? "" : reportText(reported)));
+     *      the error code that was reported to the cache; `reported`, the cache's own report, and
+     *      what it has `said`, a `session.reportText` */
+    constructor({ reason, unit = null, code = null, reported = null, said = null }) {
+        super(withReport(causeText(reason), said));
         this.name = "SessionError";
         this.reason = reason;
         this.unit = unit;
@@ -65,9 +65,9 @@ export class Empty extends Error {
 export class ServerError extends Error {
     /** @param fields the `reason`, a Reason; `unit`, the bytes of the unit that it is about;
      *      `code`, the error code that was reported to the router; `reported`, the router's own
-     *      report */
-    constructor({ reason, unit = null, code = null, reported = null }) {
-        super(reasonText(reason) + (reported === null ? "" : reportText(reported)));
+     *      report, and what it has `said`, a `session.reportText` */
+    constructor({ reason, unit = null, code = null, reported = null, said = null }) {
+        super(withReport(reasonText(reason), said));
         this.name = "ServerError";
         this.reason = reason;
         this.unit = unit;

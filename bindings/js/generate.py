@@ -27,6 +27,7 @@ ENUMS = {"rtr_status": ("Status", "RTR_"), "rtr_prefix_rule": ("PrefixRule", "RT
          "rtr_action_kind": ("ActionKind", "RTR_"),
          "rtr_cause": ("Cause", "RTR_CAUSE_"), "rtr_link_status": ("LinkStatus", "RTR_LINK_"),
          "rtr_todo_kind": ("TodoKind", "RTR_TODO_"),
+         "rtr_client_failure": ("ClientFailure", "RTR_CLIENT_"),
          "rtr_group_shown": ("GroupShown", "RTR_GROUP_"),
          "rtr_group_status": ("GroupStatus", "RTR_GROUP_"),
          "rtr_serving_kind": ("ServingKind", "RTR_SERVE_"), "rtr_reason": ("Reason", "RTR_REASON_"),

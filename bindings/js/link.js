@@ -1,8 +1,7 @@
 // A router's end of the protocol with buffers and data, without sockets or a clock.
 
-import { Cause, LONGEST_END, LONGEST_UNIT, LinkStatus, SHORTEST_END, STRUCTS, Status, TodoKind }
-    from "./rtr_table.js";
-import { Fault, NoData, SessionError } from "./fault.js";
+import { Cause, ClientFailure, LONGEST_UNIT, LinkStatus, STRUCTS, TodoKind } from "./rtr_table.js";
+import { NoData, SessionError } from "./fault.js";
 import { bytesOf, numberOf } from "./given.js";
 import { OutOfMemory } from "./memory.js";
 import { unitOf } from "./units.js";
@@ -90,7 +89,6 @@ export class Link {
     #state;
     #buffers;
     #now = 0; // the latest time that was passed
-    #received = 0; // bytes received on the connection
     #filled = 0; // bytes in the input before the last todo, to which its offset refers
     #data = null;
     #lost = null; // why the connection broke, or an OutOfMemory
@@ -159,7 +157,6 @@ export class Link {
         const count = Math.min(received.length, input.length - filled);
         this.#session.heap.bytes(input.start + filled, count).set(received.subarray(0, count));
         this.#call("rtr_link_received_nonnull", input.start, input.length, count);
-        this.#received += count;
         return count;
     }
 
@@ -210,7 +207,7 @@ export class Link {
 
     /** Updates the data after a todo, and returns why they or the connection were lost. */
     #record(todo) {
-        const { kind, drops, offset } = todo;
+        const { kind, drops } = todo;
         if (kind === TodoKind.DATA) {
             this.#keepsData();
         } else if (kind === TodoKind.DROPPED || drops) {
@@ -218,7 +215,6 @@ export class Link {
         }
         switch (kind) {
             case TodoKind.CONNECT:
-                this.#received = 0;
                 this.#lost = null;
                 return null;
             case TodoKind.CLOSE:
@@ -226,7 +222,7 @@ export class Link {
             case TodoKind.DROPPED:
                 return new SessionError({ reason: Cause.EXPIRED });
             case TodoKind.NO_DATA:
-                return new NoData({ reason: Cause.REPORTED, reported: this.#reportAt(offset) });
+                return new NoData(this.#reported(todo));
             default:
                 return null;
         }
@@ -239,9 +235,7 @@ export class Link {
         const { second: isSecond, shown, filled } = this.#held();
         const { start } = isSecond ? second : first;
         const bytes = this.#session.copy(start, shown);
-        const size = bytes[0] === 0 ? SHORTEST_END : LONGEST_END;
-        const end = this.#unit(start + shown - size, size);
-        this.#data = new Data(this.#session, bytes, end);
+        this.#data = new Data(this.#session, bytes, this.#session.endOf(start, shown));
         index.release();
         (isSecond ? first : second).release();
         if (filled < INPUT_SIZE && input.length > INPUT_SIZE) {
@@ -250,39 +244,39 @@ export class Link {
     }
 
     /** Returns why a connection ends; null if the link reconnects in another version. */
-    #ending({ cause, status, detail, offset, code, reports }) {
-        if (this.#lost instanceof OutOfMemory) {
-            return this.#lost;
+    #ending(todo) {
+        const { cause, offset, code, reports } = todo;
+        const gaveUp = this.#lost instanceof OutOfMemory;
+        switch (this.#session.call("rtr_todo_failure", this.#session.frame("todo"), gaveUp)) {
+            case ClientFailure.NONE:
+                return null;
+            case ClientFailure.MEMORY:
+            case ClientFailure.LOST:
+                return this.#lost ?? new SessionError({ reason: cause });
+            case ClientFailure.REFUSED:
+                return this.#refusal(todo);
+            case ClientFailure.REPORTED:
+                return new SessionError(this.#reported(todo));
+            default:
+                return new SessionError(reports
+                    ? { reason: cause, unit: this.#unitAt(offset), code } : { reason: cause });
         }
-        if (cause === Cause.LOWER || cause === Cause.HIGHER) {
-            return null;
-        }
-        if (status !== Status.OK) {
-            const owed = reports ? code : null;
-            return this.#fault({ status, detail, code: owed }, offset, cause === Cause.FAULTY);
-        }
-        if (cause === Cause.LOST && this.#lost !== null) {
-            return this.#lost;
-        }
-        const reported = cause === Cause.REPORTED ? this.#reportAt(offset) : null;
-        const about = reports ? { unit: this.#unitAt(offset), code } : {};
-        return new SessionError({ reason: cause, reported, ...about });
     }
 
-    /** Returns the Fault of the unit at an offset of the input. The Fault's offset is that in all
-     * bytes of the connection, or for a change that doesn't apply, that in the answer. */
-    #fault(fields, offset, ofConnection) {
+    /** Returns the Fault of the unit or the change that ends the connection. */
+    #refusal({ status, detail, offset, position, code, reports }) {
         const [at, length] = [this.#buffers.input.start + offset, this.#filled - offset];
-        const isSame = this.#session.step(at, length) === fields.status;
+        const isSame = this.#session.step(at, length) === status;
         const { size, wanted } = isSame ? this.#session.answer("unit") : { size: 0, wanted: 0 };
-        return new Fault({
-            ...fields,
-            size,
-            wanted,
-            offset: ofConnection ? this.#received - length : offset,
-            text: this.#session.statusText(fields.status, fields.detail),
-            unit: this.#unitAt(offset),
-        });
+        const unit = this.#unitAt(offset);
+        return this.#session.fault({ status, detail, offset: position, size, wanted, unit,
+            code: reports ? code : null });
+    }
+
+    /** Returns the fields of the error for the cache's report that a todo names. */
+    #reported({ offset }) {
+        const reported = this.#reportAt(offset);
+        return { reason: Cause.REPORTED, reported, said: this.#session.saidBy(reported) };
     }
 
     /** Returns the bytes of the unit at an offset of the input, as far as they came. */

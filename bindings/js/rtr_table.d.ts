@@ -354,6 +354,31 @@ export const TodoKind: {
 };
 export type TodoKind = (typeof TodoKind)[keyof typeof TodoKind];
 
+/** Why there is no connection, or no data. docs/SESSIONS.md has what is reported to the cache. */
+export const ClientFailure: {
+    /** Nothing failed; the client may reconnect at once in another version. */
+    readonly NONE: 0;
+    /** Connecting failed, or the connection broke or was closed. */
+    readonly LOST: 1;
+    /** The cache didn't answer or finish an answer in time. */
+    readonly SLOW: 2;
+    /** An answer has too many units or bytes. */
+    readonly TOO_LONG: 3;
+    /** A unit or the changes are refused for `status`. */
+    readonly REFUSED: 4;
+    /** A unit breaks the rules of a session. */
+    readonly BREACH: 5;
+    /** The cache reports the error `code`. */
+    readonly REPORTED: 6;
+    /** The data have expired, and were dropped. */
+    readonly EXPIRED: 7;
+    /** There is no memory for an answer; or of an rtr_client to connect: then RTR_CLIENT_CONNECT
+     * hasn't come, and it retries at `wakes`.
+     */
+    readonly MEMORY: 8;
+};
+export type ClientFailure = (typeof ClientFailure)[keyof typeof ClientFailure];
+
 /** How the shown data change. */
 export const GroupShown: {
     readonly SAME: 0;
@@ -432,7 +457,7 @@ export type Step = (typeof Step)[keyof typeof Step];
 
 /** The limit that ended a connection. */
 export const Cut: {
-    /** The rtr_cache ended it. */
+    /** The rtr_cache ended it, or it broke. */
     readonly NONE: 0;
     /** A unit or an answer took too long. */
     readonly SLOW: 1;
@@ -605,9 +630,14 @@ export interface Action {
 export interface TodoFields {
     /** When to call rtr_link_next, if nothing comes before. It may have passed. */
     wakes: number;
+    /** The offset of the unit that it is about, in all bytes of the connection; of a change that
+     * doesn't apply, that in the payload units of the answer; at an end that is about no unit,
+     * the number of bytes that came before those of the input.
+     */
+    position: number;
     /** The length that a buffer needs: in bytes, of the index in entries. */
     room: number;
-    /** The offset in the input of the unit that it is about. */
+    /** The offset of that unit in the input. */
     offset: number;
     /** The error code of the report that the output ends with. */
     code: number;

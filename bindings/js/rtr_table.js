@@ -31,6 +31,8 @@ export const MOST_MEMBERS = 16;
 export const LAST_REPORT_LIMIT = 2000;
 export const LAST_REPORT_BYTES = 1048576;
 export const TEXT_ROOM = 64;
+export const TEXT_AT_ROOM = 96;
+export const REPORT_TEXT_ROOM = 136;
 export const NAME_ROOM = 65528;
 export const LINE_ROOM = 160;
 export const FINDING_ROOM = 128;
@@ -38,6 +40,9 @@ export const MOST_QUOTED = 100;
 export const FAILURE_NO_MEMORY = "no memory";
 export const FAILURE_EMPTY = "the cache has no payloads";
 export const FAILURE_STOPPED = "the client was stopped";
+export const FAILURE_SLOW = "the peer is too slow";
+export const FAILURE_MORE_READ = "more bytes were read than there is room for";
+export const FAILURE_MORE_SENT = "more bytes were sent than there are";
 export const FAILURE_BEHIND = "the router is too far behind";
 export const FAILURE_CLOSED = "the server is closed";
 export const FAILURE_OLD_SERIAL = "the serial number isn't later than that of the present data";
@@ -45,6 +50,7 @@ export const FAILURE_OTHER_TIMES = "only the times differ from those of the pres
 export const FAILURE_SESSION_LEFT = "the cache left this session: the data need a new one";
 export const FAILURE_OTHER_SESSION = "a cache that doesn't save has one session";
 export const FAILURE_UNSAVED = "the cache serves data that it didn't save";
+export const FAILURE_UNSYNCED = "the folder isn't synced";
 export const FAILURE_HIGHER_VERSION = "the saved data are of a lower version: the data need a new session";
 export const FAILURE_DAMAGED = "the saved file is damaged: the data need a new session";
 
@@ -246,6 +252,18 @@ export const TodoKind = Object.freeze({
     SECOND_ROOM: 10,
     INDEX_ROOM: 11,
     OUTPUT_ROOM: 12,
+});
+
+export const ClientFailure = Object.freeze({
+    NONE: 0,
+    LOST: 1,
+    SLOW: 2,
+    TOO_LONG: 3,
+    REFUSED: 4,
+    BREACH: 5,
+    REPORTED: 6,
+    EXPIRED: 7,
+    MEMORY: 8,
 });
 
 export const GroupShown = Object.freeze({
@@ -522,7 +540,7 @@ export const STRUCTS = Object.freeze({
         ["drops", 38, "bool"],
         ["reports", 39, "bool"],
     ] },
-    link: { size: 224, fields: [
+    link: { size: 232, fields: [
         ["settings", 0, "settings"],
         ["expires", 40, "uint64"],
         ["came", 48, "uint64"],
@@ -532,48 +550,50 @@ export const STRUCTS = Object.freeze({
         ["rises", 80, "uint64"],
         ["bytes", 88, "uint64"],
         ["latest", 96, "uint64"],
-        ["kept", 104, "size"],
-        ["endSize", 112, "size"],
-        ["filled", 120, "size"],
-        ["shown", 128, "size"],
-        ["unsent", 136, "size"],
-        ["known", 144, "known"],
-        ["answer", 164, "known"],
-        ["wait", 184, "uint32"],
-        ["riseWait", 188, "uint32"],
-        ["units", 192, "uint32"],
-        ["note", 196, "uint32"],
-        ["mark", 200, "uint32"],
-        ["session", 204, "uint16"],
-        ["phase", 206, "uint8"],
-        ["version", 207, "uint8"],
-        ["floor", 208, "uint8"],
-        ["agreed", 209, "uint8"],
-        ["fell", 210, "uint8"],
-        ["silent", 211, "uint8"],
-        ["changes", 212, "uint8"],
-        ["resync", 213, "uint8"],
-        ["answered", 214, "uint8"],
-        ["noted", 215, "uint8"],
-        ["hasData", 216, "uint8"],
-        ["holding", 217, "uint8"],
-        ["since", 218, "uint8"],
-        ["shows", 219, "uint8"],
-        ["second", 220, "uint8"],
-        ["opened", 221, "uint8"],
-        ["closed", 222, "uint8"],
+        ["received", 104, "uint64"],
+        ["kept", 112, "size"],
+        ["endSize", 120, "size"],
+        ["filled", 128, "size"],
+        ["shown", 136, "size"],
+        ["unsent", 144, "size"],
+        ["known", 152, "known"],
+        ["answer", 172, "known"],
+        ["wait", 192, "uint32"],
+        ["riseWait", 196, "uint32"],
+        ["units", 200, "uint32"],
+        ["note", 204, "uint32"],
+        ["mark", 208, "uint32"],
+        ["session", 212, "uint16"],
+        ["phase", 214, "uint8"],
+        ["version", 215, "uint8"],
+        ["floor", 216, "uint8"],
+        ["agreed", 217, "uint8"],
+        ["fell", 218, "uint8"],
+        ["silent", 219, "uint8"],
+        ["changes", 220, "uint8"],
+        ["resync", 221, "uint8"],
+        ["answered", 222, "uint8"],
+        ["noted", 223, "uint8"],
+        ["hasData", 224, "uint8"],
+        ["holding", 225, "uint8"],
+        ["since", 226, "uint8"],
+        ["shows", 227, "uint8"],
+        ["second", 228, "uint8"],
+        ["opened", 229, "uint8"],
+        ["closed", 230, "uint8"],
     ] },
-    todo: { size: 32, fields: [
+    todo: { size: 40, fields: [
         ["wakes", 0, "uint64"],
-        ["room", 8, "size"],
-        ["offset", 16, "size"],
-        ["code", 24, "uint16"],
-        ["kind", 26, "uint8"],
-        ["cause", 27, "uint8"],
-        ["status", 28, "uint8"],
-        ["detail", 29, "uint8"],
-        ["drops", 30, "bool"],
-        ["reports", 31, "bool"],
+        ["position", 8, "uint64"],
+        ["room", 16, "size"],
+        ["offset", 24, "size"],
+        ["code", 32, "uint16"],
+        ["kind", 34, "uint8"],
+        ["cause", 35, "uint8"],
+        ["status", 36, "uint8"],
+        ["detail", 37, "uint8"],
+        ["drops", 38, "bool"],
+        ["reports", 39, "bool"],
     ] },
     linkState: { size: 48, fields: [
         ["wakes", 0, "uint64"],
@@ -719,20 +739,25 @@ export const FUNCTIONS = Object.freeze({
     rtr_change_line_nonnull: ["uint8", "*", "size", "*", "size", "*"],
     rtr_change_json_nonnull: ["uint8", "*", "size", "*", "size", "*"],
     rtr_text_nonnull: ["uint8", "uint8", "uint8", "*", "size", "*"],
+    rtr_text_at_nonnull: ["uint8", "uint8", "uint8", "uint64", "*", "size", "*"],
+    rtr_report_text_nonnull: ["uint8", "uint16", "*", "size", "*", "size", "*"],
     rtr_name_nonnull: ["uint8", "uint8", "uint16", "*", "size", "*"],
     rtr_provider_nonnull: ["bool", "*", "*", "size", "size", "*"],
     rtr_error_code_nonnull: ["bool", "uint8", "*", "size", "*"],
     rtr_serial_order: ["uint8", "uint32", "uint32"],
     rtr_version_has: ["bool", "uint8", "uint8"],
     rtr_times_rule: ["uint8", "uint32", "uint32", "uint32"],
+    rtr_end_rule: ["uint8", "uint8", "uint32", "uint32", "uint32"],
     rtr_wire_version: ["uint32"],
     rtr_write_unit_nonnull: ["uint8", "*", "*", "size", "*", "size", "*"],
     rtr_same_meaning_nonnull: ["uint8", "*", "size", "*", "size", "uint64", "*"],
     rtr_delta_nonnull: ["uint8", "*", "size", "*", "size", "*", "size", "*"],
+    rtr_changes_between_nonnull: ["uint8", "*", "size", "*", "size", "*", "size", "*"],
     rtr_apply_nonnull: ["uint8", "*", "size", "*", "size", "*", "size", "*"],
     rtr_apply_in_order_nonnull: ["uint8", "*", "size", "*", "size", "*", "size", "*", "size", "*"],
     rtr_order_nonnull: ["uint8", "*", "size", "*", "size", "*", "size", "*"],
     rtr_load_nonnull: ["uint8", "*", "size", "*", "size", "*", "size", "*", "size", "*"],
+    rtr_end_offset_nonnull: ["size", "*", "size"],
     rtr_check_data_nonnull: ["uint8", "*", "size", "*", "*"],
     rtr_validate_nonnull: ["uint8", "*", "size", "*", "*"],
     rtr_validate_many_nonnull: ["size", "*", "size", "*", "*", "size", "*", "size"],
@@ -764,6 +789,7 @@ export const FUNCTIONS = Object.freeze({
     rtr_link_next_nonnull: ["uint8", "*", "uint64", "*", "size", "*", "size", "*", "size", "*", "size", "*", "size", "*"],
     rtr_link_ask_now_nonnull: ["uint8", "*", "uint64", "*", "size", "*", "size", "*"],
     rtr_link_give_up_nonnull: ["uint8", "*", "uint64", "*", "size", "*", "size", "*"],
+    rtr_todo_failure: ["uint8", "*", "bool"],
     rtr_link_state_of: ["uint8", "*", "uint64", "size", "size", "size", "size", "*"],
     rtr_group_usual: ["void", "*"],
     rtr_group_init: ["uint8", "*", "*", "size", "uint64"],
@@ -785,6 +811,7 @@ export const FUNCTIONS = Object.freeze({
     rtr_cache_unit_nonnull: ["size", "*", "*", "size"],
     rtr_cache_report_nonnull: ["bool", "*", "*", "size", "*", "size", "*"],
     rtr_server_settings_usual: ["void", "*"],
+    rtr_server_keeps: ["bool", "*", "size", "size"],
     rtr_door_init: ["void", "*", "*"],
     rtr_door_next: ["uint8", "*", "bool"],
     rtr_door_enter: ["uint8", "*", "bool"],
@@ -792,6 +819,8 @@ export const FUNCTIONS = Object.freeze({
     rtr_connection_init: ["void", "*", "uint64", "*"],
     rtr_connection_received: ["void", "*", "uint64", "size"],
     rtr_connection_closed: ["void", "*"],
+    rtr_connection_broke: ["void", "*"],
+    rtr_connection_reads: ["bool", "*"],
     rtr_connection_heard: ["void", "*", "uint64", "size"],
     rtr_connection_answers: ["bool", "*", "uint64", "size", "uint64"],
     rtr_connection_ends: ["bool", "*", "uint64", "size"],
@@ -802,8 +831,10 @@ export const FUNCTIONS = Object.freeze({
     rtr_stores_unsaved: ["void", "*", "uint16"],
     rtr_stores_start_nonnull: ["uint8", "*", "size", "*", "size", "*", "size", "*", "size", "*"],
     rtr_stores_take_nonnull: ["uint8", "*", "*", "size", "uint64", "*", "*", "size", "*", "size", "*", "size", "*", "size", "*"],
+    rtr_stores_version: ["uint8", "*", "uint8", "uint16", "uint8"],
     rtr_stores_saved: ["uint8", "*"],
     rtr_stores_give_up: ["uint8", "*"],
+    rtr_retry_after: ["uint32", "uint32"],
     rtr_stores_state_nonnull: ["uint8", "*", "*", "size", "*", "size", "*"],
     rtr_history_since_nonnull: ["uint8", "*", "size", "uint32", "uint8", "*", "size", "*", "size", "*", "size", "*", "size", "*"],
     rtr_history_data_nonnull: ["bool", "*", "size", "*", "*"],

@@ -373,6 +373,9 @@ export class Session {
     sameMeaning(left: Bytes, right: Bytes, limit?: number | bigint): boolean;
 
     delta(old: Bytes | Data, next: Bytes | Data): Uint8Array;
+    /** Returns the changes from old data to new of any versions and sessions, in the higher of the
+     * versions. One of them may be null, for no data. */
+    changesBetween(old: Bytes | Data | null, next: Bytes | Data | null): Uint8Array;
     apply(data: Bytes | Data, changes: Bytes): Uint8Array;
     applyInOrder(data: Bytes | Data, changes: Bytes, places?: number): Uint8Array;
     order(changes: Bytes, places?: number): Uint8Array;
@@ -409,6 +412,11 @@ export class Session {
 
     /** Returns the text of a status with its detail: "unit type 5 is not allowed here". */
     statusText(status: number, detail?: number): string;
+    /** Returns that text with the offset of a unit, as in a Fault's message. */
+    statusTextAt(status: number, detail: number, offset: number | bigint): string;
+    /** Returns what an error report says: the name of its code, and in quotes the first bytes of its
+     * text, of which any but printable ASCII is a question mark. */
+    reportText(code: number, text: Bytes): string;
     /** Returns the name of a number; `named` selects of what: "IPv4 prefix" for Named.KIND and
      * 4. */
     name(named: Named, number: number): string;
@@ -418,6 +426,10 @@ export class Session {
     /** Returns a group of up to 16 members. */
     group(members: number, now: number, settings?: Partial<GroupSettings>): Group;
     usualSettings(highest: number): Settings;
+    /** Returns how many milliseconds a program waits before it calls `updateSaved` of a server again
+     * with data that couldn't be saved, given its pause before the last try, or 0 after the first:
+     * a second at first, then twice the last pause, at most a minute. */
+    retryAfter(previous: number): number;
     serialOrder(left: number, right: number): SerialOrder;
     versionHas(version: number, kind: Kind): boolean;
 }

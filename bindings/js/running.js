@@ -16,6 +16,7 @@ export class Run {
     #dialing = null; // the controller of the connection that is being opened
     #connection = null; // until it is closed: also while a last report is sent
     #isConnected = false; // whether a `connect` event is due
+    #isLost = false; // whether connecting failed, and the link hasn't closed yet
     #isAsked = false;
     #data = null;
 
@@ -62,8 +63,7 @@ export class Run {
             yield { name: "connect" };
         }
         const time = now();
-        const todo = this.#isAsked ? this.#link.askNow(time) : this.#link.next(time);
-        this.#isAsked = false;
+        const todo = this.#takesRequest() ? this.#link.askNow(time) : this.#link.next(time);
         switch (todo.kind) {
             case TodoKind.WAIT:
                 if (!this.#carries()) {
@@ -83,6 +83,13 @@ export class Run {
             default:
                 yield* this.#ends(todo);
         }
+    }
+
+    /** Takes a request, unless the connection is lost: then it waits until that is closed. */
+    #takesRequest() {
+        const takes = this.#isAsked && !this.#isLost && !this.#connection?.isOver;
+        this.#isAsked &&= !takes;
+        return takes;
     }
 
     /** Ends the connection, or drops the data, or both. */
@@ -130,6 +137,7 @@ export class Run {
     #dialed(stream, error) {
         this.#dialing = null;
         if (stream === null) {
+            this.#isLost = true;
             this.#link.lost(error);
         } else {
             this.#connection = new Connection(stream, () => this.#bell.ring());
@@ -143,6 +151,7 @@ export class Run {
     async #closes() {
         this.#dialing?.abort();
         this.#dialing = null;
+        this.#isLost = false;
         await this.#connection?.finish(this.#unsent(), this.#options.reportLimit);
         this.#connection = null;
     }

@@ -4,7 +4,7 @@ import { open, readFile, rename, rm } from "node:fs/promises";
 import { dirname } from "node:path";
 
 /** A file has the new data, but its folder couldn't be synced: after a power cut the file may have
- * those before. Its `cause` is the error of the system. */
+ * the previous data. Its `cause` is the error of the system. */
 export class Unsynced extends Error {
     constructor(cause) {
         super(cause.message, { cause });

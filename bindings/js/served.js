@@ -1,9 +1,10 @@
 // A router's connection to a server, without its socket and a clock.
 
-import { Cut, Kind, LONGEST_UNIT, Reason, SERIAL_SIZE, ServingKind, Status, Step }
+import { Cut, LONGEST_UNIT, Reason, SERIAL_SIZE, ServingKind, Status, Step }
     from "./rtr_table.js";
 import { Fault, ServerError, cutError } from "./fault.js";
 import { Kept } from "./kept.js";
+import { putPresent } from "./store.js";
 import { writeStruct } from "./memory.js";
 import { unitOf } from "./units.js";
 
@@ -12,9 +13,6 @@ const NOTHING = new Uint8Array(0);
 // The most bytes of an answer that are handed to a socket at a time: a record of TLS. A stream
 // reports only that a whole chunk was sent, and the connection ends if none was within the limit.
 const CHUNK = 1 << 14;
-
-// The size of a serial number.
-const WORD = 4;
 
 /** Returns the bytes of both. */
 function joined(first, second) {
@@ -68,6 +66,16 @@ export class Served {
     closed() {
         this.#isClosed = true;
         this.#connection.call("rtr_connection_closed");
+    }
+
+    /** Reports that the connection broke: nothing is sent on it any more. This is the reason,
+     * unless the connection has ended before. */
+    broke(error) {
+        if (!this.#hasEnded) {
+            this.#error ??= error;
+            this.#hasEnded = true;
+        }
+        this.#connection.call("rtr_connection_broke");
     }
 
     /** Reports that this many of the bytes that `takes` returned were sent. */
@@ -124,11 +132,7 @@ export class Served {
 
     /** Writes session and serial number of the newest data, and returns their address. */
     #present() {
-        const at = this.#session.frame("present");
-        const end = this.#kept.edition?.data.end;
-        writeStruct(this.#session.heap.view, "present", at,
-            { has: end !== undefined, session: end?.session, serial: end?.serial });
-        return at;
+        return putPresent(this.#session, this.#kept.edition);
     }
 
     /** Passes an event without input to the machine. */
@@ -140,9 +144,10 @@ export class Served {
     /** Passes the input to the machine. */
     #hear(now) {
         const { length } = this.#input;
-        const serving = this.#session.within([WORD, this.#input], (known, at) => {
-            const count = this.#putKnown(known, at, length);
-            this.#cache.call("rtr_cache_read_nonnull", now, this.#present(), known, count, at,
+        const known = this.#kept.edition?.known ?? NOTHING;
+        const count = known.length / Uint32Array.BYTES_PER_ELEMENT;
+        const serving = this.#session.within([known, this.#input], (knownAt, at) => {
+            this.#cache.call("rtr_cache_read_nonnull", now, this.#present(), knownAt, count, at,
                 length, this.#isClosed, this.#session.frame("serving"));
             return this.#session.answer("serving");
         });
@@ -150,21 +155,6 @@ export class Served {
         this.#does(serving, now);
         this.#input = this.#input.subarray(serving.taken);
         this.#offset += serving.taken;
-    }
-
-    /** Writes the serial number of a query, if there are changes since its data; returns how many
-     * serial numbers it wrote. */
-    #putKnown(to, at, length) {
-        const [session, { edition }] = [this.#session, this.#kept];
-        if (edition === null || session.step(at, length) !== Status.OK) {
-            return 0;
-        }
-        const { kind, serial } = session.answer("unit");
-        if (kind !== Kind.SERIAL_QUERY || !edition.knows(serial)) {
-            return 0;
-        }
-        session.heap.view.setUint32(to, serial, true);
-        return 1;
     }
 
     /** Begins the machine's answer, or ends the connection. */
@@ -223,15 +213,15 @@ export class Served {
             case Reason.FAULTY:
                 return this.#fault(status, detail, owed);
             case Reason.REPORTED:
-                return new ServerError({ reason, reported: this.#reported() });
+                return this.#reported();
             default:
                 return new ServerError({ reason, code: owed, unit: this.#unit() });
         }
     }
 
     #fault(status, detail, code) {
-        const text = this.#session.statusText(status, detail);
-        return new Fault({ status, detail, code, text, offset: this.#offset, unit: this.#unit() });
+        const [offset, unit] = [this.#offset, this.#unit()];
+        return this.#session.fault({ status, detail, code, offset, unit });
     }
 
     /** Returns the bytes of the unit at the start of the input, as far as they came; null without
@@ -242,12 +232,13 @@ export class Served {
             : session.within([input], (at) => session.unitAt(at, input.length));
     }
 
-    /** Returns the router's report at the start of the input. */
+    /** Returns the error for the router's report at the start of the input. */
     #reported() {
         const session = this.#session;
-        return session.within([this.#input], (at) => {
+        const reported = session.within([this.#input], (at) => {
             session.step(at, this.#input.length);
             return unitOf(session.heap.view, session.frame("unit"), at, this.#offset);
         });
+        return new ServerError({ reason: Reason.REPORTED, reported, said: session.saidBy(reported) });
     }
 }

@@ -25,16 +25,16 @@ export class Behind extends Error {}
 /** The server is closed. */
 export class Closed extends Error {}
 
-/** A server refuses data: they have the serial number of other ones, or their session was left, or
- * is another one of a server that doesn't save, or their times aren't allowed (RFC 8210 section 6),
- * or a saved file is damaged, or the server has data that it didn't save. */
+/** A server refuses data: other data have their serial number, the server left their session
+ * before, the server doesn't save and has another session, their times aren't allowed (RFC 8210
+ * section 6), a saved file is damaged, or the server has data that it didn't save. */
 export class UpdateError extends Error {
     /** Null if the times aren't allowed, or the server has data that it didn't save. */
     readonly status: StoresStatus | null;
 }
 
 /** A file has the new data, but its folder couldn't be synced: after a power cut the file may have
- * those before. `cause` is the error of the system, and `code` its code. */
+ * the previous data. `cause` is the error of the system, and `code` its code. */
 export class Unsynced extends Error {
     readonly code: string;
 }
@@ -80,7 +80,7 @@ type Listener<Name extends keyof ServerEvents> = (...values: ServerEvents[Name])
  * routers share the bytes of an answer. It is an EventEmitter. */
 export class Server {
     constructor(options?: ServerOptions);
-    /** The data that are served, in the version in which they are kept; null before the first. */
+    /** The served data, in the version in which they are kept; null before the first data. */
     readonly data: Data | null;
     /** Gives the server new data, and notifies routers. Connections of routers that have data of
      * another session are closed. If the data are the present ones, nothing happens. Calls that
@@ -111,9 +111,9 @@ export class Server {
      * .new, renames that, and syncs the folder. Without data it writes nothing. Servers of each
      * language of this library read the file.
      *
-     * Throws an error of the file; no file stays beside it then, and it has what it had, unless the
-     * error is Unsynced. Throws UpdateError if the server doesn't save its data before it serves
-     * them, since a restart from the file wouldn't know all of them; Closed after `close` or
+     * Throws an error of the file; then no new file is left beside it, and it is unchanged, unless
+     * the error is Unsynced. Throws UpdateError if the server doesn't save its data before it
+     * serves them, since a restart from the file wouldn't know all of them; Closed after `close` or
      * `shutdown`. */
     save(path: string): Promise<void>;
     /** Loads what `save` wrote, if the server has no data yet, and returns the data of the file.

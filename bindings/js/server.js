@@ -235,8 +235,7 @@ export class Server extends EventEmitter {
     }
 
     #newStore(number) {
-        const { keep: time, keepBytes: bytes } = this.#settings;
-        return new Store(this.#rtr, { time, bytes }, number);
+        return new Store(this.#rtr, this.#settings, number);
     }
 
     /** Returns the store that takes new data: another one for the first data of a session of a
@@ -314,7 +313,7 @@ export class Server extends EventEmitter {
         return data;
     }
 
-    /** Serves what this store has. */
+    /** Serves the data of this store. */
     #uses(store) {
         const before = this.#store;
         this.#store = store;

@@ -1,7 +1,7 @@
 // The library in its own memory.
 
-import { FUNCTIONS, HEADER_SIZE, IPV4_SIZE, LINE_ROOM, LONGEST_UNIT, STRUCTS, Status, TEXT_ROOM }
-    from "./rtr_table.js";
+import { FUNCTIONS, HEADER_SIZE, IPV4_SIZE, LINE_ROOM, LONGEST_UNIT, REPORT_TEXT_ROOM, STRUCTS,
+    Status } from "./rtr_table.js";
 import { Heap, offsetsOf, readStruct, writeStruct } from "./memory.js";
 import { Fault } from "./fault.js";
 import { byteOf, bytesOf, fieldsOf, longOf, numberOf, objectOf, shortOf, wordOf }
@@ -65,7 +65,7 @@ export class Session {
         this.#frame = Object.fromEntries(
             Object.keys(STRUCTS).map((name) => [name, this.#heap.take(STRUCTS[name].size)]));
         this.#frame.number = this.#heap.take(8);
-        this.#frame.text = this.#heap.take(TEXT_ROOM);
+        this.#frame.text = this.#heap.take(REPORT_TEXT_ROOM); // the longest of the texts
         this.#unit = BigInt(this.#frame.unit);
     }
 
@@ -152,6 +152,14 @@ export class Session {
         });
     }
 
+    /** Decodes the end of data of data in canonical form at an address of the memory, and allocates
+     * nothing there. */
+    endOf(at, length) {
+        const offset = this.call("rtr_end_offset_nonnull", at, length);
+        this.step(at + offset, length - offset);
+        return unitOf(this.heap.view, this.#frame.unit, at + offset, 0);
+    }
+
     /** Iterates over the units from an offset to the end of the bytes; throws the Fault of a unit
      * after the units before it. */
     units(bytes, offset = 0) {
@@ -223,7 +231,7 @@ export class Session {
         const view = this.heap.view;
         const unit = this.#frame.unit;
         const field = (name) => Number(view.getBigUint64(unit + UNIT_OFFSETS[name], true));
-        return this.#fault({
+        return this.fault({
             status,
             offset,
             size: field("size"),
@@ -233,8 +241,11 @@ export class Session {
         });
     }
 
-    #fault(fields) {
-        return new Fault({ ...fields, text: this.statusText(fields.status, fields.detail) });
+    /** Returns the Fault with these fields: at least its status. */
+    fault(fields) {
+        const { status, detail = 0, offset = 0 } = fields;
+        const text = this.statusText(status, detail);
+        return new Fault({ ...fields, text, said: this.statusTextAt(status, detail, offset) });
     }
 
     #code(status, at, length) {
@@ -260,7 +271,7 @@ export class Session {
             if (status !== Status.OK) {
                 const detail = this.heap.view.getUint8(unit);
                 const code = this.#code(status, at, piece.length);
-                throw this.#fault({ status, detail, wanted: size, code });
+                throw this.fault({ status, detail, wanted: size, code });
             }
             return size;
         });
@@ -285,7 +296,7 @@ export class Session {
             const status = this.call("rtr_write_unit_nonnull", this.#frame.unit, at, input.length,
                 output, LONGEST_UNIT, this.#frame.number);
             if (status !== Status.OK) {
-                throw this.#fault({ status });
+                throw this.fault({ status });
             }
             return this.copy(output, Number(this.heap.view.getBigUint64(this.#frame.number, true)));
         });
@@ -313,7 +324,7 @@ export class Session {
             const form = this.copy(output, written);
             if (status !== Status.OK) {
                 const code = this.#code(status, at + taken, bytes.length - taken);
-                const fault = this.#fault({ status, detail, offset: taken, wanted, code });
+                const fault = this.fault({ status, detail, offset: taken, wanted, code });
                 throw Object.assign(fault, { units, forms, taken, form });
             }
             return { units, forms, taken, form };
@@ -340,7 +351,7 @@ export class Session {
         const [at, length] = inputs[answer.side - 1] ?? [this.#frame.number, 0];
         const { status, offset } = answer;
         const code = answer.side ? this.#code(status, at + offset, length - offset) : null;
-        return this.#fault({ ...answer, code });
+        return this.fault({ ...answer, code });
     }
 
     // ---- data and changes
@@ -366,6 +377,15 @@ export class Session {
     /** Returns the delta from old data to new: bytes in canonical form, or Data. */
     delta(old, next) {
         return this.#writtenBy("rtr_delta_nonnull", bytesIn(old, "old"), bytesIn(next, "next"));
+    }
+
+    /** Returns the changes from old data to new of any versions and sessions, in the higher of the
+     * versions, so that payloads that the lower one can't carry are withdrawn. One of them may be
+     * null, for no data. */
+    changesBetween(old, next) {
+        return this.#writtenBy("rtr_changes_between_nonnull",
+            old === null ? NOTHING : bytesIn(old, "old"),
+            next === null ? NOTHING : bytesIn(next, "next"));
     }
 
     /** Applies changes in canonical form to data. */
@@ -411,7 +431,7 @@ export class Session {
             } else if (status === Status.NO_ROOM) {
                 capacity = Math.min(2 * capacity, bytes.length);
             } else {
-                throw this.#fault(loaded);
+                throw this.fault(loaded);
             }
         }
     }
@@ -496,7 +516,7 @@ export class Session {
                 }
                 if (status !== Status.NO_ROOM) {
                     const code = this.#code(status, at, piece.length);
-                    throw this.#fault({ status, detail, wanted, code });
+                    throw this.fault({ status, detail, wanted, code });
                 }
                 capacity = length;
                 return null;
@@ -512,20 +532,44 @@ export class Session {
         return this.#text("rtr_text_nonnull", byteOf(status, "status"), byteOf(detail, "detail"));
     }
 
+    /** Returns the text of a status with its detail, and the offset of a unit. */
+    statusTextAt(status, detail, offset) {
+        return this.#text("rtr_text_at_nonnull", byteOf(status, "status"),
+            byteOf(detail, "detail"), longOf(offset, "offset"));
+    }
+
+    /** Returns what an error report says: the name of its code, and the first bytes of its text. */
+    reportText(code, text) {
+        const reported = bytesOf(text, "text");
+        return this.within([reported], (at) => this.#text("rtr_report_text_nonnull",
+            shortOf(code, "code"), at, reported.length));
+    }
+
+    /** Returns what a report says that was read. */
+    saidBy({ code, textBytes }) {
+        return this.reportText(code, textBytes ?? NOTHING);
+    }
+
     /** Returns the name of a status, a kind, a cause, a reason or an error code; `named` selects
      * which. */
     name(named, number) {
         return this.#text("rtr_name_nonnull", byteOf(named, "named"), shortOf(number, "number"));
     }
 
-    #text(name, first, second) {
+    #text(name, ...values) {
         const { text, number } = this.#frame;
-        this.call(name, first, second, text, TEXT_ROOM, number);
+        this.call(name, ...values, text, REPORT_TEXT_ROOM, number);
         const length = Number(this.heap.view.getBigUint64(number, true));
         return new TextDecoder().decode(this.copy(text, length));
     }
 
     // ---- numbers
+
+    /** Returns how many milliseconds a program waits before it calls `updateSaved` again with data
+     * that couldn't be saved, given its pause before the last try, or 0 after the first. */
+    retryAfter(previous) {
+        return this.call("rtr_retry_after", wordOf(previous, "previous"));
+    }
 
     /** Returns the order of two serial numbers, a SerialOrder. */
     serialOrder(left, right) {

@@ -15,7 +15,6 @@ export class RouterSocket {
     #isWriting = false;
     #isFinished = false; // whether it is shut down for writing
     #isOver = false;
-    #error = null;
     #leaving = null; // why it ends as soon as its answer is sent
 
     /** `over` is called with the reason, or null, when the connection is closed. */
@@ -24,7 +23,7 @@ export class RouterSocket {
         this.#socket = socket.on("error", (error) => this.fails(error));
         socket.on("close", () => {
             this.#ends();
-            over(served.error ?? this.#error);
+            over(served.error);
         });
     }
 
@@ -59,9 +58,10 @@ export class RouterSocket {
         this.turn();
     }
 
-    /** Closes the connection at once, for this reason. */
+    /** Closes the connection at once, for this reason: it broke, or nothing is to be sent on it any
+     * more. */
     fails(error) {
-        this.#error ??= error;
+        this.#served.broke(error);
         this.#ends();
     }
 

@@ -1,17 +1,15 @@
 // What a server serves and saves: its data, and the changes since earlier data.
 
 import { FAILURE_DAMAGED, FAILURE_HIGHER_VERSION, FAILURE_OLD_SERIAL, FAILURE_OTHER_SESSION,
-    FAILURE_OTHER_TIMES, FAILURE_SESSION_LEFT, HIGHEST_VERSION, LONGEST_END, Named, Room,
-    SHORTEST_PAYLOAD, STRUCTS, StoresStatus, TimeRule } from "./rtr_table.js";
-import { Data, endOf, formOf } from "./data.js";
+    FAILURE_OTHER_TIMES, FAILURE_SESSION_LEFT, Named, Room, SHORTEST_PAYLOAD, STRUCTS,
+    StoresStatus, TimeRule } from "./rtr_table.js";
+import { Data, formOf } from "./data.js";
 import { Kept } from "./kept.js";
 import { writeStruct } from "./memory.js";
 
-// The size of an entry of an index.
+// The size of an entry of an index, and of a serial number.
 const ENTRY = 8;
-
-// The number of versions, each of which has an end of data of its own among the kept changes.
-const VERSIONS = HIGHEST_VERSION + 1;
+const WORD = 4;
 
 /** The memory that was too short, by the `room` of an answer. */
 const ROOMS = {
@@ -43,14 +41,21 @@ export class UpdateError extends Error {
     }
 }
 
-/** Throws an UpdateError if data have times that RFC 8210 section 6 doesn't allow. Those of version
- * 0 have none. */
+/** Throws an UpdateError if data have times that RFC 8210 section 6 doesn't allow. */
 function checkTimes(rtr, { end: { version, refresh, retry, expire } }) {
-    const rule = version === 0 ? TimeRule.NONE
-        : rtr.call("rtr_times_rule", refresh, retry, expire);
+    const rule = rtr.call("rtr_end_rule", version, refresh, retry, expire);
     if (rule !== TimeRule.NONE) {
         throw new UpdateError(null, rtr.name(Named.TIME_RULE, rule));
     }
+}
+
+/** Writes the session and serial number of the data of an edition, or null, and returns their
+ * address. */
+export function putPresent(rtr, edition) {
+    const [at, end] = [rtr.frame("present"), edition?.data.end];
+    writeStruct(rtr.heap.view, "present", at,
+        { has: end !== undefined, session: end?.session, serial: end?.serial });
+    return at;
 }
 
 /** Repeats a call with more memory, until no part of it is too short, and returns its answer. */
@@ -67,16 +72,16 @@ function withRoom(room, call) {
 /** Two buffers in a session's memory, one of which has the store that is served. */
 export class Store {
     #session;
-    #limits; // of the history: `time` in milliseconds, and `bytes`
+    #settings; // a struct rtr_server_settings, with the limits of what is kept
     #stores;
     #buffers = [null, null]; // their addresses and lengths
     #edition = null;
     #number; // of the edition before the first one
 
-    /** `limits` are a struct rtr_history_limits. */
-    constructor(session, limits, number = 0) {
+    /** `settings` are a struct rtr_server_settings. */
+    constructor(session, settings, number = 0) {
         this.#session = session;
-        this.#limits = limits;
+        this.#settings = settings;
         this.#number = number;
         this.#stores = new Kept(session, "stores");
         this.#stores.call("rtr_stores_new");
@@ -110,8 +115,8 @@ export class Store {
         checkTimes(session, this.#edition.data);
     }
 
-    /** Copies the store of a file, which is at an address, to the first buffer, also of a file that
-     * begins with rtrkept1, of versions before 0.3.0. Returns false if the file isn't whole. */
+    /** Copies the store of the file at an address to the first buffer, also if the file has the
+     * format rtrkept1 of versions before 0.3.0. Returns false if the file isn't whole. */
     #unsealed(file, at) {
         const session = this.#session;
         const isOld = !session.call("rtr_store_open_nonnull", at, file.length);
@@ -167,8 +172,9 @@ export class Store {
         this.#release(other);
         return session.within([bytes, buffer, spare], (at, bufferAt, spareAt) => {
             this.#buffers[other] = this.#allocated(output);
-            const limits = session.frame("historyLimits");
-            writeStruct(session.heap.view, "historyLimits", limits, this.#limits);
+            const [limits, { keep, keepBytes }] = [session.frame("historyLimits"), this.#settings];
+            writeStruct(session.heap.view, "historyLimits", limits,
+                { time: keep, bytes: keepBytes });
             this.#stores.call("rtr_stores_take_nonnull", at, bytes.length, now, limits, bufferAt,
                 buffer, spareAt, spare, ...this.#buffer(0), ...this.#buffer(1),
                 session.frame("storesAnswer"));
@@ -176,12 +182,12 @@ export class Store {
         });
     }
 
-    /** Returns the bytes of new data in the version in which they are kept: the highest one, or
-     * that of the present data, if they are of a file with a lower one. */
+    /** Returns the bytes of new data in the version in which the store takes them. */
     #form(data) {
-        const present = this.#edition?.data.end;
-        const isAlike = present?.session === data.end.session && data.version <= present.version;
-        return formOf(this.#session, data, isAlike ? present.version : HIGHEST_VERSION);
+        const [session, edition] = [this.#session, this.#edition];
+        const present = edition?.data.version ?? 0;
+        return formOf(session, data, session.call("rtr_stores_version",
+            putPresent(session, edition), present, data.end.session, data.version));
     }
 
     /** Returns sizes of memory that suffice for few changes. */
@@ -191,8 +197,8 @@ export class Store {
         return { buffer, spare: size + 2 * buffer, output: store + size + 2 * buffer };
     }
 
-    /** Returns the head of a file and the store that waits, or else that is served; null without
-     * one. */
+    /** Returns the head of a file and the pending store, or else the served one; null if there is
+     * none. */
     get file() {
         const { serves, waits, taken } = this.#state;
         if (!waits && !serves) {
@@ -212,7 +218,7 @@ export class Store {
         this.#serve((this.#edition?.number ?? this.#number) + 1);
     }
 
-    /** Drops the store that waits. */
+    /** Drops the pending store. */
     giveUp() {
         this.#stores.call("rtr_stores_give_up");
         this.#release(this.#other);
@@ -228,7 +234,7 @@ export class Store {
         const { offset, length } = this.#state;
         const { start } = this.#buffers[this.#served];
         const history = { start: start + offset, length };
-        this.#edition = new Edition(this.#session, number, history, this.#limits.bytes);
+        this.#edition = new Edition(this.#session, number, history, this.#settings);
     }
 
     get #state() {
@@ -279,19 +285,22 @@ class Edition {
     #history; // its address and length, as long as the edition is the newest
     #forms = new Map(); // the bytes of the data, by version
     #changes = new Map(); // those of changes, by version and serial number
-    #room; // bytes left for more changes
+    #changedBytes = 0; // of these
+    #settings;
 
-    constructor(session, number, history, room) {
+    constructor(session, number, history, settings) {
         this.#session = session;
         this.#history = history;
-        this.#room = room + VERSIONS * LONGEST_END;
+        this.#settings = settings;
         this.number = number;
-        const bytes = this.#present();
+        this.known = this.#serials();
+        const { at, size } = this.#present();
+        const bytes = session.copy(at, size);
         this.#forms.set(bytes[0], bytes);
-        this.data = new Data(session, bytes, endOf(session, bytes, bytes[0]));
+        this.data = new Data(session, bytes, session.endOf(at, size));
     }
 
-    /** Copies the bytes of the present data out of the history. */
+    /** Returns the address and the length of the present data in the history. */
     #present() {
         const session = this.#session;
         const { start, length } = this.#history;
@@ -299,14 +308,25 @@ class Edition {
             session.call("rtr_history_data_nonnull", start, length, offsetAt, lengthAt);
             const [offset, size] = [offsetAt, lengthAt].map((at) => (
                 Number(session.heap.view.getBigUint64(at, true))));
-            return session.copy(start + offset, size);
+            return { at: start + offset, size };
         });
     }
 
-    /** Reports whether there are changes since the data of a serial number. */
-    knows(serial) {
+    /** Returns the serial numbers from which there are changes, as the machine takes them: their
+     * bytes, one after the other. */
+    #serials() {
+        const session = this.#session;
         const { start, length } = this.#history;
-        return this.#session.call("rtr_history_knows_nonnull", start, length, serial);
+        const answered = (at, count) => {
+            session.call("rtr_history_serials_nonnull", start, length, at, count,
+                session.frame("storesAnswer"));
+            return session.answer("storesAnswer");
+        };
+        const { wanted: count } = answered(session.frame("number"), 0);
+        return session.within([WORD * count], (at) => {
+            answered(at, count);
+            return session.copy(at, WORD * count);
+        });
     }
 
     /** Returns the bytes of the data for routers of a version. */
@@ -327,11 +347,19 @@ class Edition {
             return kept;
         }
         const changes = this.#since(version, serial);
-        if (changes.length <= this.#room) {
-            this.#room -= changes.length;
+        if (this.#keeps(changes)) {
+            this.#changedBytes += changes.length;
             this.#changes.set(query, changes);
         }
         return changes;
+    }
+
+    /** Reports whether changes are kept for further routers. */
+    #keeps({ length }) {
+        const session = this.#session;
+        const settings = session.frame("serverSettings");
+        writeStruct(session.heap.view, "serverSettings", settings, this.#settings);
+        return session.call("rtr_server_keeps", settings, this.#changedBytes, length);
     }
 
     #since(version, serial) {

@@ -1,7 +1,6 @@
 // The updates of a client.
 
 import { Kind } from "./rtr_table.js";
-import { changesBetween } from "./data.js";
 
 /** The data of a client, and the changes from the data before. */
 export class Update {
@@ -18,7 +17,7 @@ export class Update {
     /** Returns the changes in canonical form, as a cache sends them. Each call computes them, and
      * may throw OutOfMemory, which doesn't affect the data. */
     delta() {
-        return changesBetween(this.#session, this.#before, this.data);
+        return this.#session.changesBetween(this.#before, this.data);
     }
 
     /** Iterates over the changes: units that are announced, then units that are withdrawn. */

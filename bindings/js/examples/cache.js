@@ -3,9 +3,9 @@
 // usage: node cache.js FILE [--listen ADDRESS:PORT].. [--max-clients N] [--refuse]
 //
 // The file is a recording or a list: replace it by renaming. Data are saved to FILE.kept before
-// they are served, from which a restart goes on; if that fails, it is tried again after 1, 2, 4 ..
-// seconds, up to a minute. If FILE.kept is damaged, the cache doesn't start: remove it, and give
-// the data a session that was never used.
+// they are served, and a restart loads them from there; if saving fails, it is retried after 1, 2,
+// 4 .. seconds, up to a minute. If FILE.kept is damaged, the cache doesn't start: remove it, and
+// give the data a session that was never used.
 
 import { readFile, stat } from "node:fs/promises";
 import { setTimeout as pause } from "node:timers/promises";
@@ -13,8 +13,8 @@ import { parseArgs } from "node:util";
 import { Fault, load } from "../rtr_wire.js";
 import { Server, UpdateError } from "../server.js";
 
-// Milliseconds between two checks of the file, and at most between two tries to save.
-const [LOOK, LONGEST] = [250, 60_000];
+// Milliseconds between two checks of the file.
+const LOOK = 250;
 
 const OPTIONS = { "listen": { type: "string", multiple: true },
     "max-clients": { type: "string", multiple: true }, "refuse": { type: "boolean" } };
@@ -94,7 +94,7 @@ async function markOf(path) {
     return [dev, ino, size, mtimeNs, ctimeNs].join();
 }
 
-/** Serves what the file has, once it is saved. Throws errors of saving. */
+/** Serves the data of the file, once they are saved. Throws the errors of saving. */
 async function serve(bytes) {
     let loaded = null;
     try {
@@ -115,8 +115,8 @@ async function serve(bytes) {
 
 /** Follows the file until the signal. */
 async function follow() {
-    let [mark, failure, wait] = [null, null, LOOK];
-    for (;; await pause(wait, null, { signal: stop.signal })) {
+    let [mark, failure, retry] = [null, null, 0];
+    for (;; await pause(retry || LOOK, null, { signal: stop.signal })) {
         let [found, bytes] = [null, null];
         try {
             found = await markOf(file);
@@ -133,10 +133,10 @@ async function follow() {
             if (bytes !== null) {
                 await serve(bytes);
             }
-            [mark, wait] = [found, LOOK];
+            [mark, retry] = [found, 0];
         } catch ({ message }) {
             say(`${kept}: ${message}`);
-            wait = Math.min(Math.max(2 * wait, 1000), LONGEST);
+            retry = rtr.retryAfter(retry);
         }
     }
 }

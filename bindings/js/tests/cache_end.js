@@ -19,10 +19,11 @@ const bytesOf = (text) => Uint8Array.from(Buffer.from(text.replaceAll(" ", ""), 
 
 /** A snapshot that lacks the changes since some serial numbers. */
 function without(edition, forgotten) {
+    const known = new Uint32Array(edition.known.slice().buffer);
     return {
         number: edition.number,
         data: edition.data,
-        knows: (serial) => !forgotten.has(serial) && edition.knows(serial),
+        known: new Uint8Array(known.filter((serial) => !forgotten.has(serial)).buffer),
         form: (version) => edition.form(version),
         since: (version, serial) => edition.since(version, serial),
     };
@@ -53,8 +54,7 @@ class CacheEnd {
     }
 
     #newStore() {
-        const { keep: time, keepBytes: bytes } = this.#settings;
-        return new Store(this.#rtr, { time, bytes });
+        return new Store(this.#rtr, this.#settings);
     }
 
     note(what) {
@@ -164,7 +164,7 @@ class CacheEnd {
         this.#settle();
     }
 
-    /** Does what is to do at this time, as a socket does it. */
+    /** Carries out the pending actions at this time, as a socket does. */
     #settle() {
         while (this.#served !== null) {
             const step = this.#served.next(this.now);

@@ -2,9 +2,9 @@
 
 import assert from "node:assert/strict";
 import dns from "node:dns/promises";
-import { once } from "node:events";
+import { getEventListeners, once } from "node:events";
 import { syncBuiltinESMExports } from "node:module";
-import { createServer } from "node:net";
+import { connect as connectTcp, createServer } from "node:net";
 import { PassThrough } from "node:stream";
 import { setTimeout as sleep } from "node:timers/promises";
 import { Cause, Fault, NoData, OutOfMemory, SessionError, Status, load } from "../rtr_wire.js";
@@ -209,6 +209,23 @@ export const TESTS = {
                     settings: { connectLimit: 1000 } });
                 assert.equal((await taken(client, 1))[0].data.serial, 1);
             })), { port, tls }));
+    },
+
+    /** After its signal has aborted a client tries no further address. */
+    async abortsAddresses(rtr) {
+        const script = (peer) => peer.gone();
+        await withSilent((port) => withCache([script], (server) => (
+            resolved(["127.0.0.2", HOST], async () => {
+                const stop = new AbortController();
+                const client = clientOf(rtr, port, { host: "cache.example", tls: {},
+                    signal: stop.signal });
+                const fetching = client.fetch();
+                await sleep(50);
+                stop.abort();
+                await assert.rejects(fetching, isAborted);
+                await sleep(50);
+                assert.equal(server.connections, 0);
+            })), { port }));
     },
 
     /** A truncated answer: between units, inside a unit, and by a reset. */
@@ -500,6 +517,86 @@ export const TESTS = {
             client.askNow();
             assert.equal((await next).value.data.serial, 2);
             await updates.return();
+        });
+    },
+
+    /** A request beside the end of a connection, or a failed connect, outlives that: the client
+     * connects as soon as the pause allows, long before the retry time. */
+    async asksAtALoss(rtr) {
+        const scripts = [async (peer) => {
+            await peer.next();
+            peer.send(answer(1, prefix(1)));
+            peer.close();
+        }, async (peer) => {
+            assert.deepEqual(await peer.next(), serialQuery(1));
+            peer.send(answer(2, prefix(2)));
+            await peer.gone();
+        }];
+        await withCache(scripts, async ({ port }) => {
+            let connects = 0;
+            const connect = async () => {
+                connects += 1;
+                if (connects === 2) {
+                    queueMicrotask(() => client.askNow());
+                    throw new Error("no connection");
+                }
+                const stream = connectTcp({ host: HOST, port });
+                stream.on("end", () => client.askNow());
+                await once(stream, "connect");
+                return stream;
+            };
+            const client = new Client({ connect, rtr: rtr.another(),
+                settings: { ...SOON, retry: 3_600_000 } });
+            const events = noted(client);
+            await taken(client, 2);
+            assert.deepEqual(events, ["connect", "data 1",
+                "failed the cache closed the connection", "failed no connection", "connect",
+                "data 2"]);
+        });
+    },
+
+    /** A client that has ended leaves no timer and no socket, which would keep its process
+     * running. */
+    async leavesNothing(rtr) {
+        const kept = ["Timeout", "TCPSocketWrap", "TCPServerWrap"];
+        const count = () => process.getActiveResourcesInfo()
+            .filter((name) => kept.includes(name)).length;
+        const hasTimer = () => process.getActiveResourcesInfo().includes("Timeout");
+        let before = count();
+        for (let same = 0; same < 10; same = !hasTimer() && count() === before ? same + 1 : 0) {
+            before = count(); // the sockets and timers of earlier tests may still end
+            await sleep(20);
+        }
+        const scripts = [gives(answer(1, prefix(1))), gives(answer(1, prefix(1))),
+            gives(end(1))]; // out of place
+        await withCache(scripts, ({ port }) => resolved(["127.0.0.2", HOST], async () => {
+            const client = clientOf(rtr, port, { host: "cache.example", reportLimit: 60_000 });
+            await client.fetch();
+            const updates = client[Symbol.asyncIterator]();
+            await updates.next();
+            const next = updates.next(); // it waits for the refresh time
+            await sleep(20);
+            await updates.return();
+            await next;
+            await failureOf(client);
+        }));
+        for (let tries = 0; count() > before && tries < 500; tries += 1) {
+            await sleep(20);
+        }
+        assert.equal(count(), before);
+    },
+
+    /** Several runs use one signal in turn: after each run it has no listener of that run left. */
+    async leavesSignals(rtr) {
+        const { signal } = new AbortController();
+        const runs = [(client) => taken(client, 1), (client) => client.fetch(),
+            (client) => taken(follow([client], { signal }), 1)];
+        await withCache(runs.map(() => gives(answer(1, prefix(1)))), async ({ port }) => {
+            const client = clientOf(rtr, port, { signal });
+            for (const run of runs) {
+                await run(client);
+                assert.deepEqual(getEventListeners(signal, "abort"), []);
+            }
         });
     },
 

@@ -2,15 +2,18 @@
 
 import assert from "node:assert/strict";
 import { spawn } from "node:child_process";
-import { once } from "node:events";
+import { EventEmitter, once } from "node:events";
 import { mkdtempSync, renameSync, rmSync, writeFileSync } from "node:fs";
 import { createServer } from "node:net";
 import { tmpdir } from "node:os";
 import { join } from "node:path";
 import { createInterface } from "node:readline";
+import { setTimeout as sleep } from "node:timers/promises";
 import { fileURLToPath } from "node:url";
 import { Client, follow } from "../client.js";
-import { GroupShown } from "../rtr_wire.js";
+import { EVENTS, SESSION } from "../iterated.js";
+import { Cause, GroupShown, TodoKind } from "../rtr_table.js";
+import { Update } from "../update.js";
 import { compiledCache, lineOf } from "./c_cache.js";
 import { answer, cache, end, prefix, response, unused } from "./caches.js";
 
@@ -31,6 +34,66 @@ const has = (serial) => async (peer) => {
 function clientsOf(rtr, ports, settings = {}) {
     return ports.map((port) => new Client({ host: HOST, port, rtr: rtr.another(),
         settings: { ...SOON, ...settings } }));
+}
+
+/** A client that a test plays: `runs` are functions that each make the events of a run, which then
+ * takes a moment to end after it was stopped. */
+class Played extends EventEmitter {
+    #rtr;
+    #runs;
+    running = 0;
+    most = 0; // runs at once
+
+    constructor(rtr, ...runs) {
+        super();
+        this.#rtr = rtr;
+        this.#runs = runs;
+    }
+
+    async [SESSION]() {
+        return this.#rtr;
+    }
+
+    async * [EVENTS](stop) {
+        this.running += 1;
+        this.most = Math.max(this.most, this.running);
+        yield* this.#runs.shift()(this);
+        if (!stop.aborted) {
+            await once(stop, "abort");
+        }
+        await sleep(20);
+        this.running -= 1;
+    }
+
+    /** Returns the event of data. */
+    has(serial) {
+        const { data } = this.#rtr.loadData(answer(serial, prefix(serial)));
+        return { name: "data", value: new Update(this.#rtr, null, data, this),
+            todo: { kind: TodoKind.DATA } };
+    }
+
+    /** Returns the event of data that are lost. */
+    drops() {
+        return { name: "dropped", value: new Update(this.#rtr, null, null, this),
+            todo: { kind: TodoKind.DROPPED } };
+    }
+}
+
+/** Returns the event of a connection that is lost. */
+const lost = () => ({ name: "failed", value: new Error("lost"),
+    todo: { kind: TodoKind.CLOSE, cause: Cause.LOST } });
+
+/** Returns a promise, and a function that settles it and waits until all is done that this
+ * begins. */
+function gate() {
+    let opens = null;
+    const open = new Promise((resolve) => {
+        opens = resolve;
+    });
+    return [open, () => {
+        opens();
+        return sleep(0);
+    }];
 }
 
 /** Describes an update: the index of its client, and the serial number of the data. */
@@ -179,6 +242,57 @@ export const TESTS = {
             await assert.rejects(follow([clients[0], clients[0]],
                 { settings: { patience: 0 } }).next(), /follows its cache already/);
         });
+    },
+
+    /** A client is stopped by the data of a preferred one: what it tells later counts for nothing,
+     * and it is started again after its run has ended. */
+    async restartsInTurn(rtr) {
+        const session = rtr.another();
+        const [[first, openFirst], [second, openSecond], [again, openAgain]] =
+            Array.from({ length: 3 }, gate);
+        const clients = [
+            new Played(session, async function* events(client) {
+                yield lost();
+                await first;
+                yield client.has(1);
+                await again;
+                yield client.drops();
+            }),
+            new Played(session, async function* events(client) {
+                yield client.has(5);
+                await second;
+                yield client.has(6);
+            }, async function* events(client) {
+                yield client.has(7);
+            }),
+        ];
+        const updates = follow(clients);
+        assert.equal(shown(clients, await updates.next()), "1: 5");
+        await openFirst();
+        await openSecond(); // behind the first client's data, which stop it
+        assert.equal(shown(clients, await updates.next()), "0: 1");
+        const next = updates.next();
+        await openAgain();
+        assert.equal(shown(clients, await next), "0: none");
+        assert.equal(shown(clients, await updates.next()), "1: 7");
+        assert.equal(clients[1].most, 1);
+        await updates.return();
+    },
+
+    /** Leaving the loop waits until all runs have ended, also of a client whose data nobody has
+     * taken. */
+    async awaitsRuns(rtr) {
+        const [more, openMore] = gate();
+        const client = new Played(rtr.another(), async function* events() {
+            yield client.has(1);
+            await more;
+            yield client.has(2);
+        });
+        const updates = follow([client]);
+        assert.equal(shown([client], await updates.next()), "0: 1");
+        await openMore();
+        await updates.return();
+        assert.equal(client.running, 0);
     },
 
     /** A process ends by itself after its client: nothing is left open. */

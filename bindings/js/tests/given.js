@@ -214,6 +214,12 @@ const CALLS = {
         bytes("old", (value) => rtr.delta(value, DATA));
         bytes("next", (value) => rtr.delta(DATA, value));
     },
+    "Session.changesBetween": (rtr) => {
+        wrong("TypeError", "old must be a Uint8Array or an ArrayBuffer, not a number",
+            () => rtr.changesBetween(4, DATA));
+        wrong("TypeError", "next must be a Uint8Array or an ArrayBuffer, not undefined",
+            () => rtr.changesBetween(DATA, undefined));
+    },
     "Session.apply": (rtr) => {
         bytes("data", (value) => rtr.apply(value, DATA));
         bytes("changes", (value) => rtr.apply(DATA, value));
@@ -258,6 +264,15 @@ const CALLS = {
         number("status", BYTE, (status) => rtr.statusText(status));
         number("detail", BYTE, (detail) => rtr.statusText(2, detail), [null, "0"]);
     },
+    "Session.statusTextAt": (rtr) => {
+        number("status", BYTE, (status) => rtr.statusTextAt(status, 0, 0));
+        number("detail", BYTE, (detail) => rtr.statusTextAt(2, detail, 0));
+        long("offset", (offset) => rtr.statusTextAt(2, 5, offset));
+    },
+    "Session.reportText": (rtr) => {
+        number("code", SHORT, (code) => rtr.reportText(code, END));
+        bytes("text", (value) => rtr.reportText(1, value));
+    },
     "Session.name": (rtr) => {
         number("named", BYTE, (named) => rtr.name(named, 4));
         number("number", SHORT, (value) => rtr.name(0, value));
@@ -283,6 +298,8 @@ const CALLS = {
     },
     "Session.usualSettings": (rtr) => (
         number("highest", BYTE, (highest) => rtr.usualSettings(highest))),
+    "Session.retryAfter": (rtr) => (
+        number("previous", WORD, (previous) => rtr.retryAfter(previous))),
     "Session.serialOrder": (rtr) => {
         number("left", WORD, (left) => rtr.serialOrder(left, 1));
         number("right", WORD, (right) => rtr.serialOrder(1, right));

@@ -3,7 +3,6 @@
 import assert from "node:assert/strict";
 import { Cause, Fault, Kind, LinkError, LinkStatus, NoData, OutOfMemory, SessionError, Status,
     TodoKind, load } from "../rtr_wire.js";
-import { changesBetween } from "../data.js";
 import { RESET_QUERY, answer, end, notify, prefix, report, response, serialQuery, unit }
     from "./caches.js";
 
@@ -168,14 +167,14 @@ export const TESTS = {
     },
 
     /** As in all languages, texts of reports are shown in part, and in ASCII. */
-    quotesReports() {
+    quotesReports(rtr) {
         for (const [code, text, shown] of [
             [2, "", "No Data Available"], [1, "no ~", 'Internal Error, "no ~"'],
             [12, 'a"\n\u00e4', 'error code 12, "a"???"'],
             [1, `${"a".repeat(99)}bc`, `Internal Error, "${"a".repeat(99)}b"`],
         ]) {
-            const reported = { code, text, textBytes: new TextEncoder().encode(text) };
-            assert.equal(new SessionError({ reason: Cause.REPORTED, reported }).message,
+            const said = rtr.reportText(code, new TextEncoder().encode(text));
+            assert.equal(new SessionError({ reason: Cause.REPORTED, said }).message,
                 `the cache reports an error: ${shown}`);
         }
     },
@@ -281,7 +280,7 @@ export const TESTS = {
         const lower = (bytes) => Uint8Array.of(0, ...bytes.subarray(1));
         const next = rtr.data(bytesOf(lower(prefix(2)), lower(prefix(3)),
             unit(0, 7, 9, 0, 0, 0, 8)));
-        const changes = (...sides) => [...rtr.units(changesBetween(rtr, ...sides))]
+        const changes = (...sides) => [...rtr.units(rtr.changesBetween(...sides))]
             .map(({ version, kind, announce, asn, session, serial }) => (kind === Kind.END_OF_DATA
                 ? `${version} ${session} ${serial}` : `${announce ? "+" : "-"}${asn}`)).join(" ");
         assert.equal(changes(old, next), "+3 -1 -5 1 9 8");

@@ -1,6 +1,8 @@
 // Tests that other languages don't share: memory, sessions, texts of addresses.
 
 import assert from "node:assert/strict";
+import { setTimeout as sleep } from "node:timers/promises";
+import { Bell } from "../bell.js";
 import { Heap } from "../memory.js";
 import { STRUCTS, VERSION_NUMBER } from "../rtr_table.js";
 import { Data, Dropped, Fault, Kind, OtherVersion, OutOfMemory, Status, Unsupported, Validity,
@@ -206,6 +208,8 @@ export const TESTS = {
         assert.equal(rtr.errorCode(Status.UNIT_TYPE, END), 5);
         assert.equal(rtr.errorCode(Status.OK, END), null);
         assert.equal(rtr.serialOrder(1, 2 ** 31 + 1), 3);
+        const pauses = [0, 1000, 2000, 32_000, 60_000].map((last) => rtr.retryAfter(last));
+        assert.deepEqual(pauses, [1000, 2000, 4000, 60_000, 60_000]);
         assert.equal(rtr.versionHas(1, Kind.ASPA), false);
         assert.equal(statusText(200), "unknown status");
     },
@@ -231,5 +235,21 @@ export const TESTS = {
         for (const text of ["192.0.2.0/", "192.0.2.0/x", "/24", "192.0.2.0/1000", ""]) {
             assert.equal(prefixOf(text), null, text);
         }
+    },
+    /** A wait ends by a ring before it, and the next one by a later ring. */
+    async ringsBefore() {
+        const bell = new Bell();
+        bell.ring();
+        const waits = [];
+        for (let count = 0; count < 2; count += 1) {
+            const wait = bell.wait(Infinity).then(() => "rung");
+            const seen = await Promise.race([wait, sleep(0, "waits")]);
+            waits.push(seen);
+            if (seen === "waits") {
+                bell.ring();
+            }
+            await wait;
+        }
+        assert.deepEqual(waits, ["rung", "waits"]);
     },
 };

@@ -1,8 +1,8 @@
 // A worker for handshakes.js: a router that resets its connection to a server over TLS, connects
 // again from the same port at once, and asks for all data. It sends the answer as a message.
 //
-// `flag` is 1 once the first connection is there; the worker goes on when it is 2, and sets it to 3
-// once the second one is there.
+// `flag` is 1 once the first connection is there; the worker continues when it is 2, and sets it to
+// 3 once the second one is there.
 
 import { once } from "node:events";
 import { connect } from "node:net";

@@ -165,6 +165,8 @@ const CALLS = [
     (rtr, first, second) => rtr.apply(first, second),
     (rtr, first, second, places) => rtr.order(first, places),
     (rtr, first, second, places) => rtr.applyInOrder(first, second, places),
+    (rtr, first, second) => rtr.changesBetween(...[first, second].map((data) => (
+        data.length === 0 ? null : data))),
 ];
 
 /** Data and changes. */
@@ -230,6 +232,21 @@ export function validity(rtr, bytes) {
     return count;
 }
 
+/** Returns the text of a row, and behind how many of its other words it has to stand. */
+function textOf(rtr, word, number, [first, second]) {
+    switch (word) {
+        case "text":
+            return [rtr.statusText(number, Number(first)), 1];
+        case "at":
+            return [rtr.statusTextAt(number, Number(first), BigInt(second)), 2];
+        case "report":
+            return [rtr.reportText(number, Uint8Array.from(first.match(/\w\w/gu) ?? [],
+                (digits) => parseInt(digits, 16))), 1];
+        default:
+            return [rtr.name(Named[word.toUpperCase()], number), 0];
+    }
+}
+
 /** The texts of the library, as in all languages. */
 export function texts(rtr, bytes) {
     let count = 0;
@@ -237,11 +254,9 @@ export function texts(rtr, bytes) {
         if (row === "" || row.startsWith("#")) {
             continue;
         }
-        const [, word, number, detail, text] = row.match(/^(text) (\d+) (\d+) (.*)$/)
-            ?? row.match(/^(\w+) (\d+)( )(.*)$/);
-        const actual = word === "text" ? rtr.statusText(Number(number), Number(detail))
-            : rtr.name(Named[word.toUpperCase()], Number(number));
-        assert.equal(actual, text, row);
+        const [word, number, ...rest] = row.split(" ");
+        const [actual, from] = textOf(rtr, word, Number(number), rest);
+        assert.equal(actual, rest.slice(from).join(" "), row);
         count += 1;
     }
     assert.ok(count > 80);

@@ -22,6 +22,7 @@ import { TESTS as handshakes } from "./handshakes.js";
 import { TESTS as links } from "./links.js";
 import { TESTS as own } from "./own.js";
 import { TESTS as servers } from "./servers.js";
+import { TESTS as streams } from "./streams.js";
 
 const TOP = fileURLToPath(new URL("../../..", import.meta.url));
 const MODULE = resolve(process.argv[2] ?? `${TOP}/prebuilt/wasm32/rtr_wire.wasm`);
@@ -84,7 +85,7 @@ function missing(name) {
 }
 
 /** The tests of JavaScript only. */
-const GROUPS = { own, given, large, links, clients, follows, servers, handshakes };
+const GROUPS = { own, given, large, links, clients, follows, servers, streams, handshakes };
 
 if (!existsSync(MODULE)) {
     console.error(`there is no ${MODULE}: node run.js MODULE names another`);

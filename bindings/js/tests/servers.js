@@ -31,7 +31,7 @@ export const dataOf = (rtr, serial, ...numbers) => (
     rtr.loadData(answer(serial, ...numbers.map((n) => prefix(n)))).data);
 
 /** Returns data with this many prefixes, from 10.0.0.0/30 on. */
-function manyOf(rtr, serial, count = MANY) {
+export function manyOf(rtr, serial, count = MANY) {
     const bytes = Buffer.alloc(count * 20 + 24);
     for (let index = 0; index < count; index += 1) {
         const at = index * 20;
@@ -152,27 +152,6 @@ async function sizeOfAll(peer) {
         }
     }
     return [size, last.readUInt32BE(8)];
-}
-
-/** A stream to a router that takes bytes only by `takes`. */
-class Slow extends Duplex {
-    #left = 0;
-    #done = null;
-
-    _read() {}
-
-    _write(bytes, encoding, done) {
-        [this.#left, this.#done] = [bytes.length, done];
-    }
-
-    /** Takes `count` bytes of a write, and calls the server once the write is complete. */
-    takes(count) {
-        this.#left -= count;
-        if (this.#left <= 0) {
-            this.#done();
-        }
-        this.emit("readable");
-    }
 }
 
 /** A router leaves in one of four ways: by a close, a reset, in a query, or in an answer. */
@@ -340,37 +319,6 @@ export const TESTS = {
             }
             stalled.socket.destroy();
         });
-    },
-
-    /** A router that takes 16 KiB each 20 seconds isn't cut off; once it has taken nothing for the
-     * limit of 30 seconds it is. */
-    async measuresProgress(rtr, _, t) {
-        const server = new Server({ rtr: rtr.another() });
-        const ended = [];
-        server.on("ended", (error) => ended.push(error));
-        await server.update(manyOf(rtr, 1, 20_000));
-        let time = 1_000_000;
-        const clock = t.mock.method(performance, "now", () => time);
-        const stream = new Slow();
-        await server.serve(stream);
-        stream.push(RESET_QUERY);
-        await until(() => stream.writableLength > 0);
-        for (let count = 0; count < 8; count += 1) {
-            time += 20_000;
-            stream.takes(1 << 14);
-            await sleep(0);
-            assert.ok(!stream.destroyed, `cut off after ${count} takes`);
-        }
-        time += 29_999;
-        stream.emit("readable");
-        assert.ok(!stream.destroyed);
-        time += 1;
-        stream.emit("readable");
-        assert.ok(stream.destroyed);
-        await until(() => ended.length === 1);
-        assert.equal(ended[0].reason, Reason.SLOW);
-        clock.mock.restore();
-        await server.close();
     },
 
     /** Without a spare descriptor a router isn't served, but gets a report. */
@@ -593,7 +541,7 @@ export const TESTS = {
         });
     },
 
-    /** What is beside the saved file, and can't be removed, keeps no server from restoring it. */
+    /** A server restores the saved file even if a file beside it can't be removed. */
     async restoresBeside(rtr) {
         await withFolder(async (folder) => {
             const path = join(folder, "state");
@@ -685,8 +633,8 @@ export const TESTS = {
         });
     },
 
-    /** Data that can't be saved aren't served, and routers get those before; the next try may
-     * succeed. */
+    /** Data that can't be saved aren't served: routers still get the previous data. A later
+     * attempt may succeed. */
     async savesFirst(rtr) {
         await withFolder(async (folder) => {
             await withServer(rtr, {}, async (server, port) => {
@@ -709,7 +657,8 @@ export const TESTS = {
         });
     },
 
-    /** A file of a server that didn't save before would lack what it serves later. */
+    /** A server that served data without saving them doesn't save later ones: its file would lack
+     * data that it served. */
     async servesUnsaved(rtr) {
         await withFolder(async (folder) => {
             const path = join(folder, "state");
