@@ -117,7 +117,7 @@ func TestClients(t *testing.T) {
 	}
 }
 
-// shown returns the answer of an address to a browser.
+// shown returns the page at a URL, as a browser gets it.
 func shown(t *testing.T, url string) string {
 	t.Helper()
 	ask, err := http.NewRequest(http.MethodGet, url, nil)

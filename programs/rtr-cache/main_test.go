@@ -110,7 +110,7 @@ func TestContradiction(t *testing.T) {
 	}
 }
 
-// provided is JSON of an ASPA with this provider, and of so many prefixes.
+// provided is JSON of an ASPA with this provider, and of this many prefixes.
 func provided(provider, prefixes int) string {
 	var items []string
 	for i := 0; i < prefixes; i++ {

@@ -57,8 +57,8 @@ func withState(t *testing.T) (folder string, first rtr.Data) {
 	return folder, first
 }
 
-// continues starts a cache over the state, and checks that it goes on from data of this serial
-// number of the same session, and that a router gets from its first data to the present ones.
+// continues starts a cache over the state, and checks that it continues from data of this serial
+// number of the same session, and that a router with its first data gets the present ones.
 func continues(t *testing.T, folder string, first rtr.Data, serial uint32) {
 	t.Helper()
 	trial.Write(t, folder+"/f", rows(202))
@@ -80,8 +80,8 @@ func withStrace(t *testing.T) {
 	}
 }
 
-// A cache that is killed at any system call of saving didn't serve what it saved, and goes on from
-// older or newer data after a restart.
+// A cache that is killed at any system call of saving hasn't served the data that it was saving,
+// and continues from the older or the newer data after a restart.
 func TestKilledInEachCall(t *testing.T) {
 	withStrace(t)
 	for _, call := range saveCalls {
@@ -170,8 +170,8 @@ func TestFolderCannotBeSynced(t *testing.T) {
 	continues(t, folder, first, 2)
 }
 
-// If a system call of saving fails in each thread once, the new data aren't served, and no file
-// stays beside the old one. Saving is retried, and then they are served, and a restart has them.
+// If a system call of saving fails in each thread once, the new data aren't served, and no new file
+// is left beside the old one. Once a retry has saved them, they are served, and a restart has them.
 func TestEachCallFails(t *testing.T) {
 	withStrace(t)
 	for _, call := range saveCalls {
@@ -195,8 +195,8 @@ func TestEachCallFails(t *testing.T) {
 	}
 }
 
-// A cache whose folder can't be synced has replaced its file all the same, and serves nothing of
-// it. The next start serves what the file has, once the folder is synced, or newer data.
+// A cache whose folder can't be synced has replaced its file nevertheless, but doesn't serve the
+// new data. The next start serves the data of the file, once the folder is synced, or newer data.
 func TestFileMayBeReplaced(t *testing.T) {
 	withStrace(t)
 	folder := t.TempDir()

@@ -179,8 +179,8 @@ func renamed(path string, since time.Time) {
 	}
 }
 
-// A cache that is killed in each phase of saving new data has, after a restart, never two data with
-// one serial number, and no older data than clients had.
+// A cache is killed in each phase of saving new data. After a restart it never has two different
+// data with one serial number, nor older data than clients had.
 func TestKilled(t *testing.T) {
 	folder := t.TempDir()
 	file := folder + "/f"

@@ -119,8 +119,8 @@ func TestUnsavedState(t *testing.T) {
 	}
 }
 
-// A cache that is killed while data can't be saved goes on from those before, whose next serial
-// number no router knows; and it waits for data whose withdrawals were accepted before.
+// A cache that is killed while data can't be saved continues from the previous data, whose next
+// serial number no router knows; and it waits for data whose withdrawals were accepted before.
 func TestKilledWhileUnsaved(t *testing.T) {
 	folder := t.TempDir()
 	trial.Write(t, folder+"/f", rows(30))

@@ -334,7 +334,7 @@ func TestNoPayloads(t *testing.T) {
 	}
 }
 
-// Over TLS a cache's certificate has to be by the authority, and the cache gets the router's
+// Over TLS the authority must have signed the cache's certificate, and the cache gets the router's
 // certificate.
 func TestTLS(t *testing.T) {
 	folder := t.TempDir()

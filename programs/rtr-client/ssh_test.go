@@ -21,7 +21,7 @@ func (nobody) Came(*transport.Peer, *rtr.Unit)                              {}
 func (nobody) Moved(*transport.Peer, transport.Direction, int)              {}
 func (nobody) Reported(*transport.Peer, transport.Direction, rtr.ErrorCode) {}
 
-// A cache with a trusted key is followed over SSH, with a key that it trusts.
+// The client follows a cache over SSH, if each trusts the other's key.
 func TestSSH(t *testing.T) {
 	folder := t.TempDir()
 	host := trial.RSA.Save(t, folder+"/host")

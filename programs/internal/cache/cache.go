@@ -160,7 +160,7 @@ func (c *Cache) update(next rtr.Data, from string, size payloads.Size) error {
 	switch {
 	case errors.As(err, &unsaved):
 		c.metrics.Unsaved()
-		c.await(waiting{next, from, size, unsaved.Reason, firstRetry(c.running())})
+		c.await(waiting{next, from, size, unsaved.Reason, retry{}.next(c.running())})
 		return nil
 	case err != nil:
 		return err
@@ -257,24 +257,12 @@ func (c *Cache) running() time.Duration {
 	return running
 }
 
-// The pause before the first retry of saving, and the longest one. Each is twice the one before.
-const (
-	firstPause   = time.Second
-	longestPause = time.Minute
-)
-
 // retry is the next retry of saving, by the time for which the cache has run.
 type retry struct{ at, pause time.Duration }
 
-// firstRetry returns the retry after data couldn't be saved.
-func firstRetry(now time.Duration) retry { return retry{now + firstPause, firstPause} }
-
-// next returns the retry after this one, which failed.
+// next returns the retry after this one, which failed; after the zero retry, the first one.
 func (r retry) next(now time.Duration) retry {
-	pause := 2 * r.pause
-	if pause > longestPause {
-		pause = longestPause
-	}
+	pause := rtr.RetryAfter(r.pause)
 	return retry{now + pause, pause}
 }
 

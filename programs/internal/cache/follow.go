@@ -202,7 +202,7 @@ func (c *Cache) merged(
 	return merged, others, err
 }
 
-// isOffer reports whether a list is refused only because of what is served, or of another file.
+// isOffer reports whether a list is refused only because of the served data, or of another file.
 func isOffer(err error) bool {
 	return errors.As(err, new(*trust.Held)) || errors.As(err, new(*payloads.Contradiction))
 }
@@ -277,8 +277,8 @@ func (c *Cache) recordAccepted(file *followed, list payloads.List) {
 	c.metrics.Expired(file.Path, list.Expired.LeftOut)
 }
 
-// judge holds a list that would withdraw more than the guard allows, together with the offered
-// lists of others.
+// judge returns an error, and holds the list, if the list and the offered lists of other files
+// together would withdraw more than the guard allows.
 func (c *Cache) judge(
 	file *followed, list payloads.List, size payloads.Size, others []*followed, expires bool,
 	running time.Duration,

@@ -31,7 +31,7 @@ const (
 	Other       Reason = "other"
 )
 
-// Failures are the results that a Failure has as its reason.
+// Failures lists the reasons of a Failure.
 var Failures = []Reason{
 	Name, Connect, Certificate, Timeout, Status, Redirect, Cut, Size, Encoding, Disk, Other,
 }

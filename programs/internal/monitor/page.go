@@ -166,7 +166,7 @@ func (s *state) row(now time.Time) row {
 	return r
 }
 
-// servePage answers with the page.
+// servePage sends the page.
 func (m *Monitor) servePage(answer http.ResponseWriter, ask *http.Request) {
 	if ask.URL.Path != "/" {
 		http.NotFound(answer, ask)

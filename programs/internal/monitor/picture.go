@@ -45,7 +45,7 @@ type chart struct {
 	output      *strings.Builder
 }
 
-// x returns the position of a time.
+// x returns the x coordinate of a time.
 func (c *chart) x(at time.Time) float64 {
 	share := float64(at.Sub(c.from)) / float64(c.span)
 	return left + (right-left)*math.Max(0, math.Min(1, share))

@@ -160,8 +160,8 @@ func (m *Monitor) listing(now time.Time) (l listing, differences []Difference, n
 	return l, differences, names
 }
 
-// serveDifferences answers with diff.json: the sources, and the differences, those that have lasted
-// longest first. The members of a payload are those of rtr_diff --json, without its action.
+// serveDifferences sends diff.json: the sources, and the differences, the oldest first. The members
+// of a payload are those of rtr_diff --json, without its action.
 func (m *Monitor) serveDifferences(answer http.ResponseWriter, _ *http.Request) {
 	now := time.Now()
 	l, differences, names := m.listing(now)
