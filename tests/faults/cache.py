@@ -1,29 +1,50 @@
 """A cache program over a file, with faults in its calls, and routers that ask it."""
 import collections
+import contextlib
+import http.client
+import itertools
 import os
 import re
+import resource
+import select
 import signal
 import socket
+import statistics
 import struct
 import subprocess
 import time
 
 import process_state
 from units import END, NO_DATA, NOTIFY, REPORT, RESET_QUERY, RESPONSE, SERIAL_QUERY, SESSION
-from units import TIMEOUT, Wrong, end, prefix, size_of, unit
+from units import TIMEOUT, Wrong, changes, end, payloads, size_of, unit
 
 # Errors that end the connection on whose call they are injected.
 ENDING = {"EPIPE", "ECONNRESET", "ETIMEDOUT", "EHOSTUNREACH", "EIO"}
 
 MINUTE = 60  # the least seconds between two notifies of a connection
 STATE = "STATE"  # the word of a command for the folder that rtr-cache saves in
+METRICS = "--metrics"  # its word for the address of its metrics
+COLLECTS = {"GOGC": "1"}  # so that a program in Go has little garbage
+RESET_WAIT = 100  # milliseconds: the loopback interface passes a reset at once
+# The numbers of answers of which the median of goroutines, and the least memory, count.
+ANSWERS, MEASURED = 5, 20
 
 
-def is_of_edges(faults):
-    """Reports whether the faults are possible where a program waits for edges, as tokio does."""
+def interrupts_sockets(faults):
+    """Reports whether the faults interrupt sends or reads. A system doesn't do that on sockets that
+    don't block, and the crate tokio returns such an error to its caller."""
     words = [word.split(":") for word in faults.split()]
-    return all(call in ("connect", "wait", "accept") and fault != "EAGAIN" or fault in ENDING
-               for call, _, _, fault, *_ in words)
+    return any(call in ("send", "receive") and fault == "EINTR" for call, _, _, fault, *_ in words)
+
+
+def is_reset(connection):
+    """Sends bytes on a connection whose other end sends nothing any more, and reports whether it is
+    reset: then that end was closed, and not for writing alone."""
+    errors = select.poll()
+    errors.register(connection, 0)
+    with contextlib.suppress(ConnectionError):
+        connection.sendall(bytes(8))
+    return bool(errors.poll(RESET_WAIT))
 
 
 class Lost(Exception):
@@ -32,7 +53,8 @@ class Lost(Exception):
 
 class Cache:
     """A cache program. `path` is the file of data that it serves, and `saved_path` the file that it
-    saves. rtr-cache saves in a folder and draws its session; all others take that of the data."""
+    saves. rtr-cache saves in a folder and draws its session; all others take that of the data. It
+    serves metrics, by HTTP, which have its numbers of goroutines and of bytes of memory."""
 
     def __init__(self, command, faults, library, folder, calls=None):
         """Starts the program. `calls` is the name of a file for the tracer's list of calls."""
@@ -42,15 +64,21 @@ class Cache:
         self.draws_session = STATE in command
         self.session = None if self.draws_session else SESSION
         self.fault_log, self.log_path = os.path.join(folder, "seen"), os.path.join(folder, "log")
-        self.state_path = os.path.join(folder, "state")
+        self.state_path, self.memory_path = (
+            os.path.join(folder, name) for name in ("state", "memory"))
         with open(self.log_path, "wb") as log:
             words = [word.replace(STATE, os.path.dirname(self.saved_path)) for word in command]
             self.process = subprocess.Popen(
                 [*words, self.path, "--listen", "127.0.0.1:0"], stdout=log, stderr=log,
-                env={**os.environ, "LD_PRELOAD": library, "FAULTS": faults,
+                env={**os.environ, **COLLECTS, "LD_PRELOAD": library, "FAULTS": faults,
                      "FAULTS_SEEN": self.fault_log, "FAULTS_STATE": self.state_path,
+                     "FAULTS_MEMORY": self.memory_path,
                      **({"FAULTS_CALLS": self.calls} if calls else {})})
         self.port = int(self.wait_for_line(r"listening (?:on|at) 127\.0\.0\.1:(\d+).*")[1])
+        self.metrics = None
+        if METRICS in command:
+            found = self.wait_for_line(r"metrics are at http://([\d.]+:\d+)/metrics.*")
+            self.metrics = http.client.HTTPConnection(found[1], timeout=TIMEOUT)
 
     def log_text(self):
         with open(self.log_path, encoding="utf-8") as log:
@@ -93,7 +121,25 @@ class Cache:
         if os.path.exists(self.state_path):
             links = self.wait_until(self.links_with_spare, "it has a spare descriptor")
         memory = sum(link.startswith("/memfd:") for link in links)
-        return len(links) - memory, process_state.tasks(self.process, self.state_path), memory
+        return len(links) - memory, self.tasks(), memory
+
+    def tasks(self):
+        """Returns the number of threads or goroutines; of rtr-cache, which serves each question by
+        a varying number of them, that of most answers."""
+        if self.metrics:
+            return statistics.median(self.metric("go_goroutines") for _ in range(ANSWERS))
+        return process_state.tasks(self.process, self.state_path)
+
+    def metric(self, name):
+        """Returns the value of a metric."""
+        for _ in range(2):
+            try:
+                self.metrics.request("GET", "/metrics")
+                text = self.metrics.getresponse().read().decode()
+                return int(float(re.search(rf"^{name} (.*)$", text, re.MULTILINE)[1]))
+            except (http.client.HTTPException, ConnectionError):
+                self.metrics.close()  # it was closed since nothing was asked for long
+        raise Wrong("it serves no metrics")
 
     def links_with_spare(self):
         """Returns the targets of its descriptors if it opened /dev/null itself, else None."""
@@ -101,15 +147,16 @@ class Cache:
         return links if "/dev/null" in links[3:] else None
 
     def links(self):
-        """Returns the targets of its descriptors, except the list of faults."""
+        """Returns the targets of its descriptors, except the list of faults, and sockets of the
+        metrics."""
         folder = f"/proc/{self.process.pid}/fd"
-        links = []
+        links, others = [], process_state.sockets_at("127.0.0.2") if self.metrics else ()
         for name in sorted(os.listdir(folder), key=int):
             try:
                 link = os.readlink(f"{folder}/{name}")
             except FileNotFoundError:
                 continue  # it was closed meanwhile
-            if link != self.fault_log:
+            if link != self.fault_log and link not in others:
                 links.append(link)
         return links
 
@@ -117,20 +164,42 @@ class Cache:
         """Waits until it has the `first` numbers of descriptors and threads, one more for each
         connected router, and at most `memory` files in memory. In Go a router also has a
         goroutine."""
-        tasks = routers if os.path.exists(self.state_path) else 0
+        tasks = routers if self.metrics or os.path.exists(self.state_path) else 0
         expected = first[0] + routers, first[1] + tasks
 
         def is_settled():
-            current = self.resources()
-            return current[:2] == expected and current[2] <= memory
+            descriptors, running, files = self.resources()
+            is_running = running <= expected[1] if self.metrics else running == expected[1]
+            return descriptors == expected[0] and is_running and files <= memory
         try:
             self.wait_until(is_settled, "descriptors and threads as at the start")
         except Wrong as wrong:
             raise Wrong(f"{wrong}: {self.resources()}, not {expected} and {memory}") from None
 
     def memory_size(self):
-        """Returns its resident memory in bytes."""
-        return process_state.memory(self.process, self.state_path)
+        """Returns its resident memory in bytes, or in Go and Node that of its heap."""
+        if self.metrics:
+            return min(self.metric("go_memstats_heap_alloc_bytes") for _ in range(MEASURED))
+        counts = os.path.exists(self.memory_path)
+        return process_state.memory(self.process, self.memory_path if counts else self.state_path)
+
+    def cpu_seconds(self):
+        """Returns the processor's time that it has used."""
+        with open(f"/proc/{self.process.pid}/stat", encoding="ascii") as file:
+            words = file.read().rpartition(")")[2].split()
+        return (int(words[11]) + int(words[12])) / os.sysconf("SC_CLK_TCK")
+
+    def starve(self):
+        """Lowers the limit of its descriptors to those that it has. Returns its former limits."""
+        used = {int(name) for name in os.listdir(f"/proc/{self.process.pid}/fd")}
+        free = next(number for number in itertools.count() if number not in used)
+        soft, hard = resource.prlimit(self.process.pid, resource.RLIMIT_NOFILE)
+        resource.prlimit(self.process.pid, resource.RLIMIT_NOFILE, (free, hard))
+        return soft, hard
+
+    def feed(self, limits):
+        """Sets the limits of its descriptors."""
+        resource.prlimit(self.process.pid, resource.RLIMIT_NOFILE, limits)
 
     def injected_faults(self):
         """Returns the faults that were injected, as words: the call, its number, the fault."""
@@ -138,6 +207,11 @@ class Cache:
             return []
         with open(self.fault_log, encoding="ascii") as file:
             return [line.split() for line in file]
+
+    def may_close(self):
+        """Reports whether it closes new connections while it has no descriptors, as Node does by
+        one that it has in reserve."""
+        return os.path.exists(self.memory_path)
 
     def terminate(self):
         """Ends the program by SIGTERM, and checks its status."""
@@ -255,8 +329,8 @@ class Router:
             raise Wrong(f"a router got {report.hex()}, not a report of code {code}")
 
     def expect_last_report(self, code, refused):
-        """Expects a report of this code about this unit, and then the end of the connection, not a
-        reset, by which a system may drop what wasn't read yet."""
+        """Expects a report of this code about this unit, and then the end of what the cache sends.
+        It still reads: a reset may let a system drop what wasn't read yet."""
         self.expect_report(code, refused)
         try:
             rest = self.unread[self.offset:] + self.socket.recv(1)
@@ -264,15 +338,17 @@ class Router:
             raise Wrong(f"after a report: {error}") from error
         if rest:
             raise Wrong(f"after a report a router got {rest.hex()}")
+        if is_reset(self.socket):
+            raise Wrong("after a report the cache closed the connection, and not for writing alone")
 
     def may_be_notified(self):
         """Reports whether a notify may have come: the first of a connection, or another one if the
         connection has lasted for a minute (RFC 8210 section 5.2)."""
         return not self.is_notified or time.monotonic() > self.connected_at + MINUTE
 
-    def expect_answer(self, serial, prefixes, withdrawn=()):
-        """Expects a whole answer: these units in any order between a response and an end. A notify
-        may come before it."""
+    def expect_answer(self, serial, items, withdrawn=()):
+        """Expects a whole answer: the units of these items that the version has, in any order
+        between a response and an end. A notify may come before it."""
         while (first := self.read_unit()) == self.notify(serial) and self.may_be_notified():
             self.is_notified = True
         if first != self.unit(RESPONSE, self.session):
@@ -280,13 +356,28 @@ class Router:
         units = []  # they are compared later, since the cache closes if nothing is read for long
         while (received := self.read_unit())[1] != END:
             units.append(received)
-        payloads = collections.Counter(units)
-        expected = collections.Counter(prefix(text, 1, self.version) for text in prefixes)
-        expected += collections.Counter(prefix(text, 0, self.version) for text in withdrawn)
+        found = collections.Counter(units)
+        expected = collections.Counter(payloads(items, 1, self.version))
+        expected += collections.Counter(payloads(withdrawn, 0, self.version))
         expected_end = end(serial, self.version, self.session)
         if received != expected_end:
             raise Wrong(f"a router got the end {received.hex()}, not {expected_end.hex()}")
-        if payloads != expected:
-            extra, missing = list(payloads - expected), list(expected - payloads)
+        if found != expected:
+            extra, missing = list(found - expected), list(expected - found)
             raise Wrong(f"a router got {[unit.hex() for unit in extra[:3]]} of {len(extra)} too "
                         f"many, and lacks {[unit.hex() for unit in missing[:3]]} of {len(missing)}")
+
+    def skip_answer(self, serial, items):
+        """Reads as many bytes as a whole answer with these items has, and checks its end."""
+        units = [self.unit(RESPONSE, self.session), *payloads(items, 1, self.version),
+                 end(serial, self.version, self.session)]
+        size = sum(map(len, units))
+        while len(self.unread) < size:
+            self.unread += self.receive()
+        if not self.unread.endswith(units[-1]) or len(self.unread) > size:
+            raise Wrong(f"a router got {len(self.unread)} bytes, not an answer of {size}")
+        self.unread = b""
+
+    def expect_changes(self, before, after, serial):
+        """Expects an answer with the changes from one list of items to another."""
+        self.expect_answer(serial, *changes(before, after))

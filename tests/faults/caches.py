@@ -3,19 +3,23 @@ units that RFC 8210 wants, whatever fails; a fault that ends a connection ends t
 cache that can't accept serves the others, and accepts later; and at the end it has the descriptors
 and threads that it had at the start.
 """
+import errno
 import os
 import threading
 import time
 from concurrent.futures import ThreadPoolExecutor
 
-from cache import ENDING, Cache, Lost, Router, is_of_edges, replace_file
-from units import INVALID_REQUEST, RESPONSE, SESSION, Wrong, end, prefix, unit
+from cache import ENDING, Cache, Lost, Router, interrupts_sockets, replace_file
+from process_state import Wait
+from units import ASPAS, INVALID_REQUEST, KEYS, RESPONSE, SESSION, TICK
+from units import Wrong, end, payloads, unit
 
-FEW = ["10.0.0.0/8", "192.0.2.0/24", "198.51.100.0/24", "2001:db8::/32"]
+OTHERS = [*KEYS[:2], *ASPAS[:2]]  # than prefixes, at the end of each list
+FEW = ["10.0.0.0/8", "192.0.2.0/24", "198.51.100.0/24", "2001:db8::/32", "2001:db8:2::/48", *OTHERS]
 # Enough that a cache sends them from a file in memory, and more than it sends at once to a router
 # that doesn't read.
-MANY = [f"10.{i >> 8}.{i & 255}.0/24" for i in range(6_000)]
-MOST = [f"10.{i >> 14}.{i >> 6 & 255}.{(i & 63) << 2}/30" for i in range(40_000)]
+MANY = [*(f"10.{i >> 8}.{i & 255}.0/24" for i in range(6_000)), *OTHERS]
+MOST = [*(f"10.{i >> 14}.{i >> 6 & 255}.{(i & 63) << 2}/30" for i in range(40_000)), *OTHERS]
 NEW = ["203.0.113.0/24", "2001:db8:1::/48"]
 
 MOST_LOST = 30  # connections that a session loses
@@ -27,10 +31,10 @@ SLOW_BUFFER = 1 << 17
 SLOW_READS = (3_000, 0.1)  # bytes and a pause in seconds: a cache closes if it can send none
 SOON = 15  # seconds, half of the shortest limit of a connection that waits to send
 PAUSES = 100  # the most failed accepts in a second: the shortest pause is 20 ms
+# The most of a processor that a cache without descriptors uses: a loop without a pause uses all.
+MOST_SHARE = 0.5
 
-# A fault that is injected, and whether the data are many. The crate tokio waits for edges: the
-# system has to have moved less than a call asked for, or it isn't told when it may go on. So no
-# call may pretend that.
+# A fault that is injected, and whether the data are many.
 SESSIONS = {
     "nothing": ("", False),
     "many bytes": ("", True),
@@ -59,6 +63,9 @@ SESSIONS = {
     "hosts that can't be reached": ("send:3:3:EHOSTUNREACH send:7:7:EHOSTUNREACH", False),
     "all but accepts at once": ("send:1:0:5 send:2:0:EINTR:3 send:3:0:EAGAIN:7 receive:1:0:3 "
                                 "receive:2:0:EAGAIN:3 wait:1:0:EINTR:3", False),
+    "all but interrupted calls at once": ("send:1:0:5 send:3:0:EAGAIN:7 receive:1:0:3 "
+                                          "receive:2:0:EAGAIN:3 wait:1:0:EINTR:3 "
+                                          "accept:1:0:EMFILE:3", False),
     "all at once": ("send:1:0:5 send:2:0:EINTR:3 send:3:0:EAGAIN:7 receive:1:0:3 "
                     "receive:2:0:EAGAIN:3 wait:1:0:EINTR:3 accept:1:0:EMFILE:3", False),
 }
@@ -66,36 +73,54 @@ LEAVINGS = {
     "routers that leave": "",
     "routers that leave under faults": "send:7:0:EPIPE:7 receive:9:0:ECONNRESET:11 "
                                        "accept:5:0:EMFILE:40 accept:8:0:ECONNABORTED:30",
+    "routers that leave under rarer faults": "send:7:0:EPIPE:70 receive:9:0:ECONNRESET:11 "
+                                             "accept:5:0:EMFILE:40 accept:8:0:ECONNABORTED:30",
 }
 SLOW = {
     "a slow router": "",
     "a slow router under faults": "send:1:0:EINTR:3 send:2:0:50000:2 send:4:0:EAGAIN:5 "
                                   "wait:1:0:EINTR:5",
+    "a slow router behind short sends": "send:2:0:50000:2 send:4:0:EAGAIN:5 wait:1:0:EINTR:5",
 }
+THOUSAND = "a thousand routers that leave"
 NO_ACCEPT = {"no descriptors for long": "accept:2:0:EMFILE"}
-# Node accepts by itself: without descriptors it closes new connections, without a pause between its
-# tries. So it has a run without the errors that say so. Its memory grows until it collects garbage:
-# bindings/js/tests/servers.js has the routers that leave.
-NODE_ONLY = "all but accepts at once"
-OF_ACCEPT = {"EMFILE", "ENFILE"}
+FULL = {"EMFILE", "ENFILE"}  # the errors of a system without descriptors or files
+STARVED = "a process without descriptors"
+# The seconds until the first query (docs/SESSIONS.md), and the most that its end may come later.
+SILENT = "a router that asks nothing"
+FIRST_LIMIT, MOST_LATE = 30, 1.5
+FOLDER = "a folder in the place of the file"
+# Node has two runs in place of others: it sends an answer in more parts, and without descriptors it
+# closes new connections. The crate tokio has two in place of those that interrupt sends or reads,
+# and its program here doesn't log why it can't read its file.
+NODE_ONLY = {"all but accepts at once", "routers that leave under rarer faults"}
+NOT_NODE = {"all at once", "routers that leave under faults", *NO_ACCEPT}
+TOKIO_ONLY = {"all but interrupted calls at once", "a slow router behind short sends"}
 
 
 def names(program):
     """Returns the names of the runs of a cache."""
-    faults = {name: faults for name, (faults, _) in SESSIONS.items()}
-    faults = {**SLOW, **LEAVINGS, **NO_ACCEPT, **faults}
+    sessions = {name: faults for name, (faults, _) in SESSIONS.items()}
+    faults = {**SLOW, **LEAVINGS, **NO_ACCEPT, **sessions,
+              **dict.fromkeys((THOUSAND, STARVED, SILENT, FOLDER), "")}
+    if program == "tokio cache":
+        return [name for name in faults if name not in NODE_ONLY and name != FOLDER
+                and not interrupts_sockets(faults[name])]
     if program == "Node cache":
-        return [name for name in faults if name not in LEAVINGS
-                and not OF_ACCEPT & {word.split(":")[3] for word in faults[name].split()}]
-    del faults[NODE_ONLY]
-    if program == "Go cache":
-        return [name for name in faults if name != "interrupted waits"]
-    return [name for name in faults if program != "tokio cache" or is_of_edges(faults[name])]
+        return [name for name in faults if name not in NOT_NODE | TOKIO_ONLY]
+    left_out = {"interrupted waits"} if program == "Go cache" else set()
+    return [name for name in faults if name not in NODE_ONLY | TOKIO_ONLY | left_out]
 
 
-def content(serial, prefixes, session=SESSION):
+def content(serial, items, session=SESSION):
     """Returns the file of data."""
-    return b"".join(prefix(text, 1) for text in prefixes) + end(serial, session=session)
+    return b"".join(payloads(items, 1)) + end(serial, session=session)
+
+
+def changed(items):
+    """Returns these items without two prefixes, a router key and an ASPA, with another of each, and
+    with other providers of a customer."""
+    return [*items[2:-len(OTHERS)], NEW[0], *KEYS[1:], ASPAS[2]]
 
 
 class Routers:
@@ -106,7 +131,7 @@ class Routers:
         self.routers = [Router(cache, version) for version in versions]
         self.serials = [None for _ in versions]  # of the data that each has
 
-    def run_each(self, ask, read, serial, prefixes):
+    def run_each(self, ask, read, serial, items):
         """Runs `ask` for each router without the newest data, then `read`, for all at once, since a
         cache closes a connection that takes nothing for long. A router whose connection ends
         reconnects and asks for all data."""
@@ -119,7 +144,7 @@ class Routers:
                 lost.update(index for index, is_lost in zip(indices, are_lost) if is_lost)
         for index in indices:
             if index in lost:
-                self.reconnect(index, serial, prefixes)
+                self.reconnect(index, serial, items)
             self.serials[index] = serial
 
     def loses_connection(self, index, step):
@@ -130,7 +155,7 @@ class Routers:
             return True
         return False
 
-    def reconnect(self, index, serial, prefixes):
+    def reconnect(self, index, serial, items):
         version = self.routers[index].version
         while True:
             self.lost += 1
@@ -140,7 +165,7 @@ class Routers:
             self.routers[index] = Router(self.cache, version)
             try:
                 self.routers[index].ask_all()
-                return self.routers[index].expect_answer(serial, prefixes)
+                return self.routers[index].expect_answer(serial, items)
             except Lost:
                 pass
 
@@ -168,45 +193,44 @@ def count_refusals(cache):
             router.close()
 
 
-def play_session(cache, prefixes, first):
+def play_session(cache, items, first):
     """Routers of all versions get all data, a notify and changes, and changes without a notify:
     the next one has a minute's pause (RFC 8210 section 5.2). One gets a report."""
     routers = Routers(cache, (2, 1, 0, 2))
-    routers.run_each(Router.ask_all, lambda router: router.expect_answer(1, prefixes), 1, prefixes)
+    routers.run_each(Router.ask_all, lambda router: router.expect_answer(1, items), 1, items)
 
-    second = [*prefixes[2:], NEW[0]]
+    second = changed(items)
     cache.replace(content(2, second))
     cache.wait_for_serial(2)
-    changed = ([NEW[0]], prefixes[:2])
 
     def take_notify(router):
         router.expect_notify(2)
         router.ask_after(1)
-    routers.run_each(take_notify, lambda router: router.expect_answer(2, *changed), 2, second)
+    routers.run_each(take_notify, lambda router: router.expect_changes(items, second, 2), 2, second)
 
     third = [NEW[1], *second]
     cache.replace(content(3, third))
     cache.wait_for_serial(3)
-    of_ipv6 = [NEW[1]]
     routers.run_each(lambda router: router.ask_after(2),
-                     lambda router: router.expect_answer(3, of_ipv6), 3, third)
+                     lambda router: router.expect_changes(second, third, 3), 3, third)
 
     lost = routers.lost + count_refusals(cache)
     broken = sum(fault in ENDING for _, _, fault in cache.injected_faults())
-    if lost != broken:
+    is_full = any(fault in FULL for _, _, fault in cache.injected_faults())
+    if lost < broken or lost > broken and not (is_full and cache.may_close()):
         raise Wrong(f"{lost} connections ended, not {broken}")
     routers.close()
-    cache.wait_for_resources(first, 3 if prefixes is MANY else 0)
+    cache.wait_for_resources(first, 3 if items is MANY else 0)
 
 
-def connect_and_leave(cache, number):
-    """Connects a router, which leaves in one of six ways."""
+def connect_and_leave(cache, number, read):
+    """Connects a router, which leaves in one of six ways; `read` reads a whole answer."""
     router = Router(cache, number % 3)
     try:
         way = number % 6
         if way in (0, 1):
             router.ask_all()
-            router.expect_answer(1, MANY)
+            read(router, 1, MANY)
         elif way == 2:
             router.send(router.unit(0)[:5])
         elif way in (3, 4):
@@ -219,16 +243,16 @@ def connect_and_leave(cache, number):
     router.close()
 
 
-def play_leavings(cache, faults, first):
-    """Two hundred routers that come and leave, in turn, take no memory, and don't disturb one that
+def play_leavings(cache, count, faults, first):
+    """So many routers that come and leave, in turn, take no memory, and don't disturb one that
     stays."""
     routers = Routers(cache, [1])
     steps = Router.ask_all, lambda router: router.expect_answer(1, MANY), 1, MANY
     routers.run_each(*steps)  # the cache closes a connection without a query after 30 seconds
-    sizes = []
+    sizes, read = [], Router.expect_answer if faults else Router.skip_answer
     for _ in range(2):
-        for number in range(100):
-            connect_and_leave(cache, number)
+        for number in range(count // 2):
+            connect_and_leave(cache, number, read)
         cache.wait_for_resources(first, 3, len(routers.routers))
         sizes.append(cache.memory_size())
     if sizes[1] > sizes[0] + MEMORY:
@@ -256,7 +280,7 @@ def play_slow(cache, first):
     def take_notify(router):
         router.expect_notify(2)
         router.ask_after(1)
-    routers.run_each(take_notify, lambda router: router.expect_answer(2, [], MOST[:1]), 2, second)
+    routers.run_each(take_notify, lambda router: router.expect_changes(MOST, second, 2), 2, second)
     if routers.lost:
         raise Wrong(f"{routers.lost} connections ended")
     stop.set()
@@ -267,7 +291,7 @@ def play_slow(cache, first):
     if time.monotonic() - start > SOON:
         raise Wrong("the notify didn't come as soon as the answer was sent")
     slow_router.ask_after(1)
-    slow_router.expect_answer(2, [], MOST[:1])
+    slow_router.expect_changes(MOST, second, 2)
     slow_router.close()
     routers.close()
     cache.wait_for_resources(first, 3)
@@ -292,6 +316,67 @@ def play_no_accept(cache, _):
     other.close()
 
 
+def play_starved(cache, first):
+    """While the process has no descriptors, it serves the connected router, and doesn't use the
+    processor for its tries to accept. Routers that connect wait, or their connections are closed;
+    once it has descriptors, they get the data."""
+    router = Router(cache)
+    router.ask_all()
+    router.expect_answer(1, FEW)
+    limits = cache.starve()
+    start, before = time.monotonic(), cache.cpu_seconds()
+    others = Routers(cache, (2, 1, 0))
+    while time.monotonic() < start + 2:
+        router.ask_all()
+        router.expect_answer(1, FEW)
+        time.sleep(0.1)
+    share = (cache.cpu_seconds() - before) / (time.monotonic() - start)
+    if share > MOST_SHARE:
+        raise Wrong(f"without descriptors it uses {share:.0%} of a processor")
+    cache.feed(limits)
+    others.run_each(Router.ask_all, lambda router: router.expect_answer(1, FEW), 1, FEW)
+    if others.lost and not cache.may_close():
+        raise Wrong(f"{others.lost} connections of routers that waited ended")
+    router.close()
+    others.close()
+    cache.wait_for_resources(first, 0)
+
+
+def play_silent(cache, first):
+    """A router that asks nothing loses its connection at the limit of that, and not later."""
+    wait = Wait(cache.process.pid)
+    router = Router(cache)
+    try:
+        raise Wrong(f"a router that asks nothing got {router.receive().hex()}")
+    except Lost:
+        seconds, idle = wait.seconds()
+    if seconds < FIRST_LIMIT - TICK or idle > FIRST_LIMIT + MOST_LATE:
+        raise Wrong(f"the connection of a router that asks nothing ended after {seconds} seconds")
+    router.close()
+    cache.wait_for_resources(first, 0)
+
+
+def play_folder(cache, first):
+    """A file that can be opened, and not be read, changes no data, and the log says why."""
+    os.remove(cache.path)
+    os.mkdir(cache.path)
+    texts = os.strerror(errno.EISDIR), "EISDIR: ", "not a regular file"
+    cache.wait_for_line(rf"(?i): (?:{'|'.join(texts)}).*")
+    router = Router(cache)
+    router.ask_all()
+    router.expect_answer(1, FEW)
+    os.rmdir(cache.path)
+    cache.replace(content(2, changed(FEW)))
+    cache.wait_for_serial(2)
+    router.expect_notify(2)
+    router.close()
+    cache.wait_for_resources(first, 0)
+
+
+# Scenes without injected faults.
+FAULTLESS = {STARVED: play_starved, SILENT: play_silent, FOLDER: play_folder}
+
+
 def scene_of(name):
     """Returns the faults of a name, the data, and the function that plays them."""
     if name in SESSIONS:
@@ -300,7 +385,11 @@ def scene_of(name):
         return faults, data, lambda cache, first: play_session(cache, data, first)
     if name in LEAVINGS:
         faults = LEAVINGS[name]
-        return faults, MANY, lambda cache, first: play_leavings(cache, faults, first)
+        return faults, MANY, lambda cache, first: play_leavings(cache, 200, faults, first)
+    if name == THOUSAND:
+        return "", MANY, lambda cache, first: play_leavings(cache, 1000, "", first)
+    if name in FAULTLESS:
+        return "", FEW, FAULTLESS[name]
     if name in SLOW:
         return SLOW[name], MOST, play_slow
     return NO_ACCEPT[name], FEW, play_no_accept
@@ -314,7 +403,7 @@ def play(command, name, library, folder):
     try:
         cache = Cache(command, faults, library, folder)
         cache.wait_for_serial(1)
-        cache.wait_until(lambda: os.path.exists(f"{cache.path}.kept"), "it saves its data")
+        cache.wait_until(lambda: os.path.exists(cache.saved_path), "it saves its data")
         scene(cache, cache.resources())
         if faults and not cache.injected_faults():
             raise Wrong("the fault wasn't injected")

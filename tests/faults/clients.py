@@ -3,6 +3,7 @@ fails, the client prints each change of the cache's data once, in order; it reco
 fault that ends a connection; and at the end it has as many descriptors and threads as after its
 first data.
 """
+import base64
 import collections
 import ipaddress
 import os
@@ -13,33 +14,48 @@ import struct
 import subprocess
 import threading
 import time
+from concurrent.futures import Future
 
 import process_state
-from cache import is_of_edges
-from units import AS, NOTIFY, REPORT, RESET_QUERY, RESPONSE, SERIAL_QUERY, SESSION, TIMEOUT, Wrong
-from units import end, prefix, size_of, unit
+import tls
+from cache import interrupts_sockets, is_reset
+from units import AS, ASPAS, KEYS, NOTIFY, REPORT, RESET_QUERY, RESPONSE, SERIAL_QUERY, SESSION
+from units import TIMEOUT, Aspa, RouterKey, Wrong, changes, end, payloads, size_of, unit
 
 RECONNECTS = 4
 LINES = 20  # of what a client wrote to standard error, that a failure shows
 
-# Two hundred connects of a client. It counts what it has allocated when a connection has ended: at
-# the second hundredth end that is what it was at the first.
+# Two hundred connects of a client. It counts its allocated memory after each connection: after the
+# two hundredth it has as much as after the first.
 CONNECTS = "two hundred connects"
+# The same, but all connects after the first connection fail, at both addresses of the name.
+FAILING = "two hundred failing connects"
 PAUSE = "10"  # milliseconds between two connections
 HUNDRED = 100
 # The most objects, one for each second connection, and bytes by which a client may grow.
 MOST_GROWTH = (HUNDRED // 2, 1 << 12)
-COUNTING = ("C client", "Python", "asyncio", "Node", "Rust that counts", "Go", "tokio")
+COUNTING = ("C client", "C link", "Python", "asyncio", "Node", "Rust that counts", "Go", "tokio")
+IN_C = ("C client", "C link")  # they free what the system found for a name
 
 # A cache whose first answer is a unit of a type that nobody knows: the client has to send a whole
 # report of this code about it (RFC 8210 section 12), and asks again.
 REFUSED = "a report by sends of a byte"
 UNKNOWN, UNKNOWN_TYPE = unit(5, 0), 5
 
+# The same, but the cache doesn't close when the client has closed for writing: that gives it two
+# seconds (RTR_LAST_REPORT_LIMIT), and connects again after one at most. The seconds in which it has
+# to do that: less than with twice that limit.
+STAYS = "a report to a cache that doesn't close"
+MOST_STAY = 4
+
 # A name whose first address takes no connection and refuses none: a client has to leave it in time
 # to try the second, where the cache is.
 SILENT = "a first address that doesn't answer"
 SILENT_RECONNECTS = 1  # each takes some fifteen seconds, half of the time to connect
+
+# The first data, of which each change drops the first.
+DATA = ["10.0.0.0/8", KEYS[0], ASPAS[0], "192.0.2.0/24", "2001:db8::/32", "2001:db8:2::/48",
+        KEYS[1], ASPAS[1]]
 
 # What is injected: faults that end a connection, or keep one from being opened, and all.
 BREAKING = {
@@ -55,6 +71,8 @@ BREAKING = {
 FAULTS = {
     "nothing": "",
     SILENT: "",
+    STAYS: "",
+    FAILING: f"connect:3:{2 + 2 * 2 * HUNDRED}:ECONNREFUSED",
     "sends of a byte": "send:1:0:1",
     REFUSED: "send:1:0:1",
     "reads of a byte": "receive:1:0:1",
@@ -68,23 +86,46 @@ FAULTS = {
 }
 
 
-def line(text, sign):
-    net = ipaddress.ip_network(text)
+# The client over TLS asks in version 1. It makes more calls: those faults may end a handshake, and
+# these end what follows it.
+TLS = "C client over TLS"
+OVER_TLS = {
+    "pipes that break at queries over TLS": "send:3:3:EPIPE send:6:6:EPIPE",
+    "resets in answers over TLS": "receive:16:16:ECONNRESET receive:34:34:ECONNRESET",
+}
+BREAKING.update(OVER_TLS)
+FAULTS.update(OVER_TLS)
+
+
+def line(item, sign):
+    """Returns the line of rtr_diff about an item (docs/man/rtr_list.1)."""
+    if isinstance(item, RouterKey):
+        info = base64.b64encode(item.info).decode().rstrip("=")
+        return f"{sign} router key {item.identifier.hex()} AS{item.asn} {info}"
+    if isinstance(item, Aspa):
+        providers = "".join(f" AS{asn}" for asn in item.providers) if sign == "+" else ""
+        return f"{sign} ASPA AS{item.customer} providers{providers}"
+    net = ipaddress.ip_network(item)
     return f"{sign} IPv{net.version} prefix {net}-{net.prefixlen} AS{AS}"
 
 
 class Cache:
     """A cache that answers queries as RFC 8210 says, with data that change; but the first one by
-    `refused`, if that isn't empty."""
+    `refused`, if that isn't empty. If it stays, it doesn't close the connection of a report."""
 
-    def __init__(self, family, refused):
+    def __init__(self, family, data, refused, stays):
         host = "::1" if family == socket.AF_INET6 else "127.0.0.1"
         self.listener = socket.create_server((host, 0), family=family)
         self.port = self.listener.getsockname()[1]
         self.lock = threading.Lock()
-        self.serial, self.history = 1, {1: ["10.0.0.0/8", "192.0.2.0/24", "2001:db8::/32"]}
+        self.serial, self.history = 1, {1: data}
         self.connections, self.accepted = [], 0
         self.refused, self.reports, self.queries = refused, [], []
+        self.stays, self.wait, self.is_reset = stays, None, None
+        self.client = Future()  # the process, which may ask before its number is known here
+        # The seconds from the end of a report's connection to the next one, but those in which the
+        # client was busy, and whether it has closed the first one then.
+        self.stay, self.is_closed = None, False
         threading.Thread(target=self.accept, daemon=True).start()
 
     def accept(self):
@@ -94,12 +135,15 @@ class Cache:
             except OSError:
                 return
             self.accepted += 1
+            if self.accepted == 2 and self.wait:
+                _, self.stay = self.wait.seconds()
+                self.is_closed = is_reset(self.connections[0])
             self.connections.append(connection)
             threading.Thread(target=self.serve, args=(connection,), daemon=True).start()
 
     def serve(self, connection):
         """Answers queries until the connection ends."""
-        unread = b""
+        unread, stays = b"", False
         try:
             while received := connection.recv(4096):
                 unread += received
@@ -107,10 +151,15 @@ class Cache:
                     query, unread = unread[:size], unread[size:]
                     with self.lock:
                         connection.sendall(self.answer(query))
+                    stays = self.stays and query[1] == REPORT
+            if stays:
+                self.wait = process_state.Wait(self.client.result(TIMEOUT))
+                self.is_reset = is_reset(connection)
         except OSError:
             pass
         finally:
-            connection.close()
+            if not stays:
+                connection.close()
 
     def answer(self, query):
         since = struct.unpack(">I", query[8:12])[0] if query[1] == SERIAL_QUERY else None
@@ -122,10 +171,11 @@ class Cache:
         if self.refused:
             refused, self.refused = self.refused, b""
             return refused
-        old, new = self.history.get(since, []), self.history[self.serial]
-        changes = [prefix(text, 1) for text in new if text not in old]
-        changes += [prefix(text, 0) for text in old if text not in new]
-        return unit(RESPONSE, SESSION) + b"".join(changes) + end(self.serial)
+        version = query[0]
+        announced, withdrawn = changes(self.history.get(since, []), self.history[self.serial])
+        units = payloads(announced, 1, version) + payloads(withdrawn, 0, version)
+        start = unit(RESPONSE, SESSION, version=version)
+        return start + b"".join(units) + end(self.serial, version)
 
     def change(self, data, notifies):
         """Serves these data under the next serial number."""
@@ -135,7 +185,8 @@ class Cache:
             if notifies:
                 for connection in self.connections:
                     try:
-                        connection.sendall(unit(NOTIFY, SESSION, struct.pack(">I", self.serial)))
+                        connection.sendall(unit(NOTIFY, SESSION, struct.pack(">I", self.serial),
+                                                self.queries[-1][0]))
                     except OSError:
                         pass
 
@@ -172,19 +223,28 @@ class Run:
     reconnects after a short pause."""
 
     def __init__(self, command, faults, library, folder, name):
-        refused, counts = UNKNOWN if name == REFUSED else b"", name == CONNECTS
-        self.cache = Cache(socket.AF_INET, refused)
+        refused = UNKNOWN if name in (REFUSED, STAYS) else b""
+        self.counts = name in (CONNECTS, FAILING)
+        # After a connection without an answer a client may ask in version 1 (section 7).
+        data = [item for item in DATA if name not in BREAKING or not isinstance(item, Aspa)]
+        self.cache = Cache(socket.AF_INET, data, refused, name == STAYS)
         self.silent = silent_at(self.cache.port) if name == SILENT else ()
+        identity = tls.identity_in(command)
+        self.version, self.front = 2, None
+        if identity:
+            self.version, self.front = 1, tls.Front(self.cache.port, identity)
         self.fault_log, self.state_path, self.memory_path = (
             os.path.join(folder, name) for name in ("seen", "state", "memory"))
-        counting = {"FAULTS_PAUSE": PAUSE, "FAULTS_MEMORY": self.memory_path} if counts else {}
+        counting = {"FAULTS_PAUSE": PAUSE, "FAULTS_MEMORY": self.memory_path} if self.counts else {}
         self.output_file = open(os.path.join(folder, "said"), "w+b")
         # The name has two addresses in sockets.c, and the cache is at the second.
-        words = [word.replace("ADDRESS", f"localhost:{self.cache.port}") for word in command]
+        port = self.front.port if self.front else self.cache.port
+        words = [word.replace("ADDRESS", f"localhost:{port}") for word in command]
         self.process = subprocess.Popen(
             words, stdout=subprocess.PIPE, stderr=self.output_file,
             env={**os.environ, "LD_PRELOAD": library, "FAULTS": faults,
                  "FAULTS_SEEN": self.fault_log, "FAULTS_STATE": self.state_path, **counting})
+        self.cache.client.set_result(self.process.pid)
         self.unread, self.lines = b"", collections.deque()
 
     def read(self, expected):
@@ -225,10 +285,14 @@ class Run:
         self.cache.change(new, notifies=not number)
         if number:
             self.cache.hang_up()
-        self.read([line(data[0], "-"), line(new[-1], "+")])
+        self.read(self.lines_of(data[:1], "-") + self.lines_of(new[-1:], "+"))
+
+    def lines_of(self, items, sign):
+        """Returns the lines about those items that the client's version has."""
+        return [line(item, sign) for item in items if payloads([item], 1, self.version)]
 
     def play(self, may_break, reconnects):
-        self.read([line(text, "+") for text in self.cache.history[1]])
+        self.read(self.lines_of(self.cache.history[1], "+"))
         if self.silent and is_connecting(self.cache.port):
             raise Wrong("it has data, and still opens a connection to the first address")
         first = self.resources()
@@ -240,7 +304,7 @@ class Run:
                 self.check_queries()
             if number and number % HUNDRED == 0:
                 self.wait_for_resources(first)
-        if reconnects > HUNDRED:
+        if self.counts:
             self.check_memory()
         self.wait_for_resources(first)
         if not may_break and self.cache.accepted != 1 + reconnects:
@@ -256,7 +320,9 @@ class Run:
         """Checks that the client asked for all data, and at the notify for the changes (RFC 8210
         section 8.2), on one connection: the refresh time is an hour."""
         queries, accepted = self.cache.queries, self.cache.accepted
-        if queries != [unit(RESET_QUERY, 0), unit(SERIAL_QUERY, SESSION, struct.pack(">I", 1))]:
+        expected = [unit(RESET_QUERY, 0, version=self.version),
+                    unit(SERIAL_QUERY, SESSION, struct.pack(">I", 1), self.version)]
+        if queries != expected:
             raise Wrong(f"its queries are {[query.hex() for query in queries]}")
         if accepted != 1:
             raise Wrong(f"it connected {accepted} times before a connection ended")
@@ -275,11 +341,23 @@ class Run:
         if len(reports) != 1 or reports[0][1:4] != code or not reports[0][8:].startswith(about):
             raise Wrong(f"it sent these reports: {[report.hex() for report in reports]}")
 
+    def check_stay(self):
+        """Checks that the client closed the connection of its report for writing, and read on, but
+        not for long."""
+        if self.cache.is_reset is not False or self.cache.stay is None:
+            raise Wrong("after its report it closed the connection, and not for writing alone")
+        if self.cache.stay > MOST_STAY:
+            raise Wrong(f"it connected {self.cache.stay:.1f} seconds after its report")
+        if not self.cache.is_closed:
+            raise Wrong("it connected, and still has the connection of its report")
+
     def end(self):
         self.process.kill()
         self.process.wait()
         self.process.stdout.close()
         self.cache.end()
+        if self.front:
+            self.front.close()
         for silent in self.silent:
             silent.close()
         self.output_file.seek(0)
@@ -294,10 +372,13 @@ def play(command, name, library, folder):
     run = Run(command, faults, library, folder, name)
     wrong = None
     try:
-        reconnects = {CONNECTS: 2 * HUNDRED, SILENT: SILENT_RECONNECTS}.get(name, RECONNECTS)
-        run.play(name in BREAKING or name in (CONNECTS, REFUSED), reconnects)
-        if name == REFUSED:
+        reconnects = {CONNECTS: 2 * HUNDRED, SILENT: SILENT_RECONNECTS, FAILING: 1}.get(
+            name, RECONNECTS)
+        run.play(name in BREAKING or name in (CONNECTS, FAILING, REFUSED, STAYS), reconnects)
+        if name in (REFUSED, STAYS):
             run.check_report()
+        if name == STAYS:
+            run.check_stay()
         if faults and not os.path.exists(run.fault_log):
             raise Wrong("the fault wasn't injected")
     except (Wrong, OSError, subprocess.TimeoutExpired) as error:
@@ -309,11 +390,15 @@ def play(command, name, library, folder):
 def names(program):
     """Returns the names of the runs of a client. In Go only calls of connections get faults, and a
     short write is one whose time is over, after which no more of a report is sent; and names are
-    looked up by Go itself. The crate tokio waits for edges."""
+    looked up by Go itself. OpenSSL tries one address after another, without a limit for each."""
     counts = [CONNECTS] if program in COUNTING else []
+    if program == "Rust that counts":
+        return counts
+    if program == TLS:
+        return [name for name in FAULTS if name not in (SILENT, REFUSED, STAYS, FAILING)]
+    left_out = {*OVER_TLS} if program in IN_C else {*OVER_TLS, FAILING}
     if program == "tokio":
-        return [*(name for name in FAULTS if is_of_edges(FAULTS[name])), *counts]
+        left_out |= {name for name in FAULTS if interrupts_sockets(FAULTS[name])}
     if program == "Go":
-        others = ("interrupted waits", REFUSED, SILENT)
-        return [*(name for name in FAULTS if name not in others), *counts]
-    return counts if program == "Rust that counts" else [*FAULTS, *counts]
+        left_out |= {"interrupted waits", REFUSED, SILENT}
+    return [*(name for name in FAULTS if name not in left_out), *counts]

@@ -76,8 +76,8 @@ def is_synced(calls, call, path, line):
 # ---- what a cut leaves
 
 def contents(calls, whole, new, line):
-    """Returns what the new file may have: what is synced, and of the rest nothing, a half or all,
-    or zeros."""
+    """Returns the possible contents of the new file: the synced bytes, and of the rest none, a half
+    or all, or zeros."""
     writes = [call for call in calls if call.name == "write" and call.begins <= line]
     size = sum(call.returned for call in writes)
     synced = sum(call.returned for call in writes if is_synced(calls, call, new, line))

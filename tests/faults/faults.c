@@ -9,18 +9,25 @@
  * from FIRST to LAST get the fault, to the end if LAST is 0; with a STEP only each STEP-th of them.
  * FAULT is the name of an error, a number, the most bytes that the call moves, or KILL, which kills
  * the process before the call, or in the middle of a write. EAGAIN is injected only where the
- * socket doesn't block. FAULTS_SEEN is a file that gets a line for each of the first faults that
- * were injected. */
+ * socket doesn't block. With it, and with a call that moves less than it could, the system reports
+ * again what the socket is ready for, to programs that wait for edges (epoll(7)). FAULTS_SEEN is a
+ * file that gets a line for each of the first faults that were injected. */
 #define _GNU_SOURCE
 #include <dlfcn.h>
 #include <errno.h>
 #include <fcntl.h>
 #include <limits.h>
+#include <netinet/in.h>
+#include <netinet/tcp.h>
+#include <poll.h>
 #include <pthread.h>
 #include <stdio.h>
 #include <stdlib.h>
 #include <string.h>
+#include <sys/socket.h>
 #include <sys/stat.h>
+#include <sys/syscall.h>
+#include <time.h>
 #include <unistd.h>
 #include "faults.h"
 
@@ -142,8 +149,10 @@ static void record(enum call call, unsigned long count, const char *fault)
 static const char *next_word(const char *text, struct word *word)
 {
     int length;
-    if (!text || sscanf(text, " %15[a-z]:%lu:%lu:%15[A-Z0-9]%n", word->call, &word->first,
-                        &word->last, word->fault, &length) != 4)
+    if (!text
+        || sscanf(text, " %15[a-z]:%lu:%lu:%15[A-Z0-9]%n", word->call, &word->first, &word->last,
+                  word->fault, &length)
+               != 4)
         return NULL;
     char *rest = (char *)text + length;
     word->step = *rest == ':' ? strtoul(rest + 1, &rest, 10) : 1;
@@ -154,7 +163,7 @@ static const char *next_word(const char *text, struct word *word)
 static int concerns(const struct word *word, enum call call, unsigned long count)
 {
     return !strcmp(word->call, names[call]) && count >= word->first
-        && (!word->last || count <= word->last) && (count - word->first) % word->step == 0;
+           && (!word->last || count <= word->last) && (count - word->first) % word->step == 0;
 }
 
 /* Returns the error of this name; 0 if there is none. */
@@ -190,6 +199,38 @@ int fault_of(enum call call, int can_block, size_t *limit)
     }
     errno = error_before; /* a call that succeeds leaves it */
     return 0;
+}
+
+int has_socket_faults(void)
+{
+    struct word word;
+    for (const char *rest = getenv("FAULTS"); (rest = next_word(rest, &word));)
+        for (enum call call = CONNECT; call <= WAIT; call++)
+            if (!strcmp(word.call, names[call]))
+                return 1;
+    return 0;
+}
+
+int is_ready(int fd, short events)
+{
+    static const struct timespec at_once;
+    struct pollfd descriptor = {.fd = fd, .events = events};
+    int error_before = errno;
+    long count = syscall(SYS_ppoll, &descriptor, 1, &at_once, NULL, 0);
+    errno = error_before;
+    return count == 1;
+}
+
+/* Setting an option again, to what it is, makes the system look at what a socket is ready for. */
+void report_readiness(int fd)
+{
+    int least = 1, unsent = 0, error_before = errno;
+    socklen_t size = sizeof unsent;
+    is_ready(fd, POLLOUT); /* a full socket reports later that it isn't */
+    getsockopt(fd, IPPROTO_TCP, TCP_NOTSENT_LOWAT, &unsent, &size);
+    setsockopt(fd, IPPROTO_TCP, TCP_NOTSENT_LOWAT, &unsent, size);
+    setsockopt(fd, SOL_SOCKET, SO_RCVLOWAT, &least, sizeof least);
+    errno = error_before;
 }
 
 int fault_on_file(enum call call, size_t *limit)

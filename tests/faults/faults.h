@@ -38,6 +38,15 @@ void *real(const char *name);
  * to the most bytes that the call may move. EAGAIN is injected only where `can_block` is 0. */
 int fault_of(enum call call, int can_block, size_t *limit);
 
+/* Reports whether FAULTS has faults of calls on sockets. */
+int has_socket_faults(void);
+
+/* Reports whether a socket is ready for one of these events of poll(2). */
+int is_ready(int fd, short events);
+
+/* Makes the system report again what a TCP socket is ready for, to programs that wait for edges. */
+void report_readiness(int fd);
+
 /* Returns the name of a call in FAULTS. */
 const char *name_of(enum call call);
 

@@ -1,4 +1,4 @@
-"""Follows a cache with the package for Python, and prints the lines of rtr_diff for prefixes.
+"""Follows a cache with the package for Python, and prints the lines of rtr_diff.
 
 usage: follow.py HOST:PORT --version N [--asyncio]
 
@@ -18,9 +18,7 @@ import rtr_wire
 def show(update):
     """Prints what changed."""
     for unit in update.changes:
-        family = "IPv4" if isinstance(unit, rtr_wire.IPv4Prefix) else "IPv6"
-        print("+-"[not unit.announce], family, "prefix", f"{unit.prefix}-{unit.max_length}",
-              f"AS{unit.asn}")
+        print(rtr_wire.change_line(unit))
     sys.stdout.flush()
 
 

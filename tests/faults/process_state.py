@@ -1,6 +1,8 @@
-"""Reads the state of a process: its threads or goroutines, its children, its memory."""
+"""Reads the state of a process: its threads or goroutines, its children, its memory, its times."""
+import contextlib
 import os
 import signal
+import socket
 import time
 
 from units import TIMEOUT, Wrong
@@ -52,3 +54,37 @@ def memory(process, path):
         return numbers[-1]
     with open(f"/proc/{process.pid}/statm", encoding="ascii") as file:
         return int(file.read().split()[1]) * os.sysconf("SC_PAGESIZE")
+
+
+def sockets_at(address):
+    """Returns the names of the sockets at an address of IPv4, as descriptors of processes have
+    them."""
+    start = socket.inet_aton(address)[::-1].hex().upper() + ":"
+    with open("/proc/net/tcp", encoding="ascii") as file:
+        rows = [line.split() for line in file]
+    return {f"socket:[{row[9]}]" for row in rows if row[1].startswith(start)}
+
+
+def busy_seconds(pid):
+    """Returns for how long the threads of a process ran, or waited for a processor."""
+    nanoseconds, folder = 0, f"/proc/{pid}/task"
+    for thread in os.listdir(folder):
+        with contextlib.suppress(OSError):  # it ended meanwhile
+            with open(f"{folder}/{thread}/schedstat", encoding="ascii") as file:
+                ran, waited, _ = file.read().split()
+            nanoseconds += int(ran) + int(waited)
+    return nanoseconds / 1e9
+
+
+class Wait:
+    """The wait of a process, from now on. On a busy machine it may take longer than the process
+    asked for: what it and this process ran, or waited for a processor, can be left out."""
+
+    def __init__(self, pid):
+        self.pids = pid, os.getpid()
+        self.begun, self.busy = time.monotonic(), sum(map(busy_seconds, self.pids))
+
+    def seconds(self):
+        """Returns how long it took, and how long without that."""
+        seconds = time.monotonic() - self.begun
+        return seconds, seconds - (sum(map(busy_seconds, self.pids)) - self.busy)

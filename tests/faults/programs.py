@@ -10,6 +10,8 @@ import shutil
 import subprocess
 import sys
 
+import tls
+
 HERE = os.path.dirname(os.path.realpath(__file__))
 TOP = os.path.dirname(os.path.dirname(HERE))
 BINDINGS = os.path.join(TOP, "bindings")
@@ -97,22 +99,40 @@ def tracer(work):
     return None if subprocess.run([path, "true"]).returncode else path
 
 
-def c_program(name, sources, archives, work):
+def c_program(name, sources, archives, work, *more):
     program = os.path.join(work, name)
-    in_c(program, [*sources, os.path.join(archives, "librtr_wire.a")], os.path.join(BINDINGS, "c"))
+    in_c(program, [*sources, os.path.join(archives, "librtr_wire.a")], os.path.join(BINDINGS, "c"),
+         *more)
     return program
+
+
+def hooked(source, hooks, work):
+    """Compiles a file of C with a header before it; returns the path of the object."""
+    path = os.path.join(work, source.replace(".c", ".o"))
+    in_c(path, [source], os.path.join(BINDINGS, "c"), "-c", "-I.", "-include",
+         os.path.join(HERE, hooks))
+    return path
 
 
 def c_clients(archives, work):
     """Yields the program over rtr_client.h, and the shortest loop over the calls for a router's
     end."""
-    client_object = os.path.join(work, "client.o")
-    in_c(client_object, ["client.c"], os.path.join(BINDINGS, "c"), "-c", "-I.", "-include",
-         os.path.join(HERE, "client_hooks.h"))
+    client_object = hooked("client.c", "client_hooks.h", work)
     client = c_program("client", [client_object, "rtr_client.c"], archives, work)
     yield "C client", ["stdbuf", "-oL", client, "ADDRESS", "--version", "2"]
-    link = c_program("link", ["link.c"], archives, work)
+    link = c_program("link", [hooked("link.c", "link_hooks.h", work)], archives, work)
     yield "C link", ["stdbuf", "-oL", link, "ADDRESS", "2"]
+
+
+def c_tls_clients(archives, work):
+    compiler = shlex.split(os.environ.get("CC", "cc"))
+    header = ["-include", "openssl/ssl.h", "-E", "-x", "c", "/dev/null"]
+    identity = tls.make_identity(work)
+    if not identity or subprocess.run([*compiler, *header], capture_output=True).returncode:
+        return skipped("openssl with its headers (libssl-dev)", "the client in C over TLS")
+    client = c_program("client_tls", ["client_tls.c", "rtr_client.c"], archives, work, "-lssl",
+                       "-lcrypto")
+    yield "C client over TLS", ["stdbuf", "-oL", client, f"{identity}.signed", identity, "ADDRESS"]
 
 
 def python_package(archives, work):
@@ -143,7 +163,8 @@ def node_caches(*_):
     node = shutil.which("node")
     if not node:
         return skipped("node", "the cache in JavaScript")
-    yield "Node cache", [node, os.path.join(BINDINGS, "js", "examples", "cache.js")]
+    yield "Node cache", [node, "--expose-gc", "--require", os.path.join(HERE, "state.cjs"),
+                         os.path.join(BINDINGS, "js", "examples", "cache.js")]
 
 
 def node_clients(archives, _):
@@ -231,23 +252,33 @@ def go_caches(archives, work):
 
 
 def traced_go_caches(archives, work):
-    """Yields the same cache, traced, since its calls on files aren't those of the C library; and
-    rtr-cache, which programs/build builds."""
+    """Yields the same cache, traced, since its calls on files aren't those of the C library."""
     if not shutil.which("go"):
         return
     traced = tracer(work)
     if not traced:
-        return skipped("leave to trace by ptrace", "savings of the caches in Go")
+        return skipped("leave to trace by ptrace", "savings of the cache in Go")
     for _, [program] in go_caches(archives, work):
         yield "Go cache that saves", [traced, program]
+
+
+def rtr_caches(archives, work):
+    """Yields rtr-cache, which programs/build builds, traced: also its sockets get faults."""
+    if not shutil.which("go"):
+        return
+    traced = tracer(work)
+    if not traced:
+        return skipped("leave to trace by ptrace", "rtr-cache")
     build = os.path.join(TOP, "programs", "build")
     missing = subprocess.run([build, "--missing"], text=True, stdout=subprocess.PIPE).stdout.split()
     if missing:
-        return skipped(f"packages {' '.join(missing)}", "savings of rtr-cache")
+        return skipped(f"packages {' '.join(missing)}", "rtr-cache")
     program = os.path.join(work, "rtr-cache")
     run([build, "--go", "build", "-trimpath", "-o", program, "./rtr-cache"], TOP,
         CGO_LDFLAGS=f"-L{archives} -g -O2", PATH=f"{archives}:{os.environ['PATH']}")
-    yield "rtr-cache", [traced, program, "--state", "STATE", "--look", "1s", "--sequence"]
+    # The metrics are at an address whose sockets get no faults.
+    yield "rtr-cache", [traced, program, "--state", "STATE", "--look", "1s", "--guard", "100%",
+                        "--metrics", "127.0.0.2:0", "--sequence"]
 
 
 def tokio_programs(archives, work):

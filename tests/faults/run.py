@@ -5,9 +5,10 @@ with faults in their system calls: short reads and writes, interrupted calls, sp
 connections, addresses that refuse or don't answer, no descriptors left, failing files, kills. A
 preloaded library (`faults.c`) injects them. A program in Go makes its system calls itself: its
 connections are wrapped (`go/faults.go`), and a tracer (`traced.c`) injects faults into calls on
-files.
+files, and into those of `rtr-cache` on sockets.
 `clients.py`, `caches.py` and `saves.py` say what must happen, `cuts.py` what a cut of the power may
-leave, and `waits.py` how the waits of clients differ.
+leave, `handovers.py` what one cache takes over from another's file, and `waits.py` how the waits of
+clients differ.
 
 usage: run.py [FOLDER] [PROGRAM [FAULT]]  the folder has the archive; bindings/lib/x86_64 if not
                                           said, or else prebuilt/x86_64. PROGRAM and FAULT are names
@@ -25,6 +26,7 @@ from concurrent.futures import ProcessPoolExecutor
 import caches
 import clients
 import cuts
+import handovers
 import programs
 import saves
 import waits
@@ -34,19 +36,21 @@ AT_ONCE = 16  # runs, each played by a process of its own: no peer waits for tho
 # The names of programs, what builds them, in this order, and what is run with them.
 PLAYS = (
     (["C client", "C link"], programs.c_clients, (clients, waits)),
+    (["C client over TLS"], programs.c_tls_clients, (clients, waits)),
     (["Python", "asyncio"], programs.python_clients, (clients, waits)),
     (["Node"], programs.node_clients, (clients, waits)),
-    (["Node cache"], programs.node_caches, (caches, saves, cuts)),
-    (["C cache"], programs.c_caches, (caches, saves, cuts)),
+    (["Node cache"], programs.node_caches, (caches, saves, cuts, handovers)),
+    (["C cache"], programs.c_caches, (caches, saves, cuts, handovers)),
     (["Rust"], programs.rust_clients, (clients, waits)),
     (["Rust that counts"], programs.counting_rust_clients, (clients,)),
     (["Go"], programs.go_clients, (clients, waits)),
     (["Go cache"], programs.go_caches, (caches,)),
-    (["Go cache that saves", "rtr-cache"], programs.traced_go_caches, (saves, cuts)),
-    (["Rust cache"], programs.rust_caches, (caches, saves, cuts)),
+    (["Go cache that saves"], programs.traced_go_caches, (saves, cuts, handovers)),
+    (["rtr-cache"], programs.rtr_caches, (caches, saves, cuts, handovers)),
+    (["Rust cache"], programs.rust_caches, (caches, saves, cuts, handovers)),
     (["tokio"], programs.tokio_clients, (clients, waits)),
-    (["tokio cache"], programs.tokio_caches, (caches, saves, cuts)),
-    (["Python cache"], programs.python_caches, (caches, saves, cuts)),
+    (["tokio cache"], programs.tokio_caches, (caches, saves, cuts, handovers)),
+    (["Python cache"], programs.python_caches, (caches, saves, cuts, handovers)),
 )
 
 
@@ -65,10 +69,14 @@ def end_with_parent():
 
 
 def built(words, archives, work):
-    """Builds the programs of which there are runs; returns the name, the command and the parts of
-    each."""
-    return [(program, command, parts) for names, builds, parts in PLAYS
-            if not words or words[0] in names for program, command in builds(archives, work)]
+    """Builds the programs of which there are runs, and the one that saves a file for them; returns
+    the name, the command and the parts of each."""
+    wanted = {*words[:1], *map(handovers.writer_of, words[1:2])}
+    plays = [(program, command, parts) for names, builds, parts in PLAYS
+             if not wanted or wanted & {*names} for program, command in builds(archives, work)]
+    handovers.COMMANDS.update({program: command for program, command, parts in plays
+                               if handovers in parts})
+    return plays
 
 
 def played(runs):

@@ -6,12 +6,15 @@ import shutil
 
 from cache import Cache, Router, replace_file, saved_path
 from caches import NEW, content
-from units import SESSION, Wrong
+from units import ASPAS, KEYS, SESSION, Wrong
 
 # The data of each serial number: enough for several writes of a stream.
-OLD = [f"10.{i >> 8}.{i & 255}.0/24" for i in range(1_000)]
+PREFIXES = [*(f"10.{i >> 8}.{i & 255}.0/24" for i in range(1_000)), "2001:db8::/32",
+            "2001:db8:2::/48"]
+OLD = [*PREFIXES, *KEYS[:2], *ASPAS[:2]]
+NEWER = [*PREFIXES[1:], *KEYS[1:], ASPAS[0], ASPAS[2]]
 OTHERS = OLD[5:]  # of none of these serial numbers
-DATA = {1: OLD, 2: [NEW[0], *OLD[1:]], 3: [*NEW, *OLD[1:]]}
+DATA = {1: OLD, 2: [NEW[0], *NEWER], 3: [*NEW, *NEWER]}
 OTHER_SESSION = SESSION + 1
 BESIDE = ".new"  # behind the name of a saved file: the one that replaces it
 
@@ -122,9 +125,10 @@ class Saved:
         expect_changes(router, DATA[1], DATA[serial], 1, serial)
         check_none_beside(cache)
         if checks_next:
-            cache.replace(content(serial + 1, OTHERS))
+            cache.replace(content(serial + 1, OTHERS, cache.session))
             cache.wait_for_serial(serial + 1)
             expect_changes(router, DATA[serial], OTHERS, serial, serial + 1)
+            expect_changes(router, DATA[1], OTHERS, 1, serial + 1)
         router.close()
 
     def check_no_data(self, cache):
@@ -157,5 +161,4 @@ def check_none_beside(cache):
 def expect_changes(router, before, after, old, new):
     """Checks that a router gets the changes between the data of two serial numbers."""
     router.ask_after(old)
-    router.expect_answer(new, [text for text in after if text not in before],
-                         [text for text in before if text not in after])
+    router.expect_changes(before, after, new)

@@ -4,10 +4,8 @@ started again finds older or newer data whole, never a part. The same holds of t
 a cache, with no data in the place of those before.
 """
 import errno
-import itertools
 import os
 import re
-import resource
 import signal
 import time
 
@@ -42,12 +40,12 @@ FAULTS = {
     # Once a file is synced its close has nothing left to report.
     CLOSE: ("close:1:1:EIO", None),
 }
-# The same in a folder that can be read alone at first, and whether a file beside can't be removed.
+# The same in a folder that is read-only at first, and whether a file beside can't be removed.
 READ_ONLY = {
     "a saving in a folder that can only be read": ("remove:1:0:EROFS open:1:1:EROFS", False),
     "a saving in a folder that has to stay": ("remove:1:0:EROFS open:1:1:EROFS", True),
 }
-# What is injected into each saving, its error, and whether the file is replaced all the same.
+# The faults of each saving, the error, and whether the file is replaced nevertheless.
 LASTING = {
     "savings without descriptors": ("open:1:0:EMFILE", errno.EMFILE, False),
     "savings in a folder that can only be read": ("open:1:0:EROFS", errno.EROFS, False),
@@ -57,7 +55,7 @@ LASTING = {
     "savings with failing renames": ("rename:1:0:EIO", errno.EIO, False),
     "savings with failing syncs of the folder": ("sync:{folder}:0:EIO:2", errno.EIO, True),
 }
-# What is injected into a start over a saved file, and its error.
+# The faults of a start over a saved file, and its error.
 STARTS = {
     "a start with a failing sync of the folder": ("sync:1:1:EIO", errno.EIO),
     "a start without a descriptor for the folder": ("folder:1:1:EMFILE", errno.EMFILE),
@@ -212,28 +210,19 @@ def play_full(saved, cache, is_first):
     play_fault(saved, cache, is_first, errno.ENOSPC)
 
 
-def starve(cache):
-    """Lowers the limit of descriptors to those that a process has. Returns its former limits."""
-    used = {int(name) for name in os.listdir(f"/proc/{cache.process.pid}/fd")}
-    free = next(number for number in itertools.count() if number not in used)
-    soft, hard = resource.prlimit(cache.process.pid, resource.RLIMIT_NOFILE)
-    resource.prlimit(cache.process.pid, resource.RLIMIT_NOFILE, (free, hard))
-    return soft, hard
-
-
 def play_descriptors(saved, cache, is_first):
     """A process without descriptors says so, and serves the data before, or has one in reserve by
     which it saves; once it has descriptors it serves the data."""
     try:
         saving = Saving(cache, is_first).connect_routers()
-        limits = starve(cache)
+        limits = cache.starve()
         saving.give_data()
         failure, success = text_of(errno.EMFILE), f"serial {saving.serial}: {len(DATA[1])}"
         cache.wait_until(lambda: re.search(f"(?i){failure}|{success}", cache.log_text()),
                          "it has tried")
         if success not in cache.log_text():
             saving.expect_former_of_all()
-        resource.prlimit(cache.process.pid, resource.RLIMIT_NOFILE, limits)
+        cache.feed(limits)
         saving.expect_served()
         saved.check_restart(cache, (saving.serial,))
         saving.terminate()

@@ -27,6 +27,16 @@ static int is_nonblocking(int fd, int flags)
     return (flags & MSG_DONTWAIT) || (fcntl(fd, F_GETFL) & O_NONBLOCK);
 }
 
+/* Counts a call on an internet socket, and returns the error to inject, or 0; lowers `size`. */
+static int fault_on_socket(enum call call, int fd, int flags, size_t *size)
+{
+    size_t asked = size ? *size : 0;
+    int fault = is_socket(fd) ? fault_of(call, !is_nonblocking(fd, flags), size) : 0;
+    if (fault == EAGAIN || (size && *size < asked))
+        report_readiness(fd);
+    return fault;
+}
+
 /* ---- names: localhost has two addresses, and no server listens at the first */
 
 int getaddrinfo(const char *host, const char *port, const struct addrinfo *hints,
@@ -63,7 +73,7 @@ int connect(int fd, const struct sockaddr *address, socklen_t length)
 int accept(int fd, struct sockaddr *address, socklen_t *length)
 {
     int (*next)(int, struct sockaddr *, socklen_t *) = real("accept");
-    if (is_socket(fd) && fault_of(ACCEPT, !is_nonblocking(fd, 0), NULL))
+    if (fault_on_socket(ACCEPT, fd, 0, NULL))
         return -1;
     return next(fd, address, length);
 }
@@ -71,7 +81,7 @@ int accept(int fd, struct sockaddr *address, socklen_t *length)
 int accept4(int fd, struct sockaddr *address, socklen_t *length, int flags)
 {
     int (*next)(int, struct sockaddr *, socklen_t *, int) = real("accept4");
-    if (is_socket(fd) && fault_of(ACCEPT, !is_nonblocking(fd, 0), NULL))
+    if (fault_on_socket(ACCEPT, fd, 0, NULL))
         return -1;
     return next(fd, address, length, flags);
 }
@@ -81,7 +91,7 @@ int accept4(int fd, struct sockaddr *address, socklen_t *length, int flags)
 ssize_t send(int fd, const void *bytes, size_t size, int flags)
 {
     ssize_t (*next)(int, const void *, size_t, int) = real("send");
-    if (is_socket(fd) && fault_of(SEND, !is_nonblocking(fd, flags), &size))
+    if (fault_on_socket(SEND, fd, flags, &size))
         return -1;
     return next(fd, bytes, size, flags);
 }
@@ -91,7 +101,7 @@ ssize_t sendto(int fd, const void *bytes, size_t size, int flags, const struct s
 {
     ssize_t (*next)(int, const void *, size_t, int, const struct sockaddr *, socklen_t) =
         real("sendto");
-    if (!address && is_socket(fd) && fault_of(SEND, !is_nonblocking(fd, flags), &size))
+    if (!address && fault_on_socket(SEND, fd, flags, &size))
         return -1;
     return next(fd, bytes, size, flags, address, length);
 }
@@ -101,7 +111,7 @@ ssize_t write(int fd, const void *bytes, size_t size)
     ssize_t (*next)(int, const void *, size_t) = real("write");
     if (!is_socket(fd))
         return write_file(fd, bytes, size);
-    if (fault_of(SEND, !is_nonblocking(fd, 0), &size))
+    if (fault_on_socket(SEND, fd, 0, &size))
         return -1;
     return next(fd, bytes, size);
 }
@@ -109,7 +119,7 @@ ssize_t write(int fd, const void *bytes, size_t size)
 ssize_t sendfile(int to, int from, off_t *offset, size_t size)
 {
     ssize_t (*next)(int, int, off_t *, size_t) = real("sendfile");
-    if (is_socket(to) && fault_of(SEND, !is_nonblocking(to, 0), &size))
+    if (fault_on_socket(SEND, to, 0, &size))
         return -1;
     return next(to, from, offset, size);
 }
@@ -117,7 +127,7 @@ ssize_t sendfile(int to, int from, off_t *offset, size_t size)
 ssize_t recv(int fd, void *bytes, size_t size, int flags)
 {
     ssize_t (*next)(int, void *, size_t, int) = real("recv");
-    if (is_socket(fd) && fault_of(RECEIVE, !is_nonblocking(fd, flags), &size))
+    if (fault_on_socket(RECEIVE, fd, flags, &size))
         return -1;
     return next(fd, bytes, size, flags);
 }
@@ -126,7 +136,7 @@ ssize_t recvfrom(int fd, void *bytes, size_t size, int flags, struct sockaddr *a
                  socklen_t *length)
 {
     ssize_t (*next)(int, void *, size_t, int, struct sockaddr *, socklen_t *) = real("recvfrom");
-    if (!address && is_socket(fd) && fault_of(RECEIVE, !is_nonblocking(fd, flags), &size))
+    if (!address && fault_on_socket(RECEIVE, fd, flags, &size))
         return -1;
     return next(fd, bytes, size, flags, address, length);
 }
@@ -134,38 +144,60 @@ ssize_t recvfrom(int fd, void *bytes, size_t size, int flags, struct sockaddr *a
 ssize_t read(int fd, void *bytes, size_t size)
 {
     ssize_t (*next)(int, void *, size_t) = real("read");
-    if (is_socket(fd) && fault_of(RECEIVE, !is_nonblocking(fd, 0), &size))
+    if (fault_on_socket(RECEIVE, fd, 0, &size))
         return -1;
     return next(fd, bytes, size);
 }
 
-/* ---- calls on several buffers: a short call moves a part of the first buffer */
+/* ---- calls on several buffers */
+
+enum { MOST_PARTS = 64 };
+
+static size_t size_of(const struct iovec *parts, size_t count)
+{
+    size_t size = 0;
+    for (size_t i = 0; i < count; i++)
+        size += parts[i].iov_len;
+    return size;
+}
+
+/* Copies the first `limit` bytes of buffers, as buffers; returns how many they are. */
+static size_t shorten(struct iovec *shorter, const struct iovec *parts, size_t count, size_t limit)
+{
+    size_t used = 0;
+    for (; used < count && used < MOST_PARTS && limit > 0; used++) {
+        size_t length = parts[used].iov_len < limit ? parts[used].iov_len : limit;
+        shorter[used] = (struct iovec){parts[used].iov_base, length};
+        limit -= length;
+    }
+    return used;
+}
 
 ssize_t writev(int fd, const struct iovec *parts, int count)
 {
     ssize_t (*next)(int, const struct iovec *, int) = real("writev");
-    size_t size = count > 0 ? parts[0].iov_len : 0, limit = size;
-    if (!is_socket(fd))
-        return next(fd, parts, count);
-    if (fault_of(SEND, !is_nonblocking(fd, 0), &limit))
+    struct iovec shorter[MOST_PARTS];
+    size_t size = size_of(parts, count > 0 ? (size_t)count : 0), limit = size;
+    if (fault_on_socket(SEND, fd, 0, &limit))
         return -1;
-    struct iovec first = {count > 0 ? parts[0].iov_base : NULL, limit};
-    return limit < size ? next(fd, &first, 1) : next(fd, parts, count);
+    if (limit == size)
+        return next(fd, parts, count);
+    return next(fd, shorter, (int)shorten(shorter, parts, (size_t)count, limit));
 }
 
 ssize_t sendmsg(int fd, const struct msghdr *message, int flags)
 {
     ssize_t (*next)(int, const struct msghdr *, int) = real("sendmsg");
-    size_t size = message->msg_iovlen ? message->msg_iov[0].iov_len : 0, limit = size;
-    if (message->msg_name || !is_socket(fd))
-        return next(fd, message, flags);
-    if (fault_of(SEND, !is_nonblocking(fd, flags), &limit))
-        return -1;
+    struct iovec parts[MOST_PARTS];
     struct msghdr shorter = *message;
-    struct iovec first = {size ? message->msg_iov[0].iov_base : NULL, limit};
-    shorter.msg_iov = &first;
-    shorter.msg_iovlen = 1;
-    return next(fd, limit < size ? &shorter : message, flags);
+    size_t size = size_of(message->msg_iov, message->msg_iovlen), limit = size;
+    if (!message->msg_name && fault_on_socket(SEND, fd, flags, &limit))
+        return -1;
+    if (limit == size)
+        return next(fd, message, flags);
+    shorter.msg_iovlen = shorten(parts, message->msg_iov, message->msg_iovlen, limit);
+    shorter.msg_iov = parts;
+    return next(fd, &shorter, flags);
 }
 
 /* ---- waits, which a signal interrupts */
@@ -189,8 +221,7 @@ int epoll_wait(int fd, struct epoll_event *events, int capacity, int timeout)
     return fault_of(WAIT, 1, NULL) ? -1 : next(fd, events, capacity, timeout);
 }
 
-int epoll_pwait(int fd, struct epoll_event *events, int capacity, int timeout,
-                const sigset_t *mask)
+int epoll_pwait(int fd, struct epoll_event *events, int capacity, int timeout, const sigset_t *mask)
 {
     int (*next)(int, struct epoll_event *, int, int, const sigset_t *) = real("epoll_pwait");
     return fault_of(WAIT, 1, NULL) ? -1 : next(fd, events, capacity, timeout, mask);

@@ -1,5 +1,5 @@
-/* Runs a program with the faults of FAULTS (faults.c) in its system calls on files: also one that
- * doesn't make them by the C library, as those in Go.
+/* Runs a program with the faults of FAULTS (faults.c) in its system calls on files, and on sockets
+ * at 127.0.0.1: also one that doesn't make them by the C library, as those in Go.
  *
  * usage: traced PROGRAM WORD..
  *
@@ -13,12 +13,15 @@
 #include <fcntl.h>
 #include <inttypes.h>
 #include <limits.h>
+#include <netinet/in.h>
+#include <poll.h>
 #include <signal.h>
 #include <stdio.h>
 #include <stdlib.h>
 #include <string.h>
 #include <sys/prctl.h>
 #include <sys/ptrace.h>
+#include <sys/socket.h>
 #include <sys/stat.h>
 #include <sys/syscall.h>
 #include <sys/types.h>
@@ -30,7 +33,7 @@
 
 enum { MOST_THREADS = 256, DELAY = 20, NOT_ALLOWED = 77 };
 
-/* A thread of the program, and its call on a file, if it is in one. */
+/* A thread of the program, and its call, if that is one on a file, or gets a fault on a socket. */
 static struct thread {
     pid_t id;
     int is_delayed; /* stopped before its call, until `resume_at` */
@@ -41,7 +44,8 @@ static struct thread {
 } threads[MOST_THREADS];
 
 static pid_t program;
-static FILE *call_log; /* NULL unless FAULTS_CALLS names a file */
+static int program_fd = -1; /* of the program, if FAULTS has faults of calls on sockets */
+static FILE *call_log;      /* NULL unless FAULTS_CALLS names a file */
 
 static int64_t now(void)
 {
@@ -193,14 +197,22 @@ static void kill_program(void)
     kill(program, SIGKILL);
 }
 
-/* Changes the registers of a call that begins: its number, so that it does nothing, or the number
- * of bytes that it writes. */
-static void change_registers(pid_t id, int is_skipped, uint64_t size)
+/* Makes a call that begins do nothing. */
+static void skip_call(pid_t id)
 {
     struct user_regs_struct registers;
     ptrace(PTRACE_GETREGS, id, NULL, &registers);
-    if (is_skipped)
-        registers.orig_rax = (unsigned long long)-1;
+    registers.orig_rax = (unsigned long long)-1;
+    ptrace(PTRACE_SETREGS, id, NULL, &registers);
+}
+
+/* Sets the number of bytes that a call moves, its third argument, or in sendfile its fourth. */
+static void set_size(pid_t id, uint64_t number, uint64_t size)
+{
+    struct user_regs_struct registers;
+    ptrace(PTRACE_GETREGS, id, NULL, &registers);
+    if (number == SYS_sendfile)
+        registers.r10 = size;
     else
         registers.rdx = size;
     ptrace(PTRACE_SETREGS, id, NULL, &registers);
@@ -215,12 +227,87 @@ static void begin_call(struct thread *t, uint64_t size)
     if (t->fault == KILLED && t->call != WRITE)
         kill_program();
     else if (t->fault == KILLED)
-        change_registers(t->id, 0, size / 2);
+        set_size(t->id, SYS_write, size / 2);
     else if (t->fault && t->call != CLOSE)
-        change_registers(t->id, 1, 0);
+        skip_call(t->id);
     else if (most < size)
-        change_registers(t->id, 0, most);
+        set_size(t->id, SYS_write, most);
     log_call(t, "begins", 0);
+}
+
+/* ---- calls on sockets */
+
+/* Returns the kind of a call, if it may be on a socket; CALLS if not. */
+static enum call kind_on_socket(uint64_t number)
+{
+    switch (number) {
+    case SYS_accept:
+    case SYS_accept4:
+        return ACCEPT;
+    case SYS_write:
+    case SYS_sendto:
+    case SYS_sendfile:
+        return SEND;
+    case SYS_read:
+    case SYS_recvfrom:
+        return RECEIVE;
+    case SYS_epoll_wait:
+    case SYS_epoll_pwait:
+        return WAIT;
+    default:
+        return CALLS;
+    }
+}
+
+/* Returns a copy of a descriptor of the program, if that is a socket at 127.0.0.1; else a negative
+ * number. A program serves its metrics at another address. */
+static int copy_of_socket(uint64_t descriptor)
+{
+    struct sockaddr_in address;
+    socklen_t length = sizeof address;
+    int copy = (int)syscall(SYS_pidfd_getfd, program_fd, (int)descriptor, 0);
+    if (copy < 0)
+        return copy;
+    if (!getsockname(copy, (struct sockaddr *)&address, &length) && length == sizeof address
+        && address.sin_family == AF_INET && address.sin_addr.s_addr == htonl(INADDR_LOOPBACK))
+        return copy;
+    close(copy);
+    return -1;
+}
+
+/* Returns a copy of the socket that a call is on, as copy_of_socket does. It is negative also for
+ * an accept while no connection waits, which isn't counted: a program makes one before it waits. */
+static int copy_for_call(enum call call, uint64_t descriptor)
+{
+    int copy = copy_of_socket(descriptor);
+    if (copy < 0 || call != ACCEPT || is_ready(copy, POLLIN))
+        return copy;
+    close(copy);
+    return -1;
+}
+
+/* Injects the fault of a call on a socket that begins, or of a wait. */
+static void begin_call_on_socket(struct thread *t, uint64_t number, const uint64_t arguments[6])
+{
+    uint64_t size = arguments[number == SYS_sendfile ? 3 : 2];
+    size_t most = size;
+    t->call = program_fd < 0 ? CALLS : kind_on_socket(number);
+    if (t->call == CALLS)
+        return;
+    int copy = t->call == WAIT ? -1 : copy_for_call(t->call, arguments[0]);
+    if (t->call != WAIT && copy < 0)
+        return;
+    int moves = t->call == SEND || t->call == RECEIVE;
+    t->fault = fault_of(t->call, t->call == WAIT, moves ? &most : NULL);
+    if (t->fault == EAGAIN || most < size)
+        report_readiness(copy);
+    if (copy >= 0)
+        close(copy);
+    t->is_in_call = t->fault != 0;
+    if (t->fault)
+        skip_call(t->id);
+    else if (most < size)
+        set_size(t->id, number, most);
 }
 
 /* Sets the result of a call that has ended, or kills the program. */
@@ -261,6 +348,8 @@ static void handle_call(struct thread *t)
         t->is_delayed = 0;
         if (t->is_in_call)
             begin_call(t, arguments[2]);
+        else
+            begin_call_on_socket(t, info.entry.nr, arguments);
     }
     resume(t->id, 0);
 }
@@ -315,6 +404,8 @@ static void trace_program(int ready)
     if (ptrace(PTRACE_SEIZE, program, NULL, (void *)options) < 0)
         _exit(NOT_ALLOWED);
     ptrace(PTRACE_INTERRUPT, program, NULL, NULL);
+    if (has_socket_faults() && (program_fd = (int)syscall(SYS_pidfd_open, program, 0)) < 0)
+        _exit(NOT_ALLOWED);
     if (path && !(call_log = fopen(path, "we")))
         abort();
     if (call_log)

@@ -1,14 +1,20 @@
-"""Starts many clients at once beside caches that answer each query by a report: a random number of
-its own shortens the growing waits of each, of 1, 2, 4 seconds, by up to half, so that the routers
-of a site don't come back at the same moment.
+"""Plays the waits of clients. Many start at once beside caches that answer each query by a report:
+a random number of its own shortens the growing waits of each, of 1, 2, 4 seconds, by up to half, so
+that the routers of a site don't come back at the same moment. And one has data, for which it asks
+again when their refresh time is over, and not later.
 """
+import contextlib
 import os
 import selectors
 import socket
+import struct
 import subprocess
 import time
 
-from units import REPORT, TIMEOUT, Wrong, unit
+import tls
+from process_state import Wait
+from units import REPORT, RESPONSE, SERIAL_QUERY, SESSION, TICK, TIMEOUT
+from units import Wrong, end, prefix, unit
 
 NAME = "the waits of twelve clients"
 CLIENTS = 12
@@ -19,9 +25,13 @@ INTERNAL_ERROR = 1  # the code of the report (RFC 8210 section 12)
 # a million times.
 SPREAD = SECONDS / 2 / 5
 
+REFRESH = "the wait for a refresh"
+TIMES = (20, 600, 7200)  # seconds: the refresh time, and the other times of an end of data
+MOST_LATE = TIMES[0] / 20  # seconds from the refresh time to the query
+
 
 def names(_):
-    return [NAME]
+    return [NAME, REFRESH]
 
 
 def measured_waits(listeners):
@@ -57,8 +67,53 @@ def refuse(connection):
     return before
 
 
-def play(command, _, __, folder):
-    """Plays the clients. Returns a text of what was wrong, or None."""
+def refresh_wait(listener, pid):
+    """Answers a client's query by data, and returns its wait for the next query in seconds, and
+    that without the time in which it was busy."""
+    connection, _ = listener.accept()
+    with connection:
+        connection.settimeout(TIMEOUT)
+        version = connection.recv(16)[0]
+        answer = unit(RESPONSE, SESSION, version=version) + prefix("192.0.2.0/24", 1, version)
+        wait = Wait(pid)
+        connection.sendall(answer + end(1, version, times=TIMES))
+        query = connection.recv(16)
+        seconds = wait.seconds()
+    if query != unit(SERIAL_QUERY, SESSION, struct.pack(">I", 1), version):
+        raise Wrong(f"it sent {query.hex()}, not a serial query")
+    return seconds
+
+
+def play_refresh(command, folder):
+    """Plays a client that asks at the refresh time of its data (RFC 8210 section 6)."""
+    with contextlib.ExitStack() as stack:
+        log = stack.enter_context(open(os.path.join(folder, "said"), "wb"))
+        listener = stack.enter_context(socket.create_server(("127.0.0.1", 0)))
+        listener.settimeout(TIMEOUT)
+        port, identity = listener.getsockname()[1], tls.identity_in(command)
+        if identity:
+            port = stack.enter_context(contextlib.closing(tls.Front(port, identity))).port
+        words = [word.replace("ADDRESS", f"localhost:{port}") for word in command]
+        process = stack.enter_context(subprocess.Popen(words, stdout=log, stderr=log))
+        stack.callback(process.kill)
+        wait, idle = refresh_wait(listener, process.pid)
+    if wait < TIMES[0] - TICK or idle > TIMES[0] + MOST_LATE:
+        raise Wrong(f"it asked after {wait:.3f} seconds, {idle:.3f} idle, not after {TIMES[0]}")
+
+
+def play(command, name, _, folder):
+    """Plays the clients of this name. Returns a text of what was wrong, or None."""
+    if name == NAME:
+        return play_many(command, folder)
+    try:
+        play_refresh(command, folder)
+    except (Wrong, OSError, IndexError) as error:
+        return f"{error!r}"
+    return None
+
+
+def play_many(command, folder):
+    """Plays clients that wait at the same time."""
     listeners = [socket.create_server(("127.0.0.1", 0)) for _ in range(CLIENTS)]
     processes = []
     with open(os.path.join(folder, "said"), "wb") as log:
