@@ -1,4 +1,4 @@
-"""The sample units that stand in the file `samples`, which says what they have."""
+"""The sample units of the file `samples`, which documents their contents."""
 from __future__ import annotations
 
 import dataclasses

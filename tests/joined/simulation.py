@@ -30,7 +30,7 @@ FULL, NO_DATA, UNKNOWN_SESSION = 1, 2, 0  # codes of reports (RFC 8210 section 1
 
 
 def accumulated(*often):
-    """Returns the same, with how often one of these and those before it comes."""
+    """Returns the same with cumulative counts: of each and of all before it."""
     return zip((deed for deed, _ in often), accumulate(times for _, times in often))
 
 
@@ -153,8 +153,8 @@ class Simulation:
         self.link.to_cache += sent
 
     def cache_sent(self, sent):
-        """The cache finds fault with nothing that the router sent, unless a close cut it off, and
-        tells the changes from data that it keeps."""
+        """The cache refuses nothing that the router sent, unless a close cut it off, and answers
+        with the changes from data that it keeps."""
         for unit in self.link.sent(self.cache, sent):
             code, text = report_of(unit) or (None, None)
             self.link.has_report |= code is not None
@@ -171,8 +171,8 @@ class Simulation:
         self.link.to_router += sent
 
     def has_kept(self, edition):
-        """Reports whether the cache has to tell the changes from these data: they are the present
-        ones, or were it two hours ago or less, on a cache that has room for all."""
+        """Reports whether the cache has to answer with the changes from these data: they are the
+        present ones, or were so at most two hours ago, on a cache with room for all."""
         return edition is not None and (edition is self.present or self.keeps
                                         and self.now - self.kept.get(edition, -KEEP) < KEEP)
 

@@ -21,10 +21,11 @@ import sys
 import sessions
 from sessions import ASPA, END, IPV4, IPV6, KEY, OK, UNIT_TYPE, UNIT_VERSION
 
-CALLS = {"delta": 0, "apply": 1, "order": 2, "in_order": 3}
+CALLS = {"delta": 0, "apply": 1, "order": 2, "in_order": 3, "between": 4}
 NOT_CANONICAL, OTHER_SESSION, DUPLICATE, UNKNOWN, UNDECIDED, NO_INDEX = range(12, 18)
 ANNOUNCE, WITHDRAW = 1, 0
 WIDTHS = {IPV4: 4, IPV6: 16}
+RECOMMENDED = [3600, 600, 7200]  # RFC 8210 section 6: refresh, retry, expire
 
 
 # ---- payloads: (IPV4 or IPV6, address, prefix length, max length, ASN), (KEY, identifier, ASN, key
@@ -265,6 +266,18 @@ def of_one(data, output, places=1):
     return "order", OK, 0, 0, 0, index, data, b"", output
 
 
+def of_between(first, second, output):
+    """Returns the case of two data of any versions and sessions, either of which may be empty, with
+    this output unless they are refused."""
+    for side, data in ((1, first), (2, second)):
+        wrong = read(data, "data")[0] if data or (side == 2 and not first) else None
+        if wrong:
+            status, offset, detail = wrong
+            return "between", status, side, detail, offset, 0, first, second, b""
+    assert output is not None
+    return "between", OK, 0, 0, 0, 0, first, second, output
+
+
 # ---- inputs
 
 def any_payload(rng):
@@ -359,6 +372,31 @@ def delta_cases(rng):
         moved = b"".join(data_units(rng, new, other[0])) + end_form(other)
         yield of_two("delta", first, moved, written(delta(old, new), other))
         yield from spoiled_pairs(rng, "delta", units)
+
+
+def between_cases(rng):
+    """Yields pairs of data of any versions and sessions, data and nothing, and pairs with faults in
+    one or both."""
+    yield of_between(b"", b"", None)
+    for _ in range(700):
+        old, most = any_data(rng, 12), rng.choice([0, 3, 12])
+        new = rng.choice([old, changed(rng, old), any_data(rng, most)])
+        session = rng.getrandbits(16)
+        ends = [any_end(rng, rng.choice([0, 1, 2]), rng.choice([session, 7])) for _ in range(2)]
+        units = [data_units(rng, data, end[0]) + [end_form(end)]
+                 for data, end in zip((old, new), ends)]
+        first, second = (b"".join(side) for side in units)
+        version, session, serial, timings = ends[1]
+        last = max(ends[0][0], version), session, serial, timings if version else RECOMMENDED
+        yield of_between(first + rng.choice([b"", rng.randbytes(9)]),
+                         second + rng.choice([b"", rng.randbytes(30)]),
+                         written(delta(old, new), last))
+        yield of_between(first, b"", written(delta(old, ()), ends[0]))
+        yield of_between(b"", second, written(delta((), new), ends[1]))
+        bad = [b"".join(spoiled(rng, side)) for side in units]
+        for inputs in ((bad[0], second), (first, bad[1]), bad, (bad[0], b""), (b"", bad[1])):
+            if any(side and read(side, "data")[0] for side in inputs):
+                yield of_between(*inputs, None)
 
 
 def any_changes(rng, data):
@@ -490,7 +528,8 @@ def main():
     if len(sys.argv) > 2:
         sys.exit(__doc__)
     rng = random.Random(sys.argv[1] if len(sys.argv) > 1 else "1")
-    for cases in (delta_cases, apply_cases, order_cases, in_order_cases, large_cases):
+    for cases in (delta_cases, apply_cases, order_cases, in_order_cases, large_cases,
+                  between_cases):
         for call, status, side, detail, offset, places, first, second, output in cases(rng):
             sys.stdout.buffer.write(
                 struct.pack("<4B5Q", CALLS[call], status, side, detail, offset, len(first),

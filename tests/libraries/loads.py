@@ -54,7 +54,7 @@ class Reader:
         self.answer, self.asked = Answer(self, session), None
 
     def take(self, kind, version, *fields):
-        """Takes a unit: the name of what is wrong with it, or None."""
+        """Takes a unit; returns the name of its fault, or None."""
         if kind in (RESET, REPORT) and self.answer:
             return kind
         if kind == NO_TYPE:

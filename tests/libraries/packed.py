@@ -185,7 +185,7 @@ def unpack(folder, to):
 
 
 def npm(folder):
-    """Yields what the list of npm lacks or has beyond what is needed."""
+    """Yields the files that the list of npm lacks, or has without need."""
     listing = sys.stdin.read()
     listed = listed_by(folder)
     if listing:
@@ -238,7 +238,7 @@ def page(folder):
 
 
 def crate(folder):
-    """Yields what the list of cargo lacks or has beyond what is needed."""
+    """Yields the files that the list of cargo lacks, or has without need."""
     listed = set(sys.stdin.read().split()) - {"Cargo.toml.orig", "Cargo.lock"}
     expected = {name for name in below(folder)
                 if not name.startswith("tokio/") and name != "Cargo.lock"}

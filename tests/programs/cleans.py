@@ -163,7 +163,7 @@ RUNS = [
     ([], "", in_version(255, NOTIFY) + in_version(9, IPV4_STRAY), in_version(255, NOTIFY) + in_version(9, IPV4), "", 0),
     ([], "", IPV4_STRAY * MANY + END_1, IPV4 * MANY + END_1, "", 0),
     ([], "", KEY_MOST * 20 + REPORT_MOST, KEY_MOST * 20 + REPORT_MOST, "", 0),
-    # It goes on after an end of data.
+    # It continues after an end of data.
     ([], "", RESPONSE + IPV4_STRAY + END_1 + NOTIFY + RESPONSE + KEY_STRAY + END_1, RESPONSE + IPV4 + END_1 + NOTIFY + RESPONSE + KEY + END_1, "", 0),
     ([], "", END_1 * 3, END_1 * 3, "", 0),
     # Each refusal: the units before it are written, those after it are not.

@@ -248,8 +248,8 @@ def program_problem(shim, program, arguments, given, pieces, usage, others=()):
 def piped_problem(shim, folder, program, arguments, given, pieces, usage):
     """Returns what is wrong with the runs of a program over a named pipe, or None.
 
-    Each run writes all of its pieces, or some of them and that memory ran out, or the usage. Some
-    write all though an allocation failed, that of a buffer.
+    Each run writes all of its pieces, or some of them and the message that memory ran out, or the
+    usage. Some write all of them even if the allocation of a buffer failed.
     """
     path = os.path.join(os.path.realpath(folder), f"{program}.pipe")
     name = program.encode()

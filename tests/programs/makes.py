@@ -293,8 +293,8 @@ RUNS = [
     (CSV, "", b"AS65551,192.0.2.0/23,22\n", NONE, "line 1: max-length smaller than prefix length", 1),
     (CSV, "", LINE + b"AS65551,\xff,26\n", NONE, "line 2: no UTF-8", 1),
     (CSV, "", b" AS65551,192.0.2.0/23,26\n", NONE, "line 1: invalid AS number", 1),
-    # The line is that of the file, also after empty lines, a mark of the byte order, fields with
-    # line breaks in them, and where lines end with CR and LF.
+    # The line is that of the file, also after empty lines, a byte order mark, fields with line
+    # breaks in them, and if lines end with CR and LF.
     (CSV, "", LINE + b"\n\n" + BAD, NONE, "line 4: invalid AS number", 1),
     (CSV, "", b"\n\n" + BAD, NONE, "line 3: invalid AS number", 1),
     (CSV, "", HEAD + b"\n" + ANCHORED + b"\n" + BAD[:-1] + b",x\n", NONE, "line 5: invalid AS number", 1),
@@ -466,8 +466,8 @@ RUNS = [
     (JSON, "", keys(RTR_KEY.replace(KEY_ID.encode(), b"AQIDBAUGBwgJCgsMDQ4PEBESEw==")), NONE, "bgpsec_keys[0].ski: a key identifier has 40 hex digits", 1),
     (JSON, "", keys(RTR_KEY.replace(KEY_ID.encode(), b"AQIDBAUGBwgJCgsMDQ4PEBESEw")), NONE, "bgpsec_keys[0].ski: a key identifier has 40 hex digits", 1),
     (JSON, "", keys(RTR_KEY.replace(KEY_ID.encode(), b"AQIDBAUGBwgJCgsMDQ4PEBES!w==")), NONE, "bgpsec_keys[0].ski: invalid base64", 1),
-    # The first part at fault decides: of an origin the prefix, then the max length, the ASN, and
-    # the rule.
+    # The first part at fault decides: for an origin the prefix, then the max length, the ASN, and
+    # the rule between the lengths.
     (JSON, "", roas(b'{"asn":"x","prefix":"y","maxLength":"z"}'), NONE, "roas[0].prefix: missing prefix length", 1),
     (JSON, "", roas(b'{"asn":"x","maxLength":"z","prefix":"192.0.2.0/24"}'), NONE, "roas[0].maxLength: invalid max-length", 1),
     (JSON, "", roas(b'{"asn":"x","maxLength":23,"prefix":"192.0.2.0/24"}'), NONE, "roas[0].asn: invalid AS number", 1),

@@ -544,7 +544,7 @@ def by_bytes(content, chance):
 
 
 def by_units(recording):
-    """Yields the recording with units left out, doubled, moved and put in."""
+    """Yields the recording with units removed, duplicated, moved and inserted."""
     for at in range(len(recording)):
         head, unit, tail = recording[:at], recording[at], recording[at + 1:]
         yield b"".join(head + tail)

@@ -284,7 +284,7 @@ RUNS = [
     (AS_JSON, "", FILE, b"10.0.0.0/8 1\n", lines('{"prefix":"10.0.0.0/8","asn":1,"state":"not found","vrps":[]}'), "", 0),
     (ALL, "", FILE, b"10.0.0.0/8 1\n" * 9000, lines(*["10.0.0.0/8 AS1 not found"] * 9000), "", 0),
     (ALL, "", FILE, b" " * 100000 + b"10.0.0.0/8 1\n", lines("10.0.0.0/8 AS1 not found"), "", 0),
-    # A line that isn't a route is reported, with its number, and the run goes on.
+    # A line that isn't a route is reported, with its number, and the run continues.
     (ALL, "", FILE, b"10.0.0.0/8\n10.0.0.0/8 1\n", lines(ANSWER), named((1, "missing AS number")), 1),
     (ALL, "", FILE, b"10.0.0.0/8 1\n\n10.0.0.1/8 1\n10.0.0.0/8 1\n", lines(ANSWER, ANSWER), named((3, HOST)), 1),
     (ALL, "", FILE, b"10.0.0.0/33 1\n192.0.2.0/24 AS65551\n", lines(INVALID), named((1, "prefix length too large")), 1),

@@ -26,7 +26,7 @@ PLAY = built.script("tests/rows/play.py")
 # What an output holds before a call, and more than any row's output has.
 FILL, MOST_UNITS = 0xEE, 2**32 - 1
 
-# So many rows are played at least.
+# The least number of rows that are played.
 LEAST = 500
 
 FAULTS = {1: "Short", 2: "UnitType({})", 3: "UnitVersion({})", 4: "TooLong", 5: "UnitLength",

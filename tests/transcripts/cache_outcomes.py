@@ -69,8 +69,8 @@ def ends(state, case, unit, version):
 
 
 def breach(state, case, unit, version, code, text):
-    """Plays a report in the version of the connection, or in that of the unit if there is such a
-    version."""
+    """Plays a report in the version of the connection; without one in that of the unit, or in
+    version 2 if that is lower."""
     about = unit if case.kind != REFUSED else unit[:case.about]
     own = state.version if state.asked else min(version, 2)
     state.scene.reports(own, code, about, text)

@@ -1,8 +1,8 @@
-"""What each unit comes to at a cache: one table, in the order in which its rows are looked at.
+"""The result of each unit at a cache: one table, of which the first matching row applies.
 
-A row names the cache (whether a query came, and whether it has data), the unit (its kind, its
-version beside that of the connection or beside those that there are, and what else tells of it),
-what it comes to, and the section of RFC 8210. None stands for any.
+A row has the state of the cache (whether a query came, and whether it has data), the unit (its
+kind, its version compared with that of the connection or with the supported ones, and a further
+condition), the result, and the section of RFC 8210. None stands for any.
 """
 from cases import BAD, GOOD, Case
 from cache_states import EARLIER, SERIAL, UNKNOWN

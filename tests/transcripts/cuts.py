@@ -54,7 +54,7 @@ def goes_on(scene, again):
 
 
 def ended(offset, changes, how):
-    """The cache closes, breaks off or stalls after so many bytes: none of them is shown."""
+    """The cache closes, breaks off or stalls after this many bytes: none of them is shown."""
     data = (CHANGES if changes else ALL)[:offset]
     name = f"cut-{'changes' if changes else 'all'}-{offset}-{how}"
     state = begun(name, changes, f"after {offset} bytes the cache {how}")
