@@ -28,9 +28,9 @@ ENDINGS = ("", ".by-rattle")
 PREBUILT = os.path.join(TOP, "prebuilt")
 ARCHIVE = "librtr_wire.a"
 MEMORIES = ("wasm32", "wasm64")
-# What is made of the crate rtr_c besides, by the name of its folder.
+# Other files made from the crate rtr_c, by the name of their folder.
 MADE = {**dict.fromkeys(MEMORIES, "rtr_wire.wasm"), "portable": "rtr_wire.c"}
-# What the C file for other platforms is made of beside the crate.
+# The sources of the C file for other platforms, other than the crate.
 PORTABLE = ("portable.py", "calls.py", "c/rtr.h", "c/rtr_abi.h", "c/portable_front.h")
 
 

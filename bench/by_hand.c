@@ -14,8 +14,9 @@ static inline uint8_t prefix_status(const uint8_t *in, size_t left, size_t size,
         return RTR_SHORT;
     if (in[9] <= in[10] && in[10] <= width)
         return RTR_OK;
-    *detail = in[9] > width ? RTR_LENGTH_OVER
-        : in[10] > width ? RTR_MAX_LENGTH_OVER : RTR_MAX_LENGTH_UNDER;
+    *detail = in[9] > width    ? RTR_LENGTH_OVER
+              : in[10] > width ? RTR_MAX_LENGTH_OVER
+                               : RTR_MAX_LENGTH_UNDER;
     return RTR_PREFIX;
 }
 
@@ -273,138 +274,5 @@ uint8_t next_by_hand(const uint8_t *in, size_t left, struct rtr_unit *unit)
     default:
         show_other(in, size, unit);
     }
-    return RTR_OK;
-}
-
-static inline bool is_part(size_t start, size_t length, size_t all)
-{
-    return start <= all && length <= all - start;
-}
-
-/* Returns the length of a unit when written, or the status that refuses it, in the order of rtr.h.
- * */
-static inline uint8_t formed(const struct rtr_unit *unit, size_t length, size_t *size)
-{
-    switch (unit->kind) {
-    case RTR_IPV4_PREFIX:
-    case RTR_IPV6_PREFIX: {
-        unsigned width = unit->kind == RTR_IPV4_PREFIX ? 32 : 128;
-        if (unit->action > 1 || unit->family != unit->kind)
-            return RTR_NO_FORM;
-        *size = unit->kind == RTR_IPV4_PREFIX ? 20 : 32;
-        return unit->prefix_length <= unit->max_length && unit->max_length <= width
-            ? RTR_OK : RTR_PREFIX;
-    }
-    case RTR_END_OF_DATA:
-        if (unit->action > 0)
-            return RTR_NO_FORM;
-        *size = unit->version ? 24 : 12;
-        return unit->version > 2 ? RTR_UNIT_VERSION : RTR_OK;
-    case RTR_ROUTER_KEY:
-    case RTR_ASPA:
-        if (!is_part(unit->part_start, unit->part_length, length) || unit->action > 1)
-            return RTR_NO_FORM;
-        if (unit->kind == RTR_ROUTER_KEY) {
-            *size = 32 + unit->part_length;
-            return unit->part_length > 65503 ? RTR_TOO_LONG : RTR_OK;
-        }
-        *size = unit->action ? 12 + unit->part_length : 12;
-        if (!unit->action)
-            return RTR_OK;
-        if (unit->part_length > 65520)
-            return RTR_TOO_LONG;
-        if (unit->part_length % 4)
-            return RTR_UNIT_LENGTH;
-        return unit->part_length ? RTR_OK : RTR_EMPTY_PROVIDERS;
-    case RTR_SERIAL_NOTIFY:
-    case RTR_SERIAL_QUERY:
-        *size = 12;
-        return unit->action > 0 ? RTR_NO_FORM : RTR_OK;
-    case RTR_RESET_QUERY:
-    case RTR_CACHE_RESPONSE:
-    case RTR_CACHE_RESET:
-        *size = 8;
-        return unit->action > 0 ? RTR_NO_FORM : RTR_OK;
-    case RTR_ERROR_REPORT:
-        if (unit->action > 0 || !is_part(unit->part_start, unit->part_length, length)
-            || !is_part(unit->text_start, unit->text_length, length))
-            return RTR_NO_FORM;
-        if (unit->part_length > 65535 || unit->text_length > 65535)
-            return RTR_TOO_LONG;
-        *size = REPORT_FIXED + unit->part_length + unit->text_length;
-        return *size > 65535 ? RTR_TOO_LONG : RTR_OK;
-    default:
-        return RTR_UNIT_TYPE;
-    }
-}
-
-/* Writes a unit of a kind that no sequence has. */
-static void put_other(uint8_t *out, const struct rtr_unit *unit, const uint8_t *in)
-{
-    uint16_t second = unit->kind == RTR_ERROR_REPORT ? unit->code
-        : unit->kind == RTR_RESET_QUERY || unit->kind == RTR_CACHE_RESET ? 0 : unit->session;
-    out[2] = (uint8_t)(second >> 8);
-    out[3] = (uint8_t)second;
-    if (unit->kind == RTR_ERROR_REPORT) {
-        put32(out + 8, (uint32_t)unit->part_length);
-        memcpy(out + 12, in + unit->part_start, unit->part_length);
-        put32(out + 12 + unit->part_length, (uint32_t)unit->text_length);
-        memcpy(out + REPORT_FIXED + unit->part_length, in + unit->text_start, unit->text_length);
-    } else if (unit->kind == RTR_SERIAL_NOTIFY || unit->kind == RTR_SERIAL_QUERY) {
-        put32(out + 8, unit->serial);
-    }
-}
-
-uint8_t write_by_hand(const struct rtr_unit *unit, const uint8_t *in, size_t length, uint8_t *out,
-                      size_t capacity, size_t *written)
-{
-    size_t size = 0;
-    uint8_t status = formed(unit, length, &size);
-    if (status == RTR_OK && size > capacity)
-        status = RTR_NO_ROOM;
-    if (status != RTR_OK) {
-        *written = 0;
-        return status;
-    }
-    out[0] = unit->version;
-    out[1] = unit->kind;
-    out[2] = out[3] = 0;
-    put32(out + 4, (uint32_t)size);
-    switch (unit->kind) {
-    case RTR_IPV4_PREFIX:
-    case RTR_IPV6_PREFIX:
-        out[8] = unit->action;
-        out[9] = unit->prefix_length;
-        out[10] = unit->max_length;
-        out[11] = 0;
-        put_cleared(out + 12, unit->address, unit->kind == RTR_IPV4_PREFIX ? 4 : 16,
-                    unit->prefix_length);
-        put32(out + size - 4, unit->asn);
-        break;
-    case RTR_END_OF_DATA:
-        out[2] = (uint8_t)(unit->session >> 8);
-        out[3] = (uint8_t)unit->session;
-        put32(out + 8, unit->serial);
-        if (unit->version) {
-            put32(out + 12, unit->refresh);
-            put32(out + 16, unit->retry);
-            put32(out + 20, unit->expire);
-        }
-        break;
-    case RTR_ROUTER_KEY:
-        out[2] = unit->action;
-        memcpy(out + 8, unit->key_identifier, 20);
-        put32(out + 28, unit->asn);
-        memcpy(out + 32, in + unit->part_start, size - 32);
-        break;
-    case RTR_ASPA:
-        out[2] = unit->action;
-        put32(out + 8, unit->customer);
-        memcpy(out + 12, in + unit->part_start, size - 12);
-        break;
-    default:
-        put_other(out, unit, in);
-    }
-    *written = size;
     return RTR_OK;
 }

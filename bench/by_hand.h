@@ -44,12 +44,9 @@ static inline void put_cleared(uint8_t *to, const uint8_t *from, unsigned size, 
     put64(to + 8, bits > 64 ? get64(from + 8) & all << (128 - bits) : 0);
 }
 
-/* Like rtr_normalise_slice, rtr_next and rtr_write_unit. */
-uint8_t normalise_by_hand(const uint8_t *input, size_t input_length,
-                          uint8_t *output, size_t output_length,
-                          uint64_t limit, struct rtr_answer *answer);
+/* Like rtr_normalise_slice and rtr_next. */
+uint8_t normalise_by_hand(const uint8_t *input, size_t input_length, uint8_t *output,
+                          size_t output_length, uint64_t limit, struct rtr_answer *answer);
 uint8_t next_by_hand(const uint8_t *input, size_t input_length, struct rtr_unit *unit);
-uint8_t write_by_hand(const struct rtr_unit *unit, const uint8_t *input, size_t input_length,
-                      uint8_t *output, size_t output_length, size_t *written);
 
 #endif

@@ -1,16 +1,21 @@
 #!/usr/bin/env python3
-"""Counts the instructions a unit of our calls and programs, and of the same jobs by hand in C.
+"""Counts the instructions a unit of our calls and programs, beside C by hand and the last release.
 
-usage: bench/count.py [--check | --write] [--jobs N]
+usage: bench/count.py [--check | --write] [--release VERSION] [--jobs N]
 
-Prints a table. A cell says, for one kind of units, `ours / by hand = ratio`: instructions a unit by
-callgrind, as the difference of two lengths of input, so that what comes once falls away. Those of
-the C library are counted with them; its oldest forms of memcpy and the like are taken, so that the
-processor doesn't matter. The numbers are the same in each run, whatever else the machine does.
+Prints two tables. A cell of the first says, for one kind of units, `ours / by hand = ratio`:
+instructions a unit by callgrind, as the difference of two lengths of input, so that what comes once
+falls away. A cell of the second says `now / released = ratio`, for jobs that nobody wrote by hand:
+bench/released.txt has what they took in the last release. Instructions of the C library are counted
+with them; its oldest forms of memcpy and the like are taken, so that the processor doesn't matter.
+The numbers are the same in each run, whatever else the machine does.
 
-With --check the tables of README.md and docs/SPEED.md that follow a line `<!-- counted .. -->` are
-compared instead: a number may differ by 3 in a hundred, or by 1. --write renews them: after
-`<!-- counted: all -->` the whole table, after `<!-- counted: these -->` the rows that are there.
+With --check the tables of README.md and docs/SPEED.md that follow a line `<!-- counted: .. -->` are
+compared instead: a number may differ by 3 in a hundred, or by 1, and a job may take that much more
+than in the release, or more if the page says so. --write renews them: after `<!-- counted: all -->`
+the whole first table, after `<!-- counted: these -->` the rows that are there, and after
+`<!-- counted: released -->` the second. --release writes what was counted into
+bench/released.txt first, as that of VERSION: release/run.py does so.
 
 `normalise` and `normalise_slice` are counted in bench_units, which `rt run < stdin` in its folder
 builds: if it isn't built they are left out, and stay as they are on the pages. The other programs
@@ -31,10 +36,12 @@ TOP = os.path.realpath(os.path.join(os.path.dirname(os.path.abspath(__file__)), 
 sys.path.insert(0, os.path.join(TOP, ".ci"))
 
 import built  # noqa: E402  (it lies in another folder)
-from speed_page import end_of_table
+import released
+from speed_page import end_of_table, write
 
 PAGES = ["README.md", "docs/SPEED.md"]
 MARKER = re.compile(r"<!-- counted: (all|these) -->$")
+RELEASED = "<!-- counted: released -->"
 CELL = re.compile(r"(\d+) / (\d+) = ([\d.]+)$")
 TOOLS = re.compile(r"^Counted with .*\.$")
 
@@ -60,25 +67,19 @@ BENCH_RUNS = 21
 # The argument with which bench_units only reads its input.
 READING = "none"
 
-# The calls of rtr.h that are compared with C by hand, and those counted for portable.py alone.
-CALLS = ["rtr_normalise_slice", "rtr_next", "rtr_write_unit"]
+# Calls of rtr.h. CALLS are compared with C by hand, RELEASED_CALLS with the last release, and
+# ONLY_COUNTED are counted for portable.py.
+CALLS = ["rtr_normalise_slice", "rtr_next"]
+RELEASED_CALLS = ["rtr_write_unit"]
 ONLY_COUNTED = ["rtr_normalise_for_slice", "rtr_same_meaning"]
 
-# The row of the machine.
-MACHINE = "`rtr_router_read`"
-MACHINE_MARKER = "<!-- counted: router -->"
-MACHINE_HEAD = ["| In an answer | " + " | ".join(KINDS) + " |", "|---" * (len(KINDS) + 1) + "|"]
+# The call that reads all payload units of an answer, by router.c.
+MACHINE = "rtr_router_read"
 
-# The jobs of programs, with the argument with which programs.c does the same.
-PROGRAMS = {
-    "rtr_normalise": "normalise",
-    "rtr_list": "list",
-    "rtr_list --json": "json",
-    "rtr_list --check": "check",
-}
-
-# By how much a number on a page may differ, as a share or as a number.
-SHARE, LEAST = 0.03, 1
+# Jobs of programs. PROGRAMS has the argument of programs.c for the same job in C by hand;
+# RELEASED_PROGRAMS are compared with the last release.
+PROGRAMS = {"rtr_list": "list", "rtr_list --check": "check"}
+RELEASED_PROGRAMS = ["rtr_normalise", "rtr_list --json"]
 
 FLAGS = ["-O3", "-march=x86-64-v2", "-I", os.path.join(TOP, "bindings", "c")]
 ENVIRONMENT = {
@@ -179,16 +180,10 @@ def machine_parts(folder, program):
         text = file.read()
     found = {}
     for part in text.split("\npart: "):
-        told = re.search(r"Request: rtr_router_read \S+/(\S+)\n(?:.*\n)*?summary: (\d+)", part)
+        told = re.search(rf"Request: {MACHINE} \S+/(\S+)\n(?:.*\n)*?summary: (\d+)", part)
         if told:
             found[MACHINE, told[1]] = int(told[2])
     return found
-
-
-def machine_line(found):
-    """Returns the row of the machine."""
-    cells = (f"{of_parts(found, MACHINE, kind, clean=True):.0f}" for kind in KINDS)
-    return f"| {MACHINE} | " + " | ".join(cells) + " |"
 
 
 def program_of(row):
@@ -249,38 +244,47 @@ def ours_of(folder, runs, row, kind):
     return (of_run([bench, row]) - of_run([bench, READING])) / BENCH_RUNS
 
 
+def rows_by_hand():
+    """Returns the rows of programs that are compared with C by hand."""
+    if built.fresh("bench_units"):
+        return list(BENCH) + list(PROGRAMS)
+    warn(f"bench_units isn't built: {' and '.join(BENCH)} are left out")
+    return list(PROGRAMS)
+
+
 def count_all(folder, pool, compilers):
-    """Returns instructions a unit, ours and by hand, by row, compiler and kind."""
+    """Returns instructions a unit, ours and by hand, by row, compiler and kind; and ours of the
+    other jobs, by row and kind."""
     list(pool.map(lambda each: make_sample(each[0], *each[1]), samples(folder).items()))
     archive = built.needed("rtr_c")[0]
     calls = {each: compiled(folder, each, "calls", archive) for each in compilers}
     programs = {each: compiled(folder, each, "programs") for each in compilers}
     test_calls(folder, calls[compilers[0]])
     test_programs(folder, programs[compilers[0]])
-    rows = list(PROGRAMS)
-    if built.fresh("bench_units"):
-        rows = list(BENCH) + rows
-    else:
-        warn(f"bench_units isn't built: {' and '.join(BENCH)} are left out")
-    router = compiled(folder, compilers[0], "router", archive)
-    machine = pool.submit(machine_parts, folder, router)
+    rows = rows_by_hand()
+    machine = pool.submit(machine_parts, folder, compiled(folder, compilers[0], "router", archive))
     called = {each: pool.submit(parts, folder, calls[each]) for each in compilers}
     run = {each: pool.submit(parts, folder, programs[each]) for each in compilers}
-    runs = start_runs(folder, pool, rows)
-    found = {}
+    runs = start_runs(folder, pool, rows + RELEASED_PROGRAMS)
+    ours, found, alone = called[compilers[0]].result(), {}, {}
     for compiler in compilers:
         hand, program = called[compiler].result(), run[compiler].result()
         for kind in KINDS:
             for job in CALLS:
-                found[job, compiler, kind] = (
-                    of_parts(called[compilers[0]].result(), f"{job} ours", kind),
-                    of_parts(hand, f"{job} by-hand", kind))
+                found[job, compiler, kind] = (of_parts(ours, f"{job} ours", kind),
+                                              of_parts(hand, f"{job} by-hand", kind))
             for row in rows:
                 found[row, compiler, kind] = (
                     ours_of(folder, runs, row, kind),
                     of_parts(hand, f"{BENCH[row]} by-hand", kind) if row in BENCH
                     else of_parts(program, PROGRAMS[row], kind, is_clean(row)))
-    return found, [machine_line(machine.result())]
+    for kind in KINDS:
+        for job in RELEASED_CALLS:
+            alone[job, kind] = of_parts(ours, f"{job} ours", kind)
+        for row in RELEASED_PROGRAMS:
+            alone[row, kind] = ours_of(folder, runs, row, kind)
+        alone[MACHINE, kind] = of_parts(machine.result(), MACHINE, kind, clean=True)
+    return found, alone
 
 
 def cell(numbers):
@@ -317,7 +321,7 @@ def rows_between(lines, begin, end):
     return {names_of(row)[:2]: row for row in lines[begin:end][len(HEAD):]}
 
 
-def written(page, found, machine, used):
+def written(page, found, used):
     """Renews the tables and the tools of a page."""
     path = os.path.join(TOP, page)
     with open(path, encoding="utf-8") as file:
@@ -333,17 +337,9 @@ def written(page, found, machine, used):
             names = list(stood)
         lines[begin:end] = HEAD + [line(*key, found) if key in counted else stood[key]
                                    for key in names]
-    if MACHINE_MARKER in lines:
-        place = lines.index(MACHINE_MARKER) + 1
-        lines[place:end_of_table(lines, place)] = MACHINE_HEAD + machine
     lines = [f"Counted with {', '.join(used)}." if TOOLS.match(text) else text for text in lines]
     with open(path, "w", encoding="utf-8") as file:
         file.write("\n".join(lines) + "\n")
-
-
-def is_near(shown, counted):
-    """Reports whether a number on a page is near enough."""
-    return abs(shown - counted) <= max(LEAST, SHARE * counted)
 
 
 def wrong_cells(page, row, found):
@@ -353,7 +349,7 @@ def wrong_cells(page, row, found):
     for kind, text in zip(KINDS, cells, strict=True):
         said = CELL.match(text)
         counted = found[job, compiler, kind]
-        near = said and all(is_near(int(number), exact)
+        near = said and all(released.is_near(int(number), exact)
                             for number, exact in zip(said.groups(), counted))
         if not near or float(said[3]) != round(int(said[1]) / int(said[2]), 2):
             print(f"{page}: {job} with {compiler}, {kind}: `{text}`, counted {cell(counted)}")
@@ -361,19 +357,7 @@ def wrong_cells(page, row, found):
     return wrong
 
 
-def wrong_machine(lines, machine):
-    """Prints each row of the machine with a wrong number, and returns their number."""
-    wrong = 0
-    place = lines.index(MACHINE_MARKER) + 1 + len(MACHINE_HEAD)
-    for row, counted in zip(lines[place:place + len(machine)], machine):
-        pairs = zip(re.findall(r"\b\d+\b", row), re.findall(r"\b\d+\b", counted), strict=True)
-        if not all(is_near(int(number), int(exact)) for number, exact in pairs):
-            print(f"docs/SPEED.md: `{row}`, counted `{counted}`")
-            wrong += 1
-    return wrong
-
-
-def check(found, machine, used):
+def check(found, alone, used):
     """Compares the pages; returns how many rows were compared, and how many cells are wrong."""
     rows = wrong = 0
     tool_lines = []
@@ -381,9 +365,6 @@ def check(found, machine, used):
         with open(os.path.join(TOP, page), encoding="utf-8") as file:
             lines = file.read().splitlines()
         tool_lines += [text for text in lines if TOOLS.match(text)]
-        if MACHINE_MARKER in lines:
-            rows += len(machine)
-            wrong += wrong_machine(lines, machine)
         for begin, end, _ in tables(lines):
             for key, row in rows_between(lines, begin, end).items():
                 if (*key, "IPv4") in found:
@@ -395,7 +376,9 @@ def check(found, machine, used):
     if rows == 0 or len(tool_lines) != 1:
         print("the pages have no table, or don't say once what it was counted with")
         wrong += 1
-    return rows, wrong
+    faults = list(released.faults(RELEASED, KINDS, alone))
+    print(*(f"{fault}\n" for fault in faults), sep="", end="")
+    return rows + len(alone) // len(KINDS), wrong + len(faults)
 
 
 def same_tools(used):
@@ -417,18 +400,20 @@ def can_count(warns, *needed):
     return True
 
 
-def options(number, default):
-    """Returns the options of a script that counts: --check, --write, and one that takes a
-    number."""
+def options(number, default, releases=False):
+    """Returns the options of a script that counts: --check, --write, one that takes a number, and
+    --release."""
     parser = argparse.ArgumentParser()
     parser.add_argument("--check", action="store_true")
     parser.add_argument("--write", action="store_true")
+    if releases:
+        parser.add_argument("--release", metavar="VERSION")
     parser.add_argument(number, type=int, default=default)
     return parser.parse_args()
 
 
 def main():
-    asked = options("--jobs", os.cpu_count())
+    asked = options("--jobs", os.cpu_count(), releases=True)
     if not can_count(warn, "valgrind", "gcc"):
         return 0 if asked.check else 1
     compilers = [name for name in ("gcc", "clang") if shutil.which(name)]
@@ -439,18 +424,21 @@ def main():
         warn(f"docs/SPEED.md wasn't counted with {', '.join(used)}: nothing is compared")
         return 0
     with tempfile.TemporaryDirectory() as folder, ThreadPoolExecutor(asked.jobs) as pool:
-        found, machine = count_all(folder, pool, compilers)
-    if asked.write:
-        for page in PAGES:
-            written(page, found, machine, used)
-    elif asked.check:
-        rows, wrong = check(found, machine, used)
+        found, alone = count_all(folder, pool, compilers)
+    if asked.release:
+        released.write(asked.release, alone)
+    if asked.check:
+        rows, wrong = check(found, alone, used)
         print(f"{rows} rows of instructions compared, {wrong} cells wrong")
         return 1 if wrong else 0
-    else:
-        rows = dict.fromkeys((job, compiler) for job, compiler, _ in found)
-        print(*HEAD, *(line(*key, found) for key in rows), *MACHINE_HEAD, *machine, sep="\n")
-        print(f"Counted with {', '.join(used)}.")
+    rows = dict.fromkeys((job, compiler) for job, compiler, _ in found)
+    table = released.table(KINDS, alone)
+    print(*HEAD, *(line(*key, found) for key in rows), "", *table, sep="\n")
+    print(f"Counted with {', '.join(used)}.")
+    if asked.write:
+        for page in PAGES:
+            written(page, found, used)
+        write(RELEASED, table)
     return 0
 
 

@@ -1,22 +1,22 @@
 #!/usr/bin/env python3
-"""Counts the instructions of calls on data and deltas, and of the same jobs by hand in C.
+"""Counts the instructions of calls on data and deltas, beside the last release.
 
-usage: bench/data.py [--check | --write] [--jobs N]
+usage: bench/data.py [--check | --write] [--release VERSION] [--jobs N]
 
 Prints two tables. generate_data.py makes old and new data for them, of which one origin in a
 thousand differs.
 
 The first has the calls `rtr_delta` and `rtr_apply` over data in canonical form: instructions a unit
-of both inputs by callgrind, as the difference of two lengths of input; the same as passes of
-`rtr_normalise_slice` over both inputs; and the same jobs by hand in C, over sorted arrays of plain
-structs, in data_by_hand.c. First a test compares what they write.
+of both inputs by callgrind, as the difference of two lengths of input, in cells
+`now / released = ratio` as in the second table of bench/count.py; and the same as passes of
+`rtr_normalise_slice` over both inputs.
 
 The second, which is only printed, has the ways to apply changes in no order to data: `rtr_order`
 and then `rtr_apply`, and `rtr_apply_in_order`, for a delta and for an answer that has all of the
 new data.
 
 --write renews the first table in docs/SPEED.md. With --check it is compared: a number may differ by
-3 in a hundred.
+3 in a hundred. --release writes what the calls take into bench/released.txt first.
 """
 import os
 import re
@@ -26,6 +26,7 @@ import tempfile
 from concurrent.futures import ThreadPoolExecutor
 
 import count
+import released
 from speed_page import lines_of_page, table_at, write
 
 MARKER = "<!-- measured: data calls -->"
@@ -33,24 +34,15 @@ MARKER = "<!-- measured: data calls -->"
 # How many units the data have.
 COUNTED = 10_000
 
-# By how much a number of the page may differ, as a share or as a number.
+# By how much a number of passes on the page may differ, as a share or as a number.
 SHARE, LEAST = 0.03, 0.02
 
 # The columns of the first table.
 KINDS = {"IPv4": "ipv4=1", "IPv6": "ipv6=1", "both": "ipv4=3,ipv6=1"}
 
-# The rows of the first table: the name, the job, and the job that it is divided by, if not by
-# units.
-CALL_ROWS = [
-    ("`rtr_delta`", "rtr_delta", None),
-    ("as passes of `rtr_normalise_slice`", "rtr_delta", "normalise_both"),
-    ("by hand in C, from bytes to bytes", "delta_bytes", None),
-    ("by hand in C, from arrays to arrays", "delta_arrays", None),
-    ("`rtr_apply`", "rtr_apply", None),
-    ("as passes of `rtr_normalise_slice`", "rtr_apply", "normalise_changes"),
-    ("by hand in C, from bytes to bytes", "apply_bytes", None),
-    ("by hand in C, from arrays to arrays", "apply_arrays", None),
-]
+# The calls of the first table, each with the job whose passes its second row counts.
+CALLS = {"rtr_delta": "normalise_both", "rtr_apply": "normalise_changes"}
+PASSES = "as passes of `rtr_normalise_slice`"
 
 # The rows of the second table: the name and the job.
 ORDER_ROWS = [
@@ -68,9 +60,8 @@ def warn(text):
 
 def compiled(folder):
     """Returns the path of data_calls, compiled."""
-    program = os.path.join(folder, "arrays")
-    files = [count.source("data_calls.c"), count.source("data_by_hand.c"),
-             count.built.needed("rtr_c")[0]]
+    program = os.path.join(folder, "data_calls")
+    files = [count.source("data_calls.c"), count.built.needed("rtr_c")[0]]
     if subprocess.run(["gcc", *count.FLAGS, "-o", program, *files]).returncode != 0:
         sys.exit("bench/data.py: data_calls.c FAILED to compile: is the archive that of rtr.h?")
     return program
@@ -105,59 +96,54 @@ def units_of(job):
 
 
 def of_calls(folder, program, pool):
-    """Returns the rows of both tables: the name, and a number for each kind."""
-    runs = [pool.submit(of_kind, folder, program, kind) for kind in KINDS]
-    taken = [run.result() for run in runs]
-    rows = CALL_ROWS + [(row, job, None) for row, job in ORDER_ROWS]
-    counted = [(row, [jobs[job] / (jobs[by] if by else units_of(job)) for jobs in taken])
-               for row, job, by in rows]
-    return counted[:len(CALL_ROWS)], counted[len(CALL_ROWS):]
+    """Returns instructions a unit by job and kind, the passes of each call, and the rows of the
+    second table: the name, and a number for each kind."""
+    runs = {kind: pool.submit(of_kind, folder, program, kind) for kind in KINDS}
+    taken = {kind: run.result() for kind, run in runs.items()}
+    counted = {(job, kind): taken[kind][job] / units_of(job) for job in CALLS for kind in KINDS}
+    passes = {job: [taken[kind][job] / taken[kind][by] for kind in KINDS]
+              for job, by in CALLS.items()}
+    return counted, passes, [(row, [taken[kind][job] / units_of(job) for kind in KINDS])
+                             for row, job in ORDER_ROWS]
 
 
-def number(value):
-    """Returns a number of a table."""
-    return f"{value:.{0 if value >= 30 else 2}f}"
+def plain_row(name, numbers):
+    """Returns a row without the last release."""
+    cells = (f"{value:.{0 if value >= 30 else 2}f}" for value in numbers)
+    return f"| {name} | " + " | ".join(cells) + " |"
 
 
-def calls_table(calls):
-    """Returns the lines of a table."""
-    head = ["| Instructions a unit of both inputs | " + " | ".join(KINDS) + " |",
-            "|---" * (len(KINDS) + 1) + "|"]
-    return head + [f"| {row} | " + " | ".join(map(number, numbers)) + " |"
-                   for row, numbers in calls]
-
-
-def rows_said():
-    """The rows of the table of the page: their names and their cells, in order."""
-    lines = lines_of_page()
-    begin, end = table_at(lines, MARKER)
-    rows = [[cell.strip() for cell in line.strip("|").split("|")] for line in lines[begin:end][2:]]
-    return [(row[0], row[1:]) for row in rows]
+def calls_table(counted, passes):
+    """Returns the lines of the first table."""
+    lines = released.head("Instructions a unit of both inputs", KINDS)
+    for job in CALLS:
+        lines += [released.row(job, KINDS, counted), plain_row(PASSES, passes[job])]
+    return lines
 
 
 def is_near(shown, exact):
-    """Reports whether a number of the page is near enough."""
+    """Reports whether a number of passes on the page is near enough."""
     return re.fullmatch(r"[\d.]+", shown) and abs(float(shown) - exact) <= max(LEAST, SHARE * exact)
 
 
-def check(calls):
-    """Compares the page; returns how many numbers are wrong."""
-    rows, wrong, compared = rows_said(), 0, 0
-    if [name for name, _ in rows] != [name for name, _ in calls]:
-        print("docs/SPEED.md: the table of the calls has other rows")
-        return 1
-    for (name, cells), (_, numbers) in zip(rows, calls):
-        for cell, exact in zip(cells, numbers, strict=True):
-            compared += 1
-            if not is_near(cell, exact):
-                print(f"docs/SPEED.md: {name}: {cell}, counted {exact:.2f}")
-                wrong += 1
-    print(f"{compared} numbers of instructions compared, {wrong} wrong")
-    return wrong
+def faults(counted, passes):
+    """Yields what is wrong with the page."""
+    lines = lines_of_page()
+    head, *rows = lines[slice(*table_at(lines, MARKER))]
+    expected = calls_table(counted, passes)
+    if head != expected[0] or len(rows) != len(expected) - 1:
+        yield "docs/SPEED.md: the table of the calls has another head, or other rows"
+        return
+    for place, job in enumerate(CALLS):
+        call, passed = rows[1 + 2 * place:3 + 2 * place]
+        yield from released.faults_of_row(call, job, KINDS, counted)
+        name, *cells = (text.strip() for text in passed.strip("|").split("|"))
+        if (name, len(cells)) != (PASSES, len(KINDS)) or not all(map(is_near, cells, passes[job])):
+            yield f"docs/SPEED.md: `{passed}`, counted `{plain_row(PASSES, passes[job])}`"
 
 
 def main():
-    asked = count.options("--jobs", os.cpu_count())
+    asked = count.options("--jobs", os.cpu_count(), releases=True)
     if not count.can_count(warn, "valgrind", "gcc"):
         return 0 if asked.check else 1
     used = count.tools(["gcc"])
@@ -165,12 +151,17 @@ def main():
         warn(f"docs/SPEED.md wasn't counted with {', '.join(used)}: nothing is compared")
         return 0
     with tempfile.TemporaryDirectory() as folder, ThreadPoolExecutor(asked.jobs) as pool:
-        calls, orders = of_calls(folder, compiled(folder), pool)
+        counted, passes, orders = of_calls(folder, compiled(folder), pool)
+    if asked.release:
+        released.write(asked.release, counted)
     if asked.check:
-        return 1 if check(calls) else 0
+        wrong = list(faults(counted, passes))
+        print(*wrong, f"{2 * len(CALLS)} rows of data compared, {len(wrong)} wrong", sep="\n")
+        return 1 if wrong else 0
+    table = calls_table(counted, passes)
     if asked.write:
-        write(MARKER, calls_table(calls))
-    print(*calls_table(calls), "", *calls_table(orders), sep="\n")
+        write(MARKER, table)
+    print(*table, "", *(plain_row(*row) for row in orders), sep="\n")
     return 0
 
 

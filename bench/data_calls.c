@@ -1,26 +1,35 @@
-/* Compares the calls on data from C with sorted arrays of plain structs, in data_by_hand.c.
+/* Counts the calls on data from C.
  *
  * usage: data_calls FILE..          does each job once over each file, to be counted by callgrind
  *
  * Each file has an old and a new data, one after the other, as generate_data.py writes them.
- * Callgrind dumps the cost of each job, labelled `JOB FILE`: bench/data.py reads that. If the calls
- * and the code by hand write different bytes, the exit status is 1. */
+ * Callgrind dumps the cost of each job, labelled `JOB FILE`: bench/data.py reads that. If a call
+ * writes wrong bytes, the exit status is 1. */
 #include <stdio.h>
 #include <stdlib.h>
+#include <string.h>
 #include "counting.h"
-#include "data_by_hand.h"
+#include "rtr.h"
 
 enum job {
-    NORMALISE_BOTH, DELTA, DELTA_BYTES, DELTA_ARRAYS,
-    NORMALISE_CHANGES, APPLY, APPLY_BYTES, APPLY_ARRAYS,
-    ORDER_APPLY, IN_ORDER, ORDER_APPLY_ALL, IN_ORDER_ALL, JOBS
+    NORMALISE_BOTH,
+    DELTA,
+    NORMALISE_CHANGES,
+    APPLY,
+    ORDER_APPLY,
+    IN_ORDER,
+    ORDER_APPLY_ALL,
+    IN_ORDER_ALL,
+    JOBS
 };
 
 static const char *const names[JOBS] = {
-    "normalise_both", "rtr_delta", "delta_bytes", "delta_arrays",
-    "normalise_changes", "rtr_apply", "apply_bytes", "apply_arrays",
-    "order_apply", "in_order", "order_apply_all", "in_order_all",
+    "normalise_both", "rtr_delta", "normalise_changes", "rtr_apply",
+    "order_apply",    "in_order",  "order_apply_all",   "in_order_all",
 };
+
+/* The bytes of an end of data of version 2. */
+enum { END_SIZE = 24 };
 
 /* A sequence. */
 struct bytes {
@@ -29,13 +38,11 @@ struct bytes {
 };
 
 /* An old and a new data, the delta between them, the units of the delta and of the new data in no
- * order, data without payloads, an index for either, and arrays to work in: the old, the new, the
- * announced and the withdrawn origins, and the result of the changes. */
+ * order, data without payloads, an index for either, and room for units in order. */
 struct sample {
     struct bytes old, new, changes, mixed, all, none;
     size_t *index;
     uint8_t *ordered;
-    struct origins in_old, in_new, announced, withdrawn, made;
 };
 
 /* Normalises both, and returns how many bytes that made. */
@@ -45,42 +52,10 @@ static size_t normalise(struct bytes first, struct bytes second, uint8_t *out)
     if (rtr_normalise_slice(first.at, first.length, out, first.length, UINT64_MAX, &answer[0])
             != RTR_OK
         || rtr_normalise_slice(second.at, second.length, out + first.length, second.length,
-                               UINT64_MAX, &answer[1]) != RTR_OK)
+                               UINT64_MAX, &answer[1])
+               != RTR_OK)
         return 0;
     return answer[0].written + answer[1].written;
-}
-
-/* Writes the announced and the withdrawn origins, and the end of data. */
-static size_t put_changes(const struct sample *sample, const uint8_t *end, uint8_t *out)
-{
-    size_t made = put_origins(&sample->announced, 1, out);
-    made += put_origins(&sample->withdrawn, 0, out + made);
-    memcpy(out + made, end, END_SIZE);
-    return made + END_SIZE;
-}
-
-/* Does rtr_delta's and rtr_apply's work over arrays; returns 0 if it was refused. */
-static size_t delta_by_hand(struct sample *sample, uint8_t *out)
-{
-    size_t end = read_changes(sample->new.at, sample->new.length, &sample->in_new, NULL);
-    if (read_changes(sample->old.at, sample->old.length, &sample->in_old, NULL) == SIZE_MAX
-        || end == SIZE_MAX)
-        return 0;
-    merge_delta(&sample->in_old, &sample->in_new, &sample->announced, &sample->withdrawn);
-    return put_changes(sample, sample->new.at + end, out);
-}
-
-static size_t apply_by_hand(struct sample *sample, uint8_t *out)
-{
-    size_t end = read_changes(sample->changes.at, sample->changes.length, &sample->announced,
-                              &sample->withdrawn);
-    if (read_changes(sample->old.at, sample->old.length, &sample->in_old, NULL) == SIZE_MAX
-        || end == SIZE_MAX
-        || !merge_applied(&sample->in_old, &sample->announced, &sample->withdrawn, &sample->made))
-        return 0;
-    size_t made = put_origins(&sample->made, 1, out);
-    memcpy(out + made, sample->changes.at + end, END_SIZE);
-    return made + END_SIZE;
 }
 
 /* Applies changes in no order to the old data: orders them first. */
@@ -89,7 +64,8 @@ static size_t order_apply(const struct sample *sample, struct bytes old, struct 
 {
     struct rtr_data_answer answer;
     if (rtr_order(changes.at, changes.length, sample->index, changes.length / 20, sample->ordered,
-                  changes.length, &answer) == RTR_OK)
+                  changes.length, &answer)
+        == RTR_OK)
         rtr_apply(old.at, old.length, sample->ordered, answer.written, out,
                   old.length + changes.length, &answer);
     return answer.written;
@@ -105,9 +81,9 @@ static size_t in_order(const struct sample *sample, struct bytes old, struct byt
     return answer.written;
 }
 
-/* Does a job, and returns how many bytes it made, or for arrays one more than the origins; 0 if it
- * was refused. */
-static __attribute__((noinline)) size_t run_job(enum job job, struct sample *sample, uint8_t *out)
+/* Does a job, and returns how many bytes it made; 0 if it was refused. */
+static __attribute__((noinline)) size_t run_job(enum job job, const struct sample *sample,
+                                                uint8_t *out)
 {
     struct rtr_data_answer answer;
     struct bytes old = sample->old, new = sample->new, changes = sample->changes;
@@ -117,30 +93,20 @@ static __attribute__((noinline)) size_t run_job(enum job job, struct sample *sam
     case DELTA:
         rtr_delta(old.at, old.length, new.at, new.length, out, old.length + new.length, &answer);
         return answer.written;
-    case DELTA_BYTES:
-        return delta_by_hand(sample, out);
-    case DELTA_ARRAYS:
-        merge_delta(&sample->in_old, &sample->in_new, &sample->announced, &sample->withdrawn);
-        return sample->announced.count + sample->withdrawn.count + 1;
     case NORMALISE_CHANGES:
         return normalise(old, changes, out);
     case APPLY:
-        rtr_apply(old.at, old.length, changes.at, changes.length, out,
-                  old.length + changes.length, &answer);
+        rtr_apply(old.at, old.length, changes.at, changes.length, out, old.length + changes.length,
+                  &answer);
         return answer.written;
-    case APPLY_BYTES:
-        return apply_by_hand(sample, out);
     case ORDER_APPLY:
         return order_apply(sample, old, sample->mixed, out);
     case IN_ORDER:
         return in_order(sample, old, sample->mixed, out);
     case ORDER_APPLY_ALL:
         return order_apply(sample, sample->none, sample->all, out);
-    case IN_ORDER_ALL:
-        return in_order(sample, sample->none, sample->all, out);
     default:
-        return merge_applied(&sample->in_old, &sample->announced, &sample->withdrawn,
-                             &sample->made) ? sample->made.count + 1 : 0;
+        return in_order(sample, sample->none, sample->all, out);
     }
 }
 
@@ -170,15 +136,6 @@ static size_t sequence_length(const uint8_t *in, size_t left)
     return 0;
 }
 
-/* Allocates an array for as many origins as a sequence of this length may have. */
-static bool make_room(struct origins *origins, size_t length)
-{
-    origins->count = 0;
-    origins->room = length / 20;
-    origins->at = malloc(length + 1 + origins->room * sizeof *origins->at);
-    return origins->at != NULL;
-}
-
 /* Writes the units of a sequence in no order, and its end of data. */
 static struct bytes mix(struct bytes from, size_t *places, uint8_t *out)
 {
@@ -186,8 +143,9 @@ static struct bytes mix(struct bytes from, size_t *places, uint8_t *out)
     struct bytes mixed = {out, 0};
     uint32_t random = 1;
     size_t count = 0, at = 0;
-    for (; rtr_next(from.at + at, from.length - at, &unit) == RTR_OK
-           && unit.kind != RTR_END_OF_DATA; at += unit.size)
+    for (;
+         rtr_next(from.at + at, from.length - at, &unit) == RTR_OK && unit.kind != RTR_END_OF_DATA;
+         at += unit.size)
         places[count++] = at;
     for (; count > 0; count--) {
         random = random * 1664525 + 1013904223;
@@ -216,30 +174,19 @@ static bool take_mixed(struct sample *sample)
     return true;
 }
 
-/* Splits the input, and makes the delta and the arrays. */
+/* Splits the input, and makes the delta. */
 static bool take_sample(const uint8_t *input, size_t length, struct sample *sample, uint8_t *delta)
 {
     sample->old = (struct bytes){input, sequence_length(input, length)};
     input += sample->old.length;
     length -= sample->old.length;
     sample->new = (struct bytes){input, sequence_length(input, length)};
-    size_t both = sample->old.length + sample->new.length;
-    if (!make_room(&sample->in_old, both) || !make_room(&sample->in_new, both)
-        || !make_room(&sample->announced, both) || !make_room(&sample->withdrawn, both)
-        || !make_room(&sample->made, both))
-        return false;
     sample->changes = (struct bytes){delta, run_job(DELTA, sample, delta)};
-    return sample->old.length && sample->new.length && sample->changes.length
-        && take_mixed(sample);
+    return sample->old.length && sample->new.length && sample->changes.length &&take_mixed(sample);
 }
 
 static void drop_sample(struct sample *sample)
 {
-    free(sample->in_old.at);
-    free(sample->in_new.at);
-    free(sample->announced.at);
-    free(sample->withdrawn.at);
-    free(sample->made.at);
     free((void *)sample->mixed.at);
     free(sample->ordered);
     free(sample->index);
@@ -248,24 +195,14 @@ static void drop_sample(struct sample *sample)
 /* Reports whether a job wrote the right bytes: the delta, or the new data. */
 static bool is_right(enum job job, const struct sample *sample, const uint8_t *out, size_t made)
 {
-    struct bytes expected;
-    switch (job) {
-    case DELTA: case DELTA_BYTES:
-        expected = sample->changes;
-        break;
-    case APPLY: case APPLY_BYTES: case ORDER_APPLY: case IN_ORDER: case ORDER_APPLY_ALL:
-    case IN_ORDER_ALL:
-        expected = sample->new;
-        break;
-    default:
+    if (job == NORMALISE_BOTH || job == NORMALISE_CHANGES)
         return made > 0;
-    }
+    struct bytes expected = job == DELTA ? sample->changes : sample->new;
     return made == expected.length && memcmp(out, expected.at, made) == 0;
 }
 
-/* Does each job, has callgrind dump its cost, and tests its output. The jobs over arrays use those
- * that the job before read. */
-static bool count(const char *file, struct sample *sample, uint8_t *out)
+/* Does each job, has callgrind dump its cost, and tests its output. */
+static bool count(const char *file, const struct sample *sample, uint8_t *out)
 {
     char label[4096];
     for (enum job job = 0; job < JOBS; job++) {
@@ -286,8 +223,8 @@ static bool measure(FILE *from, const char *file)
     uint8_t *input = NULL, *delta = NULL, *out = NULL;
     size_t length;
     bool good = from && read_all(from, &input, &length) && (delta = malloc(length))
-        && (out = malloc(length)) && take_sample(input, length, &sample, delta)
-        && count(file, &sample, out);
+                && (out = malloc(length)) && take_sample(input, length, &sample, delta)
+                && count(file, &sample, out);
     drop_sample(&sample);
     free(input);
     free(delta);
@@ -304,7 +241,7 @@ int main(int words, char **word)
     for (int i = 1; i < words; i++) {
         FILE *from = fopen(word[i], "rb");
         if (!measure(from, word[i])) {
-            fprintf(stderr, "%s: refused, or the calls and those by hand differ\n", word[i]);
+            fprintf(stderr, "%s: refused, or a call wrote wrong bytes\n", word[i]);
             return 1;
         }
         fclose(from);

@@ -1,4 +1,4 @@
-/* What the programs by hand in C share: buffers of 64 KiB, and the texts of a unit's fields. */
+/* What programs.c writes with: buffers of 64 KiB, and the texts of a unit's fields. */
 #ifndef FISHREEF_HAND_TEXT_H
 #define FISHREEF_HAND_TEXT_H
 
@@ -131,11 +131,10 @@ static inline void put_ipv6(const uint8_t *at)
     }
 }
 
-#define LETTERS "ABCDEFGHIJKLMNOPQRSTUVWXYZabcdefghijklmnopqrstuvwxyz0123456789"
-
-/* Base64 with these digits, without padding. */
-static inline void put_base64_by(const char *digits, const uint8_t *at, size_t length)
+/* Base64 with the alphabet of RFC 4648 section 5, without padding. */
+static inline void put_base64(const uint8_t *at, size_t length)
 {
+    static const char digits[] = "ABCDEFGHIJKLMNOPQRSTUVWXYZabcdefghijklmnopqrstuvwxyz0123456789-_";
     for (; length >= 3; at += 3, length -= 3) {
         uint32_t group = (uint32_t)at[0] << 16 | (uint32_t)at[1] << 8 | at[2];
         put_byte(digits[group >> 18]);
@@ -150,12 +149,6 @@ static inline void put_base64_by(const char *digits, const uint8_t *at, size_t l
         if (length > 1)
             put_byte(digits[group >> 6 & 63]);
     }
-}
-
-/* Base64 with the alphabet of RFC 4648 section 5, without padding. */
-static inline void put_base64(const uint8_t *at, size_t length)
-{
-    put_base64_by(LETTERS "-_", at, length);
 }
 
 /* ---- units */
@@ -180,8 +173,10 @@ static inline void put_address(const uint8_t *in)
 
 static inline void put_kind(const uint8_t *in)
 {
-    put_text(in[1] == RTR_IPV4_PREFIX ? " IPv4 prefix" : in[1] == RTR_IPV6_PREFIX ? " IPv6 prefix"
-             : in[1] == RTR_ROUTER_KEY ? " router key" : " ASPA");
+    put_text(in[1] == RTR_IPV4_PREFIX   ? " IPv4 prefix"
+             : in[1] == RTR_IPV6_PREFIX ? " IPv6 prefix"
+             : in[1] == RTR_ROUTER_KEY  ? " router key"
+                                        : " ASPA");
 }
 
 /* The fields of an announcement. */

@@ -21,7 +21,7 @@ sys.dont_write_bytecode = True
 import built  # noqa: E402  (it lies in another folder)
 import count
 
-CALLS = count.CALLS + count.ONLY_COUNTED
+CALLS = count.CALLS + count.RELEASED_CALLS + count.ONLY_COUNTED
 
 # The calls that may take this many times the archive's instructions, at most.
 CHECKED = ("rtr_normalise_slice", "rtr_normalise_for_slice")

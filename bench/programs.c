@@ -1,41 +1,20 @@
-/* The programs by hand in C: what rtr_normalise and rtr_list are measured against.
+/* The program by hand in C that rtr_list is measured against.
  *
- * usage: programs normalise|list|json|check < SEQUENCE
+ * usage: programs list|check < SEQUENCE
  *        programs --count FILE..      does each job over each file, to be counted by callgrind
  *
- *     cc -O3 -march=x86-64-v2 -Ibindings/c -o programs bench/programs.c bench/by_hand.c
+ *     cc -O3 -march=x86-64-v2 -Ibindings/c -o programs bench/programs.c
  *
- * They write the output of `rtr_normalise`, `rtr_list`, `rtr_list --json` and `rtr_list --check`
- * for sequences of payload units, through buffers of 64 KiB; they don't know units of other types.
- * With --count callgrind dumps the cost of each job, labelled `JOB FILE`. Nothing here is proved:
- * bench/count.py compares what both write, and counts both. */
+ * It writes the output of `rtr_list` and `rtr_list --check` for sequences of payload units, through
+ * buffers of 64 KiB; it doesn't know units of other types. With --count callgrind dumps the cost of
+ * each job, labelled `JOB FILE`. Nothing here is proved: bench/count.py compares what both write,
+ * and counts both. */
 #include <fcntl.h>
 #include "hand_text.h"
 #include "counting.h"
 
 static uint64_t offset;
 static bool found_any;
-
-/* ---- rtr_normalise */
-
-static int normalise_all(void)
-{
-    struct rtr_answer answer;
-    for (;;) {
-        const uint8_t *from = input + input_at;
-        size_t left = input_end - input_at, capacity = sizeof output - output_end;
-        uint8_t *to = (uint8_t *)output + output_end;
-        uint8_t status = normalise_by_hand(from, left, to, capacity, UINT32_MAX, &answer);
-        input_at += answer.taken;
-        output_end += answer.written;
-        if (output_end >= BUFFER || status != RTR_SHORT)
-            flush();
-        if (status == RTR_OK || (status == RTR_SHORT && !refill()))
-            return status != RTR_OK;
-        if (status != RTR_SHORT && status != RTR_NO_ROOM)
-            return 1;
-    }
-}
 
 /* ---- rtr_list */
 
@@ -60,63 +39,10 @@ static void list_unit(const uint8_t *in, size_t size)
     put_byte('\n');
 }
 
-static void object_of_payload(const uint8_t *in, size_t size)
-{
-    put_labelled(",\"flags\":", flags_of(in));
-    put_text(flags_of(in) & 1 ? ",\"action\":\"announce\"" : ",\"action\":\"withdraw\"");
-    if (is_prefix(in)) {
-        put_labelled(",\"zero\":[", (unsigned)in[2] << 8 | in[3]);
-        put_labelled(",", in[11]);
-        put_text("],\"prefix\":\"");
-        put_address(in);
-        put_labelled("\",\"prefix_length\":", in[9]);
-        put_labelled(",\"max_length\":", in[10]);
-        put_labelled(",\"asn\":", get32(in + size - 4));
-    } else if (in[1] == RTR_ROUTER_KEY) {
-        put_labelled(",\"zero\":[", in[3]);
-        put_text("],\"subject_key_identifier\":\"");
-        put_hex(in + 8, 20);
-        put_labelled("\",\"asn\":", get32(in + 28));
-        put_text(",\"subject_public_key_info\":\"");
-        put_base64(in + 32, size - 32);
-        put_byte('"');
-    } else {
-        put_labelled(",\"zero\":[", in[3]);
-        put_labelled("],\"customer_asn\":", get32(in + 8));
-        put_text(",\"provider_asns\":[");
-        for (size_t position = 12; position < size; position += 4)
-            put_labelled(position > 12 ? "," : "", get32(in + position));
-        put_byte(']');
-    }
-}
-
-static void object_of(const uint8_t *in, size_t size)
-{
-    put_labelled("{\"offset\":", offset);
-    put_labelled(",\"length\":", size);
-    put_text(",\"kind\":\"");
-    put_text(in[1] == RTR_IPV4_PREFIX ? "ipv4_prefix" : in[1] == RTR_IPV6_PREFIX ? "ipv6_prefix"
-             : in[1] == RTR_ROUTER_KEY ? "router_key" : in[1] == RTR_ASPA ? "aspa"
-             : "end_of_data");
-    put_labelled("\",\"version\":", in[0]);
-    if (in[1] == RTR_END_OF_DATA) {
-        put_labelled(",\"session_id\":", (unsigned)in[2] << 8 | in[3]);
-        put_labelled(",\"serial_number\":", get32(in + 8));
-        if (in[0]) {
-            put_labelled(",\"refresh_interval\":", get32(in + 12));
-            put_labelled(",\"retry_interval\":", get32(in + 16));
-            put_labelled(",\"expire_interval\":", get32(in + 20));
-        }
-    } else {
-        object_of_payload(in, size);
-    }
-    put_text("}\n");
-}
-
 /* ---- rtr_list --check */
 
-/* What is announced in the sequence: a table by hash with open addresses. A payload is its type,
- * and the bytes that tell it from others of its type, from `start` on in `kept`. */
+/* The announced payloads of the sequence: a hash table with open addressing. A payload is its type,
+ * and the bytes that distinguish it from others of its type, from `start` on in `kept`. */
 struct slot {
     uint64_t hash;
     size_t start;
@@ -307,9 +233,9 @@ static void check_aspa(const uint8_t *in, size_t size)
     check_lacks(in[0], 2);
     if (!(in[2] & 1) && size > 12) {
         bool older = in[2] == 0 && in[3] == 0 && in[8] <= 1 && in[9] <= 1
-            && ((size_t)in[10] << 8 | in[11]) + 1 == (size - 12) / 4;
+                     && ((size_t)in[10] << 8 | in[11]) + 1 == (size - 12) / 4;
         find(older ? "withdrawn ASPA has providers; looks like the layout of an older draft"
-             : "withdrawn ASPA has providers");
+                   : "withdrawn ASPA has providers");
     }
     for (size_t position = 16; position < size; position += 4) {
         if (get32(in + position - 4) >= get32(in + position)) {
@@ -383,22 +309,13 @@ static int list_all(void (*put_unit)(const uint8_t *, size_t))
     }
 }
 
-static const char *const jobs[] = {"normalise", "list", "json", "check"};
+static const char *const jobs[] = {"list", "check"};
 
 enum { JOBS = sizeof jobs / sizeof jobs[0] };
 
 static int run(int job)
 {
-    switch (job) {
-    case 0:
-        return normalise_all();
-    case 1:
-        return list_all(list_unit);
-    case 2:
-        return list_all(object_of);
-    default:
-        return list_all(check_unit);
-    }
+    return list_all(job == 0 ? list_unit : check_unit);
 }
 
 /* Does each job over a file as if the program had just started, but with its memory allocated. */
@@ -430,6 +347,6 @@ int main(int words, char **word)
     for (int job = 0; words == 2 && job < JOBS; job++)
         if (strcmp(word[1], jobs[job]) == 0)
             return run(job);
-    fprintf(stderr, "usage: programs normalise|list|json|check, or --count FILE..\n");
+    fprintf(stderr, "usage: programs list|check, or --count FILE..\n");
     return 2;
 }

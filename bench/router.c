@@ -15,8 +15,8 @@ enum { VERSION = 2, SESSION = 0x1234 };
 /* Makes a router that reads an answer; returns false without memory. */
 static bool reads(struct rtr_router *router)
 {
-    static const uint8_t response[] = {VERSION, RTR_CACHE_RESPONSE, SESSION >> 8, SESSION & 0xff,
-                                       0, 0, 0, 8};
+    static const uint8_t response[] = {
+        VERSION, RTR_CACHE_RESPONSE, SESSION >> 8, SESSION & 0xff, 0, 0, 0, 8};
     struct rtr_settings settings;
     struct rtr_action action;
     rtr_settings_usual(&settings, VERSION);
@@ -29,7 +29,7 @@ static bool reads(struct rtr_router *router)
 
 /* Lets the router read all units; returns their length once their changes are to be applied. */
 static __attribute__((noinline)) size_t read_all(struct rtr_router *router, const uint8_t *input,
-                                             size_t length)
+                                                 size_t length)
 {
     struct rtr_action action;
     size_t taken = 0;

@@ -62,7 +62,7 @@ static uint8_t width(const struct vrp *vrp)
 static void clear(uint8_t *address, uint8_t length)
 {
     for (int i = length; i < 128; i++)
-        address[i / 8] &= (uint8_t)~(0x80 >> i % 8);
+        address[i / 8] &= (uint8_t) ~(0x80 >> i % 8);
 }
 
 /* Sets a random address of the space that is allocated to networks. */
@@ -202,8 +202,10 @@ static void build_rtrlib_table(const struct vrp *vrps, size_t count)
     pfx_table_init(&table, NULL);
     for (size_t i = 0; i < count; i++) {
         struct pfx_record record = {
-            .asn = vrps[i].asn, .prefix = rtrlib_address(vrps[i].family, vrps[i].address),
-            .min_len = vrps[i].length, .max_len = vrps[i].max_length,
+            .asn = vrps[i].asn,
+            .prefix = rtrlib_address(vrps[i].family, vrps[i].address),
+            .min_len = vrps[i].length,
+            .max_len = vrps[i].max_length,
         };
         pfx_table_add(&table, &record);
     }
@@ -212,7 +214,8 @@ static void build_rtrlib_table(const struct vrp *vrps, size_t count)
 static uint8_t rtrlib_validity(const struct rtr_route *route)
 {
     static const uint8_t validities[] = {
-        [BGP_PFXV_STATE_VALID] = RTR_VALID, [BGP_PFXV_STATE_NOT_FOUND] = RTR_NOT_FOUND,
+        [BGP_PFXV_STATE_VALID] = RTR_VALID,
+        [BGP_PFXV_STATE_NOT_FOUND] = RTR_NOT_FOUND,
         [BGP_PFXV_STATE_INVALID] = RTR_INVALID,
     };
     struct lrtr_ip_addr prefix = rtrlib_address(route->family, route->address);
@@ -354,8 +357,8 @@ int main(int argc, char **argv)
             printf(" %.1f", median(times[library][family], rounds) / (double)family_counts[family]);
     qsort(routes, count, sizeof *routes, by_address);
     differ += print_in_order(&data, routes, family_counts[0], answers, others, rounds);
-    differ += print_in_order(&data, routes + family_counts[0], family_counts[1], answers, others,
-                             rounds);
+    differ +=
+        print_in_order(&data, routes + family_counts[0], family_counts[1], answers, others, rounds);
     printf(" %zu %zu %zu %zu\n", state_counts[0], state_counts[1], state_counts[2], differ);
     return differ != 0;
 }

@@ -94,7 +94,7 @@ def timed(folder, runs):
 
 
 def rows(found):
-    """Returns the numbers of the table, by what its rows say."""
+    """Returns the numbers of the table, by the names of its rows."""
     rows_alone = found["rows"]
     data_alone = found["data"] - found["origins"]
     return {

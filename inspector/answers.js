@@ -64,6 +64,6 @@ export function dataOf(rtr, bytes) {
         return { data: plain, hasCut };
     } catch (error) {
         throw error instanceof Fault
-            ? new Fault({ ...error, offset: copy.offsetOf(error.offset) }) : error;
+            ? rtr.fault({ ...error, offset: copy.offsetOf(error.offset) }) : error;
     }
 }

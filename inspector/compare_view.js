@@ -66,7 +66,7 @@ export class CompareView {
 
     #compare(first, second) {
         const [old, next] = [leavesOf(this.#rtr, first), leavesOf(this.#rtr, second)];
-        const wrong = [old, next].filter((one) => typeof one === "string");
+        const wrong = [old, next].filter((side) => typeof side === "string");
         if (wrong.length > 0) {
             by("compared").textContent = wrong.join(" ");
             return;

@@ -17,7 +17,7 @@ export class Conversation {
     streams; // of the router and of the cache
     recordings; // likewise
     began; // when its first unit had come, in seconds since 1970
-    #order = new Column(Uint32Array); // twice the place in its recording, and the side
+    #order = new Column(Uint32Array); // twice the index in its recording, and the side
 
     constructor(name, streams, recordings) {
         this.name = name;
@@ -27,13 +27,13 @@ export class Conversation {
 
     /** Sorts the units of both sides by the time at which they were whole. */
     async merge() {
-        const places = [0, 0];
-        const isLeft = (side) => places[side] < this.recordings[side].count;
+        const indexes = [0, 0];
+        const isLeft = (side) => indexes[side] < this.recordings[side].count;
         while (isLeft(ROUTER) || isLeft(CACHE)) {
             const side = isLeft(ROUTER) && isLeft(CACHE)
-                ? this.#earlier(places) : Number(!isLeft(ROUTER));
-            this.#order.push(2 * places[side] + side);
-            places[side] += 1;
+                ? this.#earlier(indexes) : Number(!isLeft(ROUTER));
+            this.#order.push(2 * indexes[side] + side);
+            indexes[side] += 1;
             if (this.#order.length % 20000 === 0) {
                 await breathe();
             }
@@ -42,7 +42,7 @@ export class Conversation {
         return this;
     }
 
-    /** Returns the side whose next unit came first: the router's, of two at the same time. */
+    /** Returns the side whose next unit came first; the router's, if both came at the same time. */
     #earlier([ofRouter, ofCache]) {
         return this.#timeOf(ROUTER, ofRouter) <= this.#timeOf(CACHE, ofCache) ? ROUTER : CACHE;
     }
@@ -55,26 +55,26 @@ export class Conversation {
     }
 
     /** Returns the index of a unit in the recording of its side. */
-    #own(place) {
-        return Math.floor(this.#order.at(place) / 2);
+    #own(index) {
+        return Math.floor(this.#order.at(index) / 2);
     }
 
-    side(place) {
-        return this.#order.at(place) % 2;
+    side(index) {
+        return this.#order.at(index) % 2;
     }
 
-    kind(place) {
-        return this.recordings[this.side(place)].kind(this.#own(place));
+    kind(index) {
+        return this.recordings[this.side(index)].kind(this.#own(index));
     }
 
     /** Returns who sent a unit: router or cache. */
-    sideName(place) {
-        return SIDES[this.side(place)];
+    sideName(index) {
+        return SIDES[this.side(index)];
     }
 
     /** Returns the seconds since the first unit. */
-    time(place) {
-        return this.#timeOf(this.side(place), this.#own(place)) - this.began;
+    time(index) {
+        return this.#timeOf(this.side(index), this.#own(index)) - this.began;
     }
 
     get count() {
@@ -89,35 +89,35 @@ export class Conversation {
         return Counts.sum(this.recordings.map((recording) => recording.kinds));
     }
 
-    unit(place) {
-        return this.recordings[this.side(place)].unit(this.#own(place));
+    unit(index) {
+        return this.recordings[this.side(index)].unit(this.#own(index));
     }
 
-    bytesOf(place) {
-        return this.recordings[this.side(place)].bytesOf(this.#own(place));
+    bytesOf(index) {
+        return this.recordings[this.side(index)].bytesOf(this.#own(index));
     }
 
     /** Returns the index of the unit of a side that has a byte. */
-    placeOf(offset, side = CACHE) {
-        const own = this.recordings[side].placeOf(offset);
-        for (let place = 0; place < this.count; place += 1) {
-            if (this.#order.at(place) === 2 * own + side) {
-                return place;
+    indexAt(offset, side = CACHE) {
+        const own = this.recordings[side].indexAt(offset);
+        for (let index = 0; index < this.count; index += 1) {
+            if (this.#order.at(index) === 2 * own + side) {
+                return index;
             }
         }
         return 0;
     }
 
     /** Returns the indexes of units for which all tests hold. */
-    async places(filter, told = () => {}) {
-        const found = [await this.recordings[ROUTER].places(filter),
-            await this.recordings[CACHE].places(filter, told)];
+    async indexes(filter, report = () => {}) {
+        const found = [await this.recordings[ROUTER].indexes(filter),
+            await this.recordings[CACHE].indexes(filter, report)];
         const next = [0, 0];
         const all = new Column(Uint32Array);
-        for (let place = 0; place < this.count; place += 1) {
-            const side = this.side(place);
-            if (found[side].at(next[side]) === this.#own(place)) {
-                all.push(place);
+        for (let index = 0; index < this.count; index += 1) {
+            const side = this.side(index);
+            if (found[side].at(next[side]) === this.#own(index)) {
+                all.push(index);
                 next[side] += 1;
             }
         }
@@ -157,8 +157,8 @@ function routerOf(rtr, sides) {
 
 /** Returns the sessions of a capture: for each connection whose sides begin with units, the bytes
  * of router and cache, and what couldn't be read. */
-export async function sessionsIn(rtr, bytes, told) {
-    const read = await connectionsOf(bytes, breathe, told);
+export async function sessionsIn(rtr, bytes, report) {
+    const read = await connectionsOf(bytes, breathe, report);
     const sessions = [];
     for (const { streams } of read.connections) {
         const sides = streams.map((stream) => stream.finish());
@@ -173,11 +173,11 @@ export async function sessionsIn(rtr, bytes, told) {
 }
 
 /** Reads a session of a capture. */
-export async function conversationOf(rtr, name, { streams, sides }, told) {
+export async function conversationOf(rtr, name, { streams, sides }, report) {
     const recordings = sides.map((side, number) => (
         new Recording(rtr, `${name}, ${SIDES[number]}`, side)));
     for (const recording of recordings) {
-        await recording.read(told);
+        await recording.read(report);
     }
     return new Conversation(name, streams, recordings).merge();
 }

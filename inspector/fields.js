@@ -45,10 +45,10 @@ function ask(rtr, bytes) {
 }
 
 /** Returns the names of the fields in which two results differ. */
-function differing(one, other) {
-    const differs = ([, place, kind, many]) => {
-        for (let at = place; at < place + (many ?? SIZES[kind]); at += 1) {
-            if (one.struct[at] !== other.struct[at]) {
+function differing(first, second) {
+    const differs = ([, offset, kind, many]) => {
+        for (let at = offset; at < offset + (many ?? SIZES[kind]); at += 1) {
+            if (first.struct[at] !== second.struct[at]) {
                 return true;
             }
         }
@@ -68,20 +68,20 @@ export function fieldsOf(rtr, bytes) {
         { label: PARTS[plain.kind], start: plain.partStart, length: plain.partLength },
         { label: "text", start: plain.textStart, length: plain.textLength },
     ];
-    return Array.from(bytes, (_, place) => {
-        const part = ranges.find(({ start, length }) => place >= start && place < start + length);
-        return part ? { label: part.label, free: 0 } : byteOf(rtr, plain, bytes, place);
+    return Array.from(bytes, (_, offset) => {
+        const part = ranges.find(({ start, length }) => offset >= start && offset < start + length);
+        return part ? { label: part.label, free: 0 } : byteOf(rtr, plain, bytes, offset);
     });
 }
 
 /** Returns the field of a byte. */
-function byteOf(rtr, plain, bytes, place) {
+function byteOf(rtr, plain, bytes, offset) {
     const names = [];
     const refusals = [];
     let free = 0;
     for (let bit = 0; bit < 8; bit += 1) {
         const changed = bytes.slice();
-        changed[place] ^= 1 << bit;
+        changed[offset] ^= 1 << bit;
         const answer = ask(rtr, changed);
         const differ = answer.status === Status.OK ? differing(plain, answer) : [];
         names.push(...differ);
@@ -95,7 +95,7 @@ function byteOf(rtr, plain, bytes, place) {
 }
 
 function labelOf(names, refusals) {
-    const name = FIRST.find((one) => names.includes(one)) ?? names[0];
+    const name = FIRST.find((name) => names.includes(name)) ?? names[0];
     if (name !== undefined) {
         return LABELS[name] ?? name;
     }
@@ -107,14 +107,14 @@ function labelOf(names, refusals) {
  * reserved bits. */
 export function runsOf(fields) {
     const runs = [];
-    fields.forEach(({ label, free }, place) => {
+    fields.forEach(({ label, free }, offset) => {
         const last = runs.at(-1);
         const bits = free.toString(2).replaceAll("0", "").length;
         if (last && last.label === label) {
             last.length += 1;
             last.free += bits;
         } else {
-            runs.push({ label, start: place, length: 1, free: bits });
+            runs.push({ label, start: offset, length: 1, free: bits });
         }
     });
     return runs;

@@ -5,15 +5,15 @@ import { Kind, prefixOf } from "./library.js";
 const FAMILIES = { 4: 4, 16: 6 };
 
 /** Reports whether the first bits of two addresses are the same. */
-function sameBits(one, other, bits) {
+function sameBits(first, second, bits) {
     const whole = bits >> 3;
-    for (let place = 0; place < whole; place += 1) {
-        if (one[place] !== other[place]) {
+    for (let index = 0; index < whole; index += 1) {
+        if (first[index] !== second[index]) {
             return false;
         }
     }
     const rest = bits & 7;
-    return rest === 0 || (one[whole] ^ other[whole]) >> (8 - rest) === 0;
+    return rest === 0 || (first[whole] ^ second[whole]) >> (8 - rest) === 0;
 }
 
 /** The relations of a prefix to that of the filter: it covers that, or lies in it. */
@@ -83,13 +83,13 @@ export function lineOf({ kind, action, as, prefix, relation, bits, longer }, nam
 
 /** Returns the filter of a form, or a text that says why it is invalid. */
 export function filterOf({ kind, action, as, prefix, relation, bits, longer }) {
-    const ofPlace = [];
+    const ofIndex = [];
     const ofShown = [];
     if (kind !== "") {
-        ofPlace.push((recording, place) => recording.kind(place) === Number(kind));
+        ofIndex.push((recording, index) => recording.kind(index) === Number(kind));
     }
     if (action !== "") {
-        ofPlace.push((recording, place) => recording.announces(place) === (action === "announce"));
+        ofIndex.push((recording, index) => recording.announces(index) === (action === "announce"));
         ofShown.push((shown) => hasAs(shown) || shown.byte("kind") === Kind.ASPA);
     }
     if (as !== "") {
@@ -113,8 +113,8 @@ export function filterOf({ kind, action, as, prefix, relation, bits, longer }) {
         ofShown.push((shown) => shown.byte("maxLength") > shown.byte("prefixLength"));
     }
     return {
-        isNone: ofPlace.length === 0 && ofShown.length === 0,
-        ofPlace: (recording, place) => ofPlace.every((test) => test(recording, place)),
+        isNone: ofIndex.length === 0 && ofShown.length === 0,
+        ofIndex: (recording, index) => ofIndex.every((test) => test(recording, index)),
         ofShown: ofShown.length === 0 ? null : (shown) => ofShown.every((test) => test(shown)),
     };
 }

@@ -131,7 +131,7 @@ class Page {
         if (!isNone) {
             this.#units.show(units);
             showPicture(by("panel-picture"), first, (filter) => this.#filter(filter),
-                (place) => this.#choosePlace(place));
+                (index) => this.#chooseUnit(index));
             this.#route.show(recording);
             this.#compare.show(recording, second?.recording);
             this.#rules.show(recording);
@@ -162,9 +162,9 @@ class Page {
         this.#units.goTo(offset);
     }
 
-    #choosePlace(place) {
+    #chooseUnit(index) {
         this.#choose("units");
-        this.#units.choosePlace(place);
+        this.#units.chooseUnit(index);
     }
 
     /** Lists the units that are refused, of each side. */
@@ -196,12 +196,12 @@ class Page {
     /** Tabs, which arrows move between. */
     #tabs() {
         const tabs = [...document.querySelectorAll("[role=tab]")];
-        tabs.forEach((tab, place) => {
+        tabs.forEach((tab, index) => {
             tab.addEventListener("click", () => this.#choose(tab.id.slice(4)));
             tab.addEventListener("keydown", (event) => {
                 const step = { ArrowRight: 1, ArrowLeft: -1 }[event.key];
                 if (step) {
-                    const next = tabs[(place + step + tabs.length) % tabs.length];
+                    const next = tabs[(index + step + tabs.length) % tabs.length];
                     this.#choose(next.id.slice(4));
                     next.focus();
                 }

@@ -30,16 +30,16 @@ export class Opened {
     }
 }
 
-async function recordingOf(rtr, name, bytes, hint, told) {
+async function recordingOf(rtr, name, bytes, hint, report) {
     const recording = new Recording(rtr, name, bytes);
     recording.hint = hint;
-    return new Opened(name, await recording.read(told));
+    return new Opened(name, await recording.read(report));
 }
 
 /** Opens one of the sessions of a capture. `cut` is the offset at which the capture ends inside a
  * packet. */
-export async function openSession(rtr, name, sessions, chosen, cut, told) {
-    const conversation = await conversationOf(rtr, name, sessions[chosen], told);
+export async function openSession(rtr, name, sessions, chosen, cut, report) {
+    const conversation = await conversationOf(rtr, name, sessions[chosen], report);
     const [router, cache] = [ROUTER, CACHE].map((side) => conversation.recordings[side]);
     const opened = new Opened(name, conversation, cache.count > 0 ? cache : router);
     opened.note = (cut === null ? "" : ` ${cut}.`) + gapText(sessions[chosen]);
@@ -54,15 +54,15 @@ function emptyCapture({ packets, connections, unread, cut }) {
         reasons.join("")}${cut === null ? "" : `; ${cut}`}`;
 }
 
-/** Opens a file's bytes. `told` is called with the progress, from 0 to 1. */
-export async function openFile(rtr, name, bytes, told) {
+/** Opens a file's bytes. `report` is called with the progress, from 0 to 1. */
+export async function openFile(rtr, name, bytes, report) {
     if (!isCapture(bytes)) {
-        return recordingOf(rtr, name, bytes, looksLike(bytes), told);
+        return recordingOf(rtr, name, bytes, looksLike(bytes), report);
     }
-    const found = await sessionsIn(rtr, bytes, told);
+    const found = await sessionsIn(rtr, bytes, report);
     return found.sessions.length === 0
-        ? recordingOf(rtr, name, bytes, emptyCapture(found), told)
-        : openSession(rtr, name, found.sessions, 0, found.cut, told);
+        ? recordingOf(rtr, name, bytes, emptyCapture(found), report)
+        : openSession(rtr, name, found.sessions, 0, found.cut, report);
 }
 
 /** Returns the name of a session for a list. */

@@ -9,7 +9,7 @@ import { count, kindName, many } from "./words.js";
 
 /** A list of bars: text, number and filter of each. */
 function bars(title, rows, choose) {
-    const made = element("div");
+    const node = element("div");
     const list = element("ul", { className: "bars" });
     const most = Math.max(...rows.map((row) => row.number));
     list.append(...rows.map(({ text, number, filter }) => {
@@ -22,8 +22,8 @@ function bars(title, rows, choose) {
         item.append(button);
         return item;
     }));
-    made.append(element("h2", { text: title }), list);
-    return made;
+    node.append(element("h2", { text: title }), list);
+    return node;
 }
 
 function lengthBars(picture, kind, choose) {
@@ -33,57 +33,57 @@ function lengthBars(picture, kind, choose) {
 }
 
 /** The answers, by their ends of data: where each is, and its serial number. */
-function answers(recording, choosePlace) {
+function answers(recording, chooseUnit) {
     const ends = recording.picture.ends.slice(0, 1000);
-    const made = element("div");
+    const node = element("div");
     const list = element("ol", { className: "bars" });
-    list.append(...ends.map((place) => {
-        const unit = recording.unit(place);
+    list.append(...ends.map((index) => {
+        const unit = recording.unit(index);
         const item = element("li");
         const button = element("button", { type: "button" });
         const text = `session ${unit.session} serial ${unit.serial}`;
         const where = `byte ${count(unit.offset)}`;
         button.append(element("span", { text }), element("span", { text: where }));
-        button.addEventListener("click", () => choosePlace(place));
+        button.addEventListener("click", () => chooseUnit(index));
         item.append(button);
         return item;
     }));
     const all = recording.picture.ends.length;
-    made.append(element("h2", { text: `Answers, one after the other (${count(all)})` }), list);
+    node.append(element("h2", { text: `Answers, one after the other (${count(all)})` }), list);
     if (all > ends.length) {
-        made.append(element("p", { text: `and ${many(all - ends.length, "more answer")}` }));
+        node.append(element("p", { text: `and ${many(all - ends.length, "more answer")}` }));
     }
-    return made;
+    return node;
 }
 
-/** Shows the picture of the opened file. `choose` is called with the filter of a bar, `choosePlace`
+/** Shows the picture of the opened file. `choose` is called with the filter of a bar, `chooseUnit`
  * with the index of a unit. */
-export function showPicture(panel, { recording, units }, choose, choosePlace) {
+export function showPicture(panel, { recording, units }, choose, chooseUnit) {
     const { picture, faults } = recording;
     const kinds = picture.kinds.sorted().map(([kind, number]) => (
         { text: kindName(kind), number, filter: { kind: String(kind) } }));
     if (faults.length > 0) {
         kinds.push({ text: "refused", number: faults.length, filter: { kind: String(REFUSED) } });
     }
-    const made = element("div", { className: "picture" });
-    made.append(bars("Kinds", kinds, choose));
+    const node = element("div", { className: "picture" });
+    node.append(bars("Kinds", kinds, choose));
     for (const kind of [Kind.IPV4_PREFIX, Kind.IPV6_PREFIX]) {
         if (picture.lengths[kind].size > 0) {
-            made.append(lengthBars(picture, kind, choose));
+            node.append(lengthBars(picture, kind, choose));
         }
     }
     const longer = picture.longer.sorted().map(([kind, number]) => ({ text: kindName(kind), number,
         filter: { kind: String(kind), longer: true } }));
     if (longer.length > 0) {
-        made.append(bars("Max length longer than the prefix", longer, choose));
+        node.append(bars("Max length longer than the prefix", longer, choose));
     }
     if (picture.ases.size > 0) {
         const largest = picture.ases.largest(12).map(([asn, number]) => (
             { text: `AS${asn}`, number, filter: { as: String(asn) } }));
-        made.append(bars(`ASes with most units, of ${count(picture.ases.size)}`, largest, choose));
+        node.append(bars(`ASes with most units, of ${count(picture.ases.size)}`, largest, choose));
     }
     if (picture.ends.length > 0 && units === recording) {
-        made.append(answers(recording, choosePlace));
+        node.append(answers(recording, chooseUnit));
     }
-    panel.replaceChildren(...(units === recording ? [] : showTimeline(units, choosePlace)), made);
+    panel.replaceChildren(...(units === recording ? [] : showTimeline(units, chooseUnit)), node);
 }

@@ -25,20 +25,20 @@ export class Column {
     }
 
     push(value) {
-        const place = this.length % PIECE;
-        if (place === 0) {
+        const index = this.length % PIECE;
+        if (index === 0) {
             this.#pieces.push(new this.#Type(PIECE));
         }
-        this.#pieces.at(-1)[place] = value;
+        this.#pieces.at(-1)[index] = value;
         this.length += 1;
     }
 
-    at(place) {
-        return this.#pieces[Math.floor(place / PIECE)]?.[place % PIECE];
+    at(index) {
+        return this.#pieces[Math.floor(index / PIECE)]?.[index % PIECE];
     }
 
     /** Returns the index of the least number that is no less than this one, in a sorted list. */
-    placeOf(value) {
+    lowerBound(value) {
         let [low, high] = [0, this.length];
         while (low < high) {
             const middle = (low + high) >> 1;
@@ -70,22 +70,22 @@ export class Counts {
     }
 
     sorted() {
-        return [...this.#counts].sort(([one], [other]) => one - other);
+        return [...this.#counts].sort(([left], [right]) => left - right);
     }
 
     /** The counts of several, added up. */
     static sum(all) {
-        const made = new Counts();
+        const total = new Counts();
         for (const counts of all) {
             for (const [key, number] of counts.#counts) {
-                made.#counts.set(key, made.get(key) + number);
+                total.#counts.set(key, total.get(key) + number);
             }
         }
-        return made;
+        return total;
     }
 
     largest(count) {
-        return [...this.#counts].sort((one, other) => other[1] - one[1] || one[0] - other[0])
+        return [...this.#counts].sort((left, right) => right[1] - left[1] || left[0] - right[0])
             .slice(0, count);
     }
 }
@@ -98,7 +98,7 @@ class Picture {
     ases = new Counts();
     ends = []; // the indexes of the ends of data
 
-    add(kind, shown, place) {
+    add(kind, shown, index) {
         this.kinds.add(kind);
         if (this.lengths[kind]) {
             this.lengths[kind].add(shown.byte("prefixLength"));
@@ -111,7 +111,7 @@ class Picture {
         } else if (kind === Kind.ASPA) {
             this.ases.add(shown.word("customer"));
         } else if (kind === Kind.END_OF_DATA) {
-            this.ends.push(place);
+            this.ends.push(index);
         }
     }
 }
@@ -133,11 +133,11 @@ export class Recording {
         this.#offsets = new Column(bytes.length < 2 ** 32 ? Uint32Array : Float64Array);
     }
 
-    /** Reads all units. `told` is called with the progress, from 0 to 1. */
-    async read(told = () => {}) {
+    /** Reads all units. `report` is called with the progress, from 0 to 1. */
+    async read(report = () => {}) {
         for (let at = 0; at < this.size;) {
             at = this.#turn(at);
-            told(at / this.size);
+            report(at / this.size);
             await breathe();
         }
         return this;
@@ -168,8 +168,8 @@ export class Recording {
     }
 
     /** Returns the rules that its units break, as rtr_list --check does: up to the first unit that
-     * is refused, since the units after it aren't known. `told` is as for `read`. */
-    async check(told = () => {}) {
+     * is refused, since the units after it aren't known. `report` is as for `read`. */
+    async check(report = () => {}) {
         const checker = this.#held.checker();
         const all = [];
         try {
@@ -179,7 +179,7 @@ export class Recording {
                     all.push(...findings);
                     at += size;
                 }
-                told(at / this.size);
+                report(at / this.size);
                 await breathe();
                 if (this.#isDropped) {
                     return [];
@@ -211,26 +211,26 @@ export class Recording {
         return this.picture.kinds;
     }
 
-    offset(place) {
-        return this.#offsets.at(place);
+    offset(index) {
+        return this.#offsets.at(index);
     }
 
-    kind(place) {
-        return this.#kinds.at(place) & ~ANNOUNCES;
+    kind(index) {
+        return this.#kinds.at(index) & ~ANNOUNCES;
     }
 
-    announces(place) {
-        return this.#kinds.at(place) >= ANNOUNCES;
+    announces(index) {
+        return this.#kinds.at(index) >= ANNOUNCES;
     }
 
     /** Returns the unit at an index as an object, or its Fault. */
-    unit(place) {
-        return this.#held.unit(this.offset(place));
+    unit(index) {
+        return this.#held.unit(this.offset(index));
     }
 
     /** Returns the bytes of the unit at an index: of a refused one, as many as it may have. */
-    bytesOf(place) {
-        const unit = this.unit(place);
+    bytesOf(index) {
+        const unit = this.unit(index);
         const size = unit.size || Math.min(64, this.size - unit.offset);
         return this.#held.bytes(unit.offset, size);
     }
@@ -241,34 +241,34 @@ export class Recording {
     }
 
     /** Returns the index of the unit that has a byte. */
-    placeOf(offset) {
-        return Math.max(0, this.#offsets.placeOf(offset + 1) - 1);
+    indexAt(offset) {
+        return Math.max(0, this.#offsets.lowerBound(offset + 1) - 1);
     }
 
-    /** Returns the indexes of units for which all tests hold: on the index alone (`ofPlace`), and
+    /** Returns the indexes of units for which all tests hold: on the index alone (`ofIndex`), and
      * on the decoded unit (`ofShown`). */
-    async places({ ofPlace, ofShown }, told = () => {}) {
+    async indexes({ ofIndex, ofShown }, report = () => {}) {
         const found = new Column(Uint32Array);
-        for (let place = 0; place < this.count;) {
-            const end = Math.min(place + TURN, this.count);
+        for (let index = 0; index < this.count;) {
+            const end = Math.min(index + TURN, this.count);
             const shown = this.#held.shown(0);
-            for (; place < end; place += 1) {
-                if (ofPlace(this, place) && this.#holds(ofShown, shown, place)) {
-                    found.push(place);
+            for (; index < end; index += 1) {
+                if (ofIndex(this, index) && this.#holds(ofShown, shown, index)) {
+                    found.push(index);
                 }
             }
-            told(place / this.count);
+            report(index / this.count);
             await breathe();
         }
         return found;
     }
 
-    #holds(ofShown, shown, place) {
+    #holds(ofShown, shown, index) {
         if (ofShown === null) {
             return true;
         }
-        return this.kind(place) !== REFUSED
-            && this.#held.status(this.offset(place)) === Status.OK && ofShown(shown);
+        return this.kind(index) !== REFUSED
+            && this.#held.status(this.offset(index)) === Status.OK && ofShown(shown);
     }
 
     /** Returns why its first byte is refused, if it has no unit at all. */

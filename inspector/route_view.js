@@ -12,8 +12,8 @@ const MOST = 200;
 
 /** Returns the first bits of an address; the others are zero. */
 function firstBits(address, bits) {
-    return address.map((byte, place) => (
-        byte & (0xff00 >> Math.max(0, Math.min(8, bits - 8 * place)))));
+    return address.map((byte, index) => (
+        byte & (0xff00 >> Math.max(0, Math.min(8, bits - 8 * index)))));
 }
 
 export class RouteView {

@@ -43,15 +43,15 @@ export class RulesView {
         by("checked").textContent = findings.length === 0 ? "No rule is broken."
             : findings.length <= MOST ? `${many(findings.length, "broken rule")}.`
                 : `${many(findings.length, "broken rule")}, of which the first ${MOST} are listed.`;
-        by("findings").replaceChildren(...findings.slice(0, MOST).map((one) => this.#line(one)));
+        by("findings").replaceChildren(...findings.slice(0, MOST).map((finding) => this.#line(finding)));
         by("panel-rules").dataset.state = "shown";
     }
 
     #line({ offset, line }) {
-        const made = element("li", {});
+        const node = element("li", {});
         const link = element("button", { text: line, type: "button" });
         link.addEventListener("click", () => this.#goTo(offset));
-        made.append(link);
-        return made;
+        node.append(link);
+        return node;
     }
 }

@@ -29,16 +29,16 @@ export function csvRow(texts) {
 
 /** Returns the line of a unit in JSON, as rtr_list --json prints it; of a session with its time, in
  * seconds since the first unit, and its side. A refused unit has its fault. */
-function jsonLine(rtr, units, place) {
-    const unit = units.unit(place);
+function jsonLine(rtr, units, index) {
+    const unit = units.unit(index);
     const own = unit instanceof Fault
         ? JSON.stringify({ offset: unit.offset, refused: unit.text })
-        : rtr.unitJson(units.bytesOf(place), unit.offset);
+        : rtr.unitJson(units.bytesOf(index), unit.offset);
     if (!units.sideName) {
         return `${own}\n`;
     }
-    const time = units.time(place).toFixed(6);
-    return `{"time":${time},"from":"${units.sideName(place)}","unit":${own}}\n`;
+    const time = units.time(index).toFixed(6);
+    return `{"time":${time},"from":"${units.sideName(index)}","unit":${own}}\n`;
 }
 
 /** Makes the lines of units in turns: `lineOf` returns that of a row. */
@@ -57,13 +57,13 @@ async function linesOf(count, lineOf) {
 }
 
 /** Saves units as lines of JSON. */
-export async function saveJson(rtr, units, count, placeOf) {
-    const parts = await linesOf(count, (row) => jsonLine(rtr, units, placeOf(row)));
+export async function saveJson(rtr, units, count, indexOf) {
+    const parts = await linesOf(count, (row) => jsonLine(rtr, units, indexOf(row)));
     save(parts, `${units.name}.jsonl`, "application/x-ndjson");
 }
 
 /** Saves units as CSV, with the columns of the table. */
-export async function saveCsv(columns, units, count, placeOf) {
-    const parts = await linesOf(count, (row) => csvRow(cellsOf(units, placeOf(row)).texts));
+export async function saveCsv(columns, units, count, indexOf) {
+    const parts = await linesOf(count, (row) => csvRow(cellsOf(units, indexOf(row)).texts));
     save([csvRow(columns.map(({ name }) => name)), ...parts], `${units.name}.csv`, "text/csv");
 }

@@ -113,17 +113,17 @@ export class Stream {
 
     /** Returns when the byte before this offset came, in seconds. */
     timeOf(end) {
-        return this.#times.at(Math.min(this.#ends.placeOf(end), this.#ends.length - 1));
+        return this.#times.at(Math.min(this.#ends.lowerBound(end), this.#ends.length - 1));
     }
 }
 
 /** Inserts a segment into a list that is sorted by sequence numbers. Most come last. */
 function insert(sorted, segment) {
-    let place = sorted.length;
-    while (place > 0 && sorted[place - 1].from > segment.from) {
-        place -= 1;
+    let index = sorted.length;
+    while (index > 0 && sorted[index - 1].from > segment.from) {
+        index -= 1;
     }
-    sorted.splice(place, 0, segment);
+    sorted.splice(index, 0, segment);
 }
 
 function concatenated(pieces, length) {
@@ -148,8 +148,8 @@ class Connection {
 
     /** Returns the stream of this sender, and the other one. */
     sides(from) {
-        const [one, other] = this.streams;
-        return one.from === from ? [one, other] : [other, one];
+        const [first, second] = this.streams;
+        return first.from === from ? [first, second] : [second, first];
     }
 }
 
@@ -201,16 +201,16 @@ class Connections {
     }
 }
 
-/** Reads the connections of a capture. `told` is called with the progress; `breathe` lets the page
+/** Reads the connections of a capture. `report` is called with the progress; `breathe` lets the page
  * draw. A truncated capture is read up to its end, and `cut` is that offset. */
-export async function connectionsOf(bytes, breathe, told = () => {}) {
+export async function connectionsOf(bytes, breathe, report = () => {}) {
     const found = new Connections();
     let cut = null;
     try {
         for (const packet of packetsOf(bytes)) {
             found.take(packet);
             if (found.packets % TURN === 0) {
-                told((packet.data.byteOffset - bytes.byteOffset) / bytes.length);
+                report((packet.data.byteOffset - bytes.byteOffset) / bytes.length);
                 await breathe();
             }
         }

@@ -32,13 +32,13 @@ function counted(session) {
     const lanes = SIDES.map(() => new Float64Array(COLUMNS));
     const payloads = SIDES.map(() => 0);
     const steps = [];
-    for (let place = 0; place < session.count; place += 1) {
-        const [side, time] = [session.side(place), session.time(place)];
+    for (let index = 0; index < session.count; index += 1) {
+        const [side, time] = [session.side(index), session.time(index)];
         lanes[side][Math.min(COLUMNS - 1, Math.floor(time / span * COLUMNS))] += 1;
-        if (PAYLOADS.has(session.kind(place))) {
+        if (PAYLOADS.has(session.kind(index))) {
             payloads[side] += 1;
         } else {
-            steps.push({ place, time, side, payloads: payloads[side] });
+            steps.push({ index, time, side, payloads: payloads[side] });
             payloads[side] = 0;
         }
     }
@@ -70,8 +70,8 @@ function picture({ span, lanes }) {
 }
 
 /** Returns a step as a row: its time, its side, its text, and the payloads before it. */
-function rowOf(session, { place, time, side, payloads }, choosePlace) {
-    const unit = session.unit(place);
+function rowOf(session, { index, time, side, payloads }, chooseUnit) {
+    const unit = session.unit(index);
     const item = element("li");
     const button = element("button", { type: "button", className: SIDES[side] });
     const text = unit instanceof Fault ? faultText(unit)
@@ -80,18 +80,18 @@ function rowOf(session, { place, time, side, payloads }, choosePlace) {
     button.append(element("span", { className: "time", text: time.toFixed(3) }),
         element("span", { className: "side", text: SIDES[side] }),
         element("span", { className: "what", text }), element("span", { text: before }));
-    button.addEventListener("click", () => choosePlace(place));
+    button.addEventListener("click", () => chooseUnit(index));
     item.append(button);
     return item;
 }
 
-/** Returns the elements of a session's picture. `choosePlace` is called with the index of a
+/** Returns the elements of a session's picture. `chooseUnit` is called with the index of a
  * step. */
-export function showTimeline(session, choosePlace) {
+export function showTimeline(session, chooseUnit) {
     const counts = counted(session);
     const list = element("ol", { className: "bars steps" });
     const steps = counts.steps.slice(0, MOST_STEPS);
-    list.append(...steps.map((step) => rowOf(session, step, choosePlace)));
+    list.append(...steps.map((step) => rowOf(session, step, chooseUnit)));
     const rest = counts.steps.length - MOST_STEPS;
     return [
         element("h2", { text: "Units over time" }), picture(counts),

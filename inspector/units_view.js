@@ -25,14 +25,14 @@ const OF_SESSION = [{ name: "Time", className: "c-time" }, { name: "From", class
 export class UnitsView {
     #rtr;
     #recording = null; // or a session of a capture
-    #places = null; // the indexes of the shown units, if not all are
+    #indexes = null; // the indexes of the shown units, if not all are
     #table;
     #asked = 0;
 
     constructor(rtr) {
         this.#rtr = rtr;
         this.#table = new Table(by("units"), COLUMNS);
-        this.#table.onchoose = (row) => this.#showUnit(this.#placeOf(row));
+        this.#table.onchoose = (row) => this.#showUnit(this.#indexOf(row));
         const form = by("filter");
         form.addEventListener("submit", (event) => {
             event.preventDefault();
@@ -48,11 +48,11 @@ export class UnitsView {
             event.preventDefault();
             this.#filterByLine(event.target.elements.line.value);
         });
-        const placeOf = (row) => this.#placeOf(row);
+        const indexOf = (row) => this.#indexOf(row);
         by("save-csv").addEventListener("click", () => (
-            saveCsv(this.#columns, this.#recording, this.#table.count, placeOf)));
+            saveCsv(this.#columns, this.#recording, this.#table.count, indexOf)));
         by("save-json").addEventListener("click", () => (
-            saveJson(this.#rtr, this.#recording, this.#table.count, placeOf)));
+            saveJson(this.#rtr, this.#recording, this.#table.count, indexOf)));
         by("goto").addEventListener("submit", (event) => {
             event.preventDefault();
             const text = event.target.elements.offset.value.replaceAll(/[\s,]/g, "");
@@ -70,7 +70,7 @@ export class UnitsView {
         const all = element("option", { value: "", text: "all" });
         by("filter").elements.kind.replaceChildren(all, ...kinds);
         by("filter").reset();
-        this.#showPlaces(null);
+        this.#showIndexes(null);
     }
 
     get #columns() {
@@ -110,27 +110,27 @@ export class UnitsView {
 
     /** Goes to the unit that has a byte, of a session in what the cache sent. */
     goTo(offset) {
-        const place = this.#recording.placeOf(Math.min(offset, this.#recording.size - 1));
-        let row = this.#places === null ? place : this.#places.placeOf(place);
-        if (this.#places !== null && this.#placeOf(row) !== place) {
+        const index = this.#recording.indexAt(Math.min(offset, this.#recording.size - 1));
+        let row = this.#indexes === null ? index : this.#indexes.lowerBound(index);
+        if (this.#indexes !== null && this.#indexOf(row) !== index) {
             by("filter").reset();
-            this.#showPlaces(null);
-            row = place;
+            this.#showIndexes(null);
+            row = index;
         }
         this.#table.choose(row);
         by("units").focus();
     }
 
     /** Selects the unit at an index, among all units. */
-    choosePlace(place) {
+    chooseUnit(index) {
         by("filter").reset();
-        this.#showPlaces(null);
-        this.#table.choose(place);
+        this.#showIndexes(null);
+        this.#table.choose(index);
         by("units").focus();
     }
 
-    #placeOf(row) {
-        return this.#places === null ? row : this.#places.at(row);
+    #indexOf(row) {
+        return this.#indexes === null ? row : this.#indexes.at(row);
     }
 
     async #filtered() {
@@ -148,41 +148,41 @@ export class UnitsView {
         }
         const [asked, recording] = [this.#asked, this.#recording];
         by("shown").textContent = "Looking";
-        const places = filter.isNone ? null : await recording.places(filter);
+        const indexes = filter.isNone ? null : await recording.indexes(filter);
         if (asked === this.#asked && recording === this.#recording) {
-            if (places === null && this.#places === null) {
+            if (indexes === null && this.#indexes === null) {
                 this.#sayShown();
             } else {
-                this.#showPlaces(places);
+                this.#showIndexes(indexes);
             }
         }
     }
 
-    #showPlaces(places) {
-        this.#places = places;
-        const shown = places?.length ?? this.#recording.count;
+    #showIndexes(indexes) {
+        this.#indexes = indexes;
+        const shown = indexes?.length ?? this.#recording.count;
         this.#sayShown();
         by("unit").replaceChildren();
-        this.#table.show(shown, (row) => cellsOf(this.#recording, this.#placeOf(row)));
+        this.#table.show(shown, (row) => cellsOf(this.#recording, this.#indexOf(row)));
         this.#table.choose(0);
     }
 
     #sayShown() {
         const all = this.#recording.count;
-        by("shown").textContent = this.#places === null ? `All ${many(all, "unit")} are shown.`
-            : `${many(this.#places.length, "unit")} of ${count(all)} are shown.`;
+        by("shown").textContent = this.#indexes === null ? `All ${many(all, "unit")} are shown.`
+            : `${many(this.#indexes.length, "unit")} of ${count(all)} are shown.`;
     }
 
-    #showUnit(place) {
-        const unit = this.#recording.unit(place);
-        const bytes = this.#recording.bytesOf(place);
+    #showUnit(index) {
+        const unit = this.#recording.unit(index);
+        const bytes = this.#recording.bytesOf(index);
         const isRefused = unit instanceof Fault;
         const title = isRefused ? "A unit that is refused"
             : `${capital(kindName(unit.kind))}, version ${unit.version}`;
         const text = isRefused ? `${faultText(unit)}; ${owedText(unit)}.`
             : `${actionText(unit)} ${payloadText(unit)}`.trim();
         const where = `From byte ${count(unit.offset)}, ${many(bytes.length, "byte")}`
-            + this.#timeText(place);
+            + this.#timeText(index);
         by("unit").replaceChildren(element("h2", { text: title }),
             element("p", { text: where }),
             element("p", { className: isRefused ? "bad" : "mono", text }),
@@ -191,12 +191,12 @@ export class UnitsView {
 
     /** Returns when a unit of a session came, and from whom; "" for a recording, which has no
      * times. */
-    #timeText(place) {
+    #timeText(index) {
         if (!this.#recording.sideName) {
             return "";
         }
-        const time = new Date((this.#recording.began + this.#recording.time(place)) * 1000);
-        return ` of the ${this.#recording.sideName(place)}, ${time.toISOString()}`;
+        const time = new Date((this.#recording.began + this.#recording.time(index)) * 1000);
+        return ` of the ${this.#recording.sideName(index)}, ${time.toISOString()}`;
     }
 
     /** The bytes, coloured by field, and a table of the fields. */
@@ -204,8 +204,8 @@ export class UnitsView {
         const fields = fieldsOf(this.#rtr, bytes);
         const runs = fields === null ? [] : runsOf(fields);
         const grid = element("div", { className: "bytes", "aria-hidden": "true" });
-        for (let place = 0; place < Math.min(bytes.length, MOST_BYTES); place += 1) {
-            grid.append(this.#byte(bytes, place, fields, runs));
+        for (let index = 0; index < Math.min(bytes.length, MOST_BYTES); index += 1) {
+            grid.append(this.#byte(bytes, index, fields, runs));
         }
         const parts = [grid];
         if (bytes.length > MOST_BYTES) {
@@ -215,11 +215,11 @@ export class UnitsView {
         return runs.length > 0 ? [...parts, legend(bytes, runs)] : parts;
     }
 
-    #byte(bytes, place, fields, runs) {
-        const node = element("span", { text: hex(bytes.subarray(place, place + 1)) });
+    #byte(bytes, index, fields, runs) {
+        const node = element("span", { text: hex(bytes.subarray(index, index + 1)) });
         if (fields !== null) {
-            const run = runs.findIndex(({ start, length }) => place < start + length);
-            node.className = classOf(fields[place], run);
+            const run = runs.findIndex(({ start, length }) => index < start + length);
+            node.className = classOf(fields[index], run);
             node.title = runs[run].label ?? "free";
         }
         return node;
@@ -244,10 +244,10 @@ function legend(bytes, runs) {
     head.append(...["", "Field", "Bytes", "Value", "Decimal", "Free bits"].map((text) => (
         element("th", { text, scope: "col" }))));
     table.append(element("caption", { text: "Fields, and bits that mean nothing" }), head);
-    runs.forEach(({ label, start, length, free }, place) => {
+    runs.forEach(({ label, start, length, free }, index) => {
         const row = element("tr");
         const swatch = element("td", { className: "swatch" });
-        swatch.append(element("span", { className: classOf({ label, free }, place) }));
+        swatch.append(element("span", { className: classOf({ label, free }, index) }));
         const where = length === 1 ? String(start) : `${start} to ${start + length - 1}`;
         const first = hex(bytes.subarray(start, start + Math.min(length, 32)));
         const cells = [label ?? "free", where, length > 32 ? `${first}..` : first,

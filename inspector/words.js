@@ -12,8 +12,8 @@ export function count(value) {
 }
 
 /** Returns a number with a noun. */
-export function many(value, one, several = `${one}s`) {
-    return `${count(value)} ${value === 1 ? one : several}`;
+export function many(value, singular, plural = `${singular}s`) {
+    return `${count(value)} ${value === 1 ? singular : plural}`;
 }
 
 export function hex(bytes) {
@@ -108,13 +108,13 @@ export function cellsOfUnit(unit) {
 }
 
 /** Returns the cells of a unit of a recording, or of a session: with time and sender first. */
-export function cellsOf(units, place) {
-    const { texts, className } = cellsOfUnit(units.unit(place));
+export function cellsOf(units, index) {
+    const { texts, className } = cellsOfUnit(units.unit(index));
     if (!units.sideName) {
         return { texts, className };
     }
-    const side = units.sideName(place);
-    const time = units.time(place).toFixed(3);
+    const side = units.sideName(index);
+    const time = units.time(index).toFixed(3);
     return { texts: [time, side, ...texts], className: `${className} ${side}` };
 }
 

@@ -363,7 +363,7 @@ def is_list(scene, number, listed):
 
 def killed(scene, turn, phase):
     """Kills the cache in a phase, and restarts it, every second time with another list; returns
-    what is wrong."""
+    the faults that are found."""
     reset = recorder.reset_query(1)
     before = asked(scene, reset, "before")
     with Injected(scene.cache, phase) as injected:

@@ -28,7 +28,7 @@ def asked(words):
 
 
 def asked_json(words):
-    """Returns the JSON object that it prints, or None."""
+    """Runs a command, and returns the JSON object that it prints, or None."""
     try:
         return json.loads(asked(words))
     except json.JSONDecodeError:
@@ -142,7 +142,7 @@ class RtrClient(OfRtrlib):
             self.run(words + [str(self.cache)], split=file)
 
     def table(self):
-        """Returns what it holds: what came, without what was withdrawn."""
+        """Returns its payloads: those that were announced and not withdrawn since."""
         return self.once("changes", self.held)
 
     def held(self, text):

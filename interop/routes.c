@@ -9,10 +9,10 @@
 #include <stdlib.h>
 #include "rtr.h"
 
-/* The shortest payload unit has so many bytes. */
+/* The number of bytes of the shortest payload unit. */
 #define SHORTEST 12
 
-/* Reads a file, and puts its changes in order. Answers how many bytes these have. */
+/* Reads a file, puts its changes in canonical form, and returns their length in bytes. */
 static size_t read_data(const char *path, uint8_t **data)
 {
     FILE *file = fopen(path, "rb");
@@ -48,7 +48,9 @@ int main(int argc, char **argv)
     unsigned family, bits, asn;
     while (scanf("%u %63s %u %u", &family, text, &bits, &asn) == 4) {
         struct rtr_route route = {
-            .asn = asn, .family = (uint8_t)family, .prefix_length = (uint8_t)bits,
+            .asn = asn,
+            .family = (uint8_t)family,
+            .prefix_length = (uint8_t)bits,
         };
         if (inet_pton(family == 4 ? AF_INET : AF_INET6, text, route.address) != 1)
             return 2;

@@ -1,4 +1,4 @@
-/* Asks a cache by rtrlib's manager, and says what it makes of routes.
+/* Queries a cache with rtrlib's manager, and prints the validity of routes.
  *
  * usage: rtr_mgr PORT < ROUTES
  *

@@ -118,7 +118,7 @@ def jobs_of_dissector(found, folder):
 
 
 def apart(folder, part="defaults"):
-    """Returns the folder of a part that still writes when the others end."""
+    """Returns the folder of a part that may still write to it after the others have ended."""
     return os.path.join(folder, part)
 
 

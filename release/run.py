@@ -7,8 +7,9 @@ usage: release/run.py [--dry-run] [--module PATH] [--repository URL] [VERSION]
 It proves and builds everything, copies what was built, runs the measurements of bench/ and
 interop/, writes the results into the pages, and commits that. With VERSION, as 0.3.0, it first
 writes that into each file that .ci/versions compares, gives the unreleased changes in CHANGELOG.md
-this heading and today's date, and at the end it tags the commit vVERSION, makes packages, tar
-files and root folders in out/release (release/packages), and the packages of each language in
+this heading and today's date, and writes what jobs take into bench/released.txt, with which later
+ones are compared; at the end it tags the commit vVERSION, makes packages, tar files and root
+folders in out/release (release/packages), and the packages of each language in
 out/release/libraries (bindings/package.py): there the Go module has the path PATH, and all name the
 repository URL, or those that release/published has. It pushes nothing: .ci/run from a fresh clone
 comes before that.
@@ -40,7 +41,9 @@ UNRELEASED = re.compile(r"\A# .*?^## (\d+\.\d+\.\d+)\n\n(Unreleased\.(?:[^\n]+\n
 DAYS = "Mon Tue Wed Thu Fri Sat Sun".split()
 MONTHS = "Jan Feb Mar Apr May Jun Jul Aug Sep Oct Nov Dec".split()
 TOOLS = ["rt", "valgrind", "gcc", "clang", "rustc", "cargo", "go", "python3", "git"]
-BENCHES = ["count", "data", "vrps", "validate", "clients", "cache", "scale", "python"]
+# The first of these write what a version takes into bench/released.txt.
+RELEASED = ["count", "lists", "data"]
+BENCHES = [*RELEASED, "vrps", "validate", "clients", "cache", "scale", "python"]
 
 
 def output_of(*words):
@@ -55,12 +58,18 @@ def version_steps(version):
             ["bindings/constants.py"], [".ci/versions"]]
 
 
-def number_steps():
+def bench_step(name, version):
+    """Returns the command of a script of bench/."""
+    keeps = ["--release", version] if version and name in RELEASED else []
+    return [f"bench/{name}.py", "--write", *keeps]
+
+
+def number_steps(version):
     """Returns the commands that build, copy and measure."""
     return [["rt", "ci"],
             ["bindings/build", "x86_64", "aarch64", "wasm64", "wasm32", "portable"],
             ["programs/arm64"], ["prebuilt/renew"],
-            *([f"bench/{name}.py", "--write"] for name in BENCHES), ["interop/run.py", "--write"],
+            *(bench_step(name, version) for name in BENCHES), ["interop/run.py", "--write"],
             ["tests/pages/operators.py", "--write"], ["docs/reference/generate.py"],
             [".ci/shown.py", "--write"], [".ci/links.py"], [".ci/prebuilt"],
             ["prebuilt/renew", "--packages"], ["git", "add", "--all", "prebuilt"]]
@@ -165,7 +174,7 @@ def main():
     dry, version = args.dry_run, args.version
     day = datetime.datetime.now(datetime.timezone.utc).date()
     title = f"Version {version}" if version else f"Numbers of {day.day} {day:%B %Y}"
-    steps = (version_steps(version) if version else []) + number_steps()
+    steps = (version_steps(version) if version else []) + number_steps(version)
     steps.append(["git", "commit", "-qam", title])
     if version:
         steps += [["git", "tag", f"v{version}"], *package_steps(args.module, args.repository)]
