@@ -4,7 +4,7 @@ import re
 
 from sources import CRATES
 
-# The rules of each end that move it, and what happens then.
+# The rules that change the state of each end, with the labels of their arrows.
 ROUTER = {
     "Connects": "a wait is over", "Asks": "query sent", "Begins": "cache response",
     "Keeps": "payload", "Completes": "end of data", "Adopts": "changes applied",
