@@ -26,6 +26,7 @@ STATE = "STATE"  # the word of a command for the folder that rtr-cache saves in
 METRICS = "--metrics"  # its word for the address of its metrics
 COLLECTS = {"GOGC": "1"}  # so that a program in Go has little garbage
 RESET_WAIT = 100  # milliseconds: the loopback interface passes a reset at once
+LOOKS, LOOK = 5, 0.03  # how often a cache's descriptors are counted at rest, and the pause between
 # The numbers of answers of which the median of goroutines, and the least memory, count.
 ANSWERS, MEASURED = 5, 20
 
@@ -122,6 +123,15 @@ class Cache:
             links = self.wait_until(self.links_with_spare, "it has a spare descriptor")
         memory = sum(link.startswith("/memfd:") for link in links)
         return len(links) - memory, self.tasks(), memory
+
+    def usual_resources(self):
+        """Returns the `resources` that most of some looks find: while a cache looks for its file,
+        or tries to save, it has one descriptor more or less for a moment."""
+        looks = []
+        for _ in range(LOOKS):
+            looks.append(self.resources())
+            time.sleep(LOOK)
+        return statistics.mode(looks)
 
     def tasks(self):
         """Returns the number of threads or goroutines; of rtr-cache, which serves each question by

@@ -105,12 +105,13 @@ class Saving:
         self.serial = 1 if is_first else 2
         if not is_first:
             cache.wait_for_serial(1)
+        cache.wait_for_line("(?i)No such file.*")  # then it has all its descriptors
         self.first_resources, self.routers = self.resources(), []
 
     def resources(self):
         """Returns the cache's numbers of descriptors and threads; None for rtr-cache, which starts
         processes and doesn't print its number of goroutines."""
-        return None if self.cache.draws_session else self.cache.resources()
+        return None if self.cache.draws_session else self.cache.usual_resources()
 
     def connect_routers(self):
         """Connects two routers, which get the former data. Returns self."""

@@ -85,9 +85,14 @@ async fn main() -> Result<(), Box<dyn Error>> {
         );
     }
     let listener = TcpListener::bind(&words[3]).await?;
-    eprintln!("listening on {}", listener.local_addr()?);
+    let address = listener.local_addr()?;
+    let following = async {
+        eprintln!("listening on {address}");
+        follow(server.clone(), file).await
+    };
     tokio::select! {
+        biased; // the server has all its descriptors before the line
         ended = server.serve(listener) => Ok(ended?),
-        failed = follow(server.clone(), file) => failed,
+        failed = following => failed,
     }
 }
