@@ -149,7 +149,7 @@ func (b *Breach) Unwrap() error {
 // Report returns the error report that is owed to the peer, and whether one is owed: it isn't if
 // the unit is an error report itself (RFC 8210 section 5.11).
 func (b *Breach) Report() (report *Unit, owed bool) {
-	if len(b.Unit) >= 2 && Kind(b.Unit[1]) == ErrorReport {
+	if !isReportOwed(b.Unit) {
 		return nil, false
 	}
 	return reportOn(b.Code, b.Unit, b.Reason.Error()), true

@@ -352,6 +352,13 @@ func errorCode(status Status, input []byte) (ErrorCode, bool) {
 	return ErrorCode(owed.code), bool(owed.result)
 }
 
+// isReportOwed reports whether the peer is owed a report about a unit that is refused: not if the
+// unit is an error report, whatever is wrong with it.
+func isReportOwed(unit []byte) bool {
+	_, owed := errorCode(UnitType, unit)
+	return owed
+}
+
 // versionHas is Kind.In.
 func versionHas(version uint8, kind Kind) bool {
 	return bool(C.rtr_version_has(C.uint8_t(version), C.uint8_t(kind)))

@@ -645,6 +645,28 @@ func TestBreaches(t *testing.T) {
 	}
 }
 
+// A breach owes a report with its code, unit and reason, unless the unit is an error report, whole
+// or cut (RFC 8210 section 5.11).
+func TestReportsOfBreaches(t *testing.T) {
+	query := []byte{1, 2, 0, 0, 0, 0, 0, 8}
+	breach := &Breach{Reason: ErrMisplaced, Code: InvalidRequest, Unit: query}
+	report, owed := breach.Report()
+	if !owed {
+		t.Fatal("no report is owed about a query")
+	}
+	expected := reportBytes(1, 3, query, ErrMisplaced.Error())
+	if form, err := report.MarshalBinary(); err != nil || !bytes.Equal(form, expected) {
+		t.Fatalf("%x: %v", form, err)
+	}
+	refused := reportBytes(0, 2, nil, "")
+	for size := 2; size <= len(refused); size++ {
+		breach.Unit = refused[:size]
+		if report, owed := breach.Report(); owed || report != nil {
+			t.Fatalf("%x: %+v", breach.Unit, report)
+		}
+	}
+}
+
 // A report of this version and code, about these bytes and with this text (RFC 8210 section 5.11).
 func reportBytes(version, code byte, about []byte, text string) []byte {
 	size := byte(16 + len(about) + len(text))

@@ -24,7 +24,8 @@ type options struct {
 func usual() *options {
 	return &options{
 		settings: cache.Settings{
-			Timing: rtr.RecommendedTiming, Look: 10 * time.Second, Clients: 1024, PerAddress: 100,
+			Timing: rtr.RecommendedTiming, Look: 10 * time.Second,
+			Clients: rtr.NewServer().Limits.Connections, PerAddress: 100,
 			Fetch: fetch.Usual(),
 			Rules: trust.Rules{Guard: 50, Quiet: 5 * time.Minute, Stale: 2 * time.Hour},
 		},
