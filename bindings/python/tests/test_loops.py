@@ -97,6 +97,16 @@ class ForAsyncio(unittest.TestCase):
             asyncio.run(follows(cache.port))
 
 
+class Clocks(unittest.TestCase):
+    """The clock of a loop."""
+
+    def test_waits(self):
+        """A wait has at least a millisecond, and at most an hour: no wait of the system is too long
+        for it, even if there is no time to wait for."""
+        for time_asked, seconds in (0, 0.001), ((1 << 64) - 1, 3600):
+            self.assertEqual(Clock().until(time_asked), seconds)
+
+
 class Restarted(unittest.TestCase):
     """A client of a group that is started again after it was stopped (docs/SESSIONS.md, "Caches by
     preference")."""
@@ -147,6 +157,17 @@ class Restarted(unittest.TestCase):
         self.assertEqual([happened.get(timeout=60) for _ in range(2)], ["ends", "begins"])
         loop._stop(0)
         self.assertEqual(happened.get(timeout=60), "ends")
+
+    def test_threads_end_with_the_program(self):
+        """A client that is still connecting doesn't keep a program from its end."""
+        class Ended(Client):
+            def run(self, router, clock, is_stopped):
+                return iter(())
+
+        loop = following._Following([Ended()], Group(1, None, None), None)
+        loop._start(0)
+        loop._runs[0].thread.join(60)
+        self.assertTrue(loop._runs[0].thread.daemon)
 
     def test_after_the_last_task(self):
         """It doesn't run before its last run has ended."""

@@ -13,6 +13,7 @@ from rtr_wire.loops import Asking
 
 from .test_client import FIRST, SECOND, SOON
 
+LONG = 120  # seconds for what has to happen
 # How many turns of the event loop a test lets pass at most between two things.
 TURNS = 8
 
@@ -126,6 +127,18 @@ class Stopped(unittest.TestCase):
         stopped.set()
         loop._news.put(following._News(0, stopped, Update(FIRST, None), DATA))
         self.assertEqual(loop._next(), Decision())
+
+    def test_event_of_a_stopped_run(self):
+        """A thread whose run is stopped doesn't wait until there is room for its event."""
+        loop = following._Following([Client()], Group(1, None, None), None)
+        stopped = threading.Event()
+        stopped.set()
+        news = following._News(0, stopped, Update(FIRST, None), DATA)
+        loop._news.put(news)
+        thread = threading.Thread(target=loop._publish, args=(news,), daemon=True)
+        thread.start()
+        thread.join(LONG)
+        self.assertFalse(thread.is_alive())
 
     def test_task(self):
         async def decision():

@@ -344,6 +344,22 @@ class Files(Case):
             self.assertEqual((os.listdir(self.folder), server.end.serial), (["kept"], 1))
             self.assertEqual(Server().restore(self.path), data(1, [1]))
 
+    def test_what_is_synced(self):
+        """A file is synced when it has all its bytes, and then its folder; both are closed."""
+        synced, sync, before = [], os.fsync, len(os.listdir("/proc/self/fd"))
+
+        def syncs(descriptor):
+            path = os.readlink(f"/proc/self/fd/{descriptor}")
+            synced.append((path, os.fstat(descriptor).st_size))
+            sync(descriptor)
+
+        with mock.patch("os.fsync", syncs):
+            Server().update_saved(data(1, [1]), self.path)
+        folder = os.path.realpath(self.folder)
+        self.assertEqual(synced[0], (f"{folder}/kept.new", os.path.getsize(self.path)))
+        self.assertEqual([path for path, _ in synced[1:]], [folder])
+        self.assertEqual(len(os.listdir("/proc/self/fd")), before)
+
     def test_a_folder_that_is_not_synced(self):
         server = Server()
         server.update_saved(data(1, [1]), self.path)
