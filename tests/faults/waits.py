@@ -124,7 +124,7 @@ def play_many(command, folder):
     try:
         waits = measured_waits(listeners)
         listed = ", ".join(f"{wait:.3f}" for wait in waits)
-        if waits[0] < SECONDS / 2:
+        if waits[0] < SECONDS / 2 - TICK:
             return f"a wait is shorter than {SECONDS / 2} seconds: {listed}"
         if waits[-1] - waits[0] < SPREAD:
             return f"the waits are alike: {listed}"
