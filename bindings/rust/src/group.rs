@@ -1,6 +1,8 @@
 //! Caches by preference.
 
-use crate::abi::{self, group_shown, group_status, status, GroupAnswer, Todo, MOST_MEMBERS};
+use crate::abi::{self, group_shown, status, GroupAnswer, MOST_MEMBERS};
+#[cfg(feature = "alloc")]
+use crate::abi::{group_status, Todo};
 use crate::calls;
 use crate::sys::{self, milliseconds};
 use core::fmt;
@@ -140,6 +142,7 @@ impl Group {
     }
 
     /// Reports what a member's router did; its data have this number of payloads.
+    #[cfg(feature = "alloc")]
     pub(crate) fn tell(
         &mut self,
         now: u64,
@@ -180,11 +183,13 @@ impl Group {
 /// What a step of a [`Router`](crate::Router) means to a group, for
 /// [`Preferred::tell`](crate::Preferred::tell): at most one event. A router returns it by
 /// [`Router::take_news`](crate::Router::take_news).
+#[cfg(feature = "alloc")]
 #[derive(Clone, Copy, Debug, Default)]
 pub struct News(pub(crate) Option<Todo>);
 
 impl Decision {
     /// Nothing to do.
+    #[cfg(feature = "alloc")]
     const NONE: Decision = Decision {
         shown: Shown::Same,
         stop: None,

@@ -194,7 +194,9 @@ pub use door::{Door, Entry};
 pub use fault::{ErrorCode, Fault, PrefixRule};
 #[cfg(feature = "std")]
 pub use follow::{follow, follow_with};
-pub use group::{Decision, Group, GroupSettings, News, Shown, TooManyMembers};
+#[cfg(feature = "alloc")]
+pub use group::News;
+pub use group::{Decision, Group, GroupSettings, Shown, TooManyMembers};
 pub use iter::Units;
 pub use kind::{Kind, UnknownKind};
 #[cfg(feature = "alloc")]
