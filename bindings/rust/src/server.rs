@@ -10,7 +10,8 @@ use crate::server_error::{SaveError, ServerError, UpdateError};
 use crate::socket::Socket;
 use crate::timed::{has_to_wait, milliseconds_since, Stop};
 use crate::unit::EndOfData;
-use crate::waiting::{keep_waiting, limit_unsent, waker, Poller, Waker, Woken};
+use crate::waiting::{block_broken_pipes, keep_waiting, limit_unsent, waker};
+use crate::waiting::{Poller, Waker, Woken};
 use std::boxed::Box;
 use std::collections::BTreeMap;
 use std::io;
@@ -327,7 +328,11 @@ impl Drop for Server {
 fn start(shared: &Arc<Shared>) -> io::Result<(JoinHandle<()>, Waker)> {
     let (host, waker) = Host::new(shared)?;
     let thread = thread::Builder::new().name("rtr cache".to_string());
-    Ok((thread.spawn(move || host.run())?, waker))
+    let run = move || {
+        block_broken_pipes();
+        host.run();
+    };
+    Ok((thread.spawn(run)?, waker))
 }
 
 /// The keys of the waker and of the first listener; keys of clients are below these.

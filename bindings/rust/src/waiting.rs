@@ -4,6 +4,7 @@ use std::io::{self, Read, Write};
 use std::os::raw::{c_int, c_short, c_uint, c_ulong};
 use std::os::unix::io::{AsRawFd, FromRawFd, OwnedFd};
 use std::os::unix::net::UnixStream;
+use std::ptr::null_mut;
 use std::vec::Vec;
 
 /// A socket to wait for: the C library's struct pollfd.
@@ -30,6 +31,27 @@ extern "C" {
         value: *const c_int,
         size: c_uint,
     ) -> c_int;
+    fn sigemptyset(signals: *mut Signals) -> c_int;
+    fn sigaddset(signals: *mut Signals, signal: c_int) -> c_int;
+    fn pthread_sigmask(how: c_int, signals: *const Signals, before: *mut Signals) -> c_int;
+}
+
+/// A set of signals: the C library's `sigset_t`.
+#[repr(C)]
+struct Signals([u64; 16]);
+
+/// Keeps SIGPIPE from this thread. sendfile raises it at a connection that the peer broke, and a
+/// program that has the system's default for it would end.
+pub(crate) fn block_broken_pipes() {
+    const BLOCK: c_int = 0;
+    const BROKEN_PIPE: c_int = 13;
+    let mut signals = Signals([0; 16]);
+    // SAFETY: the set is live, and nobody asks for the one before.
+    unsafe {
+        sigemptyset(&mut signals);
+        sigaddset(&mut signals, BROKEN_PIPE);
+        pthread_sigmask(BLOCK, &signals, null_mut());
+    }
 }
 
 /// Sets the longest queue of connections that aren't accepted yet.

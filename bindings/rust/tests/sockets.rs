@@ -8,8 +8,10 @@ use rtr_wire::*;
 use std::io::{self, ErrorKind, Read, Write};
 use std::net::{SocketAddr, TcpStream};
 use std::ops::ControlFlow;
+use std::os::raw::c_int;
 use std::os::unix::io::BorrowedFd;
 use std::os::unix::net::UnixStream;
+use std::process::Command;
 use std::sync::mpsc::channel;
 use std::sync::{Arc, Mutex};
 use std::thread::Builder;
@@ -241,6 +243,38 @@ fn connections_that_are_refused() {
     let mut client = Peer::connect(plain);
     client.send(&reset_query(2));
     assert_eq!(client.response(), data(1).as_bytes());
+}
+
+extern "C" {
+    // Of the C library on Linux.
+    fn signal(number: c_int, handler: usize) -> usize;
+}
+
+/// A router that breaks its connection within an answer doesn't end a program that has the system's
+/// default for SIGPIPE, which needs its own process.
+#[test]
+fn broken_pipes() {
+    const OWN: &str = "RTR_TEST_PIPES";
+    const BROKEN_PIPE: c_int = 13;
+    let _alone = alone();
+    if std::env::var_os(OWN).is_none() {
+        let mut own = Command::new(std::env::current_exe().unwrap());
+        let output = own.args(["--exact", "broken_pipes"]).env(OWN, "").output();
+        let output = output.unwrap();
+        let stdout = String::from_utf8_lossy(&output.stdout);
+        assert!(stdout.contains("1 passed"), "{}: {stdout}", output.status);
+        return;
+    }
+    // SAFETY: 0 is the default, no function.
+    unsafe { signal(BROKEN_PIPE, 0) };
+    let server = Server::new(server_options());
+    assert_eq!(server.update(unbuffered()), Ok(true));
+    let mut router = Peer::connect(server.listen("127.0.0.1:0").unwrap());
+    router.send(&reset_query(2));
+    router.is_sent_to();
+    router.finish();
+    drop(router); // with bytes unread, which resets the connection
+    assert!(holds(|| server.clients() == 0));
 }
 
 /// A client that waits for bytes, for the time of its next connection, or to write its query
