@@ -376,4 +376,62 @@ mod tests {
             assert_eq!(connection.is_over(), is_over);
         }
     }
+
+    /// A socket that takes no bytes, or takes them and can't be flushed.
+    struct Failing {
+        stream: UnixStream,
+        takes: bool,
+    }
+
+    impl Read for Failing {
+        fn read(&mut self, bytes: &mut [u8]) -> io::Result<usize> {
+            self.stream.read(bytes)
+        }
+    }
+
+    impl Write for Failing {
+        fn write(&mut self, bytes: &[u8]) -> io::Result<usize> {
+            Ok(if self.takes { bytes.len() } else { 0 })
+        }
+
+        fn flush(&mut self) -> io::Result<()> {
+            Err(ErrorKind::BrokenPipe.into())
+        }
+    }
+
+    impl Socket for Failing {
+        fn socket(&self) -> BorrowedFd<'_> {
+            self.stream.as_fd()
+        }
+
+        fn finish(&mut self) -> io::Result<()> {
+            Ok(())
+        }
+    }
+
+    /// A socket that fails to write or to flush ends its connection once, for that reason.
+    #[test]
+    fn sockets_that_fail() {
+        for (takes, kind) in [(false, ErrorKind::WriteZero), (true, ErrorKind::BrokenPipe)] {
+            let cache = Cache::new(ServerOptions::default());
+            cache.update(prefixes(1)).unwrap();
+            let (mut router, stream) = UnixStream::pair().unwrap();
+            stream.set_nonblocking(true).unwrap();
+            let mut moment = cache.at(0);
+            let (socket, from) = (Failing { stream, takes }, (Ipv4Addr::LOCALHOST, 0).into());
+            let mut connection = Connection::new(Box::new(socket), from, &moment);
+            router.write_all(&[2, 2, 0, 0, 0, 0, 0, 8]).unwrap();
+            let kinds = Arc::new(Mutex::new(Vec::new()));
+            let told = Arc::clone(&kinds);
+            let ended = move |_, error: &ServerError| match error {
+                ServerError::Io(error) => told.lock().unwrap().push(error.kind()),
+                other => panic!("{other}"),
+            };
+            connection.go_on(&mut moment, || 0, &ended, true);
+            assert!(connection.is_over() || connection.wakes(&moment) == 0);
+            connection.go_on(&mut moment, || 0, &ended, false);
+            assert!(connection.is_over());
+            assert_eq!(*kinds.lock().unwrap(), [kind]);
+        }
+    }
 }

@@ -234,3 +234,20 @@ pub(crate) fn dial(address: &str, time: Duration) -> io::Result<TcpStream> {
     }
     Err(last)
 }
+
+#[cfg(test)]
+mod tests {
+    use super::dial;
+    use std::net::TcpListener;
+    use std::string::ToString;
+    use std::time::Duration;
+
+    /// A client's connection sends each query without Nagle's delay.
+    #[test]
+    fn a_connection_without_delay() {
+        let listener = TcpListener::bind("127.0.0.1:0").unwrap();
+        let address = listener.local_addr().unwrap().to_string();
+        let stream = dial(&address, Duration::from_secs(30)).unwrap();
+        assert!(stream.nodelay().unwrap());
+    }
+}

@@ -126,8 +126,13 @@ fn has_waited((turn, changed): &(Mutex<Turn>, Condvar), number: u64, pause: Dura
 
 #[cfg(test)]
 mod tests {
+    use super::{has_waited, Retries};
     use crate::calls;
     use std::iter::successors;
+    use std::sync::mpsc::channel;
+    use std::sync::Arc;
+    use std::thread::{sleep, spawn};
+    use std::time::Duration;
     use std::vec::Vec;
 
     // As `Server::update` says.
@@ -136,5 +141,22 @@ mod tests {
         let pauses = successors(Some(0), |pause| Some(calls::retry_after(*pause)));
         let seconds: Vec<u32> = pauses.skip(1).take(8).map(|pause| pause / 1000).collect();
         assert_eq!(seconds, [1, 2, 4, 8, 16, 32, 60, 60]);
+    }
+
+    /// A stop, and other data that were saved, end a pause at once.
+    #[test]
+    fn pauses_that_are_ended() {
+        let ends: [fn(&Retries); 2] = [Retries::stop, Retries::cancel];
+        for end in ends {
+            let retries = Retries::default();
+            let (turn, number) = (Arc::clone(&retries.turn), retries.next_turn());
+            let (sender, waited) = channel();
+            let pause = Duration::from_secs(3600);
+            let waiting = spawn(move || sender.send(has_waited(&turn, number, pause)));
+            sleep(Duration::from_millis(50)); // it waits by now; later it wouldn't begin to
+            end(&retries);
+            assert_eq!(waited.recv_timeout(Duration::from_secs(30)), Ok(false));
+            waiting.join().unwrap().unwrap();
+        }
     }
 }

@@ -573,7 +573,12 @@ impl Host {
 
 #[cfg(test)]
 mod tests {
-    use super::{Host, Server, ServerOptions, WOKEN};
+    use super::{milliseconds_since, Host, Listener, Server, ServerOptions, PAUSE, WOKEN};
+    use std::boxed::Box;
+    use std::net::{Ipv4Addr, TcpListener, UdpSocket};
+    use std::os::unix::io::OwnedFd;
+    use std::os::unix::net::UnixStream;
+    use std::vec;
 
     #[test]
     fn a_change_after_a_look_wakes_again() {
@@ -592,5 +597,45 @@ mod tests {
         waker.wake();
         host.go_on(&ready);
         assert_eq!(host.poller.wait(0), [WOKEN]);
+    }
+
+    /// Accepting pauses after the system refused it, and resumes; an empty queue is no refusal.
+    #[test]
+    fn pauses_of_accepting() {
+        let server = Server::new(ServerOptions::default());
+        let (mut host, waker) = Host::new(&server.shared).unwrap();
+        let empty = TcpListener::bind("127.0.0.1:0").unwrap();
+        empty.set_nonblocking(true).unwrap();
+        let refusing: OwnedFd = UdpSocket::bind("127.0.0.1:0").unwrap().into();
+        for (socket, pauses) in [(empty, false), (refusing.into(), true)] {
+            let ready = Box::new(|stream| Ok(Box::new(stream) as Box<_>));
+            host.listeners = vec![Listener { socket, ready }];
+            host.accept(0);
+            assert_eq!(host.takes_from > host.moment.now, pauses);
+        }
+        waker.wake(); // so that no wait is long
+        while !host.takes {
+            host.wait();
+        }
+        assert!(milliseconds_since(host.begun) >= PAUSE);
+    }
+
+    /// A socket that the program keeps isn't waited for once its client has gone.
+    #[test]
+    fn a_socket_that_is_kept() {
+        let server = Server::new(ServerOptions::default());
+        let (mut host, _waker) = Host::new(&server.shared).unwrap();
+        let (router, stream) = UnixStream::pair().unwrap();
+        stream.set_nonblocking(true).unwrap();
+        let _kept = stream.try_clone().unwrap();
+        host.serve(Box::new(stream), (Ipv4Addr::LOCALHOST, 0).into(), true);
+        assert!(host.poller.wait(0).is_empty());
+        drop(router);
+        let ready = host.poller.wait(0);
+        assert_eq!(ready.len(), 1);
+        host.go_on(&ready);
+        assert!(host.clients.is_empty());
+        assert_eq!(host.door.clients(), 0);
+        assert!(host.poller.wait(0).is_empty());
     }
 }

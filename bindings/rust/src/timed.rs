@@ -137,8 +137,17 @@ fn close(mut socket: impl Socket, until: Instant, stop: &Stop) {
 
 #[cfg(test)]
 mod tests {
-    use super::Stop;
+    use super::{in_milliseconds, Stop};
     use std::time::{Duration, Instant};
+
+    /// No wait is shorter than its time.
+    #[test]
+    fn parts_of_milliseconds() {
+        for (nanoseconds, milliseconds) in [(0, 0), (1, 1), (1_000_000, 1), (1_000_001, 2)] {
+            let span = Duration::from_nanos(nanoseconds);
+            assert_eq!(in_milliseconds(span), milliseconds);
+        }
+    }
 
     #[test]
     fn a_stop_before_a_wait_ends_it() {

@@ -217,3 +217,28 @@ impl Woken {
         let _ = (&self.0).read(&mut [0; 64]);
     }
 }
+
+#[cfg(test)]
+mod tests {
+    use super::{wait, waker};
+    use std::sync::mpsc::channel;
+    use std::thread::spawn;
+    use std::time::Duration;
+
+    /// Any number of wake-ups blocks nobody, also while the thread that they wake is busy.
+    #[test]
+    fn wakes_of_a_busy_thread() {
+        let (waker, woken) = waker().unwrap();
+        let (sender, done) = channel();
+        let waking = spawn(move || {
+            (0..10_000).for_each(|_| waker.wake());
+            sender.send(()).unwrap();
+            waker
+        });
+        assert_eq!(done.recv_timeout(Duration::from_secs(30)), Ok(()));
+        let _waker = waking.join().unwrap();
+        let mut awaited = [woken.awaited()];
+        wait(&mut awaited, 0);
+        assert!(awaited[0].is_ready());
+    }
+}

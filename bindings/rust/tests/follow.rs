@@ -156,6 +156,40 @@ fn until_second(settings: GroupSettings, places: &[Place], on: impl FnMut(&Event
     data.unwrap().expect("there are data")
 }
 
+/// All caches after one that answers are left.
+#[test]
+fn all_that_are_left() {
+    in_time(|| {
+        let places = [Place::default(), Place::default(), Place::default()];
+        let last = cache(&places[2], data_of(9, 3, 25));
+        let preferred = Mutex::new(None);
+        let clients = |member: usize| {
+            let client = client(&places[member], options());
+            if member == 0 {
+                *preferred.lock().unwrap() = Some(Arc::clone(&client));
+            }
+            client
+        };
+        let (sender, members) = channel();
+        let on = move |member: usize, event: Event<'_>| {
+            if matches!(event, Event::Data { .. }) {
+                sender.send(member).unwrap();
+            }
+            ControlFlow::Continue(())
+        };
+        thread::scope(|scope| {
+            let following = scope.spawn(|| follow(3, clients, on));
+            assert_eq!(members.recv(), Ok(2));
+            let _first = cache(&places[0], data(1));
+            assert_eq!(members.recv(), Ok(0));
+            let are_left = holds(|| last.clients() == 0);
+            preferred.lock().unwrap().take().expect("it runs").stop();
+            assert_eq!(following.join().unwrap().unwrap(), Some(data(1)));
+            assert!(are_left, "the last one isn't");
+        });
+    });
+}
+
 /// The next cache is asked after the patience if the first is silent.
 #[test]
 fn a_silent_cache() {

@@ -91,3 +91,28 @@ fn serial_zero() {
         "Info data session=4660 serial=1 version=1 payloads=0",
     ]);
 }
+
+/// A cache names the address where it listens, and that of each client.
+#[test]
+fn addresses() {
+    let _alone = alone();
+    let lines = Arc::new(Mutex::new(Vec::new()));
+    let told = Arc::clone(&lines);
+    let server = Server::logging(ServerOptions::default(), move |_, message, fields| {
+        let (name, value) = fields[0];
+        told.lock()
+            .unwrap()
+            .push(format!("{message} {name}={value}"));
+    });
+    let address = server.listen("127.0.0.1:0").unwrap();
+    let mut peer = Peer::connect(address);
+    let client = peer.stream.get_ref().local_addr().unwrap();
+    peer.send(&response(2, SESSION));
+    assert!(peer.report().is_some());
+    let wanted = [
+        format!("listening address={address}"),
+        format!("connected client={client}"),
+        format!("ended client={client}"),
+    ];
+    assert!(holds(|| *lines.lock().unwrap() == wanted), "{lines:?}");
+}

@@ -9,6 +9,7 @@ use caches::{knows, options, Cache, SavedFile};
 use peers::*;
 use rtr_wire::*;
 use std::io::ErrorKind;
+use std::process::Command;
 use std::sync::atomic::{AtomicBool, Ordering};
 use std::sync::mpsc::channel;
 use std::sync::{Arc, Mutex};
@@ -329,6 +330,36 @@ fn tables_in_memory() {
         drop(cache);
         assert_eq!(files_in_memory(), 0);
     }
+}
+
+/// The mappings that the process has of files in memory.
+fn mapped_files() -> usize {
+    let mappings = std::fs::read_to_string("/proc/self/maps").unwrap();
+    let lines = mappings.lines();
+    lines.filter(|line| line.contains("/memfd:")).count()
+}
+
+/// A program that is started gets neither the table of a cache nor what its thread waits with, and
+/// no table stays mapped.
+#[test]
+fn what_is_left_of_tables() {
+    let _alone = alone();
+    let cache = Cache::new(options());
+    for _ in 0..2 {
+        cache.server.change_session();
+        let table = unbuffered();
+        let session = table.end().session + u16::from(cache.server.end().is_some());
+        assert_eq!(cache.server.update(table.numbered(session, 1)), Ok(true));
+        assert!(holds(|| mapped_files() == 1), "{} files", mapped_files());
+    }
+    let inherited = Command::new("ls").args(["-l", "/proc/self/fd"]).output();
+    let inherited = String::from_utf8(inherited.unwrap().stdout).unwrap();
+    assert!(inherited.contains(" -> "), "{inherited}");
+    for name in ["memfd:rtr", "eventpoll"] {
+        assert!(!inherited.contains(name), "{inherited}");
+    }
+    drop(cache);
+    assert_eq!(mapped_files(), 0);
 }
 
 /// Newer data that are saved, or the present ones again, end the retries, and so does a stop.

@@ -8,8 +8,8 @@ use rtr_wire::*;
 use std::io::{self, ErrorKind, Read, Write};
 use std::net::{SocketAddr, TcpStream};
 use std::ops::ControlFlow;
-use std::os::raw::c_int;
-use std::os::unix::io::BorrowedFd;
+use std::os::raw::{c_int, c_uint};
+use std::os::unix::io::{AsRawFd, BorrowedFd};
 use std::os::unix::net::UnixStream;
 use std::process::Command;
 use std::sync::mpsc::channel;
@@ -18,7 +18,7 @@ use std::thread::Builder;
 use std::time::{Duration, Instant};
 
 /// A socket like those that encrypt: it hides bytes, holds some of them until it is flushed, and
-/// refuses every second call.
+/// refuses every second call, as one that would block or was interrupted by a signal.
 struct Hidden<S> {
     socket: S,
     held: Vec<u8>,
@@ -42,8 +42,9 @@ impl<S: Socket> Hidden<S> {
 
     fn turn(&mut self) -> io::Result<()> {
         self.turns += 1;
-        match self.turns % 2 {
+        match self.turns % 4 {
             1 => Err(ErrorKind::WouldBlock.into()),
+            3 => Err(ErrorKind::Interrupted.into()),
             _ => Ok(()),
         }
     }
@@ -247,6 +248,13 @@ fn connections_that_are_refused() {
 
 extern "C" {
     // Of the C library on Linux.
+    fn getsockopt(
+        socket: c_int,
+        level: c_int,
+        option: c_int,
+        value: *mut c_int,
+        size: *mut c_uint,
+    ) -> c_int;
     fn signal(number: c_int, handler: usize) -> usize;
 }
 
@@ -275,6 +283,27 @@ fn broken_pipes() {
     router.finish();
     drop(router); // with bytes unread, which resets the connection
     assert!(holds(|| server.clients() == 0));
+}
+
+/// The system holds few unsent bytes of a client; Linux doubles the size that is set (socket(7)).
+#[test]
+fn unsent_bytes_in_the_system() {
+    const SOCKET: c_int = 1;
+    const UNSENT: c_int = 7;
+    let _alone = alone();
+    let server = Server::new(server_options());
+    let (sender, sizes) = channel();
+    let ready = move |stream: TcpStream| {
+        let (mut bytes, mut size) = (0, 4);
+        // SAFETY: both numbers are live, and the first has this size.
+        unsafe { getsockopt(stream.as_raw_fd(), SOCKET, UNSENT, &mut bytes, &mut size) };
+        sender.send(bytes).unwrap();
+        Ok(stream)
+    };
+    let address = server.listen_with("127.0.0.1:0", ready).unwrap();
+    let _client = Peer::connect(address);
+    let bytes = sizes.recv_timeout(PATIENCE).expect("it is accepted");
+    assert!(0 < bytes && bytes <= 2 << 17, "{bytes}");
 }
 
 /// A client that waits for bytes, for the time of its next connection, or to write its query
