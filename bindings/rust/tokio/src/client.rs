@@ -206,3 +206,19 @@ impl<S: AsyncRead + AsyncWrite + Unpin> Future for Going<'_, S> {
         self.0.poll(cx)
     }
 }
+
+#[cfg(test)]
+mod tests {
+    use super::dial;
+    use std::time::Duration;
+    use tokio::net::TcpListener;
+
+    /// A client's connection sends each query without Nagle's delay.
+    #[tokio::test]
+    async fn a_connection_without_delay() {
+        let listener = TcpListener::bind("127.0.0.1:0").await.unwrap();
+        let address = listener.local_addr().unwrap().to_string();
+        let stream = dial(address, Duration::from_secs(30)).await.unwrap();
+        assert!(stream.nodelay().unwrap());
+    }
+}

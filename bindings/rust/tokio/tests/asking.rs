@@ -7,6 +7,7 @@ use peers::*;
 use rtr_wire::*;
 use rtr_wire_tokio::{AsyncClient, AsyncServer};
 use std::fmt::Write;
+use std::sync::mpsc::channel;
 use std::sync::{Arc, Mutex};
 use tokio::io::{duplex, AsyncReadExt, AsyncWriteExt, DuplexStream};
 use tokio::net::TcpListener;
@@ -168,4 +169,52 @@ async fn logs() {
     let failed = "Warn failed error=the cache closed the connection";
     assert_eq!(*ours.0.lock().unwrap(), ["Debug connected", &gets, failed]);
     assert_eq!(*theirs.0.lock().unwrap(), [&has, "Debug connected"]);
+}
+
+/// A server logs the address of each client that connects, and of one whose connection it ends.
+#[tokio::test]
+async fn addresses_in_a_log() {
+    let lines = Arc::new(Mutex::new(Vec::new()));
+    let told = Arc::clone(&lines);
+    let server = AsyncServer::logging(ServerOptions::default(), move |_, message, fields| {
+        let (name, value) = fields[0];
+        let line = format!("{message} {name}={value}");
+        told.lock().unwrap().push(line);
+    });
+    let (mut client, stream) = duplex(1000);
+    let from = ([192, 0, 2, 1], 323).into();
+    let serving = tokio::spawn(async move { server.serve_connection(stream, from).await });
+    client.write_all(&response(2, SESSION)).await.unwrap();
+    client.read_to_end(&mut Vec::new()).await.unwrap();
+    drop(client);
+    serving.await.unwrap();
+    let wanted = [
+        "connected client=192.0.2.1:323",
+        "ended client=192.0.2.1:323",
+    ];
+    assert_eq!(*lines.lock().unwrap(), wanted);
+}
+
+/// A server logs each retry of a save that fails.
+#[tokio::test]
+async fn retries_in_a_log() {
+    let (sender, logged) = channel();
+    let sender = Mutex::new(sender);
+    let server = AsyncServer::logging(ServerOptions::default(), move |level, message, fields| {
+        let (name, value) = fields[0];
+        let line = format!("{level:?} {message} {name}={value}");
+        let _ = sender.lock().unwrap().send(line);
+    });
+    let folder = std::env::temp_dir().join(format!("rtr-async-log-{}", std::process::id()));
+    std::fs::create_dir(&folder).unwrap();
+    server.save_to(folder.join("kept")).unwrap();
+    // A folder has the name of the new file, so that it can't be written.
+    let blocked = folder.join("kept.new");
+    std::fs::create_dir(&blocked).unwrap();
+    let failure = std::fs::File::create(&blocked).unwrap_err();
+    assert!(server.update(data(1)).is_err());
+    let line = format!("Warn not saved error={failure}");
+    assert_eq!(logged.recv_timeout(PATIENCE), Ok(line));
+    server.stop();
+    std::fs::remove_dir_all(folder).unwrap();
 }

@@ -3,15 +3,16 @@
 #[path = "../../tests/peers/mod.rs"]
 mod peers;
 
-use peers::{data, PATIENCE};
+use peers::{answer, data, milliseconds, reset_query, Stamp, PATIENCE};
 use rtr_wire::{ErrorCode, ServerOptions, Unit};
 use rtr_wire_tokio::AsyncServer;
 use std::fs::File;
 use std::io::{self, ErrorKind};
+use std::net::SocketAddr;
 use std::process::Command;
-use tokio::io::AsyncReadExt;
-use tokio::net::{TcpListener, TcpStream};
-use tokio::time::timeout;
+use tokio::io::{AsyncReadExt, AsyncWriteExt};
+use tokio::net::{TcpListener, TcpSocket, TcpStream};
+use tokio::time::{sleep, timeout};
 
 /// Lowers the limit of descriptors to this number, by util-linux's prlimit.
 fn limit_descriptors(count: usize) -> io::Result<bool> {
@@ -31,7 +32,27 @@ fn leave_descriptors(count: usize) -> Vec<File> {
     files
 }
 
-/// A client that takes the last descriptor isn't served, but gets a report.
+/// Checks that a client is served that connects while no descriptor is left.
+async fn is_served_later(address: SocketAddr) {
+    let socket = TcpSocket::new_v4().unwrap();
+    let began = Stamp::now();
+    let files = leave_descriptors(0);
+    let mut client = socket.connect(address).await.unwrap();
+    sleep(milliseconds(300)).await;
+    drop(files);
+    // The system refuses it to the server, which then waits for 100 milliseconds each time.
+    let slept = began.slept_until(Stamp::now());
+    assert!(slept > milliseconds(50), "it slept {slept:?}");
+    client.write_all(&reset_query(2)).await.unwrap();
+    let wanted = answer(&data(1), 2);
+    let mut came = vec![0; wanted.len()];
+    let read = timeout(PATIENCE, client.read_exact(&mut came)).await;
+    read.expect("it is served").unwrap();
+    assert_eq!(came, wanted);
+}
+
+/// A client that takes the last descriptor gets a report instead of data, and one that comes later
+/// is served once there are descriptors again.
 #[tokio::test]
 async fn the_last_descriptor() {
     match limit_descriptors(64) {
@@ -43,9 +64,8 @@ async fn the_last_descriptor() {
     let server = AsyncServer::new(ServerOptions::default());
     assert_eq!(server.update(data(1)), Ok(true));
     let listener = TcpListener::bind("127.0.0.1:0").await.unwrap();
-    let mut client = TcpStream::connect(listener.local_addr().unwrap())
-        .await
-        .unwrap();
+    let address = listener.local_addr().unwrap();
+    let mut client = TcpStream::connect(address).await.unwrap();
     // One that the server holds itself, and that of the client.
     let files = leave_descriptors(2);
     let serving = server.clone();
@@ -60,6 +80,7 @@ async fn the_last_descriptor() {
         other => panic!("{other:?}"),
     }
     drop(files);
+    is_served_later(address).await;
     server.stop();
     listening.await.unwrap().unwrap();
 }

@@ -8,11 +8,15 @@ use peers::{answer, data, milliseconds, prefix, reset_query};
 use rtr_wire::{ErrorCode, ServerError, ServerOptions, Unit};
 use rtr_wire_tokio::AsyncServer;
 use std::future::pending;
+use std::io::{self, ErrorKind};
 use std::net::SocketAddr;
+use std::pin::Pin;
 use std::sync::mpsc::{channel, Receiver};
 use std::sync::Mutex;
+use std::task::{Context, Poll};
 use std::time::Duration;
-use tokio::io::{duplex, AsyncReadExt, AsyncWriteExt, BufStream, DuplexStream};
+use tokio::io::{duplex, AsyncRead, AsyncReadExt, AsyncWrite, AsyncWriteExt};
+use tokio::io::{BufStream, DuplexStream, ReadBuf};
 use tokio::net::{TcpListener, TcpStream};
 use tokio::task::JoinHandle;
 use tokio::time::{sleep, timeout, Instant};
@@ -218,5 +222,73 @@ async fn a_report_that_is_held() {
             "{:?}",
             began.elapsed()
         );
+    }
+}
+
+/// A stream that takes no bytes, or takes them and can't be flushed, and how often it did that.
+struct Failing {
+    stream: DuplexStream,
+    takes: bool,
+    count: u32,
+}
+
+impl Failing {
+    /// Fails the test if it goes on for long.
+    fn fails(&mut self) {
+        self.count += 1;
+        assert!(self.count < 10, "nobody notices");
+    }
+}
+
+impl AsyncRead for Failing {
+    fn poll_read(
+        mut self: Pin<&mut Self>,
+        cx: &mut Context<'_>,
+        room: &mut ReadBuf<'_>,
+    ) -> Poll<io::Result<()>> {
+        Pin::new(&mut self.stream).poll_read(cx, room)
+    }
+}
+
+impl AsyncWrite for Failing {
+    fn poll_write(
+        mut self: Pin<&mut Self>,
+        _: &mut Context<'_>,
+        bytes: &[u8],
+    ) -> Poll<io::Result<usize>> {
+        if self.takes {
+            return Poll::Ready(Ok(bytes.len()));
+        }
+        self.fails();
+        Poll::Ready(Ok(0))
+    }
+
+    fn poll_flush(mut self: Pin<&mut Self>, _: &mut Context<'_>) -> Poll<io::Result<()>> {
+        self.fails();
+        Poll::Ready(Err(ErrorKind::BrokenPipe.into()))
+    }
+
+    fn poll_shutdown(self: Pin<&mut Self>, _: &mut Context<'_>) -> Poll<io::Result<()>> {
+        Poll::Ready(Ok(()))
+    }
+}
+
+/// A stream that fails to write or to flush ends its connection once, for that reason.
+#[tokio::test(start_paused = true)]
+async fn streams_that_fail() {
+    for (takes, kind) in [(false, ErrorKind::WriteZero), (true, ErrorKind::BrokenPipe)] {
+        let (server, told) = telling(1);
+        let (mut client, stream) = duplex(1024);
+        client.write_all(&reset_query(2)).await.unwrap();
+        let (count, error) = (0, io::Error::from(kind));
+        let failing = Failing {
+            stream,
+            takes,
+            count,
+        };
+        server.serve_connection(failing, from()).await;
+        assert_eq!(told.try_recv(), Ok(error.to_string()));
+        assert!(told.try_recv().is_err());
+        assert_eq!(server.clients(), 0);
     }
 }

@@ -118,6 +118,23 @@ async fn the_first_that_answers() {
     assert_eq!(backup.clients(), 0);
 }
 
+/// All caches after one that answers are left.
+#[tokio::test(start_paused = true)]
+async fn all_that_are_left() {
+    let (first, last) = (place(Place::Refuses), cache(data_of(9, 3, 25)));
+    let others = [Place::Refuses, Place::Serves(last.clone())].map(place);
+    let places = [&first, &others[0], &others[1]];
+    let mut group = AsyncGroup::new(places.map(client)).unwrap();
+    let mut failures = Vec::new();
+    assert_eq!(shown(&mut group, &mut failures).await.0, 2);
+    *first.lock().unwrap() = Place::Serves(cache(data(1)));
+    assert_eq!(shown(&mut group, &mut failures).await.0, 0);
+    // The next call of the group leaves them.
+    assert_eq!(last.clients(), 1);
+    assert!(timeout(Duration::from_secs(1), group.next()).await.is_err());
+    assert_eq!(last.clients(), 0);
+}
+
 /// A cache that is silent costs the patience.
 #[tokio::test(start_paused = true)]
 async fn a_silent_cache() {
