@@ -151,10 +151,10 @@ class Saving:
 
     def save(self):
         """Gives the cache the data, and checks that it saves and then serves them."""
-        before = inode(self.cache)
+        before = saved_mark(self.cache)
         self.give_data()
         self.cache.wait_for_serial(self.serial)
-        if inode(self.cache) == before:
+        if saved_mark(self.cache) == before:
             raise Wrong(f"it serves serial {self.serial}, and hasn't saved it")
         self.expect_served()
 
@@ -173,9 +173,13 @@ class Saving:
         self.cache.terminate()
 
 
-def inode(cache):
-    """Returns the inode of the saved file; nothing if there is none."""
-    return os.stat(cache.saved_path).st_ino if os.path.exists(cache.saved_path) else None
+def saved_mark(cache):
+    """Returns what differs in another saved file, whose inode may be that of one before the last;
+    nothing if there is none."""
+    if not os.path.exists(cache.saved_path):
+        return None
+    found = os.stat(cache.saved_path)
+    return found.st_ino, found.st_mtime_ns, found.st_ctime_ns
 
 
 def expect_log(cache, number):

@@ -48,7 +48,9 @@ func (c *clocked) list(items int) string {
 // newClocked is a cache of a file with this many items.
 func newClocked(t *testing.T, items int) *clocked {
 	t.Helper()
-	c := &clocked{t: t, path: filepath.Join(t.TempDir(), "f"), start: time.Now()}
+	// Items expire at whole seconds, and so do waits that are compared.
+	start := time.Now().Truncate(time.Second)
+	c := &clocked{t: t, path: filepath.Join(t.TempDir(), "f"), start: start}
 	trial.Write(t, c.path, c.list(items))
 	maker, err := beside.Find("rtr_make")
 	if err != nil {
@@ -122,8 +124,7 @@ func TestAllExpires(t *testing.T) {
 	c := newClocked(t, 10)
 	c.shows(0, 10, 1, "")
 	c.shows(time.Hour-time.Second, 10, 1, "")
-	expires := time.Unix(c.start.Add(time.Hour).Unix(), 0)
-	if wait := c.untilNext(); wait != expires.Sub(c.start.Add(c.running)) {
+	if wait := c.untilNext(); wait != time.Second {
 		t.Errorf("it waits for %v", wait)
 	}
 	c.shows(2*time.Second, 0, 2, trust.Empty)
