@@ -25,6 +25,8 @@ NEW = ["203.0.113.0/24", "2001:db8:1::/48"]
 MOST_LOST = 30  # connections that a session loses
 BEHIND = 8_000  # bytes behind a unit that is refused, which come with it
 MEMORY = 1 << 17  # bytes by which a cache may grow from one hundred connections to the next
+# A cache that keeps a part of each connection grows each time; Node compiles what it runs often.
+MOST_SIZES = 4
 # The bytes that the system keeps of what a slow router hasn't read: less than its answer, and more
 # than the longest segment of the loopback interface, else a timer decides when each is sent.
 SLOW_BUFFER = 1 << 17
@@ -250,13 +252,13 @@ def play_leavings(cache, count, faults, first):
     steps = Router.ask_all, lambda router: router.expect_answer(1, MANY), 1, MANY
     routers.run_each(*steps)  # the cache closes a connection without a query after 30 seconds
     sizes, read = [], Router.expect_answer if faults else Router.skip_answer
-    for _ in range(2):
+    while len(sizes) < 2 or sizes[-1] > sizes[-2] + MEMORY:
+        if len(sizes) == MOST_SIZES:
+            raise Wrong(f"its memory grows: {sizes}")
         for number in range(count // 2):
             connect_and_leave(cache, number, read)
         cache.wait_for_resources(first, 3, len(routers.routers))
         sizes.append(cache.memory_size())
-    if sizes[1] > sizes[0] + MEMORY:
-        raise Wrong(f"it has {sizes[1]} bytes of memory, and had {sizes[0]}")
     routers.serials = [None]
     routers.run_each(*steps)
     if routers.lost and not faults:
