@@ -25,7 +25,7 @@ NEW = ["203.0.113.0/24", "2001:db8:1::/48"]
 MOST_LOST = 30  # connections that a session loses
 BEHIND = 8_000  # bytes behind a unit that is refused, which come with it
 MEMORY = 1 << 17  # bytes by which a cache may grow from one hundred connections to the next
-# A cache that keeps a part of each connection grows each time; Node compiles what it runs often.
+# A cache that keeps a part of each connection grows each time; other memory of Node may grow once.
 MOST_SIZES = 4
 # The bytes that the system keeps of what a slow router hasn't read: less than its answer, and more
 # than the longest segment of the loopback interface, else a timer decides when each is sent.
