@@ -3,8 +3,11 @@ use Rattle.std.proofs.Common.{◌≡◌, ◌≢◌, ◌≤◌, ◌<◌, ◌+◌,
 use Rattle.std.proofs.Common.{Some, drop, length, take, refl, sym, ap, subst, ◌∙◌, arith}
 use Rattle.std.proofs.Common.{append-nil, append_assoc}
 use Rattle.std.proofs.Common.{slice_index}
+use Rattle.std.proofs.Common.{false, true}
+use Rattle.std.proofs.lemmas.Bool.{cases_lt}
 use Rattle.std.proofs.lemmas.List.{length-append, take_at}
 use Rattle.rtr_base.specs.Bytes.{be}
+use Rattle.rtr_base.proofs.Numbers.{length-be}
 use Rattle.data_slices.specs.Canonical.{PlacesFront}
 use Rattle.data_history.specs.Parts.{HasPart, head_bytes, part_bytes, part_form, part_rest}
 use Rattle.data_history.specs.Snapshots.{HoldsHistory, Snapshot}
@@ -59,6 +62,33 @@ placed n last left history before after lt (size, within, out) =
       left = ap (λ b. sessions_of (part_bytes b)) is ∙ ap sessions_of p.bytes;
       rest = ap part_rest is ∙ p.rest;
     }
+
+-- and this is its size
+pub placed_size : (n : ℕ) (last left history before after : List ℕ) →
+    PlacesFront (Some n) (((head_bytes 0 (length last + length left) ++ last) ++ left) ++ history)
+    before after → n ≡ 16 + length last + length left + length history
+unfolding head_bytes
+placed_size n last left history before after (size, within, out) =
+    let sum = length last + length left in
+    let head = head_bytes 0 sum in
+    omega (
+      arith,
+      size,
+      length-append ((head ++ last) ++ left) history,
+      length-append (head ++ last) left,
+      length-append head last,
+      length-append (be 0 8) (be sum 8),
+      length-be 0 8,
+      length-be sum 8,
+    )
+
+-- an output into which it isn't written is shorter
+pub lacks : (out size : ℕ) → (size ≤ out → false ≡ true) → out < size
+lacks out size enough =
+    elim (cases_lt out size) [
+      | inl lt ↦ lt
+      | inr le ↦ let wrong = enough le in absurd cc
+    ]
 
 -- the store of a history whose cache left no session
 pub placed_none : (n : ℕ) (history before after : List ℕ) →
@@ -126,3 +156,8 @@ pub among_left : (b left : List ℕ) (t : ℕ) → left ≡ part_bytes b → IsA
     IsAmong t (left_sessions b)
 unfolding left_sessions
 among_left b left t is among = subst (λ l. IsAmong t (sessions_of l)) is among
+
+pub left_among : (b left : List ℕ) (t : ℕ) → left ≡ part_bytes b → IsAmong t (left_sessions b) →
+    IsAmong t (sessions_of left)
+unfolding left_sessions
+left_among b left t is among = subst (λ l. IsAmong t (sessions_of l)) (sym is) among

@@ -1,7 +1,7 @@
 -- What a cache saves: the sessions that it left, and the history of the present one (this library's
 -- own; a session and a serial number are one name of data: RFC 8210 sections 5.1 and 2).
-use Rattle.std.specs.Prelude.{◌≡◌, ◌≢◌, ◌<◌, ◌≤◌, ◌+◌, ◌*◌, ◌⊎◌, ⊤, ℕ, List, [], ◌∷◌, Some}
-use Rattle.std.specs.Prelude.{Result, Ok, Err, take}
+use Rattle.std.specs.Prelude.{◌≡◌, ◌≢◌, ◌<◌, ◌≤◌, ◌+◌, ◌-◌, ◌*◌, ◌^◌, ◌⊎◌, ⊤, ℕ, List, [], ◌∷◌}
+use Rattle.std.specs.Prelude.{Some, Result, Ok, Err, length, take}
 use Rattle.std.specs.declared.cmp.Ordering.TheVariants.{Less}
 use Rattle.rtr_base.specs.Serial.{serial_cmp}
 use Rattle.data_history.specs.Parts.{HasPart, part_bytes, part_rest}
@@ -61,6 +61,37 @@ WantsOutput (Ok n) most out = ⊤
 WantsOutput (Err SessionLeft) most out = ⊤
 WantsOutput (Err Malformed) most out = ⊤
 WantsOutput (Err (NoRoom w)) most out = (out < w) × (w ≤ most)
+
+-- the first store, of a history of n bytes, into an output of this length: it is written whole, or
+-- its length is named
+abbrev pub FitsFirst : Result ℕ TakeFault → (n out : ℕ) → Type 0
+FitsFirst (Ok size) n out = (size ≡ 16 + n) × (size ≤ out)
+FitsFirst (Err SessionLeft) n out = ⊥
+FitsFirst (Err Malformed) n out = ⊥
+FitsFirst (Err (NoRoom w)) n out = (w ≡ 16 + n) × (out < w)
+
+-- the size of the store after the store b, of a history of n bytes: with two bytes for the session
+-- s of the data before, if the new data are of another session t
+abbrev pub IsSizeAfter : (size : ℕ) → (b : List ℕ) → (s t n : ℕ) → Type 0
+IsSizeAfter size b s t n =
+    (s ≡ t → size ≡ 16 + length (part_bytes b) + n)
+    × (s ≢ t → size ≡ 18 + length (part_bytes b) + n)
+
+-- the new data stay in the session s, or are of a session t that wasn't left
+abbrev pub MayEnter : (b : List ℕ) → (s t : ℕ) → Type 0
+MayEnter b s t = s ≢ t → IsAmong t (left_sessions b) → ⊥
+
+-- Which of the results comes after any bytes b, into an output of this length. The length that is
+-- named is that of the store, or the greatest number if that is less.
+abbrev pub DecidesStore : Result ℕ TakeFault → (b : List ℕ) → (s t n out : ℕ) → Type 0
+DecidesStore (Ok size) b s t n out =
+    HasPart b × MayEnter b s t × IsSizeAfter size b s t n × (size ≤ out)
+DecidesStore (Err SessionLeft) b s t n out =
+    HasPart b × (s ≢ t) × IsAmong t (left_sessions b)
+DecidesStore (Err Malformed) b s t n out = HasPart b → ⊥
+DecidesStore (Err (NoRoom w)) b s t n out = HasPart b × MayEnter b s t
+    × ((size : ℕ) × IsSizeAfter size b s t n × (out < size) × (w ≤ size)
+    × (w < size → w ≡ 2 ^ 64 - 1))
 
 -- the data z, whose history this is, may follow x: they are of another session, or later ones
 abbrev pub MayFollow : (z x : Snapshot) → Type 0

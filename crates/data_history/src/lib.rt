@@ -1,10 +1,10 @@
 //! The history of a cache: its present data and the steps back to earlier data of its session, as
 //! bytes in slices, without memory, clock or sockets (RFC 8210 sections 5.1, 5.3 and 8.2).
 //!
-//! `Stores` keeps track of the data that a cache serves and of those that it has taken: `next_into`
-//! makes a history of new data, and `take_into` a store, the bytes to save after the head that
-//! `seal_head` returns. They are served only once the caller reports that they are saved. So a
-//! cache never serves two different data under one session and serial number
+//! `Stores` keeps track of the data that a cache serves and of newer data that wait to be saved:
+//! `next_into` makes a history of new data, and `take_into` a store, the bytes to save after the
+//! head that `seal_head` returns. New data are served only once the caller reports that they are
+//! saved. So a cache never serves two different data under one session and serial number
 //! (`laws::one_data_under_each_name`). `since_into` writes the answer to a serial query. At a start
 //! `open_saved` and `Stores::start` check whether a file is whole.
 #![tactic(auto)]

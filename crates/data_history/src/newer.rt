@@ -1,7 +1,7 @@
 //! Makes the store of newer data.
 
-ghost use Rattle.std.specs.Prelude.{◌≡◌, ◌+◌, ◌-◌, ◌++◌, ℕ, [], Err, IfErr, IfOk, List, length};
-ghost use Rattle.std.specs.Prelude.{take};
+ghost use Rattle.std.specs.Prelude.{◌≡◌, ◌≤◌, ◌+◌, ◌-◌, ◌++◌, ℕ, [], Err, IfErr, IfOk, List};
+ghost use Rattle.std.specs.Prelude.{length, take};
 ghost use Rattle.rtr_units.specs.AnyEnd.{end_bytes, end_meaning};
 ghost use Rattle.rtr_units.specs.End.{IsEnd};
 ghost use Rattle.rtr_payload.specs.Payloads.{Payload};
@@ -26,7 +26,8 @@ pub enum Untaken {
     OtherSession,
     /// The cache has already left the session of these data.
     SessionLeft,
-    /// The data can't follow the present ones in a history.
+    /// The data can't follow the present ones in a history. Its `Room::Output` is the spare buffer,
+    /// to which that history is written.
     Refused(Refused),
     /// The bytes that are served are not a store.
     Malformed,
@@ -44,6 +45,7 @@ pub fn first_store(
     ensures takes { (z : Snapshot) → HoldsData new.now z.payloads z.end →
         TakesFirst result z output.new }
     ensures form { IfOk result (λ n. take n output.new ≡ part_form 0 [] ++ part_form now new.now) }
+    ensures within { IfOk result (λ n. n ≤ length output.old) }
     ensures flaw { IfErr result (IsFlawOfNew new.now) }
     ensures late { ComesLate result }
     ensures rooms { (buffer : ℕ) → IsShortForTaking result (length new.now) buffer
@@ -79,6 +81,7 @@ pub fn next_store(
     ensures form { IfOk result (λ n. (z x : Snapshot) (ys : List Snapshot) →
         HoldsData new.now z.payloads z.end → HoldsStore store.now x ys → IsStoreAfter now
         (now - limits.now.time) limits.now.bytes store.now z x new.now (take n output.new)) }
+    ensures within { IfOk result (λ n. n ≤ length output.old) }
     ensures flaw { IfErr result (IsFlawOfNew new.now) }
     ensures late { ComesLate result }
     ensures rooms { IsShortForTaking result (length store.now + length new.now) (length buffer.old)

@@ -1,6 +1,6 @@
 //! Slices that are too short.
 
-ghost use Rattle.std.specs.Prelude.{◌<◌, ◌≤◌, ◌+◌, length};
+ghost use Rattle.std.specs.Prelude.{◌≡◌, ◌<◌, ◌≤◌, ◌+◌, ◌-◌, ◌^◌, length};
 
 /// One of the slices that a call uses as work space or output.
 #[derive(Clone, Copy, Debug, PartialEq, Eq)]
@@ -15,11 +15,12 @@ pub enum Room {
     Output,
 }
 
-/// Returns the length that an output needs for this many bytes, or the greatest number if that is
-/// less. An output that is too short is shorter than the result.
+/// Returns the length that an output needs for a head and three parts of these lengths, or the
+/// greatest number if that is less. An output that is too short is shorter than the result.
 pub fn wanted_of(output: &[u8], head: usize, first: usize, second: usize, third: usize) -> usize
     ensures more { length output.now < head + first + second + third → length output.now < result }
     ensures most { result ≤ head + first + second + third }
+    ensures greatest { result < head + first + second + third → result ≡ 2 ^ 64 - 1 }
 {
     let _have = output.len();
     head.saturating_add(first)

@@ -52,8 +52,8 @@ fn steps_in(steps: &[u8]) -> usize
     }
 }
 
-/// Writes the serial number of the data to which each of the first steps leads, and reports whether
-/// there are that many steps.
+/// Fills the output with the serial numbers of the data to which the first steps lead, and reports
+/// whether there are enough steps for it.
 fn write_serials(steps: &[u8], output: &mut [u32]) -> bool
     ensures { (x : Snapshot) (ys : List Snapshot) → GoesBack steps.now x ys →
         length output.old ≡ length ys → IsTrue result × (output.new ≡ serials_of ys) }

@@ -1,6 +1,7 @@
 //! The answer to a serial query.
 
-ghost use Rattle.std.specs.Prelude.{◌≡◌, ◌≤◌, ◌+◌, ℕ, List, Some, length};
+ghost use Rattle.std.specs.Prelude.{◌≡◌, ◌<◌, ◌≤◌, ◌+◌, Err, ℕ, List, Some, length};
+ghost use Rattle.data_history.specs.declared.since.SinceFault.TheVariants.{UnitVersion};
 ghost use Rattle.data_slices.specs.Canonical.{HoldsData};
 ghost use Rattle.data_history.specs.Snapshots.{AreAlike, Snapshot, HoldsHistory, snapshot_at};
 ghost use Rattle.data_history.specs.Since.{IsShortForAnswer, WritesChangesSince};
@@ -40,8 +41,9 @@ pub enum SinceFault {
 /// An index of one element for each 12 bytes of the history, a buffer twice as long as the history,
 /// a spare one as long as it, and an output 12 bytes longer than the buffer always suffice.
 ///
-/// `UnitVersion` comes first, for a version above 2, and then `Unknown`, if the history has no data
-/// of the serial number, both with nothing written.
+/// `UnitVersion` comes first, for a version above 2, and otherwise `Unknown`, if the history has no
+/// data of the serial number, both with nothing written. Whether it has may show only once the
+/// buffer is long enough: a short buffer comes before `Unknown`.
 pub fn since_into(
     history: &[u8],
     serial: Serial,
@@ -56,6 +58,8 @@ pub fn since_into(
     ensures rooms { (x : Snapshot) (ys : List Snapshot) → HoldsHistory history.now x ys →
         IsShortForAnswer result (length history.now) (length index.old) (length buffer.old)
         (length spare.old) (length output.old) }
+    ensures version { 2 < version →
+        (result ≡ Err UnitVersion) × (output.new ≡ output.old) }
 {
     if version > LAST_VERSION {
         return Err(SinceFault::UnitVersion);

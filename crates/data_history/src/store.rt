@@ -6,8 +6,9 @@ ghost use Rattle.rtr_base.specs.Bytes.{be};
 ghost use Rattle.data_slices.specs.Canonical.{PlacesFront};
 ghost use Rattle.data_history.specs.Parts.{head_bytes, part_bytes, part_form, part_rest};
 ghost use Rattle.data_history.specs.Snapshots.{HoldsHistory, Snapshot};
-ghost use Rattle.data_history.specs.Store.{BeginsStore, IsAmong, WantsOutput, WritesStore};
-ghost use Rattle.data_history.specs.Store.{HoldsStore, left_sessions, sessions_of};
+ghost use Rattle.data_history.specs.Store.{BeginsStore, DecidesStore, FitsFirst, HoldsStore};
+ghost use Rattle.data_history.specs.Store.{IsAmong, WantsOutput, WritesStore, left_sessions};
+ghost use Rattle.data_history.specs.Store.{sessions_of};
 ghost use Rattle.data_history.specs.Old.{OpensOld};
 
 use crate::check::CheckFault;
@@ -35,6 +36,7 @@ pub fn first_store_into(history: &[u8], output: &mut [u8]) -> Result<usize, Take
     ensures history { IfOk result (λ n. part_rest (take n output.new) ≡ history.now) }
     ensures form { IfOk result (λ n. take n output.new ≡ part_form 0 [] ++ history.now) }
     ensures room { WantsOutput result (16 + length history.now) (length output.old) }
+    ensures fits { FitsFirst result (length history.now) (length output.old) }
 {
     match place_store(&[], &[], history, output) {
         Some(size) => Ok(size),
@@ -86,6 +88,8 @@ pub fn take_into(
     ensures leaves { IfOk result (λ n. present ≢ next →
         take n output.new ≡ part_form 0 (be present 2 ++ part_bytes store.now) ++ history.now) }
     ensures room { WantsOutput result (18 + length store.now + length history.now)
+        (length output.old) }
+    ensures decides { DecidesStore result store.now present next (length history.now)
         (length output.old) }
 {
     let (_, left, _) = match first_part(store) {

@@ -162,6 +162,8 @@ impl Stores {
             IsStoreFrom now (now - limits.now.time) limits.now.bytes
             (served_store self.old first.old second.old) z new.now
             (take n (other_of self.old.second first.new second.new))) }
+        ensures within { IfOk result (λ n.
+            n ≤ length (other_of self.old.second first.old second.old)) }
         ensures flaw { ChecksNewFirst self.old.taken result new.now }
         ensures rooms { IsShortForTaking result
             (size_of (served_store self.old first.old second.old) + length new.now)
@@ -213,6 +215,7 @@ impl Stores {
         ensures form { IfOk result (λ n. (z : Snapshot) → HoldsData new.now z.payloads z.end →
             IsStoreFrom now (now - limits.now.time) limits.now.bytes
             (front_of self.now.served held.now) z new.now (take n output.new)) }
+        ensures within { IfOk result (λ n. n ≤ length output.old) }
         ensures flaw { ChecksNewFirst self.now.taken result new.now }
         ensures rooms { IsShortForTaking result
             (size_of (front_of self.now.served held.now) + length new.now) (length buffer.old)
@@ -332,9 +335,10 @@ impl Stores {
     pub fn history<'a>(&self, first: &'a [u8], second: &'a [u8]) -> Option<&'a [u8]>
         ensures is { IfSome result (λ h. (b : List ℕ) →
             served_store self.now first.now second.now ≡ Some b → h.now ≡ part_rest b) }
-        ensures finds { (b : List ℕ) (x : Snapshot) (ys : List Snapshot) →
-            served_store self.now first.now second.now ≡ Some b → HoldsStore b x ys →
-            IsSome result }
+        ensures finds { (b : List ℕ) → served_store self.now first.now second.now ≡ Some b →
+            HasPart b → IsSome result }
+        ensures only { IsSome result → (b : List ℕ)
+            × (served_store self.now first.now second.now ≡ Some b) × HasPart b }
         ensures last { (xs : List Snapshot) (file taken : Option (List ℕ)) →
             IsLife xs file (served_store self.now first.now second.now) taken →
             IfSome result (λ h. (z : Snapshot) × (before : List Snapshot) × (ys : List Snapshot)
@@ -356,10 +360,10 @@ impl Stores {
             served_store self.now first.now second.now ≡ Some b → drop p.0 b ≡ part_rest b) }
         ensures length { IfSome result (λ p. (b : List ℕ) →
             served_store self.now first.now second.now ≡ Some b → p.0 + p.1 ≡ length b) }
-        ensures serves { IsSome result → IsSome (served_store self.now first.now second.now) }
-        ensures finds { (b : List ℕ) (x : Snapshot) (ys : List Snapshot) →
-            served_store self.now first.now second.now ≡ Some b → HoldsStore b x ys →
-            IsSome result }
+        ensures finds { (b : List ℕ) → served_store self.now first.now second.now ≡ Some b →
+            HasPart b → IsSome result }
+        ensures only { IsSome result → (b : List ℕ)
+            × (served_store self.now first.now second.now ≡ Some b) × HasPart b }
     {
         match self.served {
             Some(size) => rest_at(self.held(size, first, second)),
@@ -373,6 +377,7 @@ fn rest_at(parts: &[u8]) -> Option<(usize, usize)>
     ensures at { IfSome result (λ p. drop p.0 parts.now ≡ part_rest parts.now) }
     ensures length { IfSome result (λ p. p.0 + p.1 ≡ length parts.now) }
     ensures finds { HasPart parts.now → IsSome result }
+    ensures only { IsSome result → HasPart parts.now }
 {
     match first_part(parts) {
         Some(part) => Some((parts.len() - part.2.len(), part.2.len())),

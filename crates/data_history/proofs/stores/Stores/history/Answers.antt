@@ -7,7 +7,7 @@ use Rattle.data_history.proofs.Serving.{front_is, no_front, served_last}
 use Rattle.data_history.proofs.stores.Stores.history.Goals as goal
 
 pub returns-in-None-clause-finds : goal.returns-in-None-clause-finds
-returns-in-None-clause-finds c = λ b x ys is h.
+returns-in-None-clause-finds c = λ b is h.
     absurd (no_front c.args.self.now.served
     (held_of c.args.self.now.second c.args.first.now c.args.second.now) b c.in-None.is is)
 
@@ -31,7 +31,15 @@ returns-in-Some-first_part-clause-last c = λ xs file taken l.
     )
 
 pub returns-in-None-first_part-clause-finds : goal.returns-in-None-first_part-clause-finds
-returns-in-None-first_part-clause-finds c = λ b x ys is h.
+returns-in-None-first_part-clause-finds c = λ b is h.
     c.in-None-first_part.ensures.finds
     (subst HasPart (sym (c.held.ensures ∙ front_is c.args.self.now.served c.in-Some.size
-    (held_of c.args.self.now.second c.args.first.now c.args.second.now) b c.in-Some.is is)) h.first)
+    (held_of c.args.self.now.second c.args.first.now c.args.second.now) b c.in-Some.is is)) h)
+
+pub returns-in-Some-first_part-clause-only : goal.returns-in-Some-first_part-clause-only
+returns-in-Some-first_part-clause-only c = λ some.
+    let buffer = held_of c.args.self.now.second c.args.first.now c.args.second.now in (
+      take c.in-Some.size buffer,
+      ap (λ o. front_of o buffer) c.in-Some.is,
+      subst HasPart c.held.ensures c.in-Some-first_part.ensures.is_there,
+    )
