@@ -25,6 +25,10 @@ abbrev pub IsIndexRoom : Todo → Type 0
 IsIndexRoom (todos.IndexRoom n) = Unit {0}
 IsIndexRoom _ = ⊥
 
+abbrev pub IsInputRoom : Todo → Type 0
+IsInputRoom (todos.InputRoom n) = Unit {0}
+IsInputRoom _ = ⊥
+
 abbrev pub IsRoom : Todo → Type 0
 IsRoom (todos.InputRoom n) = Unit {0}
 IsRoom (todos.DataRoom n) = Unit {0}

@@ -118,6 +118,11 @@ IfNamed (todos.Close x refusal offset) P N = P x refusal offset
 IfNamed (todos.NoData offset) P N = N offset
 IfNamed _ P N = Unit {0}
 
+-- if it ends the connection, then over no unit and no change
+abbrev pub IsOverNone : Todo → Type 0
+IsOverNone (todos.Close x refusal offset) = (refusal ≡ None) × (offset ≡ 0)
+IsOverNone _ = Unit {0}
+
 -- the client ends its connection over this, and reports it
 abbrev pub over_of : (now : ℕ) (k : Client) (input held : Octets) (k' : Client)
     (before after : Octets) → AtEnd

@@ -1,5 +1,5 @@
 -- What a call tells a client's machine: each thing in its turn, and nothing else.
-use Rattle.std.specs.Prelude.{◌≡◌, ◌≢◌, ◌⊎◌, ℕ, Bool, true, false, ◌+◌, ◌-◌, ◌^◌, ◌<◌, ◌≤◌, [], min}
+use Rattle.std.specs.Prelude.{◌≡◌, ◌≢◌, ◌⊎◌, ℕ, Bool, true, false, ◌+◌, ◌-◌, ◌^◌, ◌<◌, ◌≤◌, min}
 use Rattle.std.specs.Prelude.{length, take, drop, Option, Some, None, Result, Ok, Err}
 use Rattle.data_slices.specs.InOrder.{AppliesInOrder}
 use Rattle.data_slices.specs.declared.in_order_fault.InOrderFault.{InOrderFault}
@@ -61,6 +61,11 @@ pub record IsInTurn (now : ℕ) (k : Client) (input : Octets) (w : Word) : Type 
   pub closed :
       now < wakes_at k.router → k.opened ≡ false → (IsTalking k.router → ⊥)
       → IsOfClosed k.closed w
+
+-- the machine isn't told of bytes now: its time is due, a connection was opened, or there is none
+abbrev pub IsUntold : (now : ℕ) → Client → Type 0
+IsUntold now k =
+    now < wakes_at k.router → k.opened ≡ false → IsTalking k.router → ⊥
 
 -- ---- of a whole answer
 

@@ -19,8 +19,8 @@ pub enum Holding {
     Nothing,
     /// Payload units of an incomplete response.
     Units,
-    /// All payload units of a response and its end of data, which has this length in bytes. Their
-    /// changes are to be applied to the data if true, and otherwise to no data.
+    /// All payload units of a response and its end of data. The number is the length of the end of
+    /// data in bytes; true if their changes apply to the data, false if they apply to no data.
     Answer(usize, bool),
 }
 

@@ -302,7 +302,7 @@ impl Client {
         self.kept += end;
     }
 
-    /// Drops the input up to this offset; all of it if a connection ends or is to be opened.
+    /// Drops the input up to the offset `to`; all of it if a connection ends or will be opened.
     pub(crate) fn forget(&mut self, to: usize, action: &Action, input: &mut [u8])
         requires within { to ≤ self.old.filled }
         requires fits { Fits self.old input.old }

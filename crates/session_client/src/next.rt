@@ -2,7 +2,8 @@
 
 ghost use Rattle.std.specs.Prelude.{◌≡◌, ◌<◌, ◌≤◌, ◌+◌, ◌^◌, ℕ, List, length, drop, take, true};
 ghost use Rattle.std.specs.Prelude.{Option, Some, false, min, ◌-◌, ◌≢◌};
-ghost use Rattle.session_client.specs.Next.{IsDataRoom, IsIndexRoom, IsOutputRoom, IsRoom};
+ghost use Rattle.session_client.specs.Next.{IsDataRoom, IsIndexRoom, IsInputRoom, IsOutputRoom};
+ghost use Rattle.session_client.specs.Next.{IsRoom};
 ghost use Rattle.session_client.specs.Next.{IsTodoOf, IsWait, NamesRoom, RestsNow, Turns};
 ghost use Rattle.session_client.specs.Holding.{Fits, IsHearing, SaysItself, IsClient, data_in};
 ghost use Rattle.session_client.specs.Holding.{room_at};
@@ -11,12 +12,12 @@ ghost use Rattle.session_client.specs.Makings.{Octets, ShowsMade};
 ghost use Rattle.session_client.specs.Calls.{closed_after, closed_then, is_data, lost_after};
 ghost use Rattle.session_client.specs.Calls.{opened_after, opened_then, said_after, second_after};
 ghost use Rattle.session_client.specs.Counting.{CountsKept};
-ghost use Rattle.session_client.specs.Over.{IfNamed, IsOfNone, none_of, over_of};
+ghost use Rattle.session_client.specs.Over.{IfNamed, IsOfNone, IsOverNone, none_of, over_of};
 ghost use Rattle.session_client.specs.Said.{given_up, with_room};
 ghost use Rattle.session_client.specs.Tells.{TakesCall, TellsCall};
 ghost use Rattle.session_client.specs.Turning.{HasAnswer, IsInStep, IsTurn, turns_left};
 ghost use Rattle.session_client.specs.Words.{IsInTurn, IsOfAsking, IsOfChanges, IsOfClosed};
-ghost use Rattle.session_client.specs.Words.{IsOfEvent, IsOfNext, IsOfOpened, IsOfRest};
+ghost use Rattle.session_client.specs.Words.{IsOfEvent, IsOfNext, IsOfOpened, IsOfRest, IsUntold};
 ghost use Rattle.session_client.specs.declared.client.Client.{Client};
 ghost use Rattle.session_bytes.specs.Reading.{Awaits};
 ghost use Rattle.session_router.specs.Heeding.{IsTalking};
@@ -128,6 +129,15 @@ impl Client {
             < min (room_at self.old.holding self.old.shown self.old.kept) (2 ^ 64 - 1)
             → IsDataRoom result }
         ensures rests { IsWait result → RestsNow now self.old input.old }
+        ensures acts { HasAnswer self.old.holding → self.old.unsent + 65535 ≤ length output.old
+            → IsWait result → ⊥ }
+        ensures input { HasAnswer self.old.holding → IsInputRoom result → ⊥ }
+        ensures only { IsIndexRoom result → HasAnswer self.old.holding }
+        ensures over_none { IsHearing self.old.holding → IsUntold now self.old
+            → IsOverNone result }
+        ensures spare { IsHearing self.old.holding
+            → data_in self.old.second second.new first.new
+            ≡ data_in self.old.second second.old first.old }
         ensures whole { is_data result ≡ true → ShowsMade self.old.holding self.old.kept
             self.old.shown input.old (data_in self.old.second first.old second.old)
             (length index.old) (data_in self.old.second second.old first.old)
@@ -209,6 +219,7 @@ impl Client {
             < min (room_at self.old.holding self.old.shown self.old.kept) (2 ^ 64 - 1)
             → IsDataRoom result.0 }
         ensures acts { IsWait result.0 → ⊥ }
+        ensures input { IsInputRoom result.0 → ⊥ }
     {
         match self.apply(now, input, held, made, index, output) {
             Applied::Nothing => (Todo::Go, false),
@@ -254,6 +265,7 @@ impl Client {
         ensures enough { IsDataRoom result → ⊥ }
         ensures index { IsIndexRoom result → ⊥ }
         ensures rests { IsWait result → RestsNow now self.old input.old }
+        ensures over_none { IsUntold now self.old → IsOverNone result }
     {
         if now >= self.router.wakes() {
             return self.tells(now, Event::Tick, input, output);
@@ -306,6 +318,7 @@ impl Client {
         ensures rooms { IsRoom result → ⊥ }
         ensures enough { IsDataRoom result → ⊥ }
         ensures acts { IsWait result → ⊥ }
+        ensures over_none { IsOverNone result }
     {
         match self.router.phase {
             Phase::Connecting => self.tells(now, Event::Connected, input, output),
@@ -391,6 +404,7 @@ impl Client {
         ensures index { IsIndexRoom result → ⊥ }
         ensures rests { IsWait result → (self.old.closed ≡ false)
             × (self.old.filled < length input.old) }
+        ensures over_none { IsOverNone result }
     {
         if self.closed {
             self.closed = false;
@@ -438,6 +452,7 @@ impl Client {
         ensures tells { (a : Action) × IsTodoOf (Some a) result
             × IsStep self.old.router now event a self.new.router }
         ensures acts { IsWait result → ⊥ }
+        ensures over_none { IsOverNone result }
     {
         let action = self.happens(now, event, input, output);
         self.todo(&action, None, 0)
@@ -458,6 +473,7 @@ impl Client {
         ensures turns { (input : Octets) → turns_left self.new input ≤ turns_left self.old input }
         ensures step { IsInStep self.old → IsInStep self.new }
         ensures rooms { IsRoom result → ⊥ }
+        ensures input { IsInputRoom result → ⊥ }
         ensures enough { IsDataRoom result → ⊥ }
         ensures serves { (s : Settings) (input buffer : Octets)
             → IsClient s self.old input buffer → IsClient s self.new input buffer }
@@ -515,6 +531,7 @@ impl Client {
         ensures still { IsRoom result → (self.new ≡ self.old) × (input.new ≡ input.old) }
         ensures asks { self.old.unsent + 65535 ≤ length output.old → (a : Action)
             × IsTodoOf (Some a) result × IsStep self.old.router now events.Asked a self.new.router }
+        ensures over_none { IsOverNone result }
     {
         if !self.has_room(output) {
             return Todo::OutputRoom(self.unsent.saturating_add(MOST_SENT));
@@ -549,6 +566,7 @@ impl Client {
             (none_of now self.old input.old self.new input.new) }
         ensures gives { (a : Action) × IsTodoOf (Some a) result
             × IsStep self.old.router now (given_up self.old.router.phase) a self.new.router }
+        ensures over_none { IsOverNone result }
     {
         self.make_room(output.len());
         match self.router.phase {

@@ -1,4 +1,3 @@
-use native.Mathlib.Omega.{arith}
 use Rattle.std.proofs.Common.{◌≡◌, ◌∙◌, Bool, true, false, None, ap, inl, length, refl, subst, sym}
 use Rattle.std.specs.Prelude.{if◌then◌else◌, not}
 use Rattle.session_client.specs.Calls.{is_data}
