@@ -16,22 +16,22 @@ use Rattle.session_bytes.specs.declared.refusal.Refusal.TheVariants as refusals
 use Rattle.session_client.specs.Calls.{closed_after, is_data, opened_after, said_after}
 use Rattle.session_client.specs.Calls.{second_after}
 use Rattle.session_client.specs.Counting.{CountsKept}
-use Rattle.session_client.specs.Holding.{Fits, IsClient, data_in, room_at}
+use Rattle.session_client.specs.Holding.{Fits, IsClient, IsHearing, data_in, room_at}
 use Rattle.session_client.specs.Makings.{Octets, ShowsMade}
-use Rattle.session_client.specs.Next.{IsDataRoom, IsIndexRoom, IsOutputRoom, IsRoom, IsTodoOf}
-use Rattle.session_client.specs.Next.{IsWait, NamesRoom, RestsNow, Turns}
-use Rattle.session_client.specs.Over.{IfNamed, none_of, over_of}
+use Rattle.session_client.specs.Next.{IsDataRoom, IsIndexRoom, IsInputRoom, IsOutputRoom, IsRoom}
+use Rattle.session_client.specs.Next.{IsTodoOf, IsWait, NamesRoom, RestsNow, Turns}
+use Rattle.session_client.specs.Over.{IfNamed, IsOverNone, none_of, over_of}
 use Rattle.session_client.specs.Said.{given_up, with_room}
 use Rattle.session_client.specs.Tells.{TellsCall}
-use Rattle.session_client.specs.Turning.{IsTurn, turns_left}
-use Rattle.session_client.specs.Words.{IsOfAsking, IsOfEvent, IsOfNext}
+use Rattle.session_client.specs.Turning.{HasAnswer, IsTurn, turns_left}
+use Rattle.session_client.specs.Words.{IsOfAsking, IsOfEvent, IsOfNext, IsUntold}
 use Rattle.session_client.specs.declared.client.Client.{Client}
 use Rattle.session_client.specs.declared.next.Todo.{Todo}
 use Rattle.session_client.specs.declared.next.Todo.TheVariants as todos
 use Rattle.rtr_c.specs.Answers.{rtr_duplicate, rtr_empty_providers, rtr_prefix, rtr_short}
 use Rattle.rtr_c.specs.Answers.{rtr_too_long, rtr_unit_length, rtr_unit_type, rtr_unit_version}
 use Rattle.rtr_c.specs.Answers.{rtr_ok, rtr_unknown, rule_number}
-use Rattle.rtr_c.specs.Links.{came_before, client_of, is_begun}
+use Rattle.rtr_c.specs.Links.{IsPlainLink, came_before, client_of, is_begun}
 use Rattle.rtr_c.specs.RouterActions.{cause_number}
 use Rattle.rtr_c.specs.declared.link.RtrLink.{RtrLink}
 use Rattle.rtr_c.specs.declared.link_todo.RtrTodo.{RtrTodo}
@@ -185,6 +185,7 @@ pub record TellsTodo (now : ℕ) (was l : RtrLink) (input output : Octets) (a : 
   pub latest : l.latest ≡ now
   pub received : l.received ≡ received_after t was.received
   pub begun : is_begun l ≡ true
+  pub plain : IsPlainLink l
   pub fits : Fits (client_of l) input
   pub room : l.unsent ≤ length output
 
@@ -218,7 +219,19 @@ pub record TakesTurn (now : ℕ) (k : Client) (input first second : Octets) (pla
   pub enough :
       room_at k.holding k.shown k.kept ≤ length (data_in k.second second first)
       → IsDataRoom t → ⊥
+  pub short :
+      HasAnswer k.holding → k.unsent + 65535 ≤ length output
+      → length (data_in k.second second first)
+      < min (room_at k.holding k.shown k.kept) (2 ^ 64 - 1)
+      → IsDataRoom t
   pub rests : IsWait t → RestsNow now k input
+  pub acts : HasAnswer k.holding → k.unsent + 65535 ≤ length output → IsWait t → ⊥
+  pub input_room : HasAnswer k.holding → IsInputRoom t → ⊥
+  pub index_room : IsIndexRoom t → HasAnswer k.holding
+  pub over_none : IsHearing k.holding → IsUntold now k → IsOverNone t
+  pub spare :
+      IsHearing k.holding
+      → data_in k.second second' first' ≡ data_in k.second second first
   pub whole :
       is_data t ≡ true
       → ShowsMade k.holding k.kept k.shown input (data_in k.second first second) places
@@ -237,6 +250,7 @@ pub record TakesEvent (now : ℕ) (k : Client) (input output : Octets) (k' : Cli
   pub names :
       (held : Octets)
       → IfNamed t (over_of now k input held k' output output') (none_of now k input k' input')
+  pub over_none : IsOverNone t
 
 -- The caller wants the present data; where the output has no room, nothing has happened.
 pub record AsksNow (now : ℕ) (k : Client) (input output : Octets) (k' : Client)

@@ -1,6 +1,6 @@
 -- The struct of C as a router's end with its bytes and its data (this library's own).
-use Rattle.std.specs.Prelude.{ℕ, ◌+◌, ◌-◌, ◌^◌, ◌==◌, ◌&&◌, ◌||◌, Bool, not, nat_le, nat_lt, min}
-use Rattle.std.specs.Prelude.{Some, None, if◌then◌else◌}
+use Rattle.std.specs.Prelude.{ℕ, ◌≡◌, ◌≢◌, ◌+◌, ◌-◌, ◌^◌, ◌==◌, ◌&&◌, ◌||◌, Bool, not, nat_le}
+use Rattle.std.specs.Prelude.{nat_lt, min, false, Some, None, if◌then◌else◌}
 use Rattle.session_client.specs.declared.client.Client.{Client}
 use Rattle.session_client.specs.declared.client.Holding.{Holding}
 use Rattle.session_client.specs.declared.client.Holding.TheVariants as holdings
@@ -66,6 +66,12 @@ client_of l = record {
   opened = flag_set l.opened;
   closed = flag_set l.closed;
 }
+
+-- What the client hasn't has the number 0: the length of its data, and of an end of data.
+abbrev pub IsPlainLink : RtrLink → Type 0
+IsPlainLink l =
+    (flag_set l.shows ≡ false → l.shown ≡ 0)
+    × (l.holding ≢ 2 → (l.end_size ≡ 0) × (l.since ≡ 0))
 
 -- how many bytes of the connection came before those of the input
 abbrev pub came_before : RtrLink → ℕ

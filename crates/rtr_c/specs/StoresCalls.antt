@@ -1,12 +1,13 @@
 -- What the calls on the stores of a cache promise (this library's own).
 use Rattle.std.specs.Prelude.{◌≡◌, ◌+◌, ◌∷◌, ℕ, true, false, List, [], length, take}
 use Rattle.std.specs.Prelude.{drop, Option, Some, None, IsSome, Result, Ok, Err, IsOk, IfOk, IfErr}
-use Rattle.std.specs.Prelude.{if◌then◌else◌}
+use Rattle.std.specs.Prelude.{◌<◌, ◌≤◌, if◌then◌else◌, is_some}
+use Rattle.std.specs.Option.{unwrap_or}
 use Rattle.data_slices.specs.Canonical.{HoldsData}
 use Rattle.data_history.specs.Checks.{IsShortForCheck}
 use Rattle.data_history.specs.Life.{IsLife, IsUnsavedLife, MayTake}
 use Rattle.data_history.specs.Old.{OpensOld}
-use Rattle.data_history.specs.Parts.{part_rest}
+use Rattle.data_history.specs.Parts.{HasPart, part_rest}
 use Rattle.data_history.specs.Serials.{IsShortForSerials, ListsSerials}
 use Rattle.data_history.specs.Since.{IsShortForAnswer, WritesChangesSince}
 use Rattle.data_history.specs.Snapshots.{HoldsHistory, Snapshot, snapshot_at}
@@ -20,6 +21,7 @@ use Rattle.data_history.specs.declared.check.CheckFault.TheVariants.{Malformed}
 use Rattle.data_history.specs.declared.newer.Untaken.{Untaken}
 use Rattle.data_history.specs.declared.newer.Untaken.TheVariants.{Waits}
 use Rattle.data_history.specs.declared.since.SinceFault.{SinceFault}
+use Rattle.data_history.specs.declared.since.SinceFault.TheVariants.{UnitVersion}
 use Rattle.data_history.specs.declared.stores.Stores.{Stores}
 use Rattle.rtr_c.specs.Stores.{has_stores, stores_in}
 use Rattle.rtr_c.specs.StoresAnswers.{check_told, wrote_answer}
@@ -65,6 +67,7 @@ pub record TakesNew (now since most : ℕ) (new : List ℕ) (buffer spare : ℕ)
   pub form : IfOk r (λ n. (z : Snapshot) → HoldsData new z.payloads z.end →
       IsStoreFrom now since most (served_store m f s) z new
       (take n (other_of (numbers_of m).second f' s')))
+  pub within : IfOk r (λ n. n ≤ length (other_of (numbers_of m).second f s))
   pub flaw : ChecksNewFirst (numbers_of m).taken r new
   pub rooms : IsShortForTaking r (size_of (served_store m f s) + length new) buffer spare
       (length (other_of (numbers_of m).second f s))
@@ -98,16 +101,19 @@ pub record GivesUpStore (m m' : Stores) : Type 0 where
 -- ---- what the buffers have
 
 -- Where the history of the store that is served stands, how long the store to save is, and in which
--- buffers they are.
+-- buffers they are. What isn't there has the number 0. A history is served if the bytes begin with
+-- the part of the sessions; they are a store if they were checked.
 pub record StatesStores (m : Stores) (f s : List ℕ) (a : RtrStoresState) : Type 0 where
-  pub serves : a.serves ≡ true → IsSome (served_store m f s)
+  pub serves : a.serves ≡ true → (b : List ℕ) × (served_store m f s ≡ Some b) × HasPart b
   pub at : a.serves ≡ true → (b : List ℕ) → served_store m f s ≡ Some b →
       drop a.offset b ≡ part_rest b
   pub size : a.serves ≡ true → (b : List ℕ) → served_store m f s ≡ Some b →
       a.offset + a.length ≡ length b
-  pub finds : (b : List ℕ) (x : Snapshot) (ys : List Snapshot) → served_store m f s ≡ Some b →
-      HoldsStore b x ys → a.serves ≡ true
-  pub waits : (if a.waits then Some (take a.taken (other_of (numbers_of m).second f s)) else None)
+  pub finds : (b : List ℕ) → served_store m f s ≡ Some b → HasPart b → a.serves ≡ true
+  pub none : a.serves ≡ false → (a.offset ≡ 0) × (a.length ≡ 0)
+  pub waits : a.waits ≡ is_some (numbers_of m).taken
+  pub taken : a.taken ≡ unwrap_or (numbers_of m).taken 0
+  pub store : (if a.waits then Some (take a.taken (other_of (numbers_of m).second f s)) else None)
       ≡ taken_store m f s
   pub second : a.second ≡ (numbers_of m).second
 
@@ -131,6 +137,7 @@ pub record TellsSince (history : List ℕ) (serial version index buffer spare : 
       WritesChangesSince version r (snapshot_at serial x ys) x before after
   pub rooms : (x : Snapshot) (ys : List Snapshot) → HoldsHistory history x ys →
       IsShortForAnswer r (length history) index buffer spare (length before)
+  pub version_first : 2 < version → (r ≡ Err UnitVersion) × (after ≡ before)
 
 -- ---- earlier serial numbers
 

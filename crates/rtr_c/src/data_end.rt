@@ -14,8 +14,8 @@ const SHORTEST_END: usize = 12;
 /// The number of bytes of an end of data in later versions.
 const LONGEST_END: usize = 24;
 
-/// Returns the offset of the end of data in data in canonical form: 0 if there are no payloads. Any
-/// other bytes give an offset within them.
+/// Returns the offset of the end of data in data in canonical form: 0 if there are no payloads. For
+/// any other bytes it returns an offset within them.
 #[unsafe(no_mangle)]
 pub extern "C" fn rtr_end_offset_nonnull(data: &[u8]) -> usize
     ensures is { result ≡ end_offset «data».now }

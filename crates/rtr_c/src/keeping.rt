@@ -28,8 +28,8 @@ pub extern "C" fn rtr_stores_version(
     kept_version(&present_from(present), present_version, session, version)
 }
 
-/// Whether `length` bytes of encoded changes are kept for further routers beside those that are
-/// kept, as `session_server::settings::ServerSettings::keeps`.
+/// Reports whether `length` bytes of encoded changes are kept for further routers, beside
+/// `kept_bytes` bytes that already are, as `session_server::settings::ServerSettings::keeps`.
 #[unsafe(no_mangle)]
 pub extern "C" fn rtr_server_keeps(
     settings: &RtrServerSettings,

@@ -1,10 +1,10 @@
 //! A router's end with its bytes and its data, in numbers.
 
-ghost use Rattle.std.specs.Prelude.{◌≡◌, ◌≤◌, ◌+◌, true};
+ghost use Rattle.std.specs.Prelude.{◌≡◌, ◌≢◌, ◌≤◌, ◌+◌, true};
 ghost use Rattle.session_client.specs.Holding.{due_size};
 ghost use Rattle.session_client.specs.Turning.{IsInStep, flag};
 ghost use Rattle.rtr_c.specs.Links.{are_flags, came_before, client_of, flag_set, has_flags};
-ghost use Rattle.rtr_c.specs.Links.{holding_number};
+ghost use Rattle.rtr_c.specs.Links.{IsPlainLink, holding_number};
 ghost use Rattle.rtr_c.specs.Links.{is_begun, link_router, numbered_holding, suits_phase};
 ghost use Rattle.rtr_c.specs.Routers.{router_of};
 
@@ -176,6 +176,7 @@ fn holding_to(holding: Holding) -> (u8, usize, u8)
     ensures same { numbered_holding result.0 result.1 (flag_set result.2) ≡ holding }
     ensures size { result.1 ≡ due_size holding }
     ensures most { result.2 ≤ 1 }
+    ensures none { result.0 ≢ 2 → (result.1 ≡ 0) × (result.2 ≡ 0) }
 {
     match holding {
         Holding::Nothing => (NOTHING, 0, 0),
@@ -184,7 +185,7 @@ fn holding_to(holding: Holding) -> (u8, usize, u8)
     }
 }
 
-/// The struct for a client, after it was told this time and received this many bytes.
+/// The struct for a client whose latest time is `latest`, after `received` bytes came.
 pub(crate) fn link_to(client: &Client, latest: u64, received: u64) -> RtrLink
     ensures client { client_of result ≡ client.now }
     ensures latest { result.latest ≡ latest }
@@ -192,6 +193,7 @@ pub(crate) fn link_to(client: &Client, latest: u64, received: u64) -> RtrLink
     ensures begun { IsInStep client.now
         → client.now.kept + due_size client.now.holding ≤ client.now.filled
         → is_begun result ≡ true }
+    ensures plain { IsPlainLink result }
 {
     let router = router_to(&client.router);
     let (holding, end_size, since) = holding_to(client.holding);

@@ -9,7 +9,7 @@ ghost use Rattle.session_client.specs.Makings.{Octets};
 ghost use Rattle.session_client.specs.declared.next.Todo.{Todo};
 ghost use Rattle.rtr_c.specs.LinkTodos.{AsksNow, GivesUpRoom, TakesTurn, TellsTodo, refused_todo};
 ghost use Rattle.rtr_c.specs.Links.{again_status, client_of, giving_up_status, is_begun, link_ok};
-ghost use Rattle.rtr_c.specs.Links.{lost_status, more_received};
+ghost use Rattle.rtr_c.specs.Links.{IsPlainLink, lost_status, more_received};
 ghost use Rattle.rtr_c.specs.Links.{next_status, opened_status, received_status, sent_status};
 ghost use Rattle.rtr_c.specs.Links.{telling_status};
 ghost use Rattle.rtr_c.specs.Routers.{settings_of};
@@ -30,6 +30,7 @@ pub extern "C" fn rtr_link_init(link: &mut RtrLink, settings: &RtrSettings)
     ensures latest { link.new.latest ≡ 0 }
     ensures received { link.new.received ≡ 0 }
     ensures begun { is_begun link.new ≡ true }
+    ensures plain { IsPlainLink link.new }
 {
     *link = link_to(&Client::new(settings_from(settings)), 0, 0);
 }
@@ -44,6 +45,7 @@ pub extern "C" fn rtr_link_again(link: &mut RtrLink) -> u8
     ensures latest { result ≡ link_ok → link.new.latest ≡ link.old.latest }
     ensures received { result ≡ link_ok → link.new.received ≡ 0 }
     ensures begun { is_begun link.old ≡ true → is_begun link.new ≡ true }
+    ensures plain { result ≡ link_ok → IsPlainLink link.new }
 {
     let status = again_status(link);
     if status == OK {

@@ -48,9 +48,10 @@ pub(crate) const OUTPUT_ROOM: u8 = 12;
 pub struct RtrTodo {
     /// When to call rtr_link_next, if nothing comes before. It may have passed.
     pub wakes: u64,
-    /// The offset of the unit that it is about, in all bytes of the connection; of a change that
-    /// doesn't apply, that in the payload units of the answer; at an end that is about no unit, the
-    /// number of bytes that came before those of the input.
+    /// The offset of the unit that it is about, in all bytes of the connection. If an answer can't
+    /// be applied, the offset of the refused change in the payload units of the answer, or 0 if
+    /// none is refused. At any other end that is about no unit, the number of bytes that came
+    /// before those of the input.
     pub position: u64,
     /// The length that a buffer needs: in bytes, of the index in entries.
     pub room: usize,

@@ -15,7 +15,7 @@ use std::cmp::Ordering;
 /// The version of this library, X.Y.Z, as 10000 X + 100 Y + Z.
 const WIRE_VERSION: u32 = 300;
 
-/// The latest time that machines are told.
+/// The latest time that is passed to machines.
 const LAST: u64 = u64::MAX / 2;
 
 /// Limits a time to the latest one.

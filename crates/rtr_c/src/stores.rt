@@ -1,4 +1,4 @@
-//! The data that a cache serves, and those that are pending until they are saved, in numbers.
+//! The data that a cache serves and the data that wait to be saved, in numbers.
 
 ghost use Rattle.std.specs.Prelude.{◌≡◌, true, IfOk};
 ghost use Rattle.data_history.specs.Stores.{are_of_stores, numbers_of};

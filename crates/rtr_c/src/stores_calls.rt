@@ -1,5 +1,5 @@
-//! The data that a cache serves, and those that are pending until they are saved: one call for each
-//! event. Each call accepts any bytes as its struct.
+//! The data that a cache serves and the data that wait to be saved: one call for each event. Each
+//! call accepts any bytes as its struct.
 
 ghost use Rattle.std.specs.Prelude.{◌≡◌, ◌-◌, ◌<◌, ◌≤◌, ℕ, List, [], None, Some, Result, Ok, Err};
 ghost use Rattle.std.specs.Prelude.{length, true};
@@ -24,9 +24,9 @@ use data_history::{Limits, Stores};
 #[repr(C)]
 #[derive(Clone, Copy)]
 pub struct RtrHistoryLimits {
-    /// A step is kept for this many milliseconds after it was made.
+    /// The time for which a step is kept, in milliseconds.
     pub time: u64,
-    /// The steps have at most this many bytes, with 16 bytes for each step.
+    /// The greatest size of all steps in bytes, 16 bytes for each step included.
     pub bytes: usize,
 }
 

@@ -1,4 +1,4 @@
-use Rattle.std.proofs.Common.{◌∙◌, ap}
+use Rattle.std.proofs.Common.{◌∙◌}
 use Rattle.session_client.specs.declared.client.Client.{Client}
 use Rattle.rtr_c.specs.LinkTodos.{AsksNow, todo_told}
 use Rattle.rtr_c.specs.Links.{client_of}
@@ -21,6 +21,7 @@ returns c =
       t,
       tells c.args.now l l' k' c.ask_now-todo.new.input c.ask_now-todo.new.output c.todo_to.result t
           c.link_to.ensures.client told c.link_to.ensures.latest received begun
+          c.link_to.ensures.plain
           c.ask_now-todo.ensures.fits
           c.ask_now-todo.ensures.room,
       both_of
@@ -36,6 +37,7 @@ returns c =
               closed = c.ask_now-todo.ensures.closed;
               turns = c.ask_now-todo.ensures.turns;
               names = c.ask_now-todo.ensures.names;
+              over_none = c.ask_now-todo.ensures.over_none;
             };
             told = c.ask_now-todo.ensures.told;
             full = c.ask_now-todo.ensures.full;

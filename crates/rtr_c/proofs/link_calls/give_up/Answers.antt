@@ -1,4 +1,4 @@
-use Rattle.std.proofs.Common.{◌∙◌, ap}
+use Rattle.std.proofs.Common.{◌∙◌}
 use Rattle.session_client.specs.declared.client.Client.{Client}
 use Rattle.rtr_c.specs.LinkTodos.{GivesUpRoom, todo_told}
 use Rattle.rtr_c.specs.Links.{client_of}
@@ -21,6 +21,7 @@ returns c =
       t,
       tells c.args.now l l' k' c.give_up-todo.new.input c.give_up-todo.new.output c.todo_to.result t
           c.link_to.ensures.client told c.link_to.ensures.latest received begun
+          c.link_to.ensures.plain
           c.give_up-todo.ensures.fits
           c.give_up-todo.ensures.room,
       both_of
@@ -36,6 +37,7 @@ returns c =
               closed = c.give_up-todo.ensures.closed;
               turns = c.give_up-todo.ensures.turns;
               names = c.give_up-todo.ensures.names;
+              over_none = c.give_up-todo.ensures.over_none;
             };
             told = c.give_up-todo.ensures.told;
             gives = c.give_up-todo.ensures.gives;

@@ -1,4 +1,4 @@
-use Rattle.std.proofs.Common.{◌∙◌, ap, length}
+use Rattle.std.proofs.Common.{◌∙◌, length}
 use Rattle.session_client.specs.declared.client.Client.{Client}
 use Rattle.rtr_c.specs.LinkTodos.{TakesTurn, todo_told}
 use Rattle.rtr_c.specs.Links.{client_of}
@@ -21,6 +21,7 @@ returns c =
       t,
       tells c.args.now l l' k' c.next-todo.new.input c.next-todo.new.output c.todo_to.result t
           c.link_to.ensures.client told c.link_to.ensures.latest received begun
+          c.link_to.ensures.plain
           c.next-todo.ensures.fits
           c.next-todo.ensures.room,
       both_of
@@ -44,7 +45,13 @@ returns c =
             still = c.next-todo.ensures.still;
             index = c.next-todo.ensures.index;
             enough = c.next-todo.ensures.enough;
+            short = c.next-todo.ensures.short;
             rests = c.next-todo.ensures.rests;
+            acts = c.next-todo.ensures.acts;
+            input_room = c.next-todo.ensures.input;
+            index_room = c.next-todo.ensures.only;
+            over_none = c.next-todo.ensures.over_none;
+            spare = c.next-todo.ensures.spare;
             whole = c.next-todo.ensures.whole;
           }),
     )

@@ -18,6 +18,7 @@ taken c = record {
   takes = c.take-taken.ensures.takes;
   waits = c.take-taken.ensures.waits;
   form = c.take-taken.ensures.form;
+  within = c.take-taken.ensures.within;
   flaw = c.take-taken.ensures.flaw;
   rooms = c.take-taken.ensures.rooms;
   serves = c.take-taken.ensures.serves;
