@@ -12,8 +12,8 @@ use crate::fault::DeltaFault;
 use rtr_units::end::EndOfData;
 
 /// Writes the changes that lead from the old data to the new, whatever their versions and their
-/// sessions: the units that announce what the old data lack, then those that withdraw what the new
-/// data lack, each in order, and the end of data of the new, all in the higher of both versions.
+/// sessions: units that announce what the old data lack, then units that withdraw what the new data
+/// lack, each in order, and the end of data of the new, all in the higher of both versions.
 /// Version 0 has no timings: in a later version they are the default ones. Returns the length in
 /// bytes. Nothing is allocated.
 ///

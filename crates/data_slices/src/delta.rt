@@ -11,9 +11,9 @@ use crate::missing::place_missing;
 use rtr_base::action::Action;
 use unit_views::placing::place;
 
-/// Writes the delta that leads a router from the old data to the new (RFC 8210 section 8.2): the
-/// units that announce what the old data lack, then those that withdraw what the new data lack,
-/// each in order, and the end of data of the new. Returns their length in bytes. Units are compared
+/// Writes the delta that leads a router from the old data to the new (RFC 8210 section 8.2): units
+/// that announce what the old data lack, then units that withdraw what the new data lack, each in
+/// order, and the end of data of the new. Returns their length in bytes. Units are compared
 /// whether or not their version has such payloads. Nothing is allocated.
 ///
 /// Both slices begin with data in canonical form: units that announce payloads in their order, all

@@ -20,11 +20,11 @@ use crate::vrp::width_of;
 /// one by one.
 const MOST: usize = 64;
 
-/// A route is near if at most this many units lie between it and the last one.
+/// The greatest number of units between a route and the last one that make it near.
 const NEAR: usize = 64;
 
-/// After this many routes in a row that aren't near, the trail moves to the next one; until then
-/// they are looked up one by one.
+/// The number of routes in a row that aren't near after which the trail moves to the next one;
+/// until then they are looked up one by one.
 const MISSES: u8 = 32;
 
 /// The units of one family that cover the address of the last route.
@@ -226,7 +226,7 @@ fn left_of(units: &[u8], is_v4: bool, kept: &[usize; MOST], count: usize, addres
 }
 
 /// Keeps the units from `from` to `end` that cover an address, after the first `count` kept ones.
-/// Returns how many are kept then, or none if there are too many.
+/// Returns the number of kept units then, or none if they are too many.
 #[inline(always)]
 fn gather(
     units: &[u8],

@@ -55,7 +55,7 @@ pub fn program<N: Display, R: Read, W: Sink, F: Write>(
     ensures usage { IfSome words (λ all. info_by_words (drop 1 all.items) ≡ None →
         request_by_words (drop 1 all.items) ≡ None →
         (exit_status result ≡ 2) × (input.new ≡ input.old) × (output.new ≡ output.old)) }
-    // With those that ask what the program is, nothing is read, and a text is written.
+    // With a question about the program itself, nothing is read, and a text is written.
     ensures tells { IfSome words (λ all. IfSome (info_by_words (drop 1 all.items)) (λ what.
         (input.new ≡ input.old)
         × TellsText (exit_status result) (W.state output.old) (W.state output.new))) }

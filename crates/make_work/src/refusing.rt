@@ -7,7 +7,7 @@ use crate::words::misplaced;
 use program_frame::{Setting, Syntax, USAGE, Value, Wrong, refuse};
 use std::io::Write;
 
-/// The arguments that the program takes, except for those that must stand alone.
+/// The arguments that the program takes, without `--help` and `--version`.
 pub const SYNTAX: Syntax = Syntax {
     forms: &["--csv", "--json"],
     switches: &["--drop", "--empty", "--unended"],

@@ -32,7 +32,7 @@ fn guise_of(front: u32) -> Option<Guise>
     }
 }
 
-/// The first bytes of an input, those that were read so far.
+/// The first bytes of an input, as far as they are read.
 #[derive(Clone, Copy)]
 pub struct Front {
     /// The number that they form.

@@ -23,7 +23,7 @@ pub struct Manual {
     pub usage: &'static str,
     /// Its help: what it does, and what each of its arguments does.
     pub help: &'static str,
-    /// The arguments that it takes, except for those that must stand alone.
+    /// The arguments that it takes, without `--help` and `--version`.
     pub syntax: Syntax,
 }
 

@@ -143,7 +143,7 @@ impl From<Error> for Vec<u8> {
     }
 }
 
-/// Skips this many bytes.
+/// Skips `size` bytes.
 fn skip<R: Source>(reader: &mut R, size: usize) -> Result<(), Fault>
     ensures bytes { (t : List ℕ) × FillsPiece size (by_bytes (λ _. t) result)
         (R.state reader.old) (R.state reader.new) }

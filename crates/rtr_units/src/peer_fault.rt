@@ -7,7 +7,8 @@ use rtr_base::error_code::ErrorCode;
 use std::fmt;
 
 /// What a peer did wrong: why a unit or a change of it is refused. Each other type of faults says
-/// which of these it is, and takes the text and the error code from here.
+/// which of these it is, and takes the error code and the text from here; the text of a prefix
+/// also names the part of the rule that it breaks.
 #[derive(Clone, Copy, Debug, PartialEq, Eq)]
 pub enum PeerFault {
     /// The unit ends before its length.

@@ -1,4 +1,4 @@
-//! Writing what a cache's machine answers, except data and changes.
+//! Writes the answers of a cache's machine, except data and changes.
 
 ghost use Rattle.std.specs.Prelude.{◌≡◌};
 ghost use Rattle.session_bytes.specs.Answered.{PlacesOpening, PlacesServed, about_reason};

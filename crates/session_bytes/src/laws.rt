@@ -43,7 +43,7 @@ pub fn only_whole_answers_in_bytes()
 {}
 
 /// The result of `tell` for payload units that the machine keeps, and for a unit after them, is
-/// that of a run of the machine in which it was told of each of these units by its bytes.
+/// that of a run of the machine over the bytes of each of these units, one after the other.
 pub fn what_is_told_is_heard()
     ensures kept { (c : Caller (List ℕ) (List ℕ)) (history : List (Moment (List ℕ))) (r : Router)
         (h : Host (List ℕ) (List ℕ)) (now : ℕ) (b : List ℕ) (after : Router)

@@ -20,13 +20,13 @@ use unit_views::fault::ViewFault;
 pub enum Served {
     /// No whole unit has come.
     Awaits,
-    /// The unit has this many bytes, and this is the machine's answer.
+    /// The length of the unit in bytes, and the machine's answer to it.
     Answered(usize, Answer),
     /// The unit is refused for this fault, or the end of the input cuts it off.
     Refused(ViewFault, Answer),
 }
 
-/// Tells the machine of the unit at the front of the input, at this time, given the newest data.
+/// Passes the unit at the front of the input to the machine, at this time, given the newest data.
 /// The cache can send the changes since each of the kept serial numbers of the present session. If
 /// the peer has closed, `ended`, a unit that isn't whole is refused.
 pub fn serve(

@@ -25,7 +25,7 @@ use unit_views::fault::ViewFault;
 pub enum Told {
     /// No whole unit has come.
     Awaits,
-    /// The input begins with payload units of this many bytes in all, which the caller keeps.
+    /// The length in bytes of the payload units that the input begins with, which the caller keeps.
     Kept(usize),
     /// At the unit between these offsets of the input the machine took this action. Before it come
     /// payload units that the machine had kept; if there are any, the action ends the connection,
@@ -42,9 +42,8 @@ pub enum Told {
     },
 }
 
-/// Tells the machine of the units at the front of the input: of payload units as long as it keeps
-/// them, otherwise of one unit. If the peer has closed, `ended`, a unit that isn't whole is
-/// refused.
+/// Passes the units at the front of the input to the machine: payload units as long as it keeps
+/// them, otherwise one unit. If the peer has closed, `ended`, a unit that isn't whole is refused.
 pub fn tell(router: &mut Router, now: u64, input: &[u8], ended: bool) -> Told
     requires { now < 2 ^ 63 }
     ensures { Hears router.old now input.now ended result router.new }
@@ -62,7 +61,7 @@ pub fn tell(router: &mut Router, now: u64, input: &[u8], ended: bool) -> Told
     }
 }
 
-/// Does the same after this many bytes of payload units, which the machine keeps.
+/// Does the same after `size` bytes of payload units, which the machine keeps.
 fn tell_on(router: &mut Router, now: u64, input: &[u8], size: usize) -> Told
     requires now { now < 2 ^ 63 }
     requires some { 0 < size }

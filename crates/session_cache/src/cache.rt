@@ -13,7 +13,7 @@ use rtr_base::error_code::ErrorCode;
 use session_router::head::{Head, Kind};
 use session_router::settings::HIGHEST;
 
-/// The cache's end of one connection. It records which data the router was told of, but not the
+/// The cache's end of one connection. It records which data the router has heard of, but not the
 /// data.
 ///
 /// Times are in milliseconds of a monotonic clock.
@@ -25,11 +25,11 @@ pub struct Cache {
     /// Whether a query came. Its version is that of the connection.
     pub asked: bool,
     pub version: u8,
-    /// Whether the router was told of data, by an answer or a notify.
+    /// Whether the router has heard of data, by an answer or a notify.
     pub told: bool,
-    /// Whether a cache reset told the router to ask for all data, and it wasn't told of any since.
+    /// Whether a cache reset told the router to ask for all data, and it hasn't heard of any since.
     pub reset: bool,
-    /// The session and the serial number of the data that it was told of, or that were the newest
+    /// The session and the serial number of the data that it has heard of, or that were the newest
     /// at the cache reset.
     pub session: u16,
     pub serial: u32,
@@ -104,7 +104,7 @@ impl Cache {
         }
     }
 
-    /// Whether the router was told of data of another session.
+    /// Whether the router has heard of data of another session.
     fn has_moved(&self, present: &Present) -> bool
         ensures { result ≡ has_moved self.now present.now }
     {

@@ -25,7 +25,7 @@ pub enum Phase {
 pub enum Cut {
     /// The router sends a unit, or reads an answer, too slowly.
     Slow,
-    /// There are data of another session than those that the router was told of.
+    /// The cache has data of another session than the one that it sent to the router.
     NewSession,
     /// More than `most_behind` newer data came while it was sent an answer.
     Behind,

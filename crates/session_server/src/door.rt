@@ -24,7 +24,7 @@ pub struct Door {
     /// refused at once.
     pub most_connections: u32,
     pub most_refused: u32,
-    /// The number of connections that are served, and of those that are refused.
+    /// The number of connections that are served now, and that are refused now.
     pub served: u32,
     pub refused: u32,
 }

@@ -1,11 +1,11 @@
 //! Plays scenes of a router and its cache by the machines of `session_router` and `session_cache`,
-//! with a made clock, and prints what they do otherwise than the scenes say. A line `simulate SEED
-//! STEPS` among them joins both machines by a pipe of bytes, and has so many things happen to them:
-//! units that come byte by byte, cuts, bursts of new data, restarts, other sessions. It is a scene,
-//! too.
+//! with a simulated clock, and prints where they differ from the scenes. A line `simulate SEED
+//! STEPS` among them joins both machines by a pipe of bytes and takes STEPS random steps: units
+//! that come byte by byte, cuts, bursts of new data, restarts, other sessions. It counts as a
+//! scene.
 //!
-//! The scenes are standard input, in the form that `tests/transcripts/README.md` describes. The
-//! last line says how many were played, and how many differ; the status is 1 where one does.
+//! Scenes are read from standard input, in the form that `tests/transcripts/README.md` describes.
+//! The last line says how many were played, and how many differ; the status is 1 if one does.
 #![tactic(auto)]
 
 mod buffer;
@@ -53,7 +53,7 @@ fn main(rt: HostRuntime) -> Result<ExitCode, Fail> {
     Ok(ExitCode::from((differ > 0) as u8))
 }
 
-/// Runs a simulation of a seed and so many steps, and prints what was wrong. Reports whether
+/// Runs a simulation of a seed and a number of steps, and prints what was wrong. Reports whether
 /// something was.
 fn simulate(rt: &HostRuntime, words: &str) -> Result<bool, Fail> {
     let (seed, steps) = words.trim().split_once(" ").unwrap_or((words, "0"));

@@ -38,7 +38,7 @@ impl Random {
         u32::try_from(self.below(most as u64)).unwrap_or(0)
     }
 
-    /// True once in so many times.
+    /// Reports true once in `times` calls, on average.
     pub fn once_in(&mut self, times: u64) -> bool {
         self.below(times) == 0
     }

@@ -111,7 +111,7 @@ impl Scene {
         Ok(lines)
     }
 
-    /// The name of the scene, and the steps that were wanted and those that were seen.
+    /// The name of the scene, the steps that were wanted, and the steps that were seen.
     fn told(&self, wanted: &[String], seen: &[String]) -> Result<String, Fail> {
         let mut text = format!(in self.alloc; "{}:", self.name)?;
         for step in wanted {

@@ -55,7 +55,7 @@ impl Simulation {
         }
     }
 
-    /// Takes so many steps. Returns what is wrong, if something is, and after how many of them.
+    /// Takes `steps` steps. Returns what is wrong, if something is, and after which step.
     pub fn run(&mut self, steps: u64) -> Result<Option<String>, Fail> {
         for step in 0..steps {
             if step.checked_rem(TROUBLE) == Some(0) {

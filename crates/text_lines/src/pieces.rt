@@ -21,7 +21,7 @@ const DIGITS: &[u8; 16] = b"0123456789abcdef";
 /// The number of bytes that are encoded in base64 at once: a multiple of three.
 const CHUNK: usize = 768;
 
-/// The number of symbols of that many bytes.
+/// The number of symbols of a chunk.
 const SYMBOLS: usize = 1024;
 
 /// Writes bytes in hex.

@@ -15,7 +15,7 @@ use unit_views::fault::ViewFault;
 /// The reply to a fault.
 #[derive(Clone, Copy, Debug, PartialEq, Eq)]
 pub enum Reply {
-    /// An error report of this many bytes, at the front of the output.
+    /// The length in bytes of an error report, which is at the front of the output.
     Report(usize),
     /// Nothing: the fault isn't the peer's, or the refused unit is an error report, about which no
     /// report may be sent (RFC 8210 section 5.11).

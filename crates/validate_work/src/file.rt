@@ -152,7 +152,7 @@ fn load_whole<'a>(alloc: Global, recording: Recording) -> Result<Loaded, LoadErr
     }
 }
 
-/// Loads the payloads that the filters of SLURM files leave, and those that the files assert.
+/// Loads the payloads that the filters of SLURM files leave, and the assertions of the files.
 fn load_kept<'a>(
     alloc: Global,
     slurm: &'a Slurm,

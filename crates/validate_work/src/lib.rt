@@ -1,5 +1,5 @@
 //! The program `rtr_validate`, for any readers and writers: it prints whether routes are valid by
-//! the VRPs of a file, and which VRPs cover those that aren't.
+//! the VRPs of a file, and for each other route which VRPs cover it.
 #![tactic(auto)]
 
 mod answer;

@@ -33,8 +33,8 @@ use std::io::{ErrorKind, Read, Write};
 
 /// Reads the file. Items of a list that have expired at the requested time, or else at `now`, in
 /// seconds after the epoch, are left out. The filters of `slurm` remove payloads, and then its
-/// assertions are added (RFC 8416). Writes the answer on the route of the arguments, or if there is
-/// none on those that are read from `routes`, as `answer_lines` does, flushes the output once, and
+/// assertions are added (RFC 8416). Writes the answer on the route of the arguments, or without one
+/// on each route that is read from `routes`, as `answer_lines` does, flushes the output once, and
 /// returns the exit status:
 /// - 0 if all that succeeded, whatever the routes' validity;
 /// - 1 if the file is refused, or has no VRPs, or a line isn't a route;
@@ -216,8 +216,8 @@ fn answer<R: Source, W: Sink, F: Write + Refusals>(
     tell(name, answer, flushed, faults)
 }
 
-/// Writes the answer on the route of the arguments, or if there is none on those that are read.
-/// Returns how many lines weren't routes.
+/// Writes the answer on the route of the arguments, or without one on each route that is read.
+/// Returns the number of lines that aren't routes.
 fn answer_asked<R: Source, W: Sink, F: Write + Refusals>(
     alloc: Global,
     name: &str,
@@ -314,7 +314,7 @@ fn formats_of(options: Options) -> Formats
     }
 }
 
-/// Reports how many lines weren't routes, or what stopped the answers, and returns the exit status.
+/// Reports how many lines aren't routes, or why the answers ended, and returns the exit status.
 /// If the flush failed, only the output is named: reading may have failed since it flushes first.
 fn tell<F: Write>(
     name: &str,

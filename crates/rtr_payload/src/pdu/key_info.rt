@@ -21,8 +21,8 @@ use std::fmt;
 use std::hash::{Hash, Hasher};
 use std::marker::Model;
 
-/// The greatest number of bytes of key info. A router key with that many has the greatest length
-/// that its length field can hold.
+/// The greatest size of key info in bytes: that of a router key whose length field has its greatest
+/// value.
 pub(crate) const MAX_LEN: usize = 4294967263;
 
 /// The key info of a router key: at most 4294967263 bytes.
