@@ -1,6 +1,6 @@
 /*
- * What the programs in Rattle reach of the system, for processors for which the kit has no C
- * functions of its own (it has them for x86-64): the heap, the arguments, the environment and
+ * The functions of the system that the programs in Rattle use, for processors for which the kit has
+ * no C functions of its own (it has them for x86-64): the heap, the arguments, the environment and
  * errno. Their contracts are those of the kit's libraries `libc` and `os`. Here they are trusted,
  * as the kit's are there.
  */
@@ -11,7 +11,8 @@
 #include <stdlib.h>
 #include <sys/types.h>
 
-/* Whether there is memory, and where. Without any, `at` points to a byte that nobody uses. */
+/* An allocation: whether it succeeded, and its address. If it failed, `at` points to a byte that
+ * nobody uses. */
 struct tried {
     bool ok;
     void *at;
@@ -71,7 +72,7 @@ size_t rattle_arg_count(void)
  * Copies a text to the start of the buffer. Returns its length; -1 if there is none; -2 if it
  * doesn't fit, and then the buffer is full.
  */
-static ssize_t copied(const char *text, char *buffer, size_t room)
+static ssize_t copied(const char *text, char *buffer, size_t size)
 {
     size_t length = 0;
 
@@ -79,7 +80,7 @@ static ssize_t copied(const char *text, char *buffer, size_t room)
         return -1;
     }
     for (; text[length] != '\0'; length++) {
-        if (length == room) {
+        if (length == size) {
             return -2;
         }
         buffer[length] = text[length];
@@ -87,20 +88,20 @@ static ssize_t copied(const char *text, char *buffer, size_t room)
     return (ssize_t)length;
 }
 
-ssize_t rattle_arg(size_t index, char *buffer, size_t room)
+ssize_t rattle_arg(size_t index, char *buffer, size_t size)
 {
-    return copied(index < count ? arguments[index] : NULL, buffer, room);
+    return copied(index < count ? arguments[index] : NULL, buffer, size);
 }
 
-ssize_t rattle_env(const char *name, char *buffer, size_t room)
+ssize_t rattle_env(const char *name, char *buffer, size_t size)
 {
-    return copied(getenv(name), buffer, room);
+    return copied(getenv(name), buffer, size);
 }
 
 extern char **environ;
 
 /* The same of the variable at this index, as NAME=VALUE. */
-ssize_t rattle_env_at(size_t index, char *buffer, size_t room)
+ssize_t rattle_env_at(size_t index, char *buffer, size_t size)
 {
     char **variable = environ;
 
@@ -108,5 +109,5 @@ ssize_t rattle_env_at(size_t index, char *buffer, size_t room)
         variable++;
         index--;
     }
-    return copied(variable != NULL ? *variable : NULL, buffer, room);
+    return copied(variable != NULL ? *variable : NULL, buffer, size);
 }

@@ -405,8 +405,8 @@ static bool write_all(int file, const void *bytes, size_t length)
     return true;
 }
 
-/* Closes a file or a folder; returns whether that succeeded, and what was `done` with it before.
- * errno is that of the first failure. */
+/* Closes a file or a folder; returns whether that and the earlier step (`done`) succeeded. errno is
+ * that of the first failure. */
 static bool closes(int file, bool done)
 {
     int error = errno;
@@ -492,8 +492,8 @@ static bool restore(const struct watched *w)
     return update == RTR_UPDATE_TAKEN;
 }
 
-/* Logs that the file can't be read, or its data can't be taken, once for each reason; reads it
- * again, though it stays as it is. */
+/* Logs that the file can't be read, or its data can't be taken, once for each reason, and reads it
+ * again even if it doesn't change. */
 static void fail(struct watched *w, const char *reason)
 {
     if (strcmp(w->failed, reason))

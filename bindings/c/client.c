@@ -147,7 +147,7 @@ static void take(struct member *m)
     m->socket = passed_fd;
     passed_fd = NONE;
     if (m->socket == NONE)
-        rtr_client_lost(&m->client, "there is no other connection");
+        rtr_client_lost(&m->client, RTR_FAILURE_NO_OTHER);
     else if (getsockopt(m->socket, SOL_SOCKET, SO_TYPE, &type, &size) < 0)
         rtr_client_lost(&m->client, strerror(errno));
     else
@@ -199,15 +199,29 @@ static void receive_some(struct member *m)
         rtr_client_lost(&m->client, count < 0 ? strerror(errno) : NULL);
 }
 
+/* Waits until a socket is ready, but not after this time, and returns whether it is. A signal
+ * doesn't end the wait. */
+static bool await(int socket, short events, int64_t until)
+{
+    struct pollfd ready = {.fd = socket, .events = events};
+    int count;
+    do
+        count = poll(&ready, 1, left(until));
+    while (count < 0 && errno == EINTR);
+    return count == 1;
+}
+
 /* Reads and drops what the peer sends, until it closes or the time is over: closing with unread
  * bytes would reset the connection, and the bytes sent last might not arrive. */
 static void discard(int socket, int64_t until)
 {
     uint8_t read[4096];
-    struct pollfd ready = {.fd = socket, .events = POLLIN};
-    for (ssize_t rest = RTR_LAST_REPORT_BYTES, count = 1; count > 0 && rest > 0; rest -= count)
-        count =
-            poll(&ready, 1, left(until)) == 1 ? recv(socket, read, sizeof read, MSG_DONTWAIT) : 0;
+    bool open = true;
+    for (ssize_t rest = RTR_LAST_REPORT_BYTES; open && rest > 0 && await(socket, POLLIN, until);) {
+        ssize_t count = recv(socket, read, sizeof read, MSG_DONTWAIT);
+        open = count > 0 || (count < 0 && (errno == EAGAIN || errno == EINTR));
+        rest -= count > 0 ? count : 0;
+    }
 }
 
 /* Sends the last bytes, if there are any, and closes the connection so that they arrive. */
@@ -215,11 +229,10 @@ static void hang_up(struct member *m)
 {
     size_t length = 0;
     int64_t until = now() + m->client.report_limit;
-    struct pollfd ready = {.fd = m->socket, .events = POLLOUT};
     if (m->socket != NONE && !m->tried)
         rtr_client_output(&m->client, &length);
     bool last = length > 0;
-    while (length && poll(&ready, 1, left(until)) == 1 && send_some(m))
+    while (length && await(m->socket, POLLOUT, until) && send_some(m))
         rtr_client_output(&m->client, &length);
     if (last) {
         shutdown(m->socket, SHUT_WR);

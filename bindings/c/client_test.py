@@ -111,9 +111,12 @@ class Run:
         self.process = subprocess.Popen([PROGRAM, *named, *words], stdout=subprocess.PIPE,
                                         stderr=subprocess.PIPE)
         thread.start()
+        pool = ThreadPoolExecutor(2)  # a client whose output isn't read waits
+        reads = [pool.submit(file.read) for file in (self.process.stdout, self.process.stderr)]
         try:
             thread.join(PATIENCE)  # before the process is forgotten, whose times scripts read
-            out, err = self.process.communicate(timeout=PATIENCE)
+            out, err = [read.result(PATIENCE) for read in reads]
+            self.process.wait(PATIENCE)
         finally:
             self.process.kill()
             for listener in self.listeners:

@@ -8,6 +8,7 @@
 #define _DEFAULT_SOURCE /* getentropy */
 #include <arpa/inet.h>
 #include <errno.h>
+#include <netdb.h>
 #include <openssl/err.h>
 #include <openssl/ssl.h>
 #include <openssl/x509v3.h>
@@ -21,11 +22,17 @@
 #include <unistd.h>
 #include "rtr_client.h"
 
+enum { NONE = -1 };
+
 /* A cache, and the client that asks it. */
 static struct member {
     struct rtr_client client;
     const char *address;
-    BIO *connection; /* null if there is none */
+    char *host, *port; /* its parts */
+    int socket;
+    struct addrinfo *all, *tried; /* its addresses, and the one that is being tried */
+    int64_t tried_until;
+    BIO *connection; /* TLS over the socket; null before that is connected */
     bool open;       /* it is established, and TLS hasn't failed */
     short awaited;   /* POLLIN or POLLOUT: what TLS waits for */
 } members[RTR_MOST_MEMBERS];
@@ -94,13 +101,13 @@ static bool send_some(struct member *m)
     return m->open;
 }
 
-/* Advances a connection: connects, makes the TLS handshake, or sends and reads. */
+/* Advances a connection: makes the TLS handshake, or sends and reads. */
 static void go_on(struct member *m)
 {
     size_t length, count;
     ERR_clear_error();
     if (!m->open) {
-        m->open = BIO_do_connect(m->connection) == 1 && rtr_client_connected(&m->client);
+        m->open = BIO_do_handshake(m->connection) == 1 && rtr_client_connected(&m->client);
         if (!m->open)
             unfinished(m);
     } else if (send_some(m)) {
@@ -120,14 +127,15 @@ static bool send_name(SSL *tls, const char *host)
            || SSL_set_tlsext_host_name(tls, host);
 }
 
-static void dial(struct member *m)
+/* Begins TLS over the socket, with a cache whose certificate has to name the host. */
+static void secure(struct member *m)
 {
     SSL *tls = NULL;
-    m->connection = BIO_new_ssl_connect(context);
-    must(m->connection && BIO_get_ssl(m->connection, &tls) && BIO_set_nbio(m->connection, 1)
-             && BIO_set_conn_hostname(m->connection, m->address)
-             && SSL_set1_host(tls, BIO_get_conn_hostname(m->connection))
-             && send_name(tls, BIO_get_conn_hostname(m->connection)),
+    BIO *bytes = BIO_new_socket(m->socket, BIO_NOCLOSE);
+    m->connection = BIO_new_ssl(context, 1);
+    must(bytes && m->connection && BIO_push(m->connection, bytes)
+             && BIO_get_ssl(m->connection, &tls) && SSL_set1_host(tls, m->host)
+             && send_name(tls, m->host),
          m->address);
     SSL_set_hostflags(tls, X509_CHECK_FLAG_NEVER_CHECK_SUBJECT); /* RFC 8210 section 9.2 */
     go_on(m);
@@ -136,8 +144,78 @@ static void dial(struct member *m)
 static void close_connection(struct member *m)
 {
     BIO_free_all(m->connection);
+    if (m->socket != NONE)
+        close(m->socket);
+    if (m->all)
+        freeaddrinfo(m->all);
     m->connection = NULL;
+    m->socket = NONE;
+    m->all = m->tried = NULL;
     m->open = false;
+}
+
+/* Tries the next address, for its share of the time that is left for all of them. If none is left,
+ * the connection is lost, for this reason. */
+static void try_next(struct member *m, const char *why)
+{
+    for (; m->tried; m->tried = m->tried->ai_next) {
+        int type = SOCK_STREAM | SOCK_CLOEXEC | SOCK_NONBLOCK;
+        int64_t count = 0, time = now();
+        for (struct addrinfo *rest = m->tried; rest; rest = rest->ai_next)
+            count++;
+        m->tried_until = time + (m->client.wakes - time) / count;
+        m->socket = socket(m->tried->ai_family, type, 0);
+        if (m->socket != NONE
+            && (connect(m->socket, m->tried->ai_addr, m->tried->ai_addrlen) == 0
+                || errno == EINPROGRESS))
+            return;
+        why = strerror(errno);
+        if (m->socket != NONE)
+            close(m->socket);
+        m->socket = NONE;
+    }
+    close_connection(m);
+    rtr_client_lost(&m->client, why);
+}
+
+static void dial(struct member *m)
+{
+    struct addrinfo hints = {.ai_socktype = SOCK_STREAM};
+    int unknown = getaddrinfo(m->host, m->port, &hints, &m->all);
+    m->tried = m->all = unknown ? NULL : m->all;
+    try_next(m, unknown ? gai_strerror(unknown) : "no address");
+}
+
+/* The address being tried has answered, or its time is over: begins TLS, or tries the next
+ * address. */
+static void look(struct member *m, bool answered)
+{
+    int error = answered ? 0 : ETIMEDOUT;
+    socklen_t size = sizeof error;
+    if (answered && getsockopt(m->socket, SOL_SOCKET, SO_ERROR, &error, &size) < 0)
+        error = errno;
+    if (error) {
+        close(m->socket);
+        m->socket = NONE;
+        m->tried = m->tried->ai_next;
+        try_next(m, strerror(error));
+    } else {
+        freeaddrinfo(m->all);
+        m->all = m->tried = NULL;
+        secure(m);
+    }
+}
+
+/* Waits until a socket is ready, but not after this time, and returns whether it is. A signal
+ * doesn't end the wait. */
+static bool await(int socket, short events, int64_t until)
+{
+    struct pollfd ready = {.fd = socket, .events = events};
+    int count;
+    do
+        count = poll(&ready, 1, left(until));
+    while (count < 0 && errno == EINTR);
+    return count == 1;
 }
 
 /* Reads and drops what the peer sends, until it closes or the time is over: closing with unread
@@ -145,10 +223,12 @@ static void close_connection(struct member *m)
 static void discard(int socket, int64_t until)
 {
     uint8_t read[4096];
-    struct pollfd ready = {.fd = socket, .events = POLLIN};
-    for (ssize_t rest = RTR_LAST_REPORT_BYTES, count = 1; count > 0 && rest > 0; rest -= count)
-        count =
-            poll(&ready, 1, left(until)) == 1 ? recv(socket, read, sizeof read, MSG_DONTWAIT) : 0;
+    bool open = true;
+    for (ssize_t rest = RTR_LAST_REPORT_BYTES; open && rest > 0 && await(socket, POLLIN, until);) {
+        ssize_t count = recv(socket, read, sizeof read, MSG_DONTWAIT);
+        open = count > 0 || (count < 0 && (errno == EAGAIN || errno == EINTR));
+        rest -= count > 0 ? count : 0;
+    }
 }
 
 /* Sends the last bytes, if there are any, and closes the connection so that they arrive. */
@@ -156,17 +236,16 @@ static void hang_up(struct member *m)
 {
     size_t length = 0;
     int64_t until = now() + m->client.report_limit;
-    struct pollfd ready = {m->open ? (int)BIO_get_fd(m->connection, NULL) : -1, POLLOUT, 0};
     if (m->open)
         rtr_client_output(&m->client, &length);
     bool last = length > 0;
-    while (m->open && length && poll(&ready, 1, left(until)) == 1 && send_some(m))
+    while (m->open && length && await(m->socket, POLLOUT, until) && send_some(m))
         rtr_client_output(&m->client, &length);
     if (m->open)
         BIO_ssl_shutdown(m->connection);
     if (last) {
-        shutdown(ready.fd, SHUT_WR);
-        discard(ready.fd, until);
+        shutdown(m->socket, SHUT_WR);
+        discard(m->socket, until);
     }
     close_connection(m);
 }
@@ -181,18 +260,24 @@ static void wait_for_all(void)
         size_t length;
         struct member *m = &members[i];
         rtr_client_output(&m->client, &length);
-        ready[i] = (struct pollfd){m->connection ? (int)BIO_get_fd(m->connection, NULL) : -1,
-                                   !m->open ? m->awaited
-                                   : length ? POLLIN | POLLOUT
-                                            : POLLIN,
+        ready[i] = (struct pollfd){m->socket,
+                                   m->tried   ? POLLOUT
+                                   : !m->open ? m->awaited
+                                   : length   ? POLLIN | POLLOUT
+                                              : POLLIN,
                                    0};
         wakes = m->client.wakes < wakes ? m->client.wakes : wakes;
+        wakes = m->tried && m->tried_until < wakes ? m->tried_until : wakes;
         wakes = m->open && BIO_pending(m->connection) ? 0 : wakes; /* TLS has already read more */
     }
     poll(ready, group.runs, left(wakes));
-    for (size_t i = 0; i < group.runs; i++)
-        if (members[i].connection && (members[i].open || ready[i].revents))
-            go_on(&members[i]);
+    for (size_t i = 0; i < group.runs; i++) {
+        struct member *m = &members[i];
+        if (m->tried && (ready[i].revents || m->tried_until <= now()))
+            look(m, ready[i].revents);
+        else if (m->connection && (m->open || ready[i].revents))
+            go_on(m);
+    }
 }
 
 static void print_changes(const uint8_t *changes, size_t length)
@@ -247,19 +332,29 @@ static void act(size_t number, enum rtr_client_event event)
     obey(&answer);
 }
 
+/* Initializes the client of a cache at this address; returns false unless it is a host and a
+ * port. */
+static bool init(struct member *m, const char *address)
+{
+    uint16_t *chance = &m->client.settings.chance;
+    m->address = address;
+    m->socket = NONE;
+    rtr_client_init(&m->client, 1);
+    if (getentropy(chance, sizeof *chance) != 0)
+        *chance = (uint16_t)(now() ^ getpid());
+    return BIO_parse_hostserv(address, &m->host, &m->port, BIO_PARSE_PRIO_HOST) == 1 && m->host
+           && m->port;
+}
+
 int main(int count, char **words)
 {
     struct rtr_group_settings settings;
     struct rtr_group_answer answer;
-    if (count < 4 || count - 3 > RTR_MOST_MEMBERS)
+    bool understood = count >= 4 && count - 3 <= RTR_MOST_MEMBERS;
+    for (int i = 3; understood && i < count; i++)
+        understood = init(&members[i - 3], words[i]);
+    if (!understood)
         return fprintf(stderr, "usage: client_tls CA OWN HOST:PORT..\n"), 2;
-    for (int i = 3; i < count; i++) {
-        members[i - 3].address = words[i];
-        rtr_client_init(&members[i - 3].client, 1);
-        uint16_t *chance = &members[i - 3].client.settings.chance;
-        if (getentropy(chance, sizeof *chance) != 0)
-            *chance = (uint16_t)(now() ^ getpid());
-    }
     must((context = SSL_CTX_new(TLS_client_method())) != NULL, "OpenSSL");
     must(SSL_CTX_load_verify_file(context, words[1]), words[1]);
     must(SSL_CTX_use_certificate_chain_file(context, words[2])

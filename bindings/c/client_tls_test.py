@@ -109,7 +109,7 @@ class Run:
         self.process.terminate()
 
     def accept(self, cache=0):
-        """Accepts a connection, whose end has to be told by TLS, too."""
+        """Accepts a connection, which must be closed by TLS (close_notify), too."""
         peer, _ = self.listeners[cache].accept()
         peer.settimeout(PATIENCE)
         return self.contexts[cache].wrap_socket(peer, server_side=True,
@@ -279,8 +279,12 @@ def test_nobody():
 
     run = Run(script, 2)
     assert run.lines == ["+ " + ONE_LINE], (run.lines, run.log)
+    assert {*run.log} == {"0: Connection refused"}, run.log
     for words, status, error in [((), 2, "usage: "), (("/none", "/none", "a:1"), 1, "/none: "),
-                                 ((CERTIFICATES.path("ca"), "/none", "a:1"), 1, "/none: ")]:
+                                 ((CERTIFICATES.path("ca"), "/none", "a:1"), 1, "/none: "),
+                                 (("/none", "/none", "a"), 2, "usage: "),
+                                 (("/none", "/none", ":1"), 2, "usage: "),
+                                 (("/none", "/none", "a:1:2"), 2, "usage: ")]:
         done = subprocess.run([PROGRAM, *words], capture_output=True, text=True, timeout=PATIENCE)
         assert done.returncode == status and error in done.stderr, done.stderr
 

@@ -11,6 +11,7 @@
 static void print_unit(const uint8_t *at, const struct rtr_unit *unit)
 {
     const char *what = unit->action ? "announce" : "withdraw";
+    uint32_t provider;
     switch (unit->kind) {
     case RTR_IPV4_PREFIX:
         printf("%s %u.%u.%u.%u/%u-%u AS%" PRIu32 "\n", what, unit->address[0], unit->address[1],
@@ -28,10 +29,8 @@ static void print_unit(const uint8_t *at, const struct rtr_unit *unit)
         break;
     case RTR_ASPA:
         printf("%s providers of AS%" PRIu32 ":", what, unit->customer);
-        for (size_t i = 0; unit->action && i < unit->part_length; i += 4) {
-            const uint8_t *p = at + unit->part_start + i;
-            printf(" AS%" PRIu32, (uint32_t)p[0] << 24 | (uint32_t)p[1] << 16 | p[2] << 8 | p[3]);
-        }
+        for (size_t i = 0; unit->action && rtr_provider(unit, at, unit->size, i, &provider); i++)
+            printf(" AS%" PRIu32, provider);
         printf("\n");
         break;
     case RTR_END_OF_DATA:
@@ -58,11 +57,11 @@ static uint8_t print_units(const uint8_t *input, size_t length)
 
 int main(void)
 {
-    size_t room = 1 << 20;
-    uint8_t *input = malloc(room), *form = malloc(room);
+    size_t capacity = 1 << 20;
+    uint8_t *input = malloc(capacity), *form = malloc(capacity);
     if (!input || !form)
         return 2;
-    size_t length = fread(input, 1, room, stdin);
+    size_t length = fread(input, 1, capacity, stdin);
 
     uint8_t status = print_units(input, length);
     if (status != RTR_OK) {
@@ -72,7 +71,7 @@ int main(void)
 
     struct rtr_answer answer;
     struct rtr_comparison comparison;
-    rtr_normalise_slice(input, length, form, room, UINT32_MAX, &answer);
+    rtr_normalise_slice(input, length, form, capacity, UINT32_MAX, &answer);
     rtr_same_meaning(input, length, form, answer.written, UINT32_MAX, &comparison);
     printf("%" PRIu64 " payload units, form of %zu bytes, which means %s\n", answer.units,
            answer.written, comparison.same ? "the same" : "something else");

@@ -26,7 +26,7 @@ PRIVATE = ("rtr_tables", "rtr_lookup", "rtr_check", "rtr_link", "rtr_stores")
 # Names of parameters that C++ doesn't allow, or that are longer than they have to be in C.
 RENAMED = {"new": "data", "text_length": "length"}
 
-# What passes a slice of bytes on, whose pointer may be null here and not behind it.
+# The functions that replace a null pointer of a slice before the archive's call.
 CHANGED = {("u8", "const"): "rtr_readable", ("u8", "mut"): "rtr_writable"}
 
 ABI_FRONT = """\

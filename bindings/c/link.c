@@ -158,23 +158,42 @@ static void wait_until(uint64_t wakes)
     }
 }
 
-/* Sends the last bytes, if there are any, and closes the connection so that they arrive: unread
- * bytes of the peer would reset it. */
-static void finish(void)
+/* Waits until the connection is ready, but not after this time, and returns whether it is. A
+ * signal doesn't end the wait. */
+static bool await(short events, uint64_t until)
+{
+    struct pollfd ready = {.fd = connection, .events = events};
+    int count;
+    do
+        count = poll(&ready, 1, left(until));
+    while (count < 0 && errno == EINTR);
+    return count == 1;
+}
+
+/* Reads and drops what the peer sends, until it closes or the time is over: closing with unread
+ * bytes would reset the connection, and the bytes sent last might not arrive. */
+static void discard(uint64_t until)
 {
     uint8_t read[4096];
-    bool last = state().unsent > 0;
-    uint64_t until = now() + RTR_LAST_REPORT_LIMIT;
-    struct pollfd ready = {.fd = address ? -1 : connection, .events = POLLOUT};
-    while (ready.fd >= 0 && state().unsent && poll(&ready, 1, left(until)) == 1 && send_some()) {
+    bool open = true;
+    for (ssize_t rest = RTR_LAST_REPORT_BYTES; open && rest > 0 && await(POLLIN, until);) {
+        ssize_t count = recv(connection, read, sizeof read, MSG_DONTWAIT);
+        open = count > 0 || (count < 0 && (errno == EAGAIN || errno == EINTR));
+        rest -= count > 0 ? count : 0;
     }
-    shutdown(ready.fd, SHUT_WR);
-    ready.events = POLLIN;
-    ssize_t count = last ? 1 : 0;
-    for (ssize_t rest = RTR_LAST_REPORT_BYTES; count > 0 && rest > 0; rest -= count)
-        count = ready.fd >= 0 && poll(&ready, 1, left(until)) == 1
-                    ? recv(connection, read, sizeof read, MSG_DONTWAIT)
-                    : 0;
+}
+
+/* Sends the last bytes, if there are any, and closes the connection so that they arrive. */
+static void finish(void)
+{
+    uint64_t until = now() + RTR_LAST_REPORT_LIMIT;
+    bool last = !address && connection >= 0 && state().unsent;
+    while (last && state().unsent && await(POLLOUT, until) && send_some()) {
+    }
+    if (last) {
+        shutdown(connection, SHUT_WR);
+        discard(until);
+    }
     hang_up();
 }
 
@@ -215,7 +234,7 @@ static void print_changes(const struct rtr_link_state *held)
     const uint8_t *new = rtr_link_data(&buffers, held, &new_length);
     uint8_t *output = malloc(length + new_length);
     if (!output) {
-        fprintf(stderr, "link: no memory\n");
+        fprintf(stderr, "link: " RTR_FAILURE_NO_MEMORY "\n");
         exit(1);
     }
     rtr_changes_between(old, length, new, new_length, output, length + new_length, &answer);
@@ -228,13 +247,18 @@ static void print_changes(const struct rtr_link_state *held)
     fflush(stdout);
 }
 
-/* Prints the changes to new data. */
+/* Prints the changes to new data, and their end of data, unless they have already expired. */
 static void show(void)
 {
+    size_t length;
+    struct rtr_unit end;
     struct rtr_link_state held = state();
+    const uint8_t *data = rtr_link_data(&buffers, &held, &length);
+    size_t at = rtr_end_offset(data, length);
     print_changes(&held);
-    fprintf(stderr, "session %u serial %" PRIu32 " version %u\n", session.known.session,
-            session.known.serial, session.known.version);
+    if (data && rtr_next(data + at, length - at, &end) == RTR_OK)
+        fprintf(stderr, "session %u serial %" PRIu32 " version %u\n", end.session, end.serial,
+                end.version);
     shown = held;
 }
 
@@ -261,10 +285,10 @@ static void print_report(size_t offset, size_t filled)
 /* Reports why the connection ends; `gave_up` is whether that is for want of memory. */
 static void explain(const struct rtr_todo *todo, size_t filled, bool gave_up)
 {
-    uint8_t text[RTR_TEXT_ROOM];
+    uint8_t text[RTR_TEXT_AT_ROOM];
     size_t length;
     uint8_t failure = rtr_todo_failure(todo, gave_up);
-    rtr_text(todo->status, todo->detail, text, sizeof text, &length);
+    rtr_text_at(todo->status, todo->detail, todo->position, text, sizeof text, &length);
     if (failure == RTR_CLIENT_REPORTED)
         print_report(todo->offset, filled);
     else if (failure == RTR_CLIENT_REFUSED)

@@ -62,8 +62,8 @@ def test_following():
     lines, log = followed(script)
     assert lines == [f"+ {first_line}", f"+ {second_line}", f"- {first_line}", f"+ {first_line}",
                      f"- {first_line}", f"- {second_line}", f"+ {first_line}"], (lines, log)
-    assert log == [LOADED.format(1), LOADED.format(2), LOADED.format(3), "duplicate announcement",
-                   LOADED.format(5), "unit of another session",
+    assert log == [LOADED.format(1), LOADED.format(2), LOADED.format(3),
+                   "duplicate announcement, at byte 0", LOADED.format(5), "unit of another session",
                    "session 7 serial 1 version 2"], log
 
 
@@ -83,7 +83,7 @@ def test_lost():
 
     lines, log = followed(script)
     assert lines == [f"+ {line}" for _, line in PAYLOADS], (lines, log)
-    assert log == ["the cache closed the connection", "unexpected end of input",
+    assert log == ["the cache closed the connection", "unexpected end of input, at byte 28",
                    LOADED.format(5)], log
 
 

@@ -100,6 +100,7 @@
 #define RTR_FAILURE_EMPTY "the cache has no payloads"
 #define RTR_FAILURE_STOPPED "the client was stopped"
 #define RTR_FAILURE_SLOW "the peer is too slow"
+#define RTR_FAILURE_NO_OTHER "there is no other connection"
 #define RTR_FAILURE_MORE_READ "more bytes were read than there is room for"
 #define RTR_FAILURE_MORE_SENT "more bytes were sent than there are"
 #define RTR_FAILURE_BEHIND "the router is too far behind"
@@ -109,6 +110,8 @@
 #define RTR_FAILURE_SESSION_LEFT "the cache left this session: the data need a new one"
 #define RTR_FAILURE_OTHER_SESSION "a cache that doesn't save has one session"
 #define RTR_FAILURE_UNSAVED "the cache serves data that it didn't save"
+#define RTR_FAILURE_NOT_RESTORED "the file exists, and wasn't restored"
+#define RTR_FAILURE_OTHER_FILE "the data are saved in another file"
 #define RTR_FAILURE_UNSYNCED "the folder isn't synced"
 #define RTR_FAILURE_HIGHER_VERSION "the saved data are of a lower version: the data need a new session"
 #define RTR_FAILURE_DAMAGED "the saved file is damaged: the data need a new session"
@@ -132,7 +135,7 @@ enum rtr_status {
     RTR_PREFIX = 7,            /* a prefix breaks the rule `detail`, an rtr_prefix_rule */
     RTR_TOO_MANY = 8,          /* `limit` units were read, none of them an end of data */
     RTR_NO_ROOM = 9,           /* the output is too short for the next unit or text */
-    RTR_NO_FORM = 10,          /* rtr_write_unit: no such action, family or part */
+    RTR_NO_FORM = 10,          /* the action, the family or a part of a unit to write is wrong */
     RTR_NOT_CANONICAL = 12,    /* a unit or an end of data breaks the canonical form of data or
                                   changes */
     RTR_OTHER_SESSION = 13,    /* the second input is of another session than the first, or an
@@ -140,7 +143,7 @@ enum rtr_status {
     RTR_DUPLICATE = 14,        /* a payload other than an ASPA is announced that is already
                                   present */
     RTR_UNKNOWN = 15,          /* a payload is withdrawn that isn't present */
-    RTR_UNDECIDED = 16,        /* rtr_order: an ASPA is announced and then withdrawn, so the net
+    RTR_UNDECIDED = 16,        /* changes to sort announce and then withdraw an ASPA, so the net
                                   change depends on the data */
     RTR_NO_INDEX = 17,         /* the index has fewer entries than there are units */
     RTR_TOO_MANY_MEMBERS = 18, /* a group would have more than RTR_MOST_MEMBERS members */
@@ -160,24 +163,24 @@ enum rtr_prefix_rule {
 
 /* The kinds of units, numbered by PDU type. */
 enum rtr_kind {
-    RTR_SERIAL_NOTIFY = 0,  /* RFC 8210 section 5.2 */
-    RTR_SERIAL_QUERY = 1,   /* RFC 8210 section 5.3 */
-    RTR_RESET_QUERY = 2,    /* RFC 8210 section 5.4 */
-    RTR_CACHE_RESPONSE = 3, /* RFC 8210 section 5.5 */
-    RTR_IPV4_PREFIX = 4,    /* RFC 8210 section 5.6 */
-    RTR_IPV6_PREFIX = 6,    /* RFC 8210 section 5.7 */
-    RTR_END_OF_DATA = 7,    /* RFC 6810 and RFC 8210 section 5.8 */
-    RTR_CACHE_RESET = 8,    /* RFC 8210 section 5.9 */
-    RTR_ROUTER_KEY = 9,     /* RFC 8210 section 5.10 */
-    RTR_ERROR_REPORT = 10,  /* RFC 8210 section 5.11 */
-    RTR_ASPA = 11
+    RTR_SERIAL_NOTIFY = 0,  /* a serial notify (RFC 8210 section 5.2) */
+    RTR_SERIAL_QUERY = 1,   /* a serial query (RFC 8210 section 5.3) */
+    RTR_RESET_QUERY = 2,    /* a reset query (RFC 8210 section 5.4) */
+    RTR_CACHE_RESPONSE = 3, /* a cache response (RFC 8210 section 5.5) */
+    RTR_IPV4_PREFIX = 4,    /* an IPv4 prefix (RFC 8210 section 5.6) */
+    RTR_IPV6_PREFIX = 6,    /* an IPv6 prefix (RFC 8210 section 5.7) */
+    RTR_END_OF_DATA = 7,    /* an end of data (RFC 6810 and RFC 8210 section 5.8) */
+    RTR_CACHE_RESET = 8,    /* a cache reset (RFC 8210 section 5.9) */
+    RTR_ROUTER_KEY = 9,     /* a router key (RFC 8210 section 5.10) */
+    RTR_ERROR_REPORT = 10,  /* an error report (RFC 8210 section 5.11) */
+    RTR_ASPA = 11           /* an ASPA, an autonomous system provider authorization */
 };
 
 /* The codes of error reports (RFC 8210 section 12); those above 8 are the Rust crate rpki's. */
 enum rtr_code {
     RTR_CODE_CORRUPT_DATA = 0,                /* the data can't be parsed, or contradict
                                                  themselves */
-    RTR_CODE_INTERNAL_ERROR = 1,              /* the peer failed for a reason of its own */
+    RTR_CODE_INTERNAL_ERROR = 1,              /* the peer had an internal error */
     RTR_CODE_NO_DATA_AVAILABLE = 2,           /* the cache has no data yet */
     RTR_CODE_INVALID_REQUEST = 3,             /* the request makes no sense to the cache */
     RTR_CODE_UNSUPPORTED_PROTOCOL_VERSION = 4,
@@ -878,7 +881,7 @@ static inline uint8_t rtr_load(const uint8_t *input, size_t input_length,
  * its AS is the route's and isn't 0, and the route's prefix length is at most its max length. */
 
 /* Returns the offset of the end of data in data in canonical form: 0 if they have no payloads. The
- * bytes aren't checked: those that aren't data give an offset within them. */
+ * bytes aren't checked: for any other bytes it returns an offset within them. */
 static inline size_t rtr_end_offset(const uint8_t *data, size_t data_length)
 {
     return rtr_end_offset_nonnull(rtr_readable(data), data_length);
@@ -1372,9 +1375,10 @@ struct rtr_link {
 struct rtr_todo {
     uint64_t wakes;    /* when to call rtr_link_next, if nothing comes before. It may have passed */
     uint64_t position; /* the offset of the unit that it is about, in all bytes of the
-                          connection; of a change that doesn't apply, that in the payload units
-                          of the answer; at an end that is about no unit, the number of bytes
-                          that came before those of the input */
+                          connection. If an answer can't be applied, the offset of the refused
+                          change in the payload units of the answer, or 0 if none is refused. At
+                          any other end that is about no unit, the number of bytes that came
+                          before those of the input */
     size_t room;       /* the length that a buffer needs: in bytes, of the index in entries */
     size_t offset;     /* the offset of that unit in the input */
     uint16_t code;     /* the error code of the report that the output ends with */
@@ -1832,7 +1836,7 @@ void rtr_server_settings_usual(struct rtr_server_settings *settings);
 
 /* Reports whether `length` bytes of changes, as encoded for routers of a version, are kept for
  * further routers beside `kept_bytes` that are kept: if both together aren't more than
- * `keep_bytes`. Those that aren't kept are computed again. */
+ * `keep_bytes`. Changes that aren't kept are computed again. */
 bool rtr_server_keeps(const struct rtr_server_settings *settings, size_t kept_bytes, size_t length);
 
 /* Initializes the door of a server without connections, whatever the struct holds. */
@@ -1903,8 +1907,8 @@ void rtr_connection_closed(struct rtr_connection *connection);
 void rtr_connection_broke(struct rtr_connection *connection);
 
 /* Reports whether the program reads from the connection now: while no answer is being sent, until
- * the router closes or the connection ends. What a router sends meanwhile waits in the system.
- * After RTR_STEP_FINISH a program reads, too, but ignores what comes. */
+ * the router closes or the connection ends. Bytes that the router sends meanwhile wait in the
+ * socket. After RTR_STEP_FINISH a program reads, too, but ignores what comes. */
 bool rtr_connection_reads(const struct rtr_connection *connection);
 
 /* Reports that rtr_cache_read took `size` bytes: 0 if there is no whole unit. */
@@ -1996,8 +2000,8 @@ struct rtr_stores {
 
 /* Which steps back a history keeps. */
 struct rtr_history_limits {
-    uint64_t time; /* a step is kept for this many milliseconds after it was made */
-    size_t bytes;  /* the steps have at most this many bytes, with 16 bytes for each step */
+    uint64_t time; /* the time for which a step is kept, in milliseconds */
+    size_t bytes;  /* the greatest size of all steps in bytes, 16 bytes for each step included */
 };
 
 /* How a call ended. Fields that an answer doesn't have are 0. */
@@ -2047,13 +2051,13 @@ struct rtr_work {
 /* Begins the stores of a new cache, which serves no data, whatever the struct holds. */
 void rtr_stores_new(struct rtr_stores *stores);
 
-/* Begins those of a cache that doesn't save, at a start: rtr_stores_take serves data at once, and
- * takes those of this session only. */
+/* Begins the stores of a cache that doesn't save, at a start: rtr_stores_take serves data at once,
+ * and takes those of this session only. */
 void rtr_stores_unsaved(struct rtr_stores *stores, uint16_t session);
 
-/* Begins those of a cache that saves, at a start: the first buffer has the store of its file, of
- * this length, at its front. It is served if it is a whole store. The spare buffer isn't used. An
- * index of one entry for each 12 bytes of the store, and a buffer as long as it, always suffice.
+/* Begins the stores of a cache that saves, at a start: the first buffer has the store of its file,
+ * of this length, at its front. It is served if it is a whole store. The spare buffer isn't used.
+ * An index of one entry for each 12 bytes of the store, and a buffer as long as it, always suffice.
  *
  * RTR_STORES_OK, _SHORT_BUFFER, _MALFORMED, or _NO_ROOM for the index or the buffer; the struct
  * stays as it was unless it is RTR_STORES_OK. */
@@ -2169,7 +2173,8 @@ static inline uint8_t rtr_history_since(const uint8_t *history, size_t history_l
 }
 
 /* Returns the present data of a history, in canonical form, of `length` bytes: what a router gets
- * that has none, in the version of the data. A null pointer if the bytes aren't a history. */
+ * that has none, in the version of the data. A null pointer if the bytes don't begin with the
+ * data of a history. */
 static inline const uint8_t *rtr_history_data(const uint8_t *history, size_t history_length,
                                               size_t *length)
 {

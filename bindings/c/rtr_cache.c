@@ -13,7 +13,7 @@
 enum { VERSIONS = RTR_HIGHEST_VERSION + 1 };
 
 /* Changes from the data of `serial` to the newest data, encoded for routers of `version`. */
-struct rtr_made {
+struct rtr_encoded {
     struct rtr_shared *changes;
     uint32_t serial;
     uint8_t version;
@@ -181,9 +181,9 @@ static void list_kept(struct rtr_server *s, const uint8_t *history, size_t lengt
 /* Frees the encodings of the newest data, and the changes that lead to them. */
 static void forget_made(struct rtr_server *s)
 {
-    for (size_t i = 0; i < s->made_count; i++)
-        release(s->made[i].changes);
-    s->made_count = 0;
+    for (size_t i = 0; i < s->encoded_count; i++)
+        release(s->encoded[i].changes);
+    s->encoded_count = 0;
     for (uint8_t version = 0; version < VERSIONS; version++) {
         release(s->forms[version]);
         s->forms[version] = NULL;
@@ -431,18 +431,18 @@ static struct rtr_shared *sent_form(struct rtr_server *s, uint8_t version)
 }
 
 /* Caches changes for further routers, as the settings allow, unless memory runs out. */
-static void keep_made(struct rtr_server *s, struct rtr_made entry)
+static void keep_encoded(struct rtr_server *s, struct rtr_encoded entry)
 {
     size_t bytes = 0;
-    for (size_t i = 0; i < s->made_count; i++)
-        bytes += s->made[i].changes->length;
-    struct rtr_made *made = NULL;
+    for (size_t i = 0; i < s->encoded_count; i++)
+        bytes += s->encoded[i].changes->length;
+    struct rtr_encoded *entries = NULL;
     if (rtr_server_keeps(&s->settings, bytes, entry.changes->length))
-        made = realloc(s->made, (s->made_count + 1) * sizeof *made);
-    if (!made)
+        entries = realloc(s->encoded, (s->encoded_count + 1) * sizeof *entries);
+    if (!entries)
         return;
-    s->made = made;
-    s->made[s->made_count++] = entry;
+    s->encoded = entries;
+    s->encoded[s->encoded_count++] = entry;
     hold(entry.changes);
 }
 
@@ -472,12 +472,12 @@ static struct rtr_shared *make_changes(const struct rtr_server *s, uint8_t versi
  * routers of a version. The caller releases them. Null without memory. */
 static struct rtr_shared *changes_from(struct rtr_server *s, uint8_t version, uint32_t serial)
 {
-    for (size_t i = 0; i < s->made_count; i++)
-        if (s->made[i].version == version && s->made[i].serial == serial)
-            return hold(s->made[i].changes);
+    for (size_t i = 0; i < s->encoded_count; i++)
+        if (s->encoded[i].version == version && s->encoded[i].serial == serial)
+            return hold(s->encoded[i].changes);
     struct rtr_shared *changes = make_changes(s, version, serial);
     if (changes)
-        keep_made(s, (struct rtr_made){changes, serial, version});
+        keep_encoded(s, (struct rtr_encoded){changes, serial, version});
     return changes;
 }
 
@@ -500,7 +500,7 @@ void rtr_server_unsaved(struct rtr_server *s, uint16_t session)
 void rtr_server_free(struct rtr_server *s)
 {
     forget(s);
-    free(s->made);
+    free(s->encoded);
     free(s->kept);
 }
 

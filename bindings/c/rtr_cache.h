@@ -83,7 +83,7 @@ struct rtr_part {
 
 /* Bytes that several connections share, and encoded changes: private to rtr_cache.c. */
 struct rtr_shared;
-struct rtr_made;
+struct rtr_encoded;
 
 /* Times are in milliseconds, by a monotonic clock that isn't negative. */
 struct rtr_server {
@@ -115,8 +115,8 @@ struct rtr_server {
     struct rtr_shared *forms[RTR_HIGHEST_VERSION + 1];
     uint32_t *kept; /* the serial numbers from which there are changes */
     size_t kept_count, kept_capacity;
-    struct rtr_made *made;
-    size_t made_count;
+    struct rtr_encoded *encoded;
+    size_t encoded_count;
 };
 
 /* The longest unit at the start of an answer: a notify. */

@@ -63,7 +63,7 @@ static void test_kept(void)
         says(whole(version, 10, 8, 9));
         leaves();
     }
-    CHECK(s.made_count == 1); /* each has two prefixes and an end of data, 64 bytes */
+    CHECK(s.encoded_count == 1); /* each has two prefixes and an end of data, 64 bytes */
     ends();
 }
 

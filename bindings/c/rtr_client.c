@@ -103,8 +103,8 @@ static bool grow_buffer(struct rtr_client *c, const struct rtr_todo *todo)
     }
 }
 
-/* Frees the buffers that are needed only while an answer comes: the index, and those that hold
- * neither the data nor the former data. The input buffer gets its first size back. */
+/* Frees what is needed only while an answer comes: the index, and each data buffer without data or
+ * former data. The input buffer gets its first size back. */
 static void trim(struct rtr_client *c)
 {
     struct rtr_link_buffers *b = &c->buffers;

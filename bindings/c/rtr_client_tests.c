@@ -407,7 +407,7 @@ static void test_wrong_lengths(void)
     ends();
 }
 
-/* Bytes are sent in pieces; those that are unsent when the connection closes are dropped. */
+/* Bytes are sent in pieces; unsent ones are dropped when the connection closes. */
 static void test_pieces_sent(void)
 {
     static const uint8_t wrong[] = {1, 5, 0, 0, 0, 0, 0, 8};

@@ -41,7 +41,7 @@ static struct rtr_shared *new_shared(size_t capacity)
     return block;
 }
 
-/* Shortens a block to `size` bytes, all of which are sent. */
+/* Shrinks a block to `size` bytes, and its length, too. */
 static struct rtr_shared *shrink(struct rtr_shared *block, size_t size)
 {
     block->size = block->length = size;

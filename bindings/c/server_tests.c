@@ -81,7 +81,7 @@ static void check_ends(void)
 }
 
 /* A call on a connection, and its result: the next action, the limit, and the deadline.
- * The router was told of data of session 7; its machine waits until 90 s. */
+ * The router has data of session 7; its machine waits until 90 s. */
 enum call { NOTHING, CAME, HEARD, ANSWERS, ENDS, SENT, CLOSED, BROKE };
 
 struct turn {
@@ -156,7 +156,7 @@ static bool call(struct rtr_connection *connection, const struct turn *turn)
     }
 }
 
-/* Reads where it waits, hears or is told the time, until the router closes. */
+/* At a wait, an input or a tick: reads, until the router closes. */
 static bool reads(const struct rtr_connection *connection)
 {
     return !connection->state && !connection->unsent && !connection->closed;

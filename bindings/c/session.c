@@ -3,6 +3,16 @@
 #include <stdio.h>
 #include "rtr.h"
 
+/* Prints the code of an error report, and the start of its text. */
+static void print_report(const struct rtr_unit *u, const uint8_t *at)
+{
+    char text[RTR_REPORT_TEXT_ROOM];
+    size_t length;
+    rtr_report_text(u->code, at + u->text_start, u->text_length, (uint8_t *)text, sizeof text,
+                    &length);
+    printf(": %.*s, about %zu bytes", (int)length, text, u->part_length);
+}
+
 static void print_unit(const struct rtr_unit *u, const uint8_t *at)
 {
     uint32_t provider;
@@ -17,8 +27,7 @@ static void print_unit(const struct rtr_unit *u, const uint8_t *at)
     else if (u->kind == RTR_ROUTER_KEY)
         printf(": AS%" PRIu32 ", %zu bytes of key info", u->asn, u->part_length);
     else if (u->kind == RTR_ERROR_REPORT)
-        printf(": code %u, %zu bytes, '%.*s'", u->code, u->part_length, (int)u->text_length,
-               (const char *)at + u->text_start);
+        print_report(u, at);
     else if (u->kind == RTR_ASPA)
         printf(": AS%" PRIu32 " by", u->customer);
     for (size_t i = 0; rtr_provider(u, at, u->size, i, &provider); i++)

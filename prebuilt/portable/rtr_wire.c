@@ -39,7 +39,7 @@ typedef int32_t s32;
 typedef uint64_t u64;
 typedef int64_t s64;
 
-/* What a call has of the module: the top of its stack, the end of that, and whether it runs. */
+/* The state of a call: the top and the end of its stack, and a flag that it runs. */
 typedef struct {
     u64 g0;
     u64 lowest;
@@ -1059,10 +1059,10 @@ static u64 number_of(const u8 *at, size_t size)
 
 static void set_number(u8 *at, u64 number, size_t size)
 {
-    u8 one = (u8)number;
+    u8 byte = (u8)number;
     u16 two = (u16)number;
     u32 four = (u32)number;
-    const void *from = size == 1   ? (const void *)&one
+    const void *from = size == 1   ? (const void *)&byte
                        : size == 2 ? (const void *)&two
                        : size == 4 ? (const void *)&four
                                    : (const void *)&number;
@@ -1078,8 +1078,8 @@ static u64 number_there(u64 number, size_t size)
                        : ORDERED(u64, number);
 }
 
-/* Copies structs for the module. A size_t of 32 bits is widened by its highest bit: what the module
- * keeps in 64 bits near 2^64 comes back as it was, and no length reaches that bit. */
+/* Copies structs for the module. A size_t of 32 bits is widened by its highest bit: values near
+ * 2^64 are preserved, and no length reaches that bit. */
 static u64 lend(u8 *there, const void *here, const struct layout *layout, size_t count)
 {
     memset(there, 0, layout->there * count);
@@ -1114,21 +1114,21 @@ static void take(void *here, const u8 *there, const struct layout *layout, size_
     }
 }
 
-/* Memory for an array: a short one's is in the frame. A longer one that there is no memory for is
- * as long as that. */
+/* Memory for an array: a short one's is in the frame. If memory for a longer one is refused, the
+ * array is as long as the one in the frame. */
 enum { FEW = 8 };
 
 static u8 *memory_for(u8 *few, size_t *length, size_t size)
 {
-    u8 *made = few;
+    u8 *array = few;
     if (*length > FEW) {
-        made = *length <= SIZE_MAX / size ? malloc(*length * size) : NULL;
-        if (!made) {
-            made = few;
+        array = *length <= SIZE_MAX / size ? malloc(*length * size) : NULL;
+        if (!array) {
+            array = few;
             *length = FEW;
         }
     }
-    return made;
+    return array;
 }
 
 #define LEND(name, what)                       \

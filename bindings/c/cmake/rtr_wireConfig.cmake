@@ -4,8 +4,8 @@
 #   rtr::wire_static, rtr::client_static    the archives
 #
 # It is part of an installation, or of the tar file for C. That has no shared library: it compiles
-# the client and the cache, and on a machine without an archive the C file, so that the project needs
-# the language C.
+# the client and the cache, and on a machine without an archive the C file, so that the project
+# needs the language C.
 if(TARGET rtr::wire)
     return()
 endif()
