@@ -41,6 +41,7 @@ type cause uint8
 // The causes for which a Client has errors of their own.
 const (
 	causeLost          cause = C.RTR_CAUSE_LOST
+	causeSlow          cause = C.RTR_CAUSE_SLOW
 	causeReported      cause = C.RTR_CAUSE_REPORTED
 	causeOutOfPlace    cause = C.RTR_CAUSE_OUT_OF_PLACE
 	causeNoSuchPayload cause = C.RTR_CAUSE_NO_SUCH_PAYLOAD
@@ -101,7 +102,7 @@ var (
 
 // endings maps reasons to errors.
 var endings = map[C.uint8_t]error{
-	C.RTR_REASON_SLOW:          ErrTooSlow,
+	C.RTR_REASON_SLOW:          errSlowRouter,
 	C.RTR_REASON_FULL:          ErrManyClients,
 	C.RTR_REASON_NO_QUERY:      ErrNoQuery,
 	C.RTR_REASON_OTHER_VERSION: ErrOtherVersion,
@@ -112,7 +113,7 @@ var endings = map[C.uint8_t]error{
 
 // cuts maps the limits that end a connection to errors.
 var cuts = map[C.uint8_t]error{
-	C.RTR_CUT_SLOW:        ErrTooSlow,
+	C.RTR_CUT_SLOW:        errSlowRouter,
 	C.RTR_CUT_NEW_SESSION: ErrSessionEnded,
 	C.RTR_CUT_BEHIND:      ErrBehind,
 }
@@ -122,8 +123,28 @@ func reasonText(reason C.uint8_t) string {
 	return name(namedReason, uint16(reason))
 }
 
-// ErrTooSlow: the peer exceeded a time limit.
+// ErrTooSlow: the peer exceeded a time limit. errors.Is finds it in the error of a Client, whose
+// text says that the cache is too slow, and in that of a Server, which says it of the router.
 var ErrTooSlow = errors.New("rtr: " + failureSlow)
+
+// The errors in which errors.Is finds ErrTooSlow.
+var (
+	errSlowCache  = slowPeer(causeSlow.String())
+	errSlowRouter = slowPeer(reasonText(C.RTR_REASON_SLOW))
+)
+
+// slowPeer is ErrTooSlow with a text that says which peer it is.
+type slowPeer string
+
+// Error returns the text.
+func (s slowPeer) Error() string {
+	return "rtr: " + string(s)
+}
+
+// Unwrap returns ErrTooSlow.
+func (s slowPeer) Unwrap() error {
+	return ErrTooSlow
+}
 
 // Breach is a unit that breaks a rule of the session, which ends it. A unit that is malformed is a
 // Fault. errors.Is finds the reason in it.
@@ -156,12 +177,18 @@ func (b *Breach) Report() (report *Unit, owed bool) {
 }
 
 // Reported is an error report that the peer sent, which ended the session unless it says that a
-// cache has no data yet.
+// cache has no data yet: then errors.Is finds ErrNoData in it.
 type Reported struct {
 	Version uint8
 	Code    ErrorCode
 	Text    string // as received
 	router  bool   // it came from a router, not from a cache
+	noData  bool   // the link took it for a cache without data
+}
+
+// Is reports whether the target is ErrNoData, and the report the answer of a cache without data.
+func (r *Reported) Is(target error) bool {
+	return r.noData && target == ErrNoData
 }
 
 // Error returns which end reports an error, the code, and the first bytes of the quoted text, of
@@ -195,14 +222,15 @@ func owned(err error) error {
 	return err
 }
 
-// reportedIn returns the content of the error report at the start of these bytes, which a cache or
-// a router sent.
-func reportedIn(input []byte, router bool) error {
+// reportedIn returns a Reported with the content of the error report at the start of these bytes;
+// the fields that say who sent it, and what it means, are those of the argument.
+func reportedIn(input []byte, report Reported) error {
 	unit, _, err := Next(input)
 	if err != nil {
 		return err
 	}
-	return &Reported{unit.Version, unit.Code, string(unit.Text), router}
+	report.Version, report.Code, report.Text = unit.Version, unit.Code, string(unit.Text)
+	return &report
 }
 
 // isTimeout reports whether a deadline has passed.

@@ -175,7 +175,10 @@ func (p *cacheEnd) next() error {
 // update gives the server data, which it saves nowhere. For a scene that goes back to a session,
 // the server forgets which ones it left.
 func (p *cacheEnd) update(data Data) error {
-	nowhere := func([]byte) error { return nil }
+	nowhere := &saver{save: func([]byte) error { return nil }, owns: true}
+	if p.server.saver != nil {
+		p.server.saver = nowhere // a file that was restored stays as it is
+	}
 	err := p.server.update(data, nowhere, func() {})
 	if err == ErrSessionLeft {
 		p.server.store = newStore()

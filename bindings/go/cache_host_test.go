@@ -225,7 +225,7 @@ func (m measuring) Accept() (net.Conn, error) {
 	return made, nil
 }
 
-// A connection that counts is told all bytes of the answers, and how many were a file's.
+// A counting connection gets the number of bytes of all answers, and how many came from a file.
 func TestCounter(t *testing.T) {
 	noLeaks(t)
 	vrps := make([]VRP, 20000)

@@ -12,7 +12,7 @@ import (
 )
 
 // Client is the router's side: it gets the data of a cache, and follows their changes (RFC 8210
-// sections 6 to 8). NewClient makes one; Client{Address: address} is the same.
+// sections 6 to 8). NewClient(address) is the same as Client{Address: address}.
 type Client struct {
 	Address  string       // as net.Dial takes it, for IPv4 or IPv6
 	Version  uint8        // the highest version in which it asks: 1 or 2; 0 stands for 1
@@ -20,8 +20,8 @@ type Client struct {
 	Limits   ClientLimits // of the time and the memory that a cache can cost it
 	// If not zero, these replace the times of the cache's end of data.
 	Refresh, Retry, Expire time.Duration
-	// Failed is called with the reason when a connection ends, or when the cache has no data yet;
-	// the client retries. It may be nil.
+	// Failed is called with the reason when a connection ends, or when the cache has no data yet
+	// (ErrNoData); the client retries. It may be nil.
 	Failed func(error)
 	// Log is called with a line for each connection, query, change of data and failure. It may be
 	// nil.
@@ -63,6 +63,9 @@ var (
 	ErrClosed = errors.New("rtr: " + causeLost.String())
 	// ErrExpired: the cache didn't refresh the data in time, and they were dropped.
 	ErrExpired = errors.New("rtr: " + causeExpired.String())
+	// ErrNoData: the cache has no data yet (RFC 8210 section 8.4), as its error report says:
+	// errors.Is finds this in the Reported.
+	ErrNoData = errors.New("rtr: " + NoDataAvailable.String())
 	// ErrEmpty: the cache has no payloads, which doesn't count as data for Follow.
 	ErrEmpty = errors.New("rtr: " + failureEmpty)
 	// ErrTooLong: an answer has more bytes or units than the limits allow.

@@ -95,8 +95,8 @@ func TestClientWithoutLimits(t *testing.T) {
 	}
 }
 
-// An answer with as many bytes of payload units, or units, as allowed is accepted, and with one
-// more isn't.
+// An answer with as many payload units, or bytes of these, as allowed is accepted, and with one more
+// isn't.
 func TestClientLimitsMet(t *testing.T) {
 	noLeaks(t)
 	data := parsed(t, join(ipv4, announced6, ending(1, 7, 9)))
@@ -108,9 +108,9 @@ func TestClientLimitsMet(t *testing.T) {
 		units  uint64
 		reason error
 	}{
-		{len(ipv4) + len(announced6), 3, nil},
-		{len(ipv4) + len(announced6) - 1, 3, ErrTooLong},
-		{len(ipv4) + len(announced6), 2, ErrTooLong},
+		{len(ipv4) + len(announced6), 2, nil},
+		{len(ipv4) + len(announced6) - 1, 2, ErrTooLong},
+		{len(ipv4) + len(announced6), 1, ErrTooLong},
 	} {
 		client := quick(address)
 		client.Version, client.Limits.Bytes, client.Limits.Units = 1, row.bytes, row.units
@@ -309,12 +309,12 @@ var clientFailures = map[string]struct {
 		[][]scene{{
 			{reset1, join(report(1, 2), numbered(1, 0, 7, 3))},
 			{reset1, full(7, 3)},
-		}}, []uint32{3}, []error{&Reported{Code: NoDataAvailable}},
+		}}, []uint32{3}, []error{ErrNoData},
 	},
 	"no data yet, and asked again": {
 		[][]scene{{{reset1, report(1, 2)}, {reset1, report(1, 2)}, {reset1, full(7, 3)}}},
 		[]uint32{3},
-		[]error{&Reported{Code: NoDataAvailable}, &Reported{Code: NoDataAvailable}},
+		[]error{ErrNoData, ErrNoData},
 	},
 	"an answer of version 0 to a serial query": {
 		[][]scene{
@@ -506,6 +506,36 @@ func TestClientContext(t *testing.T) {
 			t.Fatalf("%s: %v", name, err)
 		}
 		cancel()
+	}
+}
+
+// The report of a cache that has no data yet is ErrNoData. One of the same code that ends a session
+// isn't, nor is a router's.
+func TestNoData(t *testing.T) {
+	noLeaks(t)
+	address := fakeCache(t,
+		play(t, nil, scene{reset1, report(1, 2)}),
+		play(t, nil, scene{reset1, report(1, 2)}, scene{reset1, join(full(7, 1), report(1, 2))}),
+		play(t, nil, scene{asked(1, 7, 1), full(7, 3)}))
+	client := quick(address)
+	client.Version = 1
+	ctx, cancel := limited(t)
+	defer cancel()
+	_, fetched := client.Fetch(ctx)
+	_, failures := follow(t, client, func(update Update) bool { return update.Data.Serial() == 3 })
+	if len(failures) != 2 {
+		t.Fatal(texts(failures))
+	}
+	for i, err := range append(failures, fetched) {
+		var reported *Reported
+		if errors.Is(err, ErrNoData) != (i != 1) || errors.Is(err, ErrEmpty) ||
+			!errors.As(err, &reported) || reported.Code != NoDataAvailable ||
+			err.Error() != `rtr: the cache reports an error: No Data Available, "no"` {
+			t.Errorf("failure %d: %v", i, err)
+		}
+	}
+	if errors.Is(&Reported{Code: NoDataAvailable, router: true}, ErrNoData) {
+		t.Error("a router has no data")
 	}
 }
 

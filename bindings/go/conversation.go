@@ -56,7 +56,7 @@ func (f *follower) perform(t todo) {
 		f.drop()
 		f.failed(ErrExpired)
 	case todoNoData:
-		f.failed(reportedIn(f.link.inputFrom(t), false))
+		f.failed(reportedIn(f.link.inputFrom(t), Reported{noData: true}))
 	}
 }
 

@@ -10,8 +10,8 @@ import (
 	"testing"
 )
 
-// A router that closes inside a unit gets a report about it, if it still reads, and the server is
-// told of a Fault with that unit, and where it was in all that came.
+// A router that closes inside a unit gets a report about it, if it still reads, and the server gets
+// a Fault with that unit and its offset in all received bytes.
 func TestRouterClosesInAUnit(t *testing.T) {
 	noLeaks(t)
 	query := asked(1, 7, 1)
@@ -47,8 +47,8 @@ func TestRouterClosesInAUnit(t *testing.T) {
 	}
 }
 
-// A cache that closes inside a unit gets a report about it, and the client's caller is told of a
-// Fault with that unit, and where it was in all that came. Data that were complete before stay.
+// A cache that closes inside a unit gets a report about it, and the client's caller gets a Fault
+// with that unit and its offset in all received bytes. Data that were complete before stay.
 func TestCacheClosesInAUnit(t *testing.T) {
 	noLeaks(t)
 	first := full(7, 1, ipv4)

@@ -6,10 +6,101 @@ import (
 	"fmt"
 	"math"
 	"os"
+	"reflect"
+	"regexp"
 	"strings"
 	"testing"
 	"time"
 )
+
+// words returns a time as pages have it.
+func words(span time.Duration) string {
+	units := map[string]time.Duration{
+		"hour": time.Hour, "minute": time.Minute, "second": time.Second,
+	}
+	for unit, size := range units {
+		count := span / size
+		switch whole := span == count*size; {
+		case whole && count == 1:
+			return "a " + unit
+		case whole && (count < 60 && unit != "hour" || unit == "hour") && count > 1:
+			return fmt.Sprintf("%d %ss", count, unit)
+		}
+	}
+	return span.String()
+}
+
+// shownDefault returns a default as the table of docs/BINDINGS.md has it.
+func shownDefault(value any) string {
+	switch value := value.(type) {
+	case time.Duration:
+		return words(value)
+	case bool:
+		return map[bool]string{false: "no", true: "yes"}[value]
+	case int:
+		if value >= 1<<20 {
+			return fmt.Sprintf("%d MiB", value>>20)
+		}
+	case uint64:
+		return fmt.Sprintf("%d million", value/1e6)
+	}
+	return fmt.Sprint(value)
+}
+
+// usualLimits returns each field of the limits in Go, by its name, with its default.
+func usualLimits() map[string]string {
+	usual := map[string]string{}
+	for _, limits := range []any{NewClient("").Limits, NewServer().Limits, UsualGroupSettings()} {
+		for value, i := reflect.ValueOf(limits), 0; i < value.NumField(); i++ {
+			name := value.Type().Name() + "." + value.Type().Field(i).Name
+			usual[name] = shownDefault(value.Field(i).Interface())
+		}
+	}
+	return usual
+}
+
+// withCapitals returns a name of C as JavaScript has it.
+func withCapitals(name string) string {
+	parts := strings.Split(name, "_")
+	for i, part := range parts[1:] {
+		parts[i+1] = strings.ToUpper(part[:1]) + part[1:]
+	}
+	return strings.Join(parts, "")
+}
+
+// The table of docs/BINDINGS.md has all limits, with their defaults. A name in Python is that in C,
+// and one in JavaScript the same with capitals.
+func TestDocumentedLimits(t *testing.T) {
+	page, err := os.ReadFile("../../docs/BINDINGS.md")
+	if err != nil {
+		t.Skip("no docs/BINDINGS.md beside: this is a package")
+	}
+	missing, limits := usualLimits(), ""
+	for _, line := range strings.Split(string(page), "\n") {
+		cells := regexp.MustCompile(` *\| *`).Split(strings.ReplaceAll(line, "`", ""), -1)
+		switch {
+		case len(cells) != 10:
+			continue
+		case strings.HasPrefix(cells[1], "**of "):
+			limits = cells[3]
+			continue
+		}
+		name := limits + "." + cells[3]
+		usual, there := missing[name]
+		if !there {
+			continue
+		}
+		delete(missing, name)
+		c := cells[2][strings.LastIndex(cells[2], ".")+1:]
+		if cells[8] != usual || cells[5] != c && cells[5] != "none" ||
+			!strings.HasSuffix("."+cells[6], "."+withCapitals(c)) {
+			t.Errorf("%s is %s: %s", name, usual, line)
+		}
+	}
+	for name := range missing {
+		t.Errorf("the table doesn't have %s", name)
+	}
+}
 
 // Each default that docs/SESSIONS.md names is that of NewServer and NewClient.
 func TestDocumentedDefaults(t *testing.T) {
@@ -18,21 +109,6 @@ func TestDocumentedDefaults(t *testing.T) {
 		t.Skip("no docs/SESSIONS.md beside: this is a package")
 	}
 	server, client := NewServer().Limits, NewClient("").Limits
-	words := func(span time.Duration) string {
-		units := map[string]time.Duration{
-			"hour": time.Hour, "minute": time.Minute, "second": time.Second,
-		}
-		for unit, size := range units {
-			count := span / size
-			switch whole := span == count*size; {
-			case whole && count == 1:
-				return "a " + unit
-			case whole && (count < 60 && unit != "hour" || unit == "hour") && count > 1:
-				return fmt.Sprintf("%d %ss", count, unit)
-			}
-		}
-		return span.String()
-	}
 	for _, row := range []string{
 		fmt.Sprintf("| clients at the same time | %d; %d above that get a report at a time,",
 			server.Connections, server.Refused),
@@ -44,9 +120,9 @@ func TestDocumentedDefaults(t *testing.T) {
 		"| between notifies to a client | " + words(server.Notify) + " |",
 		fmt.Sprintf("| deltas that are kept | %s, the recommended expire time, and %d MiB;",
 			words(server.Keep), server.KeepBytes>>20),
-		fmt.Sprintf("A client has %s to connect, %s for a response of at most %d million units "+
-			"and %d MiB, and a pause of %s\n", words(client.Dial), words(client.Response),
-			(client.Units-1)/1000000, client.Bytes>>20, words(client.Pause)),
+		fmt.Sprintf("A client has %s to connect, %s for a response of at most %d million payload "+
+			"units of %d MiB in all, and a pause of\n%s between", words(client.Dial),
+			words(client.Response), client.Units/1e6, client.Bytes>>20, words(client.Pause)),
 	} {
 		if !strings.Contains(string(page), "\n"+row) {
 			t.Errorf("the page doesn't say %q", row)
@@ -59,8 +135,8 @@ func TestDocumentedDefaults(t *testing.T) {
 	if server.Report != 10*time.Second || server.Behind != 2 {
 		t.Error(server.Report, server.Behind)
 	}
-	if server.Refuse || client.Report != 2*time.Second {
-		t.Error(server.Refuse, client.Report)
+	if server.Refuse || client.Report != 2*time.Second || client.Units != 4e6 {
+		t.Error(server.Refuse, client.Report, client.Units)
 	}
 }
 

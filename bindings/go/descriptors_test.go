@@ -163,7 +163,7 @@ func TestClientDescriptors(t *testing.T) {
 		"the cache closes":      {func(cache *net.TCPConn) { readUnit(NewReader(cache)) }, ErrClosed},
 		"the cache is slow":     {waits, ErrTooSlow},
 		"it refuses a unit":     {play(t, nil, scene{reset1, full(7, 1, ipv4, ipv4)}), Duplicate},
-		"the cache has no data": {play(t, nil, scene{reset1, report(1, 2)}), &Reported{Code: 2}},
+		"the cache has no data": {play(t, nil, scene{reset1, report(1, 2)}), ErrNoData},
 	} {
 		t.Run(name, func(t *testing.T) {
 			noDescriptors(t)

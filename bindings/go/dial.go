@@ -34,5 +34,5 @@ func (c *Client) dialer() func(context.Context, string, string) (net.Conn, error
 	return new(net.Dialer).DialContext
 }
 
-// errNoOther reports that a client's only connection has ended.
-var errNoOther = errors.New("rtr: the connection has ended, and there is no other")
+// errNoOther reports that a client needs another connection than its only one, which has ended.
+var errNoOther = errors.New("rtr: " + failureNoOther)

@@ -99,8 +99,9 @@ func beginHuge(file, size int) {
 // size returns the number of bytes left to send.
 func (p *piece) size() int { return len(p.bytes) + p.left }
 
-// send writes some of the piece to a socket, and returns how many bytes were sent. It repeats a call
-// that a signal interrupted: the socket isn't full then, and the system may never report it as ready.
+// send writes some of the piece to a socket, and returns how many bytes were sent. It repeats a
+// call that a signal interrupted: the socket isn't full then, and the system may never report it as
+// ready.
 func (p *piece) send(socket int) (sent int, err error) {
 	for err = syscall.EINTR; err == syscall.EINTR; {
 		sent, err = p.sendOnce(socket)

@@ -22,7 +22,7 @@ type Listener interface {
 	// the data of the previous call, even if that had another source.
 	Data(Source, Update) error
 	// Failed is called with the reason when a connection to a source ends, or when the source has
-	// no data yet, or no payloads (ErrEmpty).
+	// no data yet (ErrNoData), or no payloads (ErrEmpty).
 	Failed(Source, error) error
 }
 

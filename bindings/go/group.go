@@ -135,11 +135,11 @@ func (g *Group) Fails(now time.Duration, member int) Decision {
 // tell tells the group what a member's link returned, with the number of payloads of its data: at
 // most one event.
 func (g *Group) tell(now time.Duration, member int, t todo, payloads int) Decision {
-	told := C.group_tell(&g.group, clockTime(now), C.size_t(member), t, C.size_t(payloads))
-	if told.result != C.RTR_GROUP_TOLD {
-		panic(fmt.Sprintf("rtr: a group refused a todo with status %d", told.result))
+	reply := C.group_tell(&g.group, clockTime(now), C.size_t(member), t, C.size_t(payloads))
+	if reply.result != C.RTR_GROUP_TOLD {
+		panic(fmt.Sprintf("rtr: a group refused a todo with status %d", reply.result))
 	}
-	return decisionOf(told.answer)
+	return decisionOf(reply.answer)
 }
 
 func decisionOf(answer C.struct_rtr_group_answer) Decision {

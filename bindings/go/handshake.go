@@ -33,7 +33,7 @@ func (c *served) shake() error {
 	case c.server.closed.Load():
 		return ErrServerClosed
 	case errors.Is(ctx.Err(), context.DeadlineExceeded):
-		return ErrTooSlow
+		return errSlowRouter
 	}
 	return err
 }

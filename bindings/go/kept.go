@@ -24,6 +24,25 @@ var ErrTorn = errors.New("rtr: " + failureDamaged)
 // file may have the former one.
 var ErrUnsynced = errors.New("rtr: " + failureUnsynced)
 
+// ErrNotRestored: a file exists that the server neither restored nor wrote, so it isn't replaced:
+// a restart would lack the sessions that the file names. It is os.ErrExist, too.
+var ErrNotRestored = errors.New("rtr: " + failureNotRestored)
+
+// ErrOtherFile: the server saves its data in another file.
+var ErrOtherFile = errors.New("rtr: " + failureOtherFile)
+
+// notRestored is the error of the system that a file exists, and ErrNotRestored.
+type notRestored struct{ path string }
+
+// Error returns the path with the text.
+func (n notRestored) Error() string { return n.path + ": " + failureNotRestored }
+
+// Is reports whether this is that error.
+func (n notRestored) Is(other error) bool { return other == ErrNotRestored }
+
+// Unwrap returns the error of the system.
+func (n notRestored) Unwrap() error { return syscall.EEXIST }
+
 // unsynced is an error of the system that is ErrUnsynced too.
 type unsynced struct{ error }
 
@@ -62,9 +81,40 @@ func RetryAfter(previous time.Duration) time.Duration {
 	return span(C.rtr_retry_after(milliseconds(previous)))
 }
 
+// saver saves the stores of a server to a file.
+type saver struct {
+	path string
+	save func(store []byte) error
+	owns bool // the server restored the file, or wrote it
+}
+
 // saverTo returns the saver to a file.
-func saverTo(path string) saver {
-	return func(store []byte) error { return saveStore(store, path) }
+func saverTo(path string) *saver {
+	return &saver{path: path, save: func(store []byte) error { return saveStore(store, path) }}
+}
+
+// check returns an error if there is a file that the server neither restored nor wrote. It is
+// called just before a save, which would replace a file that is written in between: no other
+// process may write it.
+func (s *saver) check() error {
+	if s.owns {
+		return nil
+	}
+	_, err := os.Lstat(s.path)
+	switch {
+	case err == nil:
+		return notRestored{s.path}
+	case errors.Is(err, os.ErrNotExist):
+		return nil
+	}
+	return err
+}
+
+// write saves a store. The file is the server's from then on, unless it wasn't replaced.
+func (s *saver) write(store []byte) error {
+	err := s.save(store)
+	s.owns = s.owns || err == nil || errors.Is(err, ErrUnsynced)
+	return err
 }
 
 // saveStore saves a store to a file, as Save does.
@@ -148,6 +198,7 @@ func (s *Server) Restore(path string) (Data, error) {
 	}
 	if s.Data().IsZero() {
 		s.store, s.saver = restored, saverTo(path)
+		s.saver.owns = true
 		s.present.Store(s.edition(0))
 		s.wake()
 	}

@@ -3,10 +3,10 @@
 package rtr
 
 import (
+	"bytes"
 	"context"
 	"errors"
 	"os"
-	"strings"
 	"syscall"
 	"testing"
 	"time"
@@ -116,7 +116,10 @@ func TestServerTorn(t *testing.T) {
 func TestUpdateSaved(t *testing.T) {
 	noLeaks(t)
 	folder := t.TempDir()
-	path := folder + "/kept"
+	path := folder + "/there/kept"
+	if err := os.Mkdir(folder+"/there", 0o700); err != nil {
+		t.Fatal(err)
+	}
 	all := sequences(1, 1, 1)
 	server := NewServer()
 	for _, sequence := range all[:2] {
@@ -128,11 +131,162 @@ func TestUpdateSaved(t *testing.T) {
 			t.Fatal(data, err)
 		}
 	}
-	err := server.UpdateSaved(parsed(t, all[2]), folder+"/none/kept")
+	if err := os.Rename(folder+"/there", folder+"/away"); err != nil {
+		t.Fatal(err)
+	}
+	err := server.UpdateSaved(parsed(t, all[2]), path)
 	if !errors.Is(err, os.ErrNotExist) || server.Data().Serial() != 2 {
 		t.Fatal(err)
 	}
-	if err := server.UpdateSaved(parsed(t, all[1]), folder+"/none/kept"); err != nil {
+	if err := server.UpdateSaved(parsed(t, all[1]), path); err != nil {
+		t.Fatal(err)
+	}
+}
+
+// holds checks that a file still has this content, with no other file beside it.
+func holds(t *testing.T, path string, content []byte) {
+	t.Helper()
+	if got, err := os.ReadFile(path); err != nil || !bytes.Equal(got, content) {
+		t.Errorf("%x, %v", got, err)
+	}
+	if _, err := os.Stat(path + besideSuffix); !errors.Is(err, os.ErrNotExist) {
+		t.Error("a new file is left:", err)
+	}
+}
+
+// A file that a server neither restored nor wrote isn't replaced, be it whole or damaged, until it
+// is restored or removed. A refusal changes nothing.
+func TestUpdateSavedNotRestored(t *testing.T) {
+	noLeaks(t)
+	path, all := t.TempDir()+"/kept", sequences(1, 1)
+	restarted(t, path, all[0])
+	whole, err := os.ReadFile(path)
+	if err != nil {
+		t.Fatal(err)
+	}
+	for name, content := range map[string][]byte{"whole": whole, "damaged": whole[1:], "empty": {}} {
+		if err := os.WriteFile(path, content, 0o600); err != nil {
+			t.Fatal(err)
+		}
+		server, other := NewServer(), t.TempDir()+"/kept"
+		_, restored := server.Restore(path)
+		if name == "whole" {
+			server = NewServer()
+		} else if !errors.Is(restored, ErrTorn) {
+			t.Fatal(name, restored)
+		}
+		for i := 0; i < 2; i++ {
+			err := server.UpdateSaved(parsed(t, all[1]), path)
+			if !errors.Is(err, ErrNotRestored) || !errors.Is(err, os.ErrExist) ||
+				err.Error() != path+": the file exists, and wasn't restored" {
+				t.Error(name, err)
+			}
+			holds(t, path, content)
+		}
+		if err := server.UpdateSaved(parsed(t, all[1]), other); err != nil {
+			t.Error(name, err) // the first file wasn't named
+		}
+	}
+}
+
+// After a refusal the server saves to the file, once it has restored it, or it is removed.
+func TestUpdateSavedAfterRefusal(t *testing.T) {
+	noLeaks(t)
+	path, all := t.TempDir()+"/kept", sequences(1, 1)
+	for name, takes := range map[string]func(*Server) error{
+		"restored": func(s *Server) error { _, err := s.Restore(path); return err },
+		"removed":  func(*Server) error { return os.Remove(path) },
+	} {
+		if err := NewServer().UpdateSaved(parsed(t, all[0]), path); err != nil {
+			t.Fatal(name, err)
+		}
+		server := NewServer()
+		if err := server.UpdateSaved(parsed(t, all[1]), path); !errors.Is(err, ErrNotRestored) {
+			t.Error(name, err)
+		}
+		if err := takes(server); err != nil {
+			t.Fatal(name, err)
+		}
+		if err := server.UpdateSaved(parsed(t, all[1]), path); err != nil {
+			t.Error(name, err)
+		}
+		if data, err := NewServer().Restore(path); err != nil || !data.Equal(server.Data()) {
+			t.Error(name, data, err)
+		}
+		if err := os.Remove(path); err != nil {
+			t.Fatal(name, err)
+		}
+	}
+}
+
+// A file that appears after a first save failed isn't replaced either; nor is a link to no file.
+func TestFileBeforeFirstSave(t *testing.T) {
+	path, all := t.TempDir()+"/kept", sequences(1)
+	server := NewServer()
+	if err := os.Mkdir(path+besideSuffix, 0o700); err != nil {
+		t.Fatal(err)
+	}
+	if err := server.UpdateSaved(parsed(t, all[0]), path); !errors.Is(err, syscall.EISDIR) {
+		t.Fatal(err)
+	}
+	if err := os.Remove(path + besideSuffix); err != nil {
+		t.Fatal(err)
+	}
+	if err := os.Symlink("nowhere", path); err != nil {
+		t.Fatal(err)
+	}
+	for name, update := range map[string]func() error{
+		"Update":      func() error { return server.Update(parsed(t, all[0])) },
+		"UpdateSaved": func() error { return server.UpdateSaved(parsed(t, all[0]), path) },
+	} {
+		if err := update(); !errors.Is(err, ErrNotRestored) || !server.Data().IsZero() {
+			t.Error(name, err)
+		}
+	}
+	if err := os.Remove(path); err != nil {
+		t.Fatal(err)
+	}
+	if err := server.Update(parsed(t, all[0])); err != nil {
+		t.Error(err)
+	}
+}
+
+// A server saves all its data to one file, which UpdateSaved or Restore named. A refusal changes
+// nothing.
+func TestUpdateSavedOtherFile(t *testing.T) {
+	noLeaks(t)
+	folder, all := t.TempDir(), sequences(1, 1, 1)
+	path, other := folder+"/kept", folder+"/other"
+	restored, _ := restarted(t, path, all[0])
+	named := NewServer()
+	if err := named.UpdateSaved(parsed(t, all[0]), folder+"/named"); err != nil {
+		t.Fatal(err)
+	}
+	for file, server := range map[string]*Server{path: restored, folder + "/named": named} {
+		err := server.UpdateSaved(parsed(t, all[1]), other)
+		if !errors.Is(err, ErrOtherFile) || server.Data().Serial() != 1 ||
+			err.Error() != other+": rtr: the data are saved in another file: "+file {
+			t.Error(err, server.Data())
+		}
+		if _, err := os.Lstat(other); !errors.Is(err, os.ErrNotExist) {
+			t.Error(err)
+		}
+		if err := server.Update(parsed(t, all[1])); err != nil {
+			t.Error(err)
+		}
+		if data, err := NewServer().Restore(file); err != nil || data.Serial() != 2 {
+			t.Error(data, err)
+		}
+	}
+}
+
+// replaceByFolder puts a folder in the place of a file, and makes one in it, unless that is "".
+func replaceByFolder(t *testing.T, path, inside string) {
+	t.Helper()
+	if err := os.Remove(path); err != nil {
+		t.Fatal(err)
+	}
+	if err := os.MkdirAll(path+inside, 0o700); err != nil {
 		t.Fatal(err)
 	}
 }
@@ -141,15 +295,13 @@ func TestUpdateSaved(t *testing.T) {
 func TestRenameFails(t *testing.T) {
 	noLeaks(t)
 	all := sequences(1, 1, 1)
-	for name, taken := range map[string]string{"a folder": "/kept", "a folder with files": "/kept/a"} {
+	for name, taken := range map[string]string{"a folder": "", "a folder with files": "/a"} {
 		path := t.TempDir() + "/kept"
-		if err := os.MkdirAll(strings.TrimSuffix(path, "/kept")+taken, 0o700); err != nil {
-			t.Fatal(err)
-		}
 		server := NewServer()
-		if err := server.UpdateSaved(parsed(t, all[0]), t.TempDir()+"/kept"); err != nil {
+		if err := server.UpdateSaved(parsed(t, all[0]), path); err != nil {
 			t.Fatal(err)
 		}
+		replaceByFolder(t, path, taken)
 		if err := server.Save(path); !errors.As(err, new(*os.LinkError)) {
 			t.Errorf("%s: %v", name, err)
 		}
@@ -231,6 +383,34 @@ func withoutDescriptors(t *testing.T) (release func()) {
 		if err := syscall.Setrlimit(syscall.RLIMIT_NOFILE, &usual); err != nil {
 			t.Fatal(err)
 		}
+	}
+}
+
+// A watcher doesn't replace a saved file that wasn't restored. It says so once, and goes on when
+// that is removed.
+func TestWatchNotRestored(t *testing.T) {
+	w, last := watched(t)
+	overwrite(t, w.path, sequences(1)[0])
+	kept := w.path + KeptSuffix
+	if err := os.WriteFile(kept, []byte("rtrkept2"), 0o600); err != nil {
+		t.Fatal(err)
+	}
+	w.check()
+	if !errors.Is(*last, ErrNotRestored) || !w.server.Data().IsZero() {
+		t.Fatal(*last)
+	}
+	*last = errFailed
+	w.check()
+	if *last != errFailed {
+		t.Fatal(*last)
+	}
+	holds(t, kept, []byte("rtrkept2"))
+	if err := os.Remove(kept); err != nil {
+		t.Fatal(err)
+	}
+	w.check()
+	if *last != nil || w.server.Data().Serial() != 1 {
+		t.Fatal(*last)
 	}
 }
 

@@ -10,7 +10,7 @@ type ClientLimits struct {
 	Dial     time.Duration // to connect, at most
 	Response time.Duration // from a query to the end of data that answers it, at most
 	Bytes    int           // of the payload units of a response, at most
-	Units    uint64        // of a response, at most, including the end of data
+	Units    uint64        // payload units of a response, at most
 	Pause    time.Duration // between two connections, and between two queries, at least
 	Report   time.Duration // to send an error report, and for the cache to read it, at most
 }
@@ -23,7 +23,7 @@ func usualClientLimits() ClientLimits {
 		Dial:     span(usual.connect_limit),
 		Response: span(usual.response_limit),
 		Bytes:    int(usual.most_bytes),
-		Units:    uint64(usual.most_units) + 1,
+		Units:    uint64(usual.most_units),
 		Pause:    span(usual.pause),
 		Report:   lastReportLimit * time.Millisecond,
 	}

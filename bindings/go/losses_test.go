@@ -27,7 +27,7 @@ func TestContextIsNoFailure(t *testing.T) {
 	}
 }
 
-// Data that expire without a connection are dropped, and the caller is told why.
+// Data that expire without a connection are dropped, and the caller gets the reason.
 func TestExpireOffline(t *testing.T) {
 	noLeaks(t)
 	client := quick(fakeCache(t, func(cache *net.TCPConn) {

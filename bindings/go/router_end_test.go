@@ -125,8 +125,7 @@ func (p *routerEnd) play() error {
 	}
 	p.askRequest = &f.askRequest
 	f.onFailure = func(err error) {
-		var report *Reported
-		if p.open && errors.As(err, &report) {
+		if errors.Is(err, ErrNoData) {
 			p.does("no data")
 		}
 	}
@@ -176,7 +175,7 @@ func (p *routerEnd) set(name string, number uint64) {
 	case "expire":
 		p.client.Expire = span
 	case "most-units":
-		p.client.Limits.Units = number + 1 // with the end of data
+		p.client.Limits.Units = number
 	case "most-bytes":
 		p.client.Limits.Bytes = int(number)
 	default:

@@ -136,7 +136,7 @@ func TestLimitOfTCP(t *testing.T) {
 	}()
 	select {
 	case err := <-ended:
-		if err != ErrTooSlow {
+		if err != errSlowCache {
 			t.Error(err)
 		}
 	case <-time.After(2 * patience):

@@ -175,7 +175,7 @@ func (c *served) lost(err error) {
 		return
 	case c.last:
 	case isTimeout(err):
-		c.broken = ErrTooSlow
+		c.broken = errSlowRouter
 	case c.server.closed.Load():
 		c.broken = ErrServerClosed
 	default:

@@ -8,6 +8,7 @@ import "C"
 import (
 	"context"
 	"errors"
+	"fmt"
 	"net"
 	"sync"
 	"sync/atomic"
@@ -56,8 +57,8 @@ type Server struct {
 	present  atomic.Pointer[edition]
 	updating sync.Mutex // guards the fields below
 	store    store
-	saver    saver // nil as long as no file is named
-	changes  bool  // the next data may be of another session, though it doesn't save
+	saver    *saver // nil as long as no file is named
+	changes  bool   // the next data may be of another session, though it doesn't save
 
 	lock      sync.Mutex
 	listeners map[net.Listener]bool
@@ -99,15 +100,12 @@ func (l ServerLimits) areUnset() bool {
 	return l == ServerLimits{}
 }
 
-// saver saves a store, so that a restart has it.
-type saver func(store []byte) error
-
 // Update gives the server new data, and notifies its clients. Connections of clients that have data
 // of another session are closed. If the data are the present ones, nothing happens.
 //
 // A server with a file, which Restore or UpdateSaved named, first saves the data to it, as
-// UpdateSaved does. One without a file doesn't save: all its data are of one session, under which
-// it never served data, at no earlier start either (RFC 8210 section 5.1).
+// UpdateSaved does. Without a file a server doesn't save: all its data are of one session, which it
+// may not have used at an earlier start (RFC 8210 section 5.1).
 //
 // Serial number 0 is logged as a warning: after a cut in the first answer BIRD 2.0 asks for the
 // changes since serial number 0, and keeps the part of the data that it has.
@@ -123,9 +121,11 @@ func (s *Server) Update(data Data) error {
 // UpdateSaved is Update, but first saves the new data to this file, as Save does, and lets later
 // calls of Update save to it. So whenever the process ends, the file has every serial number that a
 // client may have data of, and after a restart none of them is used for other data. Restore the
-// file first, if there is one, and use one file.
+// file first, if there is one: a file that this server neither restored nor wrote isn't replaced,
+// as one that Restore refused, until it is removed. All data are saved to one file.
 //
-// Errors: those of Update; ErrUnsaved if the server has data that it didn't save.
+// Errors: those of Update; ErrNotRestored, ErrOtherFile; ErrUnsaved if the server has data that it
+// didn't save.
 func (s *Server) UpdateSaved(data Data, path string) error {
 	return s.update(data, saverTo(path), func() {})
 }
@@ -161,7 +161,7 @@ func (s *Server) Changes(data Data) ([]byte, error) {
 
 // update is Update with two hooks: save, if it isn't nil, names the file, and before runs when the
 // old data aren't served any more, before clients are notified.
-func (s *Server) update(data Data, save saver, before func()) error {
+func (s *Server) update(data Data, save *saver, before func()) error {
 	if data.IsZero() {
 		return &Fault{Status: Short, Offset: -1}
 	}
@@ -197,19 +197,25 @@ func (s *Server) update(data Data, save saver, before func()) error {
 	return nil
 }
 
-// begin sets how the server saves, if save isn't nil. It does so even if saving then fails, since
-// the file may have the data nevertheless.
-func (s *Server) begin(save saver) error {
+// begin sets how the server saves, if save isn't nil, and checks that it may replace the file. The
+// file stays named even if saving then fails, since it may have the data nevertheless.
+func (s *Server) begin(save *saver) error {
+	if s.saver != nil {
+		if save != nil && save.path != s.saver.path {
+			return fmt.Errorf("%s: %w: %s", save.path, ErrOtherFile, s.saver.path)
+		}
+		return s.saver.check()
+	}
 	if save == nil {
 		return nil
 	}
 	if err := s.checkSaved(); err != nil {
 		return err
 	}
-	if s.saver == nil {
-		s.store = newStore()
+	if err := save.check(); err != nil {
+		return err
 	}
-	s.saver = save
+	s.store, s.saver = newStore(), save
 	return nil
 }
 
@@ -233,7 +239,7 @@ func (s *Server) keep(data Data) (taken bool, err error) {
 		return false, present.refused(data, answer)
 	}
 	if s.saver != nil {
-		if err := s.saver(taking.toSave()); err != nil {
+		if err := s.saver.write(taking.toSave()); err != nil {
 			return false, err
 		}
 	}

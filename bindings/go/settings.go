@@ -17,7 +17,7 @@ type settings = C.struct_rtr_settings
 func settingsOf(client *Client, limits ClientLimits, chance uint16) settings {
 	s := usualSettings(client.highest())
 	s.most_bytes = C.uint64_t(limits.Bytes)
-	s.most_units = C.uint32_t(within32(limits.Units - 1))
+	s.most_units = C.uint32_t(within32(limits.Units))
 	s.pause = milliseconds(limits.Pause)
 	s.connect_limit = milliseconds(limits.Dial)
 	s.response_limit = milliseconds(limits.Response)

@@ -30,7 +30,7 @@ func TestStalledHandshakeAfterDial(t *testing.T) {
 	}
 	ctx, cancel := limited(t)
 	defer cancel()
-	if _, err := client.Fetch(ctx); !errors.Is(err, ErrTooSlow) {
+	if _, err := client.Fetch(ctx); err != errSlowCache {
 		t.Error(err)
 	}
 }
@@ -123,8 +123,30 @@ func TestCacheThatReadsNothing(t *testing.T) {
 	client.Limits.Response, client.Limits.Report = 30*time.Millisecond, 30*time.Millisecond
 	ctx, cancel := limited(t)
 	defer cancel()
-	if _, err := client.Fetch(ctx); !errors.Is(err, ErrTooSlow) {
+	if _, err := client.Fetch(ctx); err != errSlowCache {
 		t.Error(err)
+	}
+}
+
+// The error of a peer that is too slow says which end that is, as in all languages, and is
+// ErrTooSlow.
+func TestTextsOfSlowPeers(t *testing.T) {
+	noLeaks(t)
+	near, far := net.Pipe()
+	defer far.Close()
+	client := NewClientConn(near)
+	client.AskIn(0)
+	client.Limits.Response, client.Limits.Report = 30*time.Millisecond, 30*time.Millisecond
+	ctx, cancel := limited(t)
+	defer cancel()
+	_, cache := client.Fetch(ctx)
+	for text, err := range map[string]error{
+		"rtr: the cache is too slow":  cache,
+		"rtr: the router is too slow": simulate(NewServer(), &simulated{}).serve(),
+	} {
+		if err == nil || err.Error() != text || !errors.Is(err, ErrTooSlow) {
+			t.Errorf("%v, not %s", err, text)
+		}
 	}
 }
 

@@ -72,7 +72,7 @@ func TestHandshakes(t *testing.T) {
 	if !slow.toRead.IsZero() {
 		t.Error("its reads end at", slow.toRead)
 	}
-	if err := client.shake(); err != ErrTooSlow {
+	if err := client.shake(); err != errSlowRouter {
 		t.Error(err)
 	}
 	server.closed.Store(true)

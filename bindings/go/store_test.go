@@ -297,12 +297,10 @@ func TestFailedSave(t *testing.T) {
 	folder := t.TempDir()
 	path := folder + "/kept"
 	server := NewServer()
-	if err := server.UpdateSaved(ofSession(t, 7, 1), t.TempDir()+"/kept"); err != nil {
+	if err := server.UpdateSaved(ofSession(t, 7, 1), path); err != nil {
 		t.Fatal(err)
 	}
-	if err := os.MkdirAll(path+"/full", 0o700); err != nil {
-		t.Fatal(err)
-	}
+	replaceByFolder(t, path, "/full")
 	for i := 0; i < 2; i++ {
 		err := server.UpdateSaved(ofSession(t, 7, 2), path)
 		if !errors.As(err, new(*os.LinkError)) || server.Data().Serial() != 1 {

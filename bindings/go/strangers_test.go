@@ -174,8 +174,8 @@ func TestStalledRouters(t *testing.T) {
 	if err != nil || data.Len() != 2 {
 		t.Error(err)
 	}
-	awaitEnding(t, ended, rtr.ErrTooSlow.Error())
-	awaitEnding(t, ended, rtr.ErrTooSlow.Error())
+	awaitEnding(t, ended, "the router is too slow")
+	awaitEnding(t, ended, "the router is too slow")
 }
 
 // connectedLog is a log that sends a value for each connection.

@@ -73,6 +73,7 @@ const (
 	failureEmpty         = "the cache has no payloads"
 	failureStopped       = "the client was stopped"
 	failureSlow          = "the peer is too slow"
+	failureNoOther       = "there is no other connection"
 	failureMoreRead      = "more bytes were read than there is room for"
 	failureMoreSent      = "more bytes were sent than there are"
 	failureBehind        = "the router is too far behind"
@@ -82,6 +83,8 @@ const (
 	failureSessionLeft   = "the cache left this session: the data need a new one"
 	failureOtherSession  = "a cache that doesn't save has one session"
 	failureUnsaved       = "the cache serves data that it didn't save"
+	failureNotRestored   = "the file exists, and wasn't restored"
+	failureOtherFile     = "the data are saved in another file"
 	failureUnsynced      = "the folder isn't synced"
 	failureHigherVersion = "the saved data are of a lower version: the data need a new session"
 	failureDamaged       = "the saved file is damaged: the data need a new session"
@@ -138,34 +141,35 @@ const (
 
 // The kinds of units. ASPA units are as in the Rust crate rpki.
 const (
-	// RFC 8210 section 5.2.
+	// A serial notify (RFC 8210 section 5.2).
 	SerialNotify Kind = 0
-	// RFC 8210 section 5.3.
+	// A serial query (RFC 8210 section 5.3).
 	SerialQuery Kind = 1
-	// RFC 8210 section 5.4.
+	// A reset query (RFC 8210 section 5.4).
 	ResetQuery Kind = 2
-	// RFC 8210 section 5.5.
+	// A cache response (RFC 8210 section 5.5).
 	CacheResponse Kind = 3
-	// RFC 8210 section 5.6.
+	// An IPv4 prefix (RFC 8210 section 5.6).
 	IPv4Prefix Kind = 4
-	// RFC 8210 section 5.7.
+	// An IPv6 prefix (RFC 8210 section 5.7).
 	IPv6Prefix Kind = 6
-	// RFC 6810 and RFC 8210 section 5.8.
+	// An end of data (RFC 6810 and RFC 8210 section 5.8).
 	EndOfData Kind = 7
-	// RFC 8210 section 5.9.
+	// A cache reset (RFC 8210 section 5.9).
 	CacheReset Kind = 8
-	// RFC 8210 section 5.10.
+	// A router key (RFC 8210 section 5.10).
 	RouterKey Kind = 9
-	// RFC 8210 section 5.11.
+	// An error report (RFC 8210 section 5.11).
 	ErrorReport Kind = 10
-	ASPA        Kind = 11
+	// An ASPA, an autonomous system provider authorization.
+	ASPA Kind = 11
 )
 
 // The error codes.
 const (
 	// The data can't be parsed, or contradict themselves.
 	CorruptData ErrorCode = 0
-	// The peer failed for a reason of its own.
+	// The peer had an internal error.
 	InternalError ErrorCode = 1
 	// The cache has no data yet.
 	NoDataAvailable ErrorCode = 2

@@ -71,13 +71,13 @@ func (f *follower) reason(t todo) error {
 	case C.RTR_CLIENT_LOST:
 		return f.err
 	case C.RTR_CLIENT_SLOW:
-		return ErrTooSlow
+		return errSlowCache
 	case C.RTR_CLIENT_TOO_LONG:
 		return ErrTooLong
 	case C.RTR_CLIENT_REFUSED:
 		return owned(refusal(Status(t.status), uint8(t.detail), f.link.inputFrom(t), int64(t.position)))
 	case C.RTR_CLIENT_REPORTED:
-		return reportedIn(f.link.inputFrom(t), false)
+		return reportedIn(f.link.inputFrom(t), Reported{})
 	case C.RTR_CLIENT_EXPIRED:
 		return ErrExpired
 	case C.RTR_CLIENT_MEMORY:

@@ -11,6 +11,7 @@ import (
 	"crypto/x509"
 	"crypto/x509/pkix"
 	"errors"
+	"io"
 	"math/big"
 	"net"
 	"net/netip"
@@ -203,7 +204,7 @@ func TestOverTLS(t *testing.T) {
 	}
 }
 
-// A router that waits over TLS is told of new data, as over TCP.
+// A router that waits over TLS is notified of new data, as over TCP.
 func TestNotifyOverTLS(t *testing.T) {
 	trusted := newAuthority(t)
 	server := rtr.NewServer()
@@ -341,6 +342,23 @@ func TestClientOfAConnection(t *testing.T) {
 	})
 	if shown != 2 || !errors.Is(err, rtr.ErrClosed) {
 		t.Errorf("%d payloads, %v", shown, err)
+	}
+}
+
+// A client of NewClientConn can't fall to a lower version: that needs another connection.
+func TestFallOfAConnection(t *testing.T) {
+	near, far := net.Pipe()
+	go func() {
+		defer far.Close()
+		if _, err := io.ReadFull(far, make([]byte, 8)); err == nil {
+			far.Write([]byte{0, 10, 0, 4, 0, 0, 0, 16, 0, 0, 0, 0, 0, 0, 0, 0})
+		}
+	}()
+	ctx, cancel := context.WithTimeout(context.Background(), tlsWait)
+	defer cancel()
+	_, err := rtr.NewClientConn(near).Fetch(ctx)
+	if err == nil || err.Error() != "rtr: there is no other connection" {
+		t.Error(err)
 	}
 }
 

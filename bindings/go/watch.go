@@ -60,8 +60,8 @@ func LoadData(path string) (Data, error) {
 // retries at each interval, and reports the same error only once.
 //
 // Before new data are served it saves what a restart needs beside the file, with KeptSuffix after
-// its name. If that fails, the server keeps its data. When the server starts again, Restore that
-// file first.
+// its name, as UpdateSaved does. If that fails, the server keeps its data. When the server starts
+// again, Restore that file first.
 func (s *Server) Watch(
 	ctx context.Context, path string, interval time.Duration, report func(Data, error),
 ) {

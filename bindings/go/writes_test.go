@@ -4,7 +4,6 @@ package rtr
 
 import (
 	"bytes"
-	"errors"
 	"io"
 	"net"
 	"net/netip"
@@ -51,7 +50,7 @@ func TestWriteTakenInPart(t *testing.T) {
 		for c.broken == nil {
 			c.send()
 		}
-		if !errors.Is(c.broken, ErrTooSlow) || len(connection.takes) > 0 ||
+		if c.broken != errSlowRouter || len(connection.takes) > 0 ||
 			connection.deadlines != writes {
 			t.Errorf("%s: %v after %d deadlines", name, c.broken, connection.deadlines)
 		}

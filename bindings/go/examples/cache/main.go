@@ -92,28 +92,16 @@ func run(ctx context.Context, opts options) error {
 		// Without the file its serial numbers could be used for other data.
 		return err
 	}
-	failed := make(chan error, len(opts.addresses))
-	for _, address := range opts.addresses {
-		listener, err := net.Listen("tcp", address)
-		if err != nil {
-			return err
-		}
-		say("listening on ", listener.Addr())
-		go func() { failed <- server.Serve(listener) }()
+	failed, err := serve(server, opts.addresses)
+	if err != nil {
+		return err
 	}
 	ctx, stop := context.WithCancel(ctx)
 	watched := make(chan struct{})
 	go func() {
 		defer close(watched)
-		server.Watch(ctx, opts.path, interval, func(data rtr.Data, err error) {
-			if err != nil {
-				say(err)
-				return
-			}
-			sayServed(opts.path, data)
-		})
+		watch(ctx, server, opts.path)
 	}()
-	var err error
 	select {
 	case <-ctx.Done():
 	case err = <-failed:
@@ -124,6 +112,32 @@ func run(ctx context.Context, opts options) error {
 		err = nil
 	}
 	return err
+}
+
+// serve listens at the addresses, and serves until the server is closed or a listener fails; the
+// channel gets its error.
+func serve(server *rtr.Server, addresses []string) (<-chan error, error) {
+	failed := make(chan error, len(addresses))
+	for _, address := range addresses {
+		listener, err := net.Listen("tcp", address)
+		if err != nil {
+			return nil, err
+		}
+		say("listening on ", listener.Addr())
+		go func() { failed <- server.Serve(listener) }()
+	}
+	return failed, nil
+}
+
+// watch serves what the file has, until the context ends.
+func watch(ctx context.Context, server *rtr.Server, path string) {
+	server.Watch(ctx, path, interval, func(data rtr.Data, err error) {
+		if err != nil {
+			say(err)
+			return
+		}
+		sayServed(path, data)
+	})
 }
 
 // sayServed prints which data of a file the server has now, and warns of serial number 0.

@@ -22,7 +22,7 @@ func main() {
 	}
 }
 
-// list writes a line for each unit.
+// list writes a line for each unit: of the fields, or for a report as the program rtr_list does.
 func list(reader *rtr.Reader, output io.Writer) error {
 	for {
 		offset := reader.Offset()
@@ -33,11 +33,19 @@ func list(reader *rtr.Reader, output io.Writer) error {
 		if err != nil {
 			return err
 		}
-		fmt.Fprintf(output, "%d %v v%d%s\n", offset, unit.Kind, unit.Version, fields(unit))
+		if unit.Kind == rtr.ErrorReport {
+			line, _, err := rtr.UnitLine(nil, reader.Bytes(), uint64(offset))
+			if err != nil {
+				return err
+			}
+			fmt.Fprintf(output, "%s\n", line)
+			continue
+		}
+		fmt.Fprintf(output, "%d v%d %v%s\n", offset, unit.Version, unit.Kind, fields(unit))
 	}
 }
 
-// fields returns the fields of a unit as text.
+// fields returns the fields of a unit that isn't a report, as text.
 func fields(unit *rtr.Unit) string {
 	action := "withdraw"
 	if unit.Announce {
@@ -55,9 +63,6 @@ func fields(unit *rtr.Unit) string {
 			unit.Session, unit.Serial, unit.Refresh, unit.Retry, unit.Expire)
 	case rtr.RouterKey:
 		return fmt.Sprintf(" %s %x AS%d key info %x", action, unit.KeyIdentifier, unit.ASN, unit.KeyInfo)
-	case rtr.ErrorReport:
-		return fmt.Sprintf(" code %d (%v) about %x: %q",
-			uint16(unit.Code), unit.Code, unit.Enclosed, unit.Text)
 	case rtr.ASPA:
 		line := fmt.Sprintf(" %s AS%d providers", action, unit.Customer)
 		for i := 0; i < unit.Providers.Len(); i++ {
